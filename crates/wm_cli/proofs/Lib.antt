@@ -1,0 +1,4 @@
+pub mod Endings
+pub mod Pieces
+pub mod Placing
+pub mod Sessions

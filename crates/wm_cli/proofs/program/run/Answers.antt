@@ -1,0 +1,30 @@
+use Rattle.std.proofs.Common.{◌≡◌, sym, ◌∙◌, ap}
+use Rattle.wm_cli.proofs.Endings.{IsTextGiven-nothing, HasCommands-nothing, ForScript-any, not_done}
+use Rattle.wm_cli.specs.Ended.{HasCommands}
+use Rattle.wm_cli.specs.declared.status.Status.TheVariants.{Done, Usage}
+use Rattle.wm_machine.specs.Lines.{commands_in}
+use Rattle.wm_cli.proofs.program.run.Goals as goal
+
+pub returns-in_default-clause-commands : goal.returns-in_default-clause-commands
+returns-in_default-clause-commands g c =
+    let ended = c.before_begin.result in
+    ForScript-any (g.S.Source.left c.args.source.now) (λ bytes. HasCommands (commands_in bytes) ended.status ended.log)
+    (λ bytes. HasCommands-nothing (commands_in bytes) ended.status ended.log c.before_begin.ensures.log
+    (λ done. let clash : Usage ≡ Done = sym c.before_begin.ensures.status ∙ done in absurd (cc)))
+
+pub returns-in_default-clause-bytes : goal.returns-in_default-clause-bytes
+returns-in_default-clause-bytes g c =
+    let ended = c.before_begin.result in
+    IsTextGiven-nothing (g.W.Sink.given c.args.sink) (g.W.Sink.given ended.sink) ended.status ended.first ended.log (ap g.W.Sink.given c.before_begin.ensures.sink) c.before_begin.ensures.log
+
+pub returns-in-Err-clause-commands : goal.returns-in-Err-clause-commands
+returns-in-Err-clause-commands g c =
+    let ended = c.before_begin-in-Err.result in
+    ForScript-any (g.S.Source.left c.args.source.now) (λ bytes. HasCommands (commands_in bytes) ended.status ended.log)
+    (λ bytes. HasCommands-nothing (commands_in bytes) ended.status ended.log c.before_begin-in-Err.ensures.log
+    (λ done. absurd (not_done c.in-Err.status _ _ _ c.in-Err.ensures.status (sym c.before_begin-in-Err.ensures.status ∙ done))))
+
+pub returns-in-Err-clause-bytes : goal.returns-in-Err-clause-bytes
+returns-in-Err-clause-bytes g c =
+    let ended = c.before_begin-in-Err.result in
+    IsTextGiven-nothing (g.W.Sink.given c.args.sink) (g.W.Sink.given ended.sink) ended.status ended.first ended.log (ap g.W.Sink.given c.before_begin-in-Err.ensures.sink) c.before_begin-in-Err.ensures.log

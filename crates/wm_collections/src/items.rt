@@ -1,0 +1,123 @@
+ghost use Rattle.std.specs.Prelude.{◌≡◌, ◌==◌, List, [], ◌∷◌, ◌++◌, length, take, IfErr, OnOk, OnErr};
+
+use std::alloc::{AllocError, AllocFailed, Global};
+use std::marker::Model;
+
+/// A list of values. A contract sees it as the list of its elements.
+#[derive(Debug, Drop)]
+pub struct Items<T> {
+    elements: Vec<T>,
+}
+
+impl<T> Model for Items<T> {
+    ghost Value = { List T };
+
+    ghost view = { λ a. a.elements.items };
+}
+
+impl<T> Items<T> {
+    /// The empty list, which takes no memory.
+    pub fn new(alloc: Global) -> Items<T>
+        ensures { result ≡ [] }
+    {
+        Items {
+            elements: Vec::new(alloc),
+        }
+    }
+
+    /// The elements of a `Vec`, which it takes over.
+    pub fn from_vec(elements: Vec<T>) -> Items<T>
+        ensures { result ≡ elements.items }
+    {
+        Items { elements }
+    }
+
+    /// Gives the `Vec` back.
+    pub fn into_vec(self) -> Vec<T>
+        ensures { result.items ≡ self }
+    {
+        self.elements
+    }
+
+    pub fn as_slice(&self) -> &[T]
+        ensures { result.now ≡ self.now }
+    {
+        self.elements.as_slice()
+    }
+
+    pub fn len(&self) -> usize
+        ensures { result ≡ length self.now }
+    {
+        self.elements.len()
+    }
+
+    pub fn is_empty(&self) -> bool
+        ensures { result ≡ (length self.now == 0) }
+    {
+        self.elements.is_empty()
+    }
+
+    /// Adds a value at the end. Where memory is refused, the list is as it was and the value comes
+    /// back.
+    pub fn push(&mut self, value: T) -> Result<(), AllocFailed<T>>
+        ensures ok { OnOk result (self.new ≡ self.old ++ value ∷ []) }
+        ensures err { OnErr result (self.new ≡ self.old) }
+        ensures value_returned { IfErr result (λ failed. failed.value ≡ value) }
+    {
+        self.elements.push(value)
+    }
+
+    /// Keeps the first `count` elements.
+    pub fn truncate(&mut self, count: usize)
+    where
+        T: Drop,
+        ensures { self.new ≡ take count self.old }
+    {
+        self.elements.truncate(count);
+    }
+}
+
+/// Adds a value at the end of each of two lists, or none to either where memory is refused.
+pub fn push_both<T: Drop, U: Drop>(
+    first: &mut Items<T>,
+    value: T,
+    second: &mut Items<U>,
+    other: U,
+) -> Result<(), AllocError>
+    ensures first { OnOk result (first.new ≡ first.old ++ value ∷ []) }
+    ensures second { OnOk result (second.new ≡ second.old ++ other ∷ []) }
+    ensures first_err { OnErr result (first.new ≡ first.old) }
+    ensures second_err { OnErr result (second.new ≡ second.old) }
+{
+    let count = first.len();
+    first.push(value)?;
+    match second.push(other) {
+        Ok(()) => Ok(()),
+        Err(refused) => {
+            first.truncate(count);
+            Err(AllocError::from(refused))
+        }
+    }
+}
+
+#[cfg(test)]
+mod tests {
+    use super::*;
+    use std::test::Fail;
+
+    #[test]
+    fn a_list_grows_and_shrinks(rt: HostRuntime) -> Result<(), Fail> {
+        let alloc = rt.alloc();
+        let mut first = Items::new(alloc);
+        let mut second = Items::from_vec(vec![in alloc; 7u8]?);
+        assert!(rt; first.is_empty());
+        first.push(1u8)?;
+        push_both(&mut first, 2, &mut second, 8)?;
+        assert_eq!(rt; first.as_slice(), [1, 2].as_slice());
+        assert_eq!(rt; second.as_slice(), [7, 8].as_slice());
+        first.truncate(1);
+        assert_eq!(rt; first.len(), 1);
+        assert_eq!(rt; first.into_vec().as_slice(), [1].as_slice());
+        Ok(())
+    }
+}

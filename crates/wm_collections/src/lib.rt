@@ -1,0 +1,15 @@
+//! The list and the text that the public types of this workspace are made of.
+//!
+//! A contract sees an [`Items`] as the list of its elements and a [`Text`] as the list of its
+//! bytes, so that a struct of these is a record of lists in every clause. Each is made from std's
+//! collection and gives it back without taking memory. [`Replica`] is a copy that is known to
+//! be equal.
+#![tactic(auto)]
+
+pub mod items;
+pub mod replica;
+pub mod text;
+
+pub use items::{Items, push_both};
+pub use replica::Replica;
+pub use text::Text;

@@ -1,0 +1,11 @@
+-- What a count of faults says about the calls between two moments. This project's own choice.
+use Rattle.std.specs.Prelude.{ℕ, ◌+◌, ◌-◌, ◌^◌, ◌≤◌, min}
+
+-- the count is higher, or stands at the end of its type
+abbrev pub Rose : ℕ → ℕ → Type 0
+Rose before now = min (before + 1) (2 ^ 64 - 1) ≤ now
+
+-- a fault was counted: the count hasn't fallen, and it rose
+pub record Failed (before now : ℕ) : Type 0 where
+  pub later : before ≤ now
+  pub rose : Rose before now

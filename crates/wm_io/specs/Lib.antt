@@ -1,0 +1,5 @@
+pub mod Memory
+pub mod Sink
+pub mod Source
+pub mod Standard
+pub use Rattle.wm_faults.specs.Faults

@@ -1,0 +1,25 @@
+-- What a write does to the bytes that a sink was given and to its count of faults. This project's
+-- own choice.
+use Rattle.std.specs.Prelude.{◌≡◌, ℕ, ◌<◌, ◌≤◌, List, ◌++◌, take, Option, option_map}
+use Rattle.wm_faults.specs.Faults.{Failed}
+use Rattle.wm_io.specs.declared.sink.Put.{Put}
+use Rattle.wm_io.specs.declared.sink.Put.TheVariants as put
+
+-- a count is at least one, and at most the length of the piece
+abbrev pub CountFits : Put → ℕ → Type 0
+CountFits (put.Took count) len = (0 < count) × (count ≤ len)
+CountFits put.Failed len = Unit {0}
+CountFits put.Memory len = Unit {0}
+
+-- Where the sink tells what it was given: the bytes taken stand at its end now, and a write that
+-- failed or was refused memory gave nothing.
+abbrev pub Writes : Put → Option (List ℕ) → Option (List ℕ) → List ℕ → Type 0
+Writes (put.Took count) before now piece = now ≡ option_map (λ given. given ++ take count piece) before
+Writes put.Failed before now piece = now ≡ before
+Writes put.Memory before now piece = now ≡ before
+
+-- a failed write raised the count, and any other left it
+abbrev pub WriteCause : Put → ℕ → ℕ → Type 0
+WriteCause (put.Took count) before now = now ≡ before
+WriteCause put.Failed before now = Failed before now
+WriteCause put.Memory before now = now ≡ before

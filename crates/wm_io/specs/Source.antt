@@ -1,0 +1,25 @@
+-- What a read does to the bytes that a source has left and to its count of faults. This project's
+-- own choice.
+use Rattle.std.specs.Prelude.{◌≡◌, ℕ, ◌<◌, ◌≤◌, List, [], ◌++◌, take, Option, option_map, IfSome}
+use Rattle.wm_faults.specs.Faults.{Failed}
+use Rattle.wm_io.specs.declared.source.Got.{Got}
+use Rattle.wm_io.specs.declared.source.Got.TheVariants as got
+
+-- a count is at least one, and at most the length of the slice
+abbrev pub CountFits : Got → ℕ → Type 0
+CountFits (got.Some count) len = (0 < count) × (count ≤ len)
+CountFits got.End len = Unit {0}
+CountFits got.Failed len = Unit {0}
+
+-- Where the source tells what it has left: the bytes read stood in front of what is left now, the
+-- end comes only where nothing is left, and a failed read takes nothing.
+abbrev pub Reads : Got → Option (List ℕ) → Option (List ℕ) → List ℕ → Type 0
+Reads (got.Some count) before now slice = before ≡ option_map (λ rest. take count slice ++ rest) now
+Reads got.End before now slice = IfSome before (λ rest. rest ≡ []) × (now ≡ before)
+Reads got.Failed before now slice = now ≡ before
+
+-- a failed read raised the count, and any other left it
+abbrev pub ReadCause : Got → ℕ → ℕ → Type 0
+ReadCause (got.Some count) before now = now ≡ before
+ReadCause got.End before now = now ≡ before
+ReadCause got.Failed before now = Failed before now

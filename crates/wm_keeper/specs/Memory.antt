@@ -1,0 +1,25 @@
+-- What a `MemoryKeeper` holds, and what a call does to it. This project's own choice.
+use Rattle.std.specs.Prelude.{◌≡◌, ◌==◌, ℕ, ◌+◌, ◌-◌, ◌^◌, min, Bool, List, if◌then◌else◌}
+use Rattle.std.specs.List.{list_any}
+use Rattle.wm_keeper.specs.declared.row.Row.{Row}
+
+-- its rows, the numbers of the calls that fail, and how many calls and faults there were
+pub record MemoryState : Type 0 where
+  pub rows : List Row
+  pub failing : List ℕ
+  pub calls : ℕ
+  pub faults : ℕ
+
+-- the number of the next call: calls are counted from 1, and the count stands still at 2^64 - 1
+abbrev pub next_call : MemoryState → ℕ
+next_call keeper = min (keeper.calls + 1) (2 ^ 64 - 1)
+
+-- whether the next call is one of those that fail
+abbrev pub fails_next : MemoryState → Bool
+fails_next keeper = list_any (λ number. number == next_call keeper) keeper.failing
+
+-- a call was counted, and a fault where it was one of those that fail
+pub record CountsCall (before after : MemoryState) : Type 0 where
+  pub failing : after.failing ≡ before.failing
+  pub calls : after.calls ≡ next_call before
+  pub faults : after.faults ≡ (if fails_next before then min (before.faults + 1) (2 ^ 64 - 1) else before.faults)

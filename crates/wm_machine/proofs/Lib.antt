@@ -1,0 +1,4 @@
+pub mod LinesLemmas
+pub mod Logs
+pub mod States
+pub mod TextsLemmas

@@ -1,0 +1,12 @@
+pub mod Built
+pub mod Enqueued
+pub mod Lines
+pub mod Log
+pub mod Opened
+pub mod Replay
+pub mod Rows
+pub mod Step
+pub mod Texts
+pub mod Valid
+pub use Rattle.wm_data.specs.DataJson
+pub use Rattle.wm_keeper.specs.Keeper

@@ -1,0 +1,44 @@
+-- The state that a store opens to. What becomes of running work is this project's own choice.
+use Rattle.std.specs.Prelude.{◌≡◌, ℕ, ◌+◌, max, false, List, [], ◌∷◌, map}
+use Rattle.wm_keeper.specs.declared.row.Row.{Row}
+use Rattle.wm_machine.specs.Rows.{row_of}
+use Rattle.wm_machine.specs.declared.conditions.TheConstants.Conditions.{OPENING}
+use Rattle.wm_machine.specs.declared.record.Phase.{Phase}
+use Rattle.wm_machine.specs.declared.record.Phase.TheVariants as phase
+use Rattle.wm_machine.specs.declared.record.Record.{Record}
+use Rattle.wm_machine.specs.declared.state.Instance.{Instance}
+use Rattle.wm_machine.specs.declared.state.State.{State}
+
+-- running work waits again
+abbrev pub reopened_phase : Phase → Phase
+reopened_phase phase.Running = phase.Waiting
+reopened_phase phase.Waiting = phase.Waiting
+reopened_phase (phase.Done how) = phase.Done how
+
+abbrev pub reopened : Record → Record
+reopened work = record work { phase = reopened_phase work.phase; progress = [] }
+
+-- the greatest number plus one, 1 where there is no record
+abbrev pub next_number : List Record → ℕ
+next_number [] = 1
+next_number (work ∷ works) = max (work.seq + 1) (next_number works)
+
+-- the opening state of these records
+abbrev pub opening_state : List Record → List Instance → State
+opening_state works instances = record {
+  works = works;
+  conditions = OPENING;
+  now = 0;
+  runs = [];
+  instances = instances;
+  next = next_number works;
+  next_run = 1;
+  observers = [];
+  hushed = false;
+}
+
+-- the state is the one that these rows open to, with these instances
+pub record Opened (rows : List Row) (instances : List Instance) (first : State) : Type 0 where
+  pub stored : List Record
+  pub rows_are_theirs : rows ≡ map row_of stored
+  pub state : first ≡ opening_state (map reopened stored) instances

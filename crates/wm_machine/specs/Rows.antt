@@ -1,0 +1,106 @@
+-- The rows that are kept for a state. The form is this project's own choice.
+use Rattle.std.specs.Prelude.{◌≡◌, ℕ, ◌+◌, ◌^◌, ◌<◌, ◌≤◌, ℤ, pos, Bool, List, [], All, map, Option, Some, None, IfSome, if◌then◌else◌}
+use Rattle.wm_data.specs.DataJson.{data_text}
+use Rattle.wm_data.specs.declared.merger.Merger.{Merger}
+use Rattle.wm_data.specs.declared.merger.Merger.TheVariants.{Overwriting, ArrayCreating}
+use Rattle.wm_keeper.specs.declared.row.Row.{Row}
+use Rattle.wm_machine.specs.declared.conditions.Constraints.{Constraints}
+use Rattle.wm_machine.specs.declared.conditions.Network.{Network}
+use Rattle.wm_machine.specs.declared.conditions.Network.TheVariants as network
+use Rattle.wm_machine.specs.declared.record.How.TheVariants as how
+use Rattle.wm_machine.specs.declared.record.Phase.{Phase}
+use Rattle.wm_machine.specs.declared.record.Phase.TheVariants as phase
+use Rattle.wm_machine.specs.declared.record.Record.{Record}
+use Rattle.wm_machine.specs.declared.schedule.BackoffPolicy.{BackoffPolicy}
+use Rattle.wm_machine.specs.declared.schedule.BackoffPolicy.TheVariants.{Linear, Exponential}
+use Rattle.wm_machine.specs.declared.schedule.Period.{Period}
+use Rattle.wm_machine.specs.declared.state.State.{State}
+
+abbrev pub kind_code : Option Period → ℤ
+kind_code None = pos 0
+kind_code (Some period) = pos 1
+
+abbrev pub period_code : Option Period → ℤ
+period_code None = pos 0
+period_code (Some period) = pos period.period
+
+abbrev pub flex_code : Option Period → ℤ
+flex_code None = pos 0
+flex_code (Some period) = pos period.flex
+
+abbrev pub policy_code : BackoffPolicy → ℤ
+policy_code Linear = pos 0
+policy_code Exponential = pos 1
+
+abbrev pub merger_code : Merger → ℤ
+merger_code Overwriting = pos 0
+merger_code ArrayCreating = pos 1
+
+abbrev pub network_code : Network → ℤ
+network_code network.NotRequired = pos 0
+network_code network.Connected = pos 1
+network_code network.Unmetered = pos 2
+network_code network.NotRoaming = pos 3
+network_code network.Metered = pos 4
+
+-- the weight of a constraint that is set
+abbrev pub flag : Bool → ℕ → ℕ
+flag set weight = if set then weight else 0
+
+abbrev pub flags_code : Constraints → ℤ
+flags_code c = pos (flag c.charging 8 + flag c.idle 4 + flag c.battery_not_low 2 + flag c.storage_not_low 1)
+
+abbrev pub phase_code : Phase → ℤ
+phase_code phase.Waiting = pos 0
+phase_code phase.Running = pos 1
+phase_code (phase.Done how.Succeeded) = pos 2
+phase_code (phase.Done how.Failed) = pos 3
+phase_code (phase.Done how.Cancelled) = pos 4
+
+-- the row of a record; progress isn't stored
+abbrev pub row_of : Record → Row
+row_of work = record {
+  version = pos 1;
+  seq = pos work.seq;
+  id = work.request.id;
+  name = work.name;
+  class = work.request.class;
+  kind = kind_code work.request.period;
+  period = period_code work.request.period;
+  flex = flex_code work.request.period;
+  delay = pos work.request.initial_delay;
+  policy = policy_code work.request.backoff.policy;
+  wait = pos work.request.backoff.delay;
+  merger = merger_code work.request.merger;
+  network = network_code work.request.constraints.network;
+  flags = flags_code work.request.constraints;
+  phase = phase_code work.phase;
+  attempt = pos work.attempt;
+  backoff_n = pos work.backoff_n;
+  runs = pos work.runs;
+  generation = pos work.generation;
+  enqueued_at = pos work.enqueued_at;
+  input = data_text work.request.input;
+  output = data_text work.output;
+  prior = map pos work.prior;
+  tags = work.request.tags;
+}
+
+-- the rows of a state, in ascending number
+abbrev pub rows_of : State → List Row
+rows_of s = map row_of s.works
+
+-- the numbers of a record are within their limits
+pub record FitsRow (work : Record) : Type 0 where
+  pub seq : work.seq < 2 ^ 53
+  pub prior : All (λ number. number < 2 ^ 53) work.prior
+  pub generation : work.generation < 2 ^ 53
+  pub enqueued_at : work.enqueued_at < 2 ^ 53
+  pub delay : work.request.initial_delay ≤ 315360000000
+  pub wait : work.request.backoff.delay ≤ 18000000
+  pub period : IfSome work.request.period (λ p. (p.period ≤ 315360000000) × (p.flex ≤ 315360000000))
+
+-- a record takes no data and gave none
+pub record HasNoData (work : Record) : Type 0 where
+  pub input : work.request.input ≡ []
+  pub output : work.output ≡ []

@@ -1,0 +1,58 @@
+use crate::request::Request;
+use wm_collections::{Items, Text};
+use wm_data::Data;
+
+/// How a finished work ended.
+#[derive(Clone, Copy, Debug, PartialEq, Eq)]
+pub enum How {
+    Succeeded,
+    Failed,
+    Cancelled,
+}
+
+/// The phase that a record is stored in.
+#[derive(Clone, Copy, Debug, PartialEq, Eq)]
+pub enum Phase {
+    Waiting,
+    Running,
+    Done(How),
+}
+
+/// The state that is shown of a work, after `androidx.work.WorkInfo.State`.
+#[derive(Clone, Copy, Debug, PartialEq, Eq)]
+pub enum Shown {
+    Enqueued,
+    Running,
+    Succeeded,
+    Failed,
+    Blocked,
+    Cancelled,
+}
+
+/// What is known of one work.
+#[derive(Debug, Drop)]
+pub struct Record {
+    /// Its number, from 1 in the order of enqueueing.
+    pub seq: u64,
+    /// The unique name that it was enqueued under.
+    pub name: Option<Text>,
+    /// What was asked for.
+    pub request: Request,
+    /// The numbers of its prerequisites, in the order in which they were named.
+    pub prior: Items<u64>,
+    pub phase: Phase,
+    /// How often it was started.
+    pub attempt: u32,
+    /// The attempt that its backoff counts from, 0 where there is none.
+    pub backoff_n: u32,
+    /// How many periods of it have run.
+    pub runs: u32,
+    /// How often it was updated.
+    pub generation: u64,
+    /// The moment from which its delay counts.
+    pub enqueued_at: u64,
+    /// What it gave in the end.
+    pub output: Data,
+    /// What it told while it runs.
+    pub progress: Data,
+}

@@ -1,0 +1,4 @@
+pub mod Answers
+pub mod Diary
+pub mod Signal
+pub mod Told
