@@ -1,0 +1,95 @@
+ghost use Rattle.std.specs.Prelude.{◌≡◌, ◌≤◌, map, vec_len, IfOk, IfErr, IfSome, IfNone, OnSome, option_map};
+
+use crate::hand::HandOf;
+use crate::place::{Place, give_at, take_at};
+use crate::seat::SeatedOf;
+use std::alloc::{AllocFailed, Global};
+use std::marker::Model;
+use wm_worker::Worker;
+
+/// The most hands that a bench is made of.
+pub const MAX_HANDS: usize = 10_000;
+
+/// The instances of a run, numbered from 0, each idle at its place or out with a seat. A contract
+/// sees the list of the places.
+#[derive(Drop)]
+pub struct BenchOf<B> {
+    places: Vec<Place<B>>,
+    /// Empty, with room for each instance.
+    room: Vec<HandOf<B>>,
+}
+
+/// A bench of boxed workers.
+pub type Bench = BenchOf<Box<dyn Worker + Send>>;
+
+impl<B> Model for BenchOf<B> {
+    ghost use Rattle.std.specs.Prelude.{◌≡◌, ◌≤◌, List, [], vec_len, vec_capacity};
+    ghost use Rattle.wm_bench.specs.declared.place.Place.{Place};
+
+    ghost Value = { List (Place B) };
+
+    ghost view = { λ b. b.places.items };
+
+    ghost invariant = { λ b. (b.room.items ≡ []) × (vec_len b.places ≤ vec_capacity b.room) };
+}
+
+impl<B: Worker> BenchOf<B> {
+    ghost use Rattle.wm_bench.specs.Places.{place_of, idle_at, idle_hands, changed_at, made_away, made_idle, IsAwayAt};
+
+    /// A bench of these hands, all idle, numbered from 0 in order. Where memory is refused the hands
+    /// come back.
+    pub fn new(
+        alloc: Global,
+        mut hands: Vec<HandOf<B>>,
+    ) -> Result<BenchOf<B>, AllocFailed<Vec<HandOf<B>>>>
+        requires { vec_len hands ≤ MAX_HANDS }
+        ensures places { IfOk result (λ bench. bench ≡ map place_of hands.items) }
+        ensures hands { IfErr result (λ failed. failed.value.items ≡ hands.items) }
+    {
+        let Ok(mut places) = Vec::with_capacity(alloc, hands.len()) else {
+            return Err(AllocFailed { value: hands });
+        };
+        'hands: for hand in hands.drain(..) {
+            places.push_reserved(Place::of(hand));
+        }
+        Ok(BenchOf {
+            places,
+            room: hands,
+        })
+    }
+
+    /// Takes the instance of this number out, if it is idle on the bench.
+    pub fn take(&mut self, number: u32) -> Option<SeatedOf<B>>
+        ensures seat { result ≡ option_map (λ worker. record { number = number; worker = worker }) (idle_at number self.old) }
+        ensures taken { OnSome result (self.new ≡ changed_at (made_away B.kind_of) number self.old) }
+        ensures none { IfNone result (self.new ≡ self.old) }
+
+        // It can be given back.
+        ensures away { IfSome result (λ seat. IsAwayAt number (B.kind_of seat.worker) self.new) }
+    {
+        let worker = take_at(&mut self.places, number as usize)?;
+        Some(SeatedOf { number, worker })
+    }
+
+    /// Puts a worker back at its place, which it was taken from: it is idle there again.
+    pub fn give(&mut self, seat: SeatedOf<B>)
+        requires { IsAwayAt seat.number (B.kind_of seat.worker) self.old }
+        ensures { self.new ≡ changed_at (made_idle seat.worker) seat.number self.old }
+    {
+        let SeatedOf { number, worker } = seat;
+        give_at(&mut self.places, number as usize, worker);
+    }
+
+    /// The instances that are on the bench, in order of their numbers.
+    pub fn back(self) -> Vec<HandOf<B>>
+        ensures { result.items ≡ idle_hands self }
+    {
+        let BenchOf { places, mut room } = self;
+        'places: for place in places {
+            if let Some(hand) = place.into_hand() {
+                room.push_reserved(hand);
+            }
+        }
+        room
+    }
+}
