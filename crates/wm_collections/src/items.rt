@@ -1,7 +1,8 @@
-ghost use Rattle.std.specs.Prelude.{◌≡◌, ◌==◌, List, [], ◌∷◌, ◌++◌, length, take, IfErr, OnOk, OnErr};
+ghost use Rattle.std.specs.Prelude.{◌≡◌, ◌==◌, ◌<◌, List, [], ◌∷◌, ◌++◌, length, take, remove, slice_get, slice_set, Some, IfErr, OnOk, OnErr};
 
 use std::alloc::{AllocError, AllocFailed, Global};
 use std::marker::Model;
+use std::mem;
 
 /// A list of values. A contract sees it as the list of its elements.
 #[derive(Debug, Drop)]
@@ -67,6 +68,24 @@ impl<T> Items<T> {
         self.elements.push(value)
     }
 
+    /// Puts a value in the place of the one at an index, which it hands back.
+    pub fn replace(&mut self, index: usize, value: T) -> T
+        requires { index < length self.old }
+        ensures elements { self.new ≡ slice_set self.old index value }
+        ensures replaced { slice_get self.old index ≡ Some result }
+    {
+        mem::replace(&mut self.elements[index], value)
+    }
+
+    /// Takes the value at an index out.
+    pub fn remove(&mut self, index: usize) -> T
+        requires { index < length self.old }
+        ensures elements { self.new ≡ remove self.old index }
+        ensures removed { slice_get self.old index ≡ Some result }
+    {
+        self.elements.remove(index)
+    }
+
     /// Keeps the first `count` elements.
     pub fn truncate(&mut self, count: usize)
     where
@@ -115,9 +134,12 @@ mod tests {
         push_both(&mut first, 2, &mut second, 8)?;
         assert_eq!(rt; first.as_slice(), [1, 2].as_slice());
         assert_eq!(rt; second.as_slice(), [7, 8].as_slice());
+        assert_eq!(rt; first.replace(0, 5), 1);
+        assert_eq!(rt; second.remove(0), 7);
+        assert_eq!(rt; second.as_slice(), [8].as_slice());
         first.truncate(1);
         assert_eq!(rt; first.len(), 1);
-        assert_eq!(rt; first.into_vec().as_slice(), [1].as_slice());
+        assert_eq!(rt; first.into_vec().as_slice(), [5].as_slice());
         Ok(())
     }
 }

@@ -25,6 +25,8 @@ impl Model for FaultCount {
 }
 
 impl FaultCount {
+    ghost use Rattle.wm_faults.specs.Faults.{Failed};
+
     /// No fault so far.
     pub fn new() -> FaultCount
         ensures { result ≡ 0 }
@@ -36,6 +38,7 @@ impl FaultCount {
     pub fn raise(&mut self)
         ensures count { self.new ≡ min (self.old + 1) (2 ^ 64 - 1) }
         ensures later { self.old ≤ self.new }
+        ensures failed { Failed self.old self.new }
     {
         self.count = self.count.saturating_add(1);
     }
