@@ -1,26 +1,23 @@
 -- How a run ends that has made no event.
 use Rattle.std.proofs.Common.{◌≡◌, ℕ, List, [], ◌++◌, Option, Some, None, refl, sym, ◌∙◌, ap, subst}
-use Rattle.std.proofs.lemmas.List.{append-nil}
-use Rattle.wm_cli.specs.Ended.{ForScript, HasCommands, IsTextGiven}
+use Rattle.wm_cli.specs.Ended.{ForScript}
+use Rattle.wm_session.specs.Ended.{HasCommands, IsTextGiven}
+use Rattle.wm_session.proofs.Pieces.{IsGiven-nothing}
 use Rattle.wm_cli.specs.Reading.{IsReadStatus}
-use Rattle.wm_cli.specs.Writing.{IsGiven, IsPartGiven}
-use Rattle.wm_cli.specs.declared.status.Status.{Status}
-use Rattle.wm_cli.specs.declared.status.Status.TheVariants as status
+use Rattle.wm_session.specs.Writing.{IsGiven, IsPartGiven}
+use Rattle.wm_session.specs.declared.status.Status.{Status}
+use Rattle.wm_session.specs.declared.status.Status.TheVariants as status
 use Rattle.wm_machine.specs.Log.{commands_of, AreNumberedFrom}
 use Rattle.wm_machine.specs.Texts.{log_text}
 use Rattle.wm_machine.specs.declared.command.Command.{Command}
 use Rattle.wm_machine.specs.declared.event.Event.{Event}
 use Rattle.wm_machine.specs.declared.state.State.{State}
 
-given_nothing : (given : Option (List ℕ)) → IsGiven given given []
-given_nothing None = refl
-given_nothing (Some bytes) = ap (λ (l : List ℕ). Some l) (sym (append-nil bytes))
-
 -- no event has no text
 pub IsTextGiven-nothing : (before now : Option (List ℕ)) (ended : Status) (first : State) (log : List Event) → now ≡ before → log ≡ [] → IsTextGiven before now ended first log
 IsTextGiven-nothing before now ended first log same none =
     let empty : log_text first log ≡ [] = ap (log_text first) none in
-    let given : IsGiven before now [] = same ∙ given_nothing before in
+    let given : IsGiven before now [] = same ∙ IsGiven-nothing before in
     record {
       front = subst (IsPartGiven before now) (sym empty) ([], ([], refl), given);
       all = λ done. subst (IsGiven before now) (sym empty) given;

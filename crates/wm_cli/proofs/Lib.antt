@@ -1,4 +1,4 @@
 pub mod Endings
+pub mod Hands
+pub mod Opening
 pub mod Pieces
-pub mod Placing
-pub mod Sessions

@@ -1,21 +1,45 @@
--- Which status a fault gives. This project's own choice.
-use Rattle.wm_cli.specs.declared.session.Stop.{Stop}
-use Rattle.wm_cli.specs.declared.session.Stop.TheVariants as stop
-use Rattle.wm_cli.specs.declared.status.Status.{Status}
-use Rattle.wm_cli.specs.declared.status.Status.TheVariants as status
-use Rattle.wm_cli.specs.declared.table.BeginFault.{BeginFault}
-use Rattle.wm_cli.specs.declared.table.BeginFault.TheVariants.{Bad}
-use Rattle.wm_keeper.specs.declared.keeper.KeepFault.{KeepFault}
-use Rattle.wm_keeper.specs.declared.keeper.KeepFault.TheVariants.{Failed, Memory}
+-- Which status a fault of reading gives, and when each status comes. This project's own choice.
+use Rattle.std.specs.Prelude.{◌≡◌, ◌⊎◌, ℕ, ℤ, ◌<◌, ◌≤◌, true, List, [], ◌∷◌, length, Option, IfSome, IsSomeAnd}
+use Rattle.wm_keeper.specs.declared.row.Row.{Row}
+use Rattle.wm_machine.specs.declared.lines.Limit.TheVariants.{Bytes}
+use Rattle.wm_machine.specs.declared.lines.TheConstants.{MAX_SCRIPT_BYTES}
+use Rattle.wm_session.specs.declared.status.Status.{Status}
+use Rattle.wm_session.specs.declared.status.Status.TheVariants as status
 
-abbrev pub status_by_keeper : KeepFault → Status
-status_by_keeper Failed = status.KeeperFault
-status_by_keeper Memory = status.Memory
+-- where the source tells what it has left, it is longer than the limit on a script's bytes
+abbrev pub IsTooLong : Option (List ℕ) → Type 0
+IsTooLong left = IfSome left (λ all. MAX_SCRIPT_BYTES < length all)
 
-abbrev pub status_by_begin : BeginFault → Status
-status_by_begin (Bad seq bad_row) = status.BadStore seq bad_row
+-- the source tells what it has left, and it is longer than the limit
+abbrev pub IsToldTooLong : Option (List ℕ) → Type 0
+IsToldTooLong left = IsSomeAnd left (λ all. MAX_SCRIPT_BYTES < length all)
 
-abbrev pub status_by_stop : Stop → Status
-status_by_stop stop.KeeperFault = status.KeeperFault
-status_by_stop stop.SinkFault = status.SinkFault
-status_by_stop stop.Memory = status.Memory
+-- the source tells what it has left, and it is within the limit
+abbrev pub IsToldWithin : Option (List ℕ) → Type 0
+IsToldWithin left = IsSomeAnd left (λ all. length all ≤ MAX_SCRIPT_BYTES)
+
+-- `ScriptTooLong` names the limit on bytes, and comes only where the source didn't fail and the script is too long
+abbrev pub LimitCause : Status → ℕ → ℕ → Option (List ℕ) → Type 0
+LimitCause (status.ScriptTooLong limit) before now left = (limit ≡ Bytes) × (now ≡ before) × IsTooLong left
+LimitCause _ before now left = Unit {0}
+
+-- the first of these rows has this number
+abbrev pub BeginsAt : List Row → ℤ → Type 0
+BeginsAt [] seq = ⊥
+BeginsAt (row ∷ rows) seq = seq ≡ row.seq
+
+-- `BadStore` names the first row that the keeper held, as one that is out of form
+abbrev pub StoreCause : Status → Option (List Row) → Type 0
+StoreCause (status.BadStore seq bad_row) held = (bad_row ≡ true) × IfSome held (λ rows. BeginsAt rows seq)
+StoreCause _ held = Unit {0}
+
+-- this status, or want of memory
+abbrev pub IsUnlessMemory : Status → Status → Type 0
+IsUnlessMemory ended expected = (ended ≡ expected) ⊎ (ended ≡ status.Memory)
+
+-- how a run ends whose commands were read
+abbrev pub IsOpeningStatus : Status → Type 0
+IsOpeningStatus status.Usage = ⊥
+IsOpeningStatus status.SourceFault = ⊥
+IsOpeningStatus (status.ScriptTooLong limit) = ⊥
+IsOpeningStatus _ = Unit {0}

@@ -1,10 +1,6 @@
+pub mod Benched
 pub mod Causes
 pub mod Ended
 pub mod Reading
 pub mod Script
-pub mod Session
-pub mod Status
-pub mod Table
-pub mod Trouble
 pub mod Words
-pub mod Writing

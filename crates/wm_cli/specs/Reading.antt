@@ -1,8 +1,9 @@
 -- What reading the commands of a script answers. This project's own choice.
 use Rattle.std.specs.Prelude.{◌≡◌, ℕ, ◌≤◌, List, length, Option}
-use Rattle.wm_cli.specs.Ended.{ForScript, IsTooLong}
-use Rattle.wm_cli.specs.declared.status.Status.{Status}
-use Rattle.wm_cli.specs.declared.status.Status.TheVariants as status
+use Rattle.wm_cli.specs.Causes.{IsTooLong}
+use Rattle.wm_cli.specs.Ended.{ForScript}
+use Rattle.wm_session.specs.declared.status.Status.{Status}
+use Rattle.wm_session.specs.declared.status.Status.TheVariants as status
 use Rattle.wm_faults.specs.Faults.{Failed}
 use Rattle.wm_machine.specs.Lines.{commands_in}
 use Rattle.wm_machine.specs.declared.command.Command.{Command}

@@ -1,29 +1,38 @@
-ghost use Rattle.std.specs.Prelude.{◌≡◌, ◌↔◌, ◌+◌, [], ◌∷◌, option_map, ◌<◌, ◌^◌, List, length, map, true, None, Some, IfOk, IfErr, IfSome, IsSome, OnOk, string_bytes};
+ghost use Rattle.std.specs.Prelude.{◌≡◌, ◌↔◌, ◌+◌, ◌≤◌, ◌<◌, ◌^◌, [], ◌∷◌, List, Option, length, map, option_map, vec_len, true, None, Some, IfOk, IfErr, IfSome, IsSome, OnOk, IsTrue, string_bytes};
 ghost use Rattle.std.specs.List.{AllByRecursion};
-ghost use Rattle.wm_cli.specs.Ended.{AreRowsKept, IsOpeningStatus, IsSessionStatus, HasCommands, HasCommandsOf, IsBegunBy, IsReplayed, IsTextGiven, IsToldTooLong, IsToldWithin, IsUnlessMemory, LimitCause, StoreCause};
+ghost use Rattle.wm_bench.specs.declared.bench.TheConstants.{MAX_HANDS};
+ghost use Rattle.wm_cli.specs.Benched.{AreBenched};
+ghost use Rattle.wm_cli.specs.Causes.{IsOpeningStatus, IsToldTooLong, IsToldWithin, IsUnlessMemory, LimitCause, StoreCause};
+ghost use Rattle.wm_cli.specs.Ended.{AreHandsOf, AreRowsKept, HasCommandsOf, HaveToldOnDone, IsBegunBy, IsQuietOnDone, IsReplayed, IsSerialOver};
 ghost use Rattle.wm_cli.specs.Reading.{AreCommandsOf, IsReadStatus};
 ghost use Rattle.wm_cli.specs.Script.{IsTakenWithin};
-ghost use Rattle.wm_cli.specs.Table.{HoldsRowsOf};
 ghost use Rattle.wm_cli.specs.Words.{store_named};
 ghost use Rattle.wm_faults.specs.Faults.{Failed};
 ghost use Rattle.wm_keeper.specs.declared.row.Row.{Row};
 ghost use Rattle.wm_machine.specs.Built.{IsBuilt};
 ghost use Rattle.wm_machine.specs.Opened.{opening_state};
+ghost use Rattle.wm_machine.specs.Quiet.{IsQuiet};
 ghost use Rattle.wm_machine.specs.Replay.{Replay};
 ghost use Rattle.wm_machine.specs.Rows.{rows_of};
 ghost use Rattle.wm_machine.specs.declared.lines.TheConstants.{MAX_SCRIPT_BYTES};
+ghost use Rattle.wm_session.specs.Bench.{place_diaries};
+ghost use Rattle.wm_session.specs.Given.{given_to};
+ghost use Rattle.wm_session.specs.Ended.{AreHandsBack, HasCommands, HaveTold, IsSerialRun, IsSessionStatus, IsTextGiven};
+ghost use Rattle.wm_session.specs.Hands.{instances_from, AreEchoes};
+ghost use Rattle.wm_session.specs.Table.{HoldsRowsOf};
 
-use crate::ended::{Ended, opening_state};
+use crate::instances::instances_of;
 use crate::script::{ReadFault, read_script};
-use crate::session::Session;
-use crate::status::Status;
-use crate::table::Table;
 use crate::words::store_named;
-use std::alloc::Global;
+use std::alloc::{AllocFailed, Global};
+use std::marker::Brand;
+use wm_bench::{BenchOf, HandOf};
 use wm_collections::Items;
 use wm_io::{Sink, Source};
-use wm_keeper::Keeper;
+use wm_keeper::{Keeper, Row};
 use wm_machine::{Command, Limit, ScriptFault, read_lines};
+use wm_session::{BookOf, EndedOf, Mark, Status, Table, TableEnd, run_serial};
+use wm_worker::Worker;
 
 /// Reads the commands of a script, or says with which status a run ends without them.
 fn read_commands<S: Source>(alloc: Global, source: &mut S) -> Result<Items<Command>, Status>
@@ -48,21 +57,30 @@ fn read_commands<S: Source>(alloc: Global, source: &mut S) -> Result<Items<Comma
 }
 
 /// Opens the store of this name and executes the commands on it.
-fn run_commands<W: Sink, K: Keeper>(
+fn run_commands<W: Sink, K: Keeper, B: Worker>(
     alloc: Global,
     store: &str,
     commands: Items<Command>,
+    hands: Vec<HandOf<B>>,
     sink: W,
     mut keeper: K,
-) -> Ended<K, W>
+) -> EndedOf<K, W, B>
+    requires few_hands { vec_len hands ≤ MAX_HANDS }
+    requires echoes { AreEchoes B.kind_of hands.items }
     requires built { AllByRecursion IsBuilt commands }
     requires few { length commands < 2 ^ 32 }
-    ensures replay { IsReplayed (K.held keeper) result.began result.first result.log result.last }
+    ensures replay { IsReplayed (K.held keeper) (instances_from B.kind_of 0 hands.items)
+        result.began result.first result.log result.last }
     ensures begun { IsBegunBy result.status result.began }
     ensures rows { AreRowsKept result.began result.last (K.held keeper) (K.held result.keeper) }
     ensures commands { HasCommands commands result.status result.log }
     ensures bytes { IsTextGiven (W.given sink) (W.given result.sink)
         result.status result.first result.log }
+    ensures serial { IsSerialRun commands result.status result.first result.log result.last }
+    ensures end { IsQuietOnDone result.status result.last }
+    ensures hands { AreHandsOf B.kind_of result.began result.last hands.items result.hands.items }
+    ensures diaries { HaveToldOnDone B.diary_of result.status hands.items
+        result.first result.log result.hands.items }
     ensures opened { IsOpeningStatus result.status }
     ensures keeper_fault { result.status ≡ Status.KeeperFault
         → Failed (K.faults keeper) (K.faults result.keeper) }
@@ -75,74 +93,165 @@ fn run_commands<W: Sink, K: Keeper>(
 {
     let rows = match keeper.load(store) {
         Ok(rows) => rows,
-        Err(fault) => return Ended::before_begin(alloc, Status::from(fault), keeper, sink),
+        Err(fault) => {
+            return EndedOf::before_begin(alloc, Status::from(fault), keeper, sink, hands);
+        }
     };
-    match Table::begin(alloc, keeper, &rows) {
-        Ok(table) => run_session(alloc, commands, Session { table, sink }),
+    let Ok(instances) = instances_of(alloc, &hands) else {
+        return EndedOf::before_begin(alloc, Status::Memory, keeper, sink, hands);
+    };
+    match Table::begin(alloc, keeper, &rows, instances) {
+        Ok(table) => run_begun(alloc, table, commands, hands, sink),
         Err(refused) => {
             let (keeper, fault) = refused;
-            Ended::before_begin(alloc, Status::from(fault), keeper, sink)
+            EndedOf::before_begin(alloc, Status::from(fault), keeper, sink, hands)
         }
     }
 }
 
-/// Executes the commands in a session that has just begun on an empty store.
-fn run_session<W: Sink, K: Keeper>(
+/// Executes the commands on a table that has just begun on an empty store, with these workers.
+fn run_begun<W: Sink, K: Keeper, B: Worker>(
     alloc: Global,
+    table: Table<K>,
     commands: Items<Command>,
-    mut session: Session<K, W>,
-) -> Ended<K, W>
+    hands: Vec<HandOf<B>>,
+    sink: W,
+) -> EndedOf<K, W, B>
+    requires few_hands { vec_len hands ≤ MAX_HANDS }
+    requires echoes { AreEchoes B.kind_of hands.items }
     requires built { AllByRecursion IsBuilt commands }
     requires few { length commands < 2 ^ 32 }
-    requires state { session.table.state ≡ opening_state [] [] }
-    requires log { session.table.log ≡ [] }
-    requires rows { HoldsRowsOf (opening_state [] []) (K.held session.table.keeper) }
-    ensures first { result.first ≡ opening_state [] [] }
+    requires first { table.first ≡ opening_state [] (instances_from B.kind_of 0 hands.items) }
+    requires state { table.state ≡ table.first }
+    requires log { table.log ≡ [] }
+    requires rows { HoldsRowsOf table.state (K.held table.keeper) }
+    ensures began { result.began ≡ true }
+    ensures first { result.first ≡ table.first }
     ensures replay { Replay result.first result.log result.last }
     ensures status { IsSessionStatus result.status }
-    ensures began { result.began ≡ true }
     ensures rows { K.held result.keeper
-        ≡ option_map (λ _. rows_of result.last) (K.held session.table.keeper) }
+        ≡ option_map (λ _. rows_of result.last) (K.held table.keeper) }
     ensures commands { HasCommands commands result.status result.log }
-    ensures bytes { IsTextGiven (W.given session.sink) (W.given result.sink)
+    ensures bytes { IsTextGiven (W.given sink) (W.given result.sink)
         result.status result.first result.log }
+    ensures serial { IsSerialRun commands result.status result.first result.log result.last }
+    ensures end { IsQuietOnDone result.status result.last }
+    ensures hands { AreHandsBack B.kind_of result.last result.hands.items }
+    ensures diaries { HaveToldOnDone B.diary_of result.status hands.items
+        result.first result.log result.hands.items }
     ensures keeper_fault { result.status ≡ Status.KeeperFault
-        → Failed (K.faults session.table.keeper) (K.faults result.keeper) }
+        → Failed (K.faults table.keeper) (K.faults result.keeper) }
     ensures sink_fault { result.status ≡ Status.SinkFault
-        → Failed (W.faults session.sink) (W.faults result.sink) }
+        → Failed (W.faults sink) (W.faults result.sink) }
 {
-    let status = match session.execute_all(alloc, commands) {
-        Ok(()) => Status::Done,
-        Err(stop) => Status::from(stop),
-    };
-    let Session { table, sink } = session;
-    let Table { state, log, keeper } = table;
-    Ended {
-        status,
-        began: true,
-        first: opening_state(alloc),
+    match BenchOf::new(alloc, hands) {
+        Ok(bench) => run_marked::<W, K, B, Brand>(alloc, table, bench, commands, sink),
+        Err(failed) => {
+            let AllocFailed { value } = failed;
+            end_at_once(table, value, sink)
+        }
+    }
+}
+
+/// Executes the commands in a book whose mark is what the run was given.
+fn run_marked<W: Sink, K: Keeper, B: Worker, M: Mark>(
+    alloc: Global,
+    table: Table<K>,
+    bench: BenchOf<B>,
+    commands: Items<Command>,
+    sink: W,
+) -> EndedOf<K, W, B>
+    requires given { M.given ≡ given_to table (K.held table.keeper) (K.faults table.keeper)
+        commands (W.given sink) (W.faults sink) }
+    requires benched { AreBenched B.kind_of bench table.first }
+    requires built { AllByRecursion IsBuilt commands }
+    requires few { length commands < 2 ^ 32 }
+    requires state { table.state ≡ table.first }
+    requires log { table.log ≡ [] }
+    requires rows { HoldsRowsOf table.state (K.held table.keeper) }
+    ensures began { result.began ≡ true }
+    ensures first { result.first ≡ table.first }
+    ensures replay { Replay result.first result.log result.last }
+    ensures status { IsSessionStatus result.status }
+    ensures rows { K.held result.keeper
+        ≡ option_map (λ _. rows_of result.last) (K.held table.keeper) }
+    ensures commands { HasCommands commands result.status result.log }
+    ensures bytes { IsTextGiven (W.given sink) (W.given result.sink)
+        result.status result.first result.log }
+    ensures serial { IsSerialRun commands result.status result.first result.log result.last }
+    ensures end { IsQuietOnDone result.status result.last }
+    ensures hands { AreHandsBack B.kind_of result.last result.hands.items }
+    ensures diaries { result.status ≡ Status.Done → HaveTold B.diary_of
+        (place_diaries B.diary_of bench) result.first result.log result.hands.items }
+    ensures keeper_fault { result.status ≡ Status.KeeperFault
+        → Failed (K.faults table.keeper) (K.faults result.keeper) }
+    ensures sink_fault { result.status ≡ Status.SinkFault
+        → Failed (W.faults sink) (W.faults result.sink) }
+{
+    match BookOf::<K, W, B, M>::new(alloc, table, bench, commands, sink) {
+        Ok(book) => run_serial(alloc, book),
+        Err(parts) => {
+            let (table, bench, sink) = parts;
+            end_at_once(table, bench.back(), sink)
+        }
+    }
+}
+
+/// Ends a run for want of memory whose table was begun, before its first event.
+fn end_at_once<W: Sink, K: Keeper, B: Worker>(
+    table: Table<K>,
+    hands: Vec<HandOf<B>>,
+    sink: W,
+) -> EndedOf<K, W, B>
+    ensures status { result.status ≡ Status.Memory }
+    ensures began { result.began ≡ true }
+    ensures first { result.first ≡ table.first }
+    ensures log { result.log ≡ table.log }
+    ensures last { result.last ≡ table.state }
+    ensures keeper { result.keeper ≡ table.keeper }
+    ensures sink { result.sink ≡ sink }
+    ensures hands { result.hands ≡ hands }
+{
+    let TableEnd {
+        first,
+        last,
         log,
-        last: state,
+        keeper,
+    } = table.end();
+    EndedOf {
+        status: Status::Memory,
+        began: true,
+        first,
+        log,
+        last,
         keeper,
         sink,
+        hands,
     }
 }
 
 /// Does all that the program does: reads the words, then the whole script, then opens the store,
-/// and executes the script's commands one after another, writing the reply to each.
+/// and executes the script's commands one after another, writing the reply to each. After each
+/// command the works that may start are driven to their ends by the workers.
 ///
-/// The words are those of the command line after the program's name. What comes back is how the
-/// run ended, with the log of its events between the first state and the last, the keeper and the
-/// sink. Each status has its cause: see [`Status`].
-pub fn run<S: Source, W: Sink + Send, K: Keeper + Send>(
+/// The words are those of the command line after the program's name. The workers are boxed by
+/// whoever calls, or of any one type; each is an Echo, and there are at most 10,000. What comes
+/// back is how the run ended, with the log of its events between the first state and the last, the
+/// keeper, the sink and the workers. Each status has its cause: see [`Status`].
+pub fn run<S: Source, W: Sink + Send, K: Keeper + Send, B: Worker>(
     alloc: Global,
     words: &[String],
+    hands: Vec<HandOf<B>>,
     source: &mut S,
     sink: W,
     keeper: K,
-) -> Ended<K, W>
+) -> EndedOf<K, W, B>
+    requires few_hands { vec_len hands ≤ MAX_HANDS }
+    requires echoes { AreEchoes B.kind_of hands.items }
+
     // The log replays, from the state that the rows held opened to, as the state machine.
-    ensures replay { IsReplayed (K.held keeper) result.began result.first result.log result.last }
+    ensures replay { IsReplayed (K.held keeper) (instances_from B.kind_of 0 hands.items)
+        result.began result.first result.log result.last }
     ensures begun { IsBegunBy result.status result.began }
     // The rows kept are the last state's.
     ensures rows { AreRowsKept result.began result.last (K.held keeper) (K.held result.keeper) }
@@ -151,6 +260,15 @@ pub fn run<S: Source, W: Sink + Send, K: Keeper + Send>(
     // The bytes written are the log's text, a front of it, and on `Done` all.
     ensures bytes { IsTextGiven (W.given sink) (W.given result.sink)
         result.status result.first result.log }
+    // On `Done` nothing is startable and no run is unreturned.
+    ensures end { IsQuietOnDone result.status result.last }
+    // The workers come back, with what they wrote down.
+    ensures hands { AreHandsOf B.kind_of result.began result.last hands.items result.hands.items }
+    ensures diaries { HaveToldOnDone B.diary_of result.status hands.items
+        result.first result.log result.hands.items }
+    // The log is that of a serial run over the script's commands, or a front of one.
+    ensures serial { IsSerialOver (S.left source.old) result.status
+        result.first result.log result.last }
 
     // At most one byte more than a script has is read.
     ensures reads { IsTakenWithin (MAX_SCRIPT_BYTES + 1) (S.left source.old) (S.left source.new) }
@@ -182,12 +300,19 @@ pub fn run<S: Source, W: Sink + Send, K: Keeper + Send>(
         → IsToldWithin (S.left source.old) → ¬ Failed (S.faults source.old) (S.faults source.new)
         → K.held keeper ≡ Some (row ∷ rest) → ¬ Failed (K.faults keeper) (K.faults result.keeper)
         → IsUnlessMemory result.status (Status.BadStore row.seq true) }
+
+    // Completeness: right words, a script within the limit, an empty store and no fault.
+    ensures completes { IsSome (store_named (map string_bytes words.now))
+        → IsToldWithin (S.left source.old) → ¬ Failed (S.faults source.old) (S.faults source.new)
+        → K.held keeper ≡ Some [] → ¬ Failed (K.faults keeper) (K.faults result.keeper)
+        → ¬ Failed (W.faults sink) (W.faults result.sink)
+        → IsUnlessMemory result.status Status.Done }
 {
     let Some(store) = store_named(words) else {
-        return Ended::before_begin(alloc, Status::Usage, keeper, sink);
+        return EndedOf::before_begin(alloc, Status::Usage, keeper, sink, hands);
     };
     match read_commands(alloc, source) {
-        Ok(commands) => run_commands(alloc, store, commands, sink, keeper),
-        Err(status) => Ended::before_begin(alloc, status, keeper, sink),
+        Ok(commands) => run_commands(alloc, store, commands, hands, sink, keeper),
+        Err(status) => EndedOf::before_begin(alloc, status, keeper, sink, hands),
     }
 }

@@ -1,17 +1,34 @@
-ghost use Rattle.std.specs.Prelude.{◌<◌};
+ghost use Rattle.std.specs.Prelude.{◌≡◌, ◌<◌, ◌≤◌, vec_len, IfOk};
+ghost use Rattle.wm_bench.specs.declared.bench.TheConstants.{MAX_HANDS};
+ghost use Rattle.wm_session.specs.Hands.{AreEchoes};
 
-use crate::{Ended, Status, run};
+use crate::{EndedOf, Status, run};
 use std::alloc::{AllocError, Global};
 use std::test::Fail;
+use wm_bench::{Hand, HandOf};
+use wm_collections::{Items, Replica, Text};
 use wm_io::{MemorySink, MemorySource, StdSink, StdSource};
 use wm_keeper::{Keeper, MemoryKeeper, Row, SureKeeper};
 use wm_machine::Limit;
+use wm_stock::Echo;
+use wm_worker::{Answer, Entry, Given, Kind, Signal, Task, Told, Worker};
 
 const FIRST: &str =
     "{\"cmd\":\"enqueue\",\"works\":[{\"class\":\"Echo\",\"id\":\"00000000-0000-0000-0000-000000000001\"}]}\n";
 
 const SECOND: &str =
     "{\"cmd\":\"enqueue\",\"works\":[{\"class\":\"Echo\",\"id\":\"00000000000000000000000000000002\"}]}\n";
+
+const NOPE: &str =
+    "{\"cmd\":\"enqueue\",\"works\":[{\"class\":\"Nope\",\"id\":\"00000000-0000-0000-0000-000000000001\"}]}\n";
+
+const QUERY: &str = "{\"cmd\":\"query\"}\n";
+
+const SUCCEEDED: &str =
+    "{\"line\":2,\"ok\":\"query\",\"works\":[{\"attempt\":1,\"generation\":0,\"id\":\"00000000-0000-0000-0000-000000000001\",\"output\":{},\"progress\":{},\"seq\":1,\"state\":\"SUCCEEDED\",\"tags\":[]}]}\n";
+
+const FAILED: &str =
+    "{\"line\":2,\"ok\":\"query\",\"works\":[{\"attempt\":0,\"generation\":0,\"id\":\"00000000-0000-0000-0000-000000000001\",\"output\":{},\"progress\":{},\"seq\":1,\"state\":\"FAILED\",\"tags\":[]}]}\n";
 
 const FIRST_REPLY: &str = "{\"line\":1,\"ok\":\"enqueued\",\"works\":[1]}\n";
 
@@ -50,13 +67,32 @@ fn words(alloc: Global, words: &[&str]) -> Result<Vec<String>, AllocError> {
     Ok(copies)
 }
 
-// A run over an empty store in memory.
+// A worker of class Echo.
+fn echo(alloc: Global) -> Result<HandOf<Echo>, AllocError> {
+    Ok(HandOf {
+        class: Text::from_str(alloc, "Echo")?,
+        worker: Echo::new(),
+    })
+}
+
+// Two workers of class Echo.
+fn echoes(alloc: Global) -> Result<Vec<HandOf<Echo>>, AllocError>
+    ensures few { IfOk result (λ hands. vec_len hands ≤ MAX_HANDS) }
+    ensures echoes { IfOk result (λ hands. AreEchoes ⟦<Echo as Worker>⟧.kind_of hands.items) }
+{
+    let mut hands = Vec::new(alloc);
+    hands.push(echo(alloc)?)?;
+    hands.push(echo(alloc)?)?;
+    Ok(hands)
+}
+
+// A run over an empty store in memory, with two workers of class Echo.
 fn run_over(
     alloc: Global,
     command_line: &[&str],
     script: &[u8],
     outside: &Outside,
-) -> Result<Ended<MemoryKeeper, MemorySink>, AllocError> {
+) -> Result<EndedOf<MemoryKeeper, MemorySink, Echo>, AllocError> {
     let mut source = MemorySource::new(
         Vec::from_slice(alloc, script)?,
         outside.cut(),
@@ -65,7 +101,8 @@ fn run_over(
     let sink = MemorySink::new(outside.cut(), Vec::from_slice(alloc, outside.sink)?);
     let keeper = MemoryKeeper::new(Vec::new(alloc), Vec::from_slice(alloc, outside.keeper)?);
     let words = words(alloc, command_line)?;
-    Ok(run(alloc, &words, &mut source, sink, keeper))
+    let hands = echoes(alloc)?;
+    Ok(run(alloc, &words, hands, &mut source, sink, keeper))
 }
 
 // The text of some pieces, one after another.
@@ -96,12 +133,12 @@ fn outcome(
 const WORDS: &[&str] = &["--store", "demo"];
 
 #[test]
-fn one_work_is_stored(rt: HostRuntime) -> Result<(), Fail> {
+fn one_work_succeeds_and_is_stored(rt: HostRuntime) -> Result<(), Fail> {
     let alloc = rt.alloc();
     let mut ended = run_over(alloc, WORDS, FIRST.as_bytes(), &Outside::STEADY)?;
     assert_eq!(rt; ended.status, Status::Done);
     assert_eq!(rt; ended.sink.bytes(), FIRST_REPLY.as_bytes());
-    assert_eq!(rt; ended.log.len(), 1);
+    assert_eq!(rt; (ended.log.len(), ended.hands.len()), (3, 2));
     let rows = ended.keeper.load("demo")?;
     assert_eq!(rt; rows.len(), 1);
     let row: &Row = &rows[0];
@@ -114,7 +151,7 @@ fn one_work_is_stored(rt: HostRuntime) -> Result<(), Fail> {
         row.phase,
         row.attempt,
     ];
-    assert_eq!(rt; numbers, [1, 1, 0, 1, 30_000, 0, 0]);
+    assert_eq!(rt; numbers, [1, 1, 0, 1, 30_000, 2, 1]);
     assert_eq!(rt;
         row.id.as_slice(),
         [0, 0, 0, 0, 0, 0, 0, 0, 0, 0, 0, 0, 0, 0, 0, 1].as_slice()
@@ -131,6 +168,10 @@ fn replies_are_written_in_order(rt: HostRuntime) -> Result<(), Fail> {
     let both = joined(alloc, &[FIRST, SECOND])?;
     let both_replies = joined(alloc, &[FIRST_REPLY, SECOND_REPLY])?;
     let again = joined(alloc, &[FIRST, FIRST])?;
+    let queried = joined(alloc, &[FIRST, QUERY])?;
+    let succeeded = joined(alloc, &[FIRST_REPLY, SUCCEEDED])?;
+    let unmanned = joined(alloc, &[NOPE, QUERY])?;
+    let failed = joined(alloc, &[FIRST_REPLY, FAILED])?;
     let in_use = joined(
         alloc,
         &[
@@ -148,6 +189,8 @@ fn replies_are_written_in_order(rt: HostRuntime) -> Result<(), Fail> {
         ),
         (both.as_str(), both_replies.as_str(), 2),
         (again.as_str(), in_use.as_str(), 1),
+        (queried.as_str(), succeeded.as_str(), 1),
+        (unmanned.as_str(), failed.as_str(), 1),
     ];
     for (script, replies, stored) in cases {
         let (status, rows, written) = outcome(alloc, WORDS, script.as_bytes(), &Outside::STEADY)?;
@@ -192,18 +235,19 @@ fn each_fault_ends_the_run_with_its_status(rt: HostRuntime) -> Result<(), Fail> 
             "",
             0,
         ),
+        // What is pending is written in the end, even after a fault.
         (
             Outside {
                 sink: &[1],
                 ..steady
             },
             Status::SinkFault,
-            "",
+            FIRST_REPLY,
             1,
         ),
         (
             Outside {
-                sink: &[2],
+                sink: &[2, 3],
                 ..steady
             },
             Status::SinkFault,
@@ -213,7 +257,7 @@ fn each_fault_ends_the_run_with_its_status(rt: HostRuntime) -> Result<(), Fail> 
         (
             Outside {
                 bytewise: true,
-                sink: &[2],
+                sink: &[2, 3],
                 ..steady
             },
             Status::SinkFault,
@@ -240,7 +284,16 @@ fn each_fault_ends_the_run_with_its_status(rt: HostRuntime) -> Result<(), Fail> 
         ),
         (
             Outside {
-                keeper: &[3],
+                keeper: &[4],
+                ..steady
+            },
+            Status::KeeperFault,
+            FIRST_REPLY,
+            1,
+        ),
+        (
+            Outside {
+                keeper: &[5],
                 ..steady
             },
             Status::KeeperFault,
@@ -322,7 +375,8 @@ fn a_stored_row_is_bad(rt: HostRuntime) -> Result<(), Fail> {
     let mut source = MemorySource::new(Vec::new(alloc), 1, Vec::new(alloc));
     let sink = MemorySink::new(1, Vec::new(alloc));
     let words = words(alloc, WORDS)?;
-    let again = run(alloc, &words, &mut source, sink, ended.keeper);
+    let hands = echoes(alloc)?;
+    let again = run(alloc, &words, hands, &mut source, sink, ended.keeper);
     assert_eq!(rt;
         again.status,
         Status::BadStore {
@@ -404,9 +458,120 @@ fn a_run_takes_any_source_sink_and_keeper(rt: HostRuntime) -> Result<(), Fail> {
     let words = words(alloc, WORDS)?;
     let sink = StdSink::new(&mut written);
     let keeper = SureKeeper::new(Vec::new(alloc));
-    let ended = run(alloc, &words, &mut source, sink, keeper);
+    let hands = echoes(alloc)?;
+    let ended = run(alloc, &words, hands, &mut source, sink, keeper);
     assert_eq!(rt; ended.status, Status::Done);
     drop(ended);
     assert_eq!(rt; written.as_slice(), FIRST_REPLY.as_bytes());
+    Ok(())
+}
+
+// A worker of kind Echo that tells a diary.
+#[derive(Drop)]
+struct Diarist {
+    entries: Items<Entry>,
+}
+
+impl Worker for Diarist {
+    ghost use Rattle.std.specs.Prelude.{Some};
+    ghost use Rattle.wm_worker.specs.declared.kind.Kind.TheVariants as kind;
+
+    ghost kind_of = { λ _. kind.Echo };
+
+    ghost diary_of = { λ diarist. Some diarist.entries };
+
+    fn kind(&self) -> Kind {
+        Kind::Echo
+    }
+
+    fn diary(&self) -> Option<&[Entry]> {
+        Some(self.entries.as_slice())
+    }
+
+    fn begin(&mut self, _alloc: Global, task: &Task) -> Result<(), AllocError> {
+        self.entries.push(Entry::Begun { run: task.run })?;
+        Ok(())
+    }
+
+    fn turn(
+        &mut self,
+        alloc: Global,
+        task: &Task,
+        k: u32,
+        _signal: &Signal,
+    ) -> Result<Told, AllocError> {
+        let answer = Answer::Success(task.input.replica(alloc)?);
+        let told = Told::new(alloc, Kind::Echo, task, k, answer)?;
+        let given = Given::Success(task.input.replica(alloc)?);
+        let run = task.run;
+        self.entries.push(Entry::Gave { run, k, given })?;
+        Ok(told)
+    }
+}
+
+// The one hand of a run: a boxed worker of class and kind Echo.
+fn one_hand(alloc: Global, worker: Box<dyn Worker + Send>) -> Result<Vec<Hand>, AllocError>
+    requires { ⟦<Box<dyn Worker + Send> as Worker>⟧.kind_of worker ≡ Kind.Echo }
+    ensures few { IfOk result (λ hands. vec_len hands ≤ MAX_HANDS) }
+    ensures echoes { IfOk result
+        (λ hands. AreEchoes ⟦<Box<dyn Worker + Send> as Worker>⟧.kind_of hands.items) }
+{
+    let mut hands = Vec::new(alloc);
+    hands.push(HandOf {
+        class: Text::from_str(alloc, "Echo")?,
+        worker,
+    })?;
+    Ok(hands)
+}
+
+// Whether a turn gave Success without data.
+fn is_bare_success(given: &Given) -> bool {
+    match given {
+        Given::Success(data) => data.is_empty(),
+        _ => false,
+    }
+}
+
+// The runs that a worker wrote down, each turn with its number and whether it gave Success without
+// data.
+fn told_runs<B: Worker>(
+    alloc: Global,
+    worker: &B,
+) -> Result<Vec<(u64, Option<(u32, bool)>)>, AllocError> {
+    let mut runs = Vec::new(alloc);
+    for entry in worker.diary().unwrap_or(&[]) {
+        runs.push(match entry {
+            Entry::Begun { run } => (*run, None),
+            Entry::Gave { run, k, given } => (*run, Some((*k, is_bare_success(given)))),
+        })?;
+    }
+    Ok(runs)
+}
+
+#[test]
+fn a_boxed_worker_comes_back_with_its_diary(rt: HostRuntime) -> Result<(), Fail> {
+    let alloc = rt.alloc();
+    let diarist = Box::new(
+        alloc,
+        Diarist {
+            entries: Items::new(alloc),
+        },
+    )?;
+    let hands = one_hand(alloc, diarist)?;
+    let script = joined(alloc, &[FIRST, QUERY])?;
+    let mut source = MemorySource::new(script.into_bytes(), 100, Vec::new(alloc));
+    let sink = MemorySink::new(100, Vec::new(alloc));
+    let keeper = SureKeeper::new(Vec::new(alloc));
+    let words = words(alloc, WORDS)?;
+    let ended = run(alloc, &words, hands, &mut source, sink, keeper);
+    assert_eq!(rt; ended.status, Status::Done);
+    let replies = joined(alloc, &[FIRST_REPLY, SUCCEEDED])?;
+    assert_eq!(rt; ended.sink.bytes(), replies.as_bytes());
+    let [hand] = ended.hands.as_slice() else {
+        panic!(rt; "not one hand");
+    };
+    assert_eq!(rt; hand.class.as_str(), "Echo");
+    let runs = [(1, None), (1, Some((0, true)))];
+    assert_eq!(rt; told_runs(alloc, &hand.worker)?.as_slice(), runs.as_slice());
     Ok(())
 }

@@ -6,6 +6,7 @@ use Rattle.std.proofs.lemmas.Bool.Decides.{nat_tests}
 use Rattle.std.proofs.lemmas.List.{drop_all, length-map, take_all, take_rest}
 use Rattle.std.proofs.lemmas.Option.{cond_some}
 use Rattle.std.proofs.lemmas.Str.{IsUtf8-from_is_utf8, is_utf8-from_IsUtf8}
+use Rattle.std.specs.Option.{option_or}
 use Rattle.std.specs.Result.{result_ok}
 use Rattle.std.specs.Str.{is_utf8}
 use Rattle.serde_json.specs.Data as json
@@ -13,10 +14,11 @@ use Rattle.serde_json.specs.Find.{as_object, as_str, get, get_member}
 use Rattle.serde_json.specs.Read.{read}
 use Rattle.serde_json.specs.View.{items_view, members_view}
 use Rattle.serde_json.specs.declared.value.Value.{Value}
-use Rattle.wm_machine.specs.Built.{IsBuilt}
+use Rattle.wm_machine.specs.Built.{IsBuilt, NamesNothing}
 use Rattle.uuid.specs.Text.{parsed}
-use Rattle.wm_machine.specs.Lines.{both, class_of, plain_request, command_of, commands_in, cut, enqueue_command, enqueue_of, member_count, onto_first, single, value_of, work_of}
-use Rattle.wm_machine.specs.declared.command.Command.TheVariants.{Faulty}
+use Rattle.wm_machine.specs.Lines.{asked_by, both, class_of, plain_request, command_of, commands_in, cut, enqueue_command, enqueue_of, member_count, only, onto_first, query_of, query_of_all, single, value_of, work_of}
+use Rattle.wm_machine.specs.declared.command.Command.{Command}
+use Rattle.wm_machine.specs.declared.command.Command.TheVariants.{Query, Faulty}
 use Rattle.wm_machine.specs.declared.command.LineFault.TheVariants.{NotBuilt}
 use Rattle.wm_machine.specs.declared.request.Request.{Request}
 
@@ -105,6 +107,31 @@ both_none key other d entries object not_two =
 
 pub ruleset pairs = (both_found, both_none)
 
+only_if : (b : Bool) (o : Option json.Data) → b ≡ true → o ≡ option_and_then (λ x. cond b (Some x) None) o
+only_if b None e = refl
+only_if b (Some x) e = rw e
+
+none_unless_only : (b : Bool) (o : Option json.Data) → b ≡ false → None ≡ option_and_then (λ x. cond b (Some x) None) o
+none_unless_only b None e = refl
+none_unless_only b (Some x) e = rw e
+
+-- the value of a key, in an object that has no other key
+pub only_found : (key : List ℕ) (d : json.Data) (entries : List (String Global × Value)) → as_object d ≡ Some (members_view entries) → length entries ≡ 1 → get key d ≡ only key d
+unfolding only
+only_found key d entries object one =
+    let ms = members_view entries in
+    let count = member_count-members_view entries in
+    rw (get-object key d ms object, object) (only_if _ (get_member key ms) (grind (arith, nat_tests)))
+
+-- no value, where it has more keys or none
+pub only_none : (key : List ℕ) (d : json.Data) (entries : List (String Global × Value)) → as_object d ≡ Some (members_view entries) → (length entries ≡ 1 → ⊥) → None ≡ only key d
+unfolding only
+only_none key d entries object not_one =
+    let count = member_count-members_view entries in
+    rw object (none_unless_only _ (get_member key (members_view entries)) (grind (arith, nat_tests)))
+
+pub ruleset alone = (only_found, only_none)
+
 -- a list that hasn't one item has no single one
 pub single_none : (items : List Value) → (length items ≡ 1 → ⊥) → None ≡ single (items_view items)
 single_none [] h = refl
@@ -140,6 +167,14 @@ IfSome-cond : {A : Type 0} (P : A → Type 0) (b : Bool) (o : Option A) → IfSo
 IfSome-cond P true o h = h
 IfSome-cond P false o h = tt
 
+IfSome-map : {A B : Type 0} (f : A → B) (P : A → Type 0) (Q : B → Type 0) (o : Option A) → ((x : A) → P x → Q (f x)) → IfSome o P → IfSome (option_map f o) Q
+IfSome-map f P Q None kept h = tt
+IfSome-map f P Q (Some x) kept h = kept x h
+
+IfSome-or : {A : Type 0} (P : A → Type 0) (first second : Option A) → IfSome first P → IfSome second P → IfSome (option_or first second) P
+IfSome-or P None second h k = k
+IfSome-or P (Some x) second h k = h
+
 -- a request has every default
 IsPlainRequest : Request → Type 0
 IsPlainRequest request = (id : List ℕ) × (class : List ℕ) × (request ≡ plain_request id class)
@@ -156,19 +191,37 @@ IsPlainRequest-enqueue_of : (d : json.Data) → IfSome (enqueue_of d) IsPlainReq
 unfolding enqueue_of
 IsPlainRequest-enqueue_of d = search (rules, IfSome-and_then, IfSome-cond, IsPlainRequest-work_of)
 
-IsBuilt-command_of_request : (o : Option Request) → IfSome o IsPlainRequest → IsBuilt (unwrap_or (option_map enqueue_command o) (Faulty NotBuilt))
+IsBuilt-enqueue_command : (request : Request) → IsPlainRequest request → IsBuilt (enqueue_command request)
 unfolding IsPlainRequest
-IsBuilt-command_of_request None h = tt
-IsBuilt-command_of_request (Some request) h = record {
+IsBuilt-enqueue_command request h = record {
   id = h.0;
   class = h.1;
   one = ap (λ (r : Request). (record { request = r; after = [] }) ∷ []) h.2;
 }
 
+NamesNothing-query_of : (d : json.Data) → IfSome (query_of d) NamesNothing
+unfolding query_of
+NamesNothing-query_of d =
+    IfSome-and_then _ NamesNothing (only (codes "cmd") d) (λ value.
+    IfSome-and_then _ NamesNothing (as_str value) (λ cmd.
+    IfSome-cond NamesNothing _ (Some query_of_all) (record { ids = refl; names = refl; states = refl; tags = refl })))
+
+-- what a value asks for is one of those that are built
+IsBuilt-asked_by : (d : json.Data) → IfSome (asked_by d) IsBuilt
+unfolding asked_by
+IsBuilt-asked_by d =
+    IfSome-or IsBuilt (option_map enqueue_command (enqueue_of d)) (option_map Query (query_of d))
+    (IfSome-map enqueue_command IsPlainRequest IsBuilt (enqueue_of d) IsBuilt-enqueue_command (IsPlainRequest-enqueue_of d))
+    (IfSome-map Query NamesNothing IsBuilt (query_of d) (λ query h. h) (NamesNothing-query_of d))
+
+IsBuilt-or_faulty : (o : Option Command) → IfSome o IsBuilt → IsBuilt (unwrap_or o (Faulty NotBuilt))
+IsBuilt-or_faulty None h = tt
+IsBuilt-or_faulty (Some command) h = h
+
 -- the command of each line is one of those that are built
 pub IsBuilt-command_of : (line : List ℕ) → IsBuilt (command_of line)
 unfolding command_of
-IsBuilt-command_of line = search (IsBuilt-command_of_request, IfSome-and_then, IsPlainRequest-enqueue_of)
+IsBuilt-command_of line = IsBuilt-or_faulty _ (IfSome-and_then asked_by IsBuilt (value_of line) IsBuilt-asked_by)
 
 AllByRecursion-map : {A B : Type 0} (P : B → Type 0) (f : A → B) (xs : List A) → ((x : A) → P (f x)) → AllByRecursion P (map f xs)
 AllByRecursion-map P f [] h = tt

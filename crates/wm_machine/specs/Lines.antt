@@ -1,6 +1,7 @@
 -- The commands that the lines of a script are. The grammar is this project's own choice; which value
 -- the bytes of a line have is `serde_json`'s reading, and which id a text names is `uuid`'s.
 use Rattle.std.specs.Prelude.{ℕ, ◌+◌, ◌<◌, ◌≤◌, ◌==◌, ◌&&◌, List, [], ◌∷◌, length, map, codes, nat_lt, nat_le, if◌then◌else◌, Option, Some, None, option_map, option_and_then, unwrap_or}
+use Rattle.std.specs.Option.{option_or}
 use Rattle.std.specs.Str.{is_utf8, bytes_eq}
 use Rattle.serde_json.specs.Data as json
 use Rattle.serde_json.specs.Find.{get_member, as_str, as_array, as_object}
@@ -8,7 +9,7 @@ use Rattle.serde_json.specs.Read.{read}
 use Rattle.uuid.specs.Text.{parsed}
 use Rattle.wm_data.specs.declared.merger.Merger.TheVariants.{Overwriting}
 use Rattle.wm_machine.specs.declared.command.Command.{Command}
-use Rattle.wm_machine.specs.declared.command.Command.TheVariants.{Enqueue, Faulty}
+use Rattle.wm_machine.specs.declared.command.Command.TheVariants.{Enqueue, Query, Faulty}
 use Rattle.wm_machine.specs.declared.command.LineFault.TheVariants.{NotBuilt}
 use Rattle.wm_machine.specs.declared.conditions.TheConstants.Constraints.{NONE}
 use Rattle.wm_machine.specs.declared.lines.Limit.TheVariants.{Bytes}
@@ -17,6 +18,7 @@ use Rattle.wm_machine.specs.declared.lines.ScriptFault.TheVariants.{TooLong, Mem
 use Rattle.wm_machine.specs.declared.lines.TheConstants.{MAX_SCRIPT_BYTES}
 use Rattle.wm_machine.specs.declared.request.Request.{Request}
 use Rattle.wm_machine.specs.declared.schedule.TheConstants.Backoff.{DEFAULT}
+use Rattle.wm_machine.specs.declared.state.WorkQuery.{WorkQuery}
 
 -- ---- the cut
 
@@ -94,6 +96,24 @@ enqueue_of d = do
   work ← single works
   if bytes_eq cmd (codes "enqueue") then work_of work else None
 
+-- a query that names nothing
+abbrev pub query_of_all : WorkQuery
+query_of_all = record { ids = []; names = []; states = []; tags = [] }
+
+-- the value of a key, in an object that has no other key
+unfoldable pub only : List ℕ → json.Data → Option json.Data
+only key d = do
+  members ← as_object d
+  value ← get_member key members
+  if member_count members == 1 then Some value else None
+
+-- a query without further keys
+unfoldable pub query_of : json.Data → Option WorkQuery
+query_of d = do
+  value ← only (codes "cmd") d
+  cmd ← as_str value
+  if bytes_eq cmd (codes "query") then Some query_of_all else None
+
 -- the value that the bytes of a line have
 abbrev pub value_of : List ℕ → Option json.Data
 value_of line = if is_utf8 line then read line else None
@@ -102,9 +122,13 @@ value_of line = if is_utf8 line then read line else None
 abbrev pub enqueue_command : Request → Command
 enqueue_command request = Enqueue None (record { works = (record { request = request; after = [] }) ∷ [] })
 
+-- what a value asks for
+unfoldable pub asked_by : json.Data → Option Command
+asked_by d = option_or (option_map enqueue_command (enqueue_of d)) (option_map Query (query_of d))
+
 -- the command of a line
 unfoldable pub command_of : List ℕ → Command
-command_of line = unwrap_or (option_map enqueue_command (value_of line >>= enqueue_of)) (Faulty NotBuilt)
+command_of line = unwrap_or (value_of line >>= asked_by) (Faulty NotBuilt)
 
 -- the commands of a script
 abbrev pub commands_in : List ℕ → List Command

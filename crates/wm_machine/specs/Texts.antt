@@ -1,18 +1,23 @@
 -- What is written for an event and for a log. This project's own choice.
-use Rattle.std.specs.Prelude.{ℕ, List, [], ◌∷◌, ◌++◌, map, codes}
+use Rattle.std.specs.Prelude.{◌≡◌, ℕ, List, [], ◌∷◌, ◌++◌, map, codes, Option, Some, None}
+use Rattle.std.specs.List.{AllByRecursion}
 use Rattle.serde_json.specs.Data as json
 use Rattle.serde_json.specs.View.{items_of}
 use Rattle.serde_json.specs.Written.{compact_text}
 use Rattle.uuid.specs.Text.{hyphenated_text, lower}
+use Rattle.wm_data.specs.DataJson.{data_json}
 use Rattle.wm_machine.specs.Step.{after}
 use Rattle.wm_machine.specs.declared.command.LineFault.{LineFault}
 use Rattle.wm_machine.specs.declared.command.LineFault.TheVariants as fault
 use Rattle.wm_machine.specs.declared.event.Event.{Event}
 use Rattle.wm_machine.specs.declared.event.Event.TheVariants as event
+use Rattle.wm_machine.specs.declared.record.Shown.{Shown}
+use Rattle.wm_machine.specs.declared.record.Shown.TheVariants as shown
 use Rattle.wm_machine.specs.declared.reply.Refusal.{Refusal}
 use Rattle.wm_machine.specs.declared.reply.Refusal.TheVariants as refusal
 use Rattle.wm_machine.specs.declared.reply.Reply.{Reply}
 use Rattle.wm_machine.specs.declared.reply.Reply.TheVariants as reply
+use Rattle.wm_machine.specs.declared.reply.WorkInfo.{WorkInfo}
 use Rattle.wm_machine.specs.declared.state.State.{State}
 
 abbrev pub count : ℕ → json.Data
@@ -82,9 +87,58 @@ refused_members line found =
     json.member (codes "error") (json.string (refusal_name found))
     (json.member (codes "line") (count line) json.no_members)
 
+-- ---- what is told of a work
+
+abbrev pub state_name : Shown → List ℕ
+state_name shown.Enqueued = codes "ENQUEUED"
+state_name shown.Running = codes "RUNNING"
+state_name shown.Succeeded = codes "SUCCEEDED"
+state_name shown.Failed = codes "FAILED"
+state_name shown.Blocked = codes "BLOCKED"
+state_name shown.Cancelled = codes "CANCELLED"
+
+abbrev pub texts : List (List ℕ) → json.Data
+texts ts = json.array (items_of (map json.string ts))
+
+-- the members, with the moment at which the work is due, where it shows one
+abbrev pub with_due : Option ℕ → json.Members → json.Members
+with_due None members = members
+with_due (Some due) members = json.put (codes "due") (count due) members
+
+-- the members, with the unique name of the work, where it has one
+abbrev pub with_name : Option (List ℕ) → json.Members → json.Members
+with_name None members = members
+with_name (Some name) members = json.put (codes "name") (json.string name) members
+
+-- what is told of every work
+abbrev pub info_members : WorkInfo → json.Members
+info_members info =
+    json.member (codes "attempt") (count info.attempt)
+    (json.member (codes "generation") (count info.generation)
+    (json.member (codes "id") (id_text info.id)
+    (json.member (codes "output") (data_json info.output)
+    (json.member (codes "progress") (data_json info.progress)
+    (json.member (codes "seq") (count info.seq)
+    (json.member (codes "state") (json.string (state_name info.state))
+    (json.member (codes "tags") (texts info.tags) json.no_members)))))))
+
+abbrev pub info_json : WorkInfo → json.Data
+info_json info = json.object (with_name info.name (with_due info.due (info_members info)))
+
+abbrev pub infos : List WorkInfo → json.Data
+infos works = json.array (items_of (map info_json works))
+
+-- ---- replies
+
+-- nothing is told of a work's data, which has no text yet
+pub record TellsNoData (info : WorkInfo) : Type 0 where
+  pub output : info.output ≡ []
+  pub progress : info.progress ≡ []
+
 -- the replies that have a text; the others come with their commands
 abbrev pub IsWritten : Reply → Type 0
 IsWritten (reply.Enqueued works) = Unit {0}
+IsWritten (reply.Query works) = AllByRecursion TellsNoData works
 IsWritten (reply.Refused found) = Unit {0}
 IsWritten _ = ⊥
 
@@ -99,6 +153,10 @@ reply_json line (reply.Enqueued works) = json.object
     (json.member (codes "line") (count line)
     (json.member (codes "ok") (json.string (codes "enqueued"))
     (json.member (codes "works") (numbers works) json.no_members)))
+reply_json line (reply.Query works) = json.object
+    (json.member (codes "line") (count line)
+    (json.member (codes "ok") (json.string (codes "query"))
+    (json.member (codes "works") (infos works) json.no_members)))
 reply_json line (reply.Refused found) = json.object (with_refusal found (refused_members line found))
 reply_json line _ = json.null
 

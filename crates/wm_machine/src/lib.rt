@@ -10,6 +10,7 @@
 pub mod command;
 pub mod conditions;
 pub mod event;
+pub mod laws;
 pub mod lines;
 pub mod record;
 pub mod reply;

@@ -5,12 +5,13 @@ ghost use Rattle.serde_json.specs.Find.{as_str};
 ghost use Rattle.serde_json.specs.View.{view, items_view};
 ghost use Rattle.uuid.specs.Text.{parsed};
 ghost use Rattle.wm_machine.specs.Built.{IsBuilt};
-ghost use Rattle.wm_machine.specs.Lines.{both, class_of, command_of, commands_in, cut, enqueue_command, enqueue_of, plain_request, single, value_of, work_of, IsFaultOf};
+ghost use Rattle.wm_machine.specs.Lines.{asked_by, both, class_of, command_of, commands_in, cut, enqueue_command, enqueue_of, only, plain_request, query_of, query_of_all, single, value_of, work_of, IsFaultOf};
 
 use crate::command::{Command, LineFault};
 use crate::conditions::Constraints;
 use crate::request::{Batch, Node, Request};
 use crate::schedule::Backoff;
+use crate::state::WorkQuery;
 use serde_json::Value;
 use std::alloc::{AllocError, AllocFailed, Global};
 use uuid::Uuid;
@@ -123,8 +124,8 @@ fn command_of(alloc: Global, line: &[u8]) -> Result<Command, AllocError>
     let Some(value) = value_of(alloc, line)? else {
         return Ok(Command::Faulty(LineFault::NotBuilt));
     };
-    match enqueue_of(&value) {
-        Some(PlainWork { id, class }) => enqueue_command(alloc, plain_request(alloc, id, class)?),
+    match asked_by(alloc, &value)? {
+        Some(command) => Ok(command),
         None => Ok(Command::Faulty(LineFault::NotBuilt)),
     }
 }
@@ -143,6 +144,20 @@ fn value_of(alloc: Global, line: &[u8]) -> Result<Option<Value>, AllocError>
                 Ok(None)
             }
         }
+    }
+}
+
+/// The command that a value asks for, if it is one that is built.
+#[tactic(auto, unfolding(crate::specs::Lines::asked_by))]
+fn asked_by(alloc: Global, value: &Value) -> Result<Option<Command>, AllocError>
+    ensures { IfOk result (λ command. command ≡ asked_by (view value.now)) }
+{
+    match enqueue_of(value) {
+        Some(PlainWork { id, class }) => {
+            let request = plain_request(alloc, id, class)?;
+            Ok(Some(enqueue_command(alloc, request)?))
+        }
+        None => Ok(query_of(alloc, value).map(Command::Query)),
     }
 }
 
@@ -180,6 +195,43 @@ fn work_of(value: &Value) -> Option<PlainWork<'_>>
         id: id_of(id)?,
         class: class_of(class)?,
     })
+}
+
+/// The query that a command without further keys asks.
+#[tactic(auto, unfolding(crate::specs::Lines::query_of))]
+fn query_of(alloc: Global, value: &Value) -> Option<WorkQuery>
+    ensures { result ≡ query_of (view value.now) }
+{
+    let command = only("cmd", value)?.as_str()?;
+    if command == "query" {
+        Some(query_of_all(alloc))
+    } else {
+        None
+    }
+}
+
+/// The query that names nothing.
+fn query_of_all(alloc: Global) -> WorkQuery
+    ensures { result ≡ query_of_all }
+{
+    WorkQuery {
+        ids: Items::new(alloc),
+        names: Items::new(alloc),
+        states: Items::new(alloc),
+        tags: Items::new(alloc),
+    }
+}
+
+/// The value of a key, in an object that has no other key.
+#[tactic(auto, using(crate::proofs::LinesLemmas::alone), unfolding(crate::specs::Lines::only))]
+fn only<'v>(key: &str, value: &'v Value) -> Option<&'v Value>
+    ensures { option_map (λ found. view found.now) result ≡ only key.now (view value.now) }
+{
+    if value.as_object()?.len() == 1 {
+        value.get(key)
+    } else {
+        None
+    }
 }
 
 /// The values of two keys, in an object that has both and no other key.

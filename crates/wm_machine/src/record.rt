@@ -1,5 +1,6 @@
 use crate::request::Request;
-use wm_collections::{Items, Text};
+use std::alloc::{AllocError, Global};
+use wm_collections::{Items, Replica, Text};
 use wm_data::Data;
 
 /// How a finished work ended.
@@ -55,4 +56,23 @@ pub struct Record {
     pub output: Data,
     /// What it told while it runs.
     pub progress: Data,
+}
+
+impl Replica for Record {
+    fn replica(&self, alloc: Global) -> Result<Record, AllocError> {
+        Ok(Record {
+            seq: self.seq,
+            name: self.name.replica(alloc)?,
+            request: self.request.replica(alloc)?,
+            prior: self.prior.replica(alloc)?,
+            phase: self.phase,
+            attempt: self.attempt,
+            backoff_n: self.backoff_n,
+            runs: self.runs,
+            generation: self.generation,
+            enqueued_at: self.enqueued_at,
+            output: self.output.replica(alloc)?,
+            progress: self.progress.replica(alloc)?,
+        })
+    }
 }

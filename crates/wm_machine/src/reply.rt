@@ -1,7 +1,8 @@
 use crate::command::LineFault;
 use crate::record::Shown;
+use std::alloc::{AllocError, Global};
 use uuid::Uuid;
-use wm_collections::{Items, Text};
+use wm_collections::{Items, Replica, Text};
 use wm_data::Data;
 
 /// What an update did, after `androidx.work.WorkManager.UpdateResult`.
@@ -26,6 +27,23 @@ pub struct WorkInfo {
     pub output: Data,
     pub progress: Data,
     pub tags: Items<Text>,
+}
+
+impl Replica for WorkInfo {
+    fn replica(&self, alloc: Global) -> Result<WorkInfo, AllocError> {
+        Ok(WorkInfo {
+            seq: self.seq,
+            id: self.id,
+            name: self.name.replica(alloc)?,
+            state: self.state,
+            attempt: self.attempt,
+            due: self.due,
+            generation: self.generation,
+            output: self.output.replica(alloc)?,
+            progress: self.progress.replica(alloc)?,
+            tags: self.tags.replica(alloc)?,
+        })
+    }
 }
 
 /// How many works are in each shown state, and how often they were started in all.
@@ -55,6 +73,25 @@ pub enum Refusal {
     TooManyPrerequisites { id: Uuid },
     TooManyObservers { count: u64 },
     NoSuchClass,
+}
+
+impl Replica for Refusal {
+    fn replica(&self, alloc: Global) -> Result<Refusal, AllocError> {
+        Ok(match self {
+            Refusal::Line(fault) => Refusal::Line(fault.replica(alloc)?),
+            Refusal::MomentBack { now } => Refusal::MomentBack { now: *now },
+            Refusal::NoSuchWork { id } => Refusal::NoSuchWork { id: *id },
+            Refusal::KindMismatch { id } => Refusal::KindMismatch { id: *id },
+            Refusal::TooManyWorks { count } => Refusal::TooManyWorks { count: *count },
+            Refusal::NumbersSpent { next } => Refusal::NumbersSpent { next: *next },
+            Refusal::IdInUse { id } => Refusal::IdInUse { id: *id },
+            Refusal::NoSuchPrerequisite { id } => Refusal::NoSuchPrerequisite { id: *id },
+            Refusal::PeriodicInChain { id } => Refusal::PeriodicInChain { id: *id },
+            Refusal::TooManyPrerequisites { id } => Refusal::TooManyPrerequisites { id: *id },
+            Refusal::TooManyObservers { count } => Refusal::TooManyObservers { count: *count },
+            Refusal::NoSuchClass => Refusal::NoSuchClass,
+        })
+    }
 }
 
 /// What is answered to a command.
@@ -87,4 +124,31 @@ pub enum Reply {
     Hushed,
     Summary(Counts),
     Refused(Refusal),
+}
+
+impl Replica for Reply {
+    fn replica(&self, alloc: Global) -> Result<Reply, AllocError> {
+        Ok(match self {
+            Reply::Enqueued(works) => Reply::Enqueued(works.replica(alloc)?),
+            Reply::Kept => Reply::Kept,
+            Reply::Updated { result, generation } => Reply::Updated {
+                result: *result,
+                generation: *generation,
+            },
+            Reply::Cancelled(count) => Reply::Cancelled(*count),
+            Reply::Moment => Reply::Moment,
+            Reply::Conditions { stopped } => Reply::Conditions { stopped: *stopped },
+            Reply::Pruned(count) => Reply::Pruned(*count),
+            Reply::Query(works) => Reply::Query(works.replica(alloc)?),
+            Reply::Observing { observer, works } => Reply::Observing {
+                observer: *observer,
+                works: works.replica(alloc)?,
+            },
+            Reply::Retired(count) => Reply::Retired(*count),
+            Reply::Settled => Reply::Settled,
+            Reply::Hushed => Reply::Hushed,
+            Reply::Summary(counts) => Reply::Summary(*counts),
+            Reply::Refused(refusal) => Reply::Refused(refusal.replica(alloc)?),
+        })
+    }
 }

@@ -1,7 +1,8 @@
 use crate::conditions::{Conditions, Constraints};
 use crate::record::{Record, Shown};
+use std::alloc::{AllocError, Global};
 use uuid::Uuid;
-use wm_collections::{Items, Text};
+use wm_collections::{Items, Replica, Text};
 use wm_data::Data;
 use wm_worker::Kind;
 
@@ -38,6 +39,18 @@ pub struct Instance {
     pub out: bool,
     /// Whether its class was retired.
     pub retired: bool,
+}
+
+impl Replica for Instance {
+    fn replica(&self, alloc: Global) -> Result<Instance, AllocError> {
+        Ok(Instance {
+            number: self.number,
+            class: self.class.replica(alloc)?,
+            kind: self.kind,
+            out: self.out,
+            retired: self.retired,
+        })
+    }
 }
 
 /// Which works are asked for, after `androidx.work.WorkQuery`: those that have one of each group

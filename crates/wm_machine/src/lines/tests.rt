@@ -1,8 +1,9 @@
-use crate::{Command, Limit, LineFault, ScriptFault, read_lines};
+use crate::{Command, Limit, LineFault, ScriptFault, WorkQuery, read_lines};
 use std::alloc::{AllocError, Global};
 use std::test::Fail;
 
-/// A command in a few words: the id and the class of the one work that it enqueues, or "not built".
+/// A command in a few words: the id and the class of the one work that it enqueues, what it asks
+/// for, or "not built".
 fn words_of(alloc: Global, command: &Command) -> Result<String, AllocError> {
     match command {
         Command::Enqueue { named: None, batch } => {
@@ -13,8 +14,24 @@ fn words_of(alloc: Global, command: &Command) -> Result<String, AllocError> {
             let class = node.request.class.as_str();
             format!(in alloc; "{id} {class}")
         }
+        Command::Query(query) => String::from_str(alloc, asked_words(query)),
         Command::Faulty(LineFault::NotBuilt) => String::from_str(alloc, "not built"),
         _ => String::from_str(alloc, "another command"),
+    }
+}
+
+/// What a query asks for.
+fn asked_words(query: &WorkQuery) -> &'static str {
+    let empty_lists = [
+        query.ids.is_empty(),
+        query.names.is_empty(),
+        query.states.is_empty(),
+        query.tags.is_empty(),
+    ];
+    if empty_lists == [true; 4] {
+        "all works"
+    } else {
+        "some works"
     }
 }
 
@@ -120,6 +137,15 @@ fn lines_are_commands(rt: HostRuntime) -> Result<(), Fail> {
             r#"{"cmd":null,"works":[{"id":"00112233445566778899aabbccddeeff","class":"a"}]}"#,
             "not built.",
         ),
+        // A query of all works, and what is none.
+        (r#"{"cmd":"query"}"#, "all works."),
+        (r#" { "cmd" : "query" } "#, "all works."),
+        (r#"{"cmd":"enqueue","cmd":"query"}"#, "all works."),
+        (r#"{"cmd":"query","ids":[]}"#, "not built."),
+        (r#"{"cmd":"query","works":[]}"#, "not built."),
+        (r#"{"cmd":"Query"}"#, "not built."),
+        (r#"{"cmd":["query"]}"#, "not built."),
+        (r#"{"ask":"query"}"#, "not built."),
     ];
     for (script, expected) in cases {
         let commands = told(alloc, script.as_bytes())?;

@@ -1,0 +1,5 @@
+use Rattle.wm_machine.proofs.States.{Valid-after}
+use Rattle.wm_machine.proofs.laws.every_step_keeps_valid.Goals as goal
+
+pub returns : goal.returns
+returns c = Valid-after

@@ -1,0 +1,42 @@
+-- What the workers of a run write down. This project's own choice.
+use Rattle.std.specs.Prelude.{ℕ, ◌+◌, ◌==◌, List, [], ◌∷◌, ◌++◌, if◌then◌else◌, Option, Some, None}
+use Rattle.wm_machine.specs.Step.{after}
+use Rattle.wm_machine.specs.Runs.{run_numbered}
+use Rattle.wm_machine.specs.declared.event.End.{End}
+use Rattle.wm_machine.specs.declared.event.End.TheVariants as end
+use Rattle.wm_machine.specs.declared.event.Event.{Event}
+use Rattle.wm_machine.specs.declared.event.Event.TheVariants as event
+use Rattle.wm_machine.specs.declared.state.Run.{Run}
+use Rattle.wm_machine.specs.declared.state.State.{State}
+use Rattle.wm_worker.specs.Diary.{diary_with}
+use Rattle.wm_worker.specs.declared.answer.Entry.{Entry}
+use Rattle.wm_worker.specs.declared.answer.Entry.TheVariants.{Begun, Gave}
+use Rattle.wm_worker.specs.declared.answer.Given.{Given}
+use Rattle.wm_worker.specs.declared.answer.Given.TheVariants as given
+
+-- what a worker gave whose run ended so
+abbrev pub given_by : End → Given
+given_by (end.Success output) = given.Success output
+given_by (end.Failure output) = given.Failure output
+given_by end.Retry = given.Retry
+
+-- what the worker of this instance writes down where a run ends so
+abbrev pub end_entries : ℕ → Option Run → End → List Entry
+end_entries number None how = []
+end_entries number (Some run) how = if run.instance == number then Gave run.run run.turn (given_by how) ∷ [] else []
+
+-- what the worker of this instance writes down for an event in a state
+abbrev pub event_entries : ℕ → State → Event → List Entry
+event_entries number s (event.Start run seq instance input) = if instance == number then Begun run ∷ [] else []
+event_entries number s (event.Finish run how) = end_entries number (run_numbered run s.runs) how
+event_entries number s _ = []
+
+-- what it writes down for a log, in the log's order
+abbrev pub log_entries : ℕ → State → List Event → List Entry
+log_entries number first [] = []
+log_entries number first (e ∷ log) = event_entries number first e ++ log_entries number (after first e) log
+
+-- the diaries of the workers of the instances from this number on, after a log, where they tell one
+abbrev pub diaries_after : ℕ → State → List Event → List (Option (List Entry)) → List (Option (List Entry))
+diaries_after number first log [] = []
+diaries_after number first log (diary ∷ diaries) = diary_with (log_entries number first log) diary ∷ diaries_after (number + 1) first log diaries

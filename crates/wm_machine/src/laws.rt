@@ -1,0 +1,28 @@
+//! Laws of the machine, over its definitions alone. Each is the contract of a function that does
+//! nothing.
+ghost use Rattle.std.specs.Prelude.{◌≡◌, ◌≤◌, ◌+◌, List, [], ◌∷◌, ◌++◌, length};
+ghost use Rattle.std.specs.List.{AllByRecursion};
+ghost use Rattle.wm_machine.specs.Built.{IsBuilt};
+ghost use Rattle.wm_machine.specs.Log.{commands_of};
+ghost use Rattle.wm_machine.specs.Replay.{Replay};
+ghost use Rattle.wm_machine.specs.Serial.{AreInOrder, BeginsSerial};
+ghost use Rattle.wm_machine.specs.Step.{Legal, after};
+ghost use Rattle.wm_machine.specs.Valid.{Valid};
+ghost use Rattle.wm_machine.specs.declared.command.Command.{Command};
+ghost use Rattle.wm_machine.specs.declared.event.Event.{Event};
+ghost use Rattle.wm_machine.specs.declared.state.State.{State};
+
+/// Every step keeps what holds of every state that the machine reaches.
+pub fn every_step_keeps_valid()
+    ensures { (s : State) (e : Event) → Valid s → Legal s e → Valid (after s e) }
+{}
+
+/// A log in serial order, with at most one run unreturned at its end, goes on to the log of a whole
+/// serial run over its lines and those that are left. So a run that stops early, whatever stopped
+/// it, leaves a front of a serial log.
+pub fn serial_order_goes_on()
+    ensures { (lines left : List Command) (first now : State) (log : List Event)
+        → AllByRecursion IsBuilt left → lines ≡ commands_of log ++ left
+        → Replay first log now → Valid now → length now.runs ≤ 1
+        → AreInOrder lines first log → BeginsSerial lines first log }
+{}

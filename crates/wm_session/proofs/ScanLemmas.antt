@@ -1,0 +1,46 @@
+-- Looking through the records and the instances of a state.
+use Rattle.std.proofs.Common.{◌≡◌, ℕ, zero, suc, ◌+◌, ◌<◌, ◌≤◌, true, ltb, List, ◌∷◌, drop, filter, find, get_or, length, position, slice_get, Option, Some, None, IfSome, MatchOption, refl, ◌∙◌, arith}
+use Rattle.std.specs.List.{position_or_len}
+use Rattle.std.specs.Option.{option_and_then}
+use Rattle.std.proofs.lemmas.Bool.{cond_both, ltb-true, ltb-false}
+use Rattle.std.proofs.lemmas.List.{drop_more}
+use Rattle.std.proofs.lemmas.List.Folds.{find_at}
+use Rattle.std.proofs.lemmas.Option.{slice_get_past}
+use Rattle.wm_machine.specs.Due.{due_of}
+use Rattle.wm_machine.specs.First.{earlier_of, first_of, idle_instance, is_idle, is_startable, least}
+use Rattle.wm_machine.specs.Valid.{IsValidRecord}
+use Rattle.wm_machine.specs.declared.record.Record.{Record}
+use Rattle.wm_machine.specs.declared.state.Instance.{Instance}
+use Rattle.wm_machine.specs.declared.state.State.{State}
+
+-- a valid work is due after its initial delay
+pub due_of-valid : (work : Record) → IsValidRecord work → due_of work ≡ work.enqueued_at + work.request.initial_delay
+unfolding due_of
+due_of-valid work valid = rw (valid.no_retry) (rw (valid.one_time) refl)
+
+-- the idle instance is the one at the place of the first that is idle
+pub idle_instance-at : (instances : List Instance) (class : List ℕ) (index : Option ℕ) → index ≡ position (is_idle class) instances → MatchOption index (idle_instance instances class ≡ None) (λ i. (i < length instances) × (idle_instance instances class ≡ slice_get instances i))
+unfolding idle_instance
+idle_instance-at instances class index is =
+    let place = position_or_len (is_idle class) instances in
+    let found = find_at (is_idle class) instances in
+    rw is (cond_both (ltb place (length instances)) (Some place) None (λ (o : Option ℕ). MatchOption o (find (is_idle class) instances ≡ None) (λ i. (i < length instances) × (find (is_idle class) instances ≡ slice_get instances i))) (λ e. (ltb-true _ _ e, found)) (λ e. found ∙ slice_get_past instances place (ltb-false _ _ e)))
+
+-- the startable work from an index on that starts next
+abbrev pub first_from : State → ℕ → Option Record
+first_from s index = least (filter (is_startable s) (drop index s.works))
+
+drop-at : (works : List Record) (i j : ℕ) (work : Record) → j ≡ i + 1 → i < length works → work ≡ get_or works i work → drop i works ≡ work ∷ drop j works
+drop-at works i j work next below is = let e = drop_more works i work below in cc
+
+-- with a startable work more, the first is the earlier of it and the first so far
+pub first_from-startable : (s : State) (i j : ℕ) (work : Record) → j ≡ i + 1 → i < length s.works → work ≡ get_or s.works i work → is_startable s work ≡ true → first_from s i ≡ Some (earlier_of work (first_from s j))
+first_from-startable s i j work next below is startable =
+    rw (drop-at s.works i j work next below is) (rw startable refl)
+
+-- the first work from the beginning on is the first of all
+pub first_of-at : (s : State) (index : ℕ) (first : Option ℕ) → index ≤ 0 → first_from s index ≡ option_and_then (slice_get s.works) first → IfSome first (λ i. i < length s.works) → MatchOption first (first_of s ≡ None) (λ i. (i < length s.works) × (first_of s ≡ slice_get s.works i))
+unfolding first_of
+first_of-at s zero None begun is within = is
+first_of-at s zero (Some i) begun is within = (within, is)
+first_of-at s (suc index) first begun is within = absurd (omega arith)

@@ -1,0 +1,15 @@
+pub mod Bench
+pub mod Book
+pub mod BookState
+pub mod Causes
+pub mod Drive
+pub mod Ended
+pub mod Given
+pub mod Hands
+pub mod Kept
+pub mod Rest
+pub mod Status
+pub mod Table
+pub mod TableState
+pub mod Trouble
+pub mod Writing

@@ -1,0 +1,362 @@
+//! The book of a session: the table with the bench, the lines that are left, and what is still to
+//! be written.
+ghost use Rattle.std.specs.Prelude.{◌≡◌, ◌↔◌, ◌^◌, ◌<◌, ◌≤◌, ◌+◌, [], None, Some, length, map, option_map, IsSome, IsNone, IsTrue, IfOk, IfErr, false};
+ghost use Rattle.std.specs.List.{AllByRecursion};
+ghost use Rattle.wm_bench.specs.Places.{idle_hands, IsAwayAt};
+ghost use Rattle.wm_faults.specs.Faults.{Failed};
+ghost use Rattle.wm_machine.specs.Built.{IsBuilt};
+ghost use Rattle.wm_machine.specs.Quiet.{IsQuiet};
+ghost use Rattle.wm_machine.specs.Replay.{Replay};
+ghost use Rattle.wm_machine.specs.Rows.{rows_of};
+ghost use Rattle.wm_machine.specs.Valid.{Valid};
+ghost use Rattle.wm_session.specs.Bench.{instance_traits, place_traits, AreIdle};
+ghost use Rattle.wm_session.specs.Book.{IsClaimed, IsFronted, IsReported};
+ghost use Rattle.wm_session.specs.Ended.{HasCommands, IsSessionStatus, IsTextGiven};
+ghost use Rattle.wm_session.specs.Table.{IsTicketIn, Stands};
+
+use crate::ended::EndedOf;
+use crate::mark::Mark;
+use crate::status::Status;
+use crate::steps::{execute, give_back, status_after, tell_last, write_pending};
+use crate::table::ticket::Ticket;
+use crate::table::{Claim, Table, TableEnd, Trouble, TurnAnswer};
+use crate::writing::WriteFault;
+use std::alloc::{AllocError, Global};
+use std::collections::VecDeque;
+use std::marker::{Model, PhantomData};
+use wm_bench::{BenchOf, SeatedOf};
+use wm_collections::Items;
+use wm_io::Sink;
+use wm_keeper::Keeper;
+use wm_machine::Command;
+use wm_worker::{Signal, Told, Worker};
+
+/// Why a session ended before its last line.
+#[derive(Clone, Copy, Debug, PartialEq, Eq)]
+pub enum Stop {
+    /// The keeper failed.
+    KeeperFault,
+    /// The sink failed.
+    SinkFault,
+    /// Memory was refused.
+    Memory,
+}
+
+impl From<Trouble> for Stop {
+    ghost use Rattle.std.specs.Prelude.{◌≡◌};
+    ghost use Rattle.wm_session.specs.Causes.{stop_by_trouble};
+
+    ghost from_gives = { λ trouble stop. stop ≡ stop_by_trouble trouble };
+
+    fn from(trouble: Trouble) -> Stop {
+        match trouble {
+            Trouble::KeeperFault => Stop::KeeperFault,
+            Trouble::Memory => Stop::Memory,
+        }
+    }
+}
+
+impl From<WriteFault> for Stop {
+    ghost use Rattle.std.specs.Prelude.{◌≡◌};
+    ghost use Rattle.wm_session.specs.Causes.{stop_by_fault};
+
+    ghost from_gives = { λ fault stop. stop ≡ stop_by_fault fault };
+
+    fn from(fault: WriteFault) -> Stop {
+        match fault {
+            WriteFault::Failed => Stop::SinkFault,
+            WriteFault::Memory => Stop::Memory,
+        }
+    }
+}
+
+impl From<AllocError> for Stop {
+    ghost use Rattle.std.specs.Prelude.{◌≡◌};
+    ghost use Rattle.wm_session.specs.declared.book.Stop.TheVariants.{Memory};
+
+    ghost from_gives = { λ _ stop. stop ≡ Memory };
+
+    fn from(_refused: AllocError) -> Stop {
+        Stop::Memory
+    }
+}
+
+/// What became of the next line.
+#[derive(Clone, Copy, Debug, PartialEq, Eq)]
+pub enum Front {
+    /// It was executed.
+    Moved,
+    /// There is none.
+    Ended,
+    /// The session has ended early.
+    Stopped,
+}
+
+/// What there is to drive.
+pub enum Job<B> {
+    /// A run began: its ticket, its worker and its signal.
+    Run(Ticket, SeatedOf<B>, Signal),
+    /// A work couldn't start.
+    Failed,
+    /// Nothing is startable.
+    None,
+    /// The session has ended early.
+    Stopped,
+}
+
+/// What became of a run whose worker reported.
+pub enum After<B> {
+    /// It is over, and its worker is back on the bench.
+    Over,
+    /// What was told isn't a report on the run's turn: ticket and seat are as they were.
+    Again(Ticket, SeatedOf<B>),
+    /// The session has ended early, and the worker is back on the bench.
+    Stopped,
+}
+
+/// How many bytes of replies there is room for from the start.
+const PENDING_BYTES: usize = 4096;
+
+/// A session under way: the table with the bench, the lines that are left, what is still to be
+/// written and where, and why it ended early, where it did. Its type keeps the facts that a run's
+/// promises rest on (`specs/Kept.antt`), of what its run was given: see [`Mark`]. A contract sees
+/// all that it holds.
+pub struct BookOf<K: Keeper, W: Sink, B: Worker, M: Mark> {
+    alloc: Global,
+    table: Table<K>,
+    bench: BenchOf<B>,
+    left: VecDeque<Command>,
+    line: u32,
+    pending: Vec<u8>,
+    sink: W,
+    status: Option<Stop>,
+    of: PhantomData<M>,
+}
+
+impl<K: Keeper, W: Sink, B: Worker, M: Mark> Model for BookOf<K, W, B, M> {
+    ghost use Rattle.wm_session.specs.BookState.{BookState};
+
+    ghost Value = { BookState K W B };
+
+    ghost use Rattle.wm_session.specs.Kept.{IsBookKept};
+
+    ghost view = { λ b. record { table = b.table; places = b.bench; left = b.left.items; line = b.line; pending = b.pending.items; sink = b.sink; status = b.status } };
+
+    ghost invariant = { λ b. IsBookKept M.given B.kind_of K.held K.faults W.given W.faults (record { table = b.table; places = b.bench; left = b.left.items; line = b.line; pending = b.pending.items; sink = b.sink; status = b.status }) };
+}
+
+impl<K: Keeper, W: Sink, B: Worker, M: Mark> BookOf<K, W, B, M> {
+    /// A session that begins with this table and its workers. Where memory is refused the table, the
+    /// bench and the sink come back.
+    pub fn new(
+        alloc: Global,
+        table: Table<K>,
+        bench: BenchOf<B>,
+        lines: Items<Command>,
+        sink: W,
+    ) -> Result<BookOf<K, W, B, M>, (Table<K>, BenchOf<B>, W)>
+        requires log { table.log ≡ [] }
+        requires no_run { table.state.runs ≡ [] }
+        requires workers { map (place_traits B.kind_of) bench
+            ≡ map instance_traits table.state.instances }
+        requires idle { AreIdle bench }
+        requires all_in { AllByRecursion (λ instance. instance.out ≡ false) table.state.instances }
+        requires valid { Valid table.state }
+        requires few { length lines < 2 ^ 32 }
+        requires built { AllByRecursion IsBuilt lines }
+
+        // These are what the run was given.
+        requires begun { table.state ≡ table.first }
+        requires first { table.first ≡ M.given.first }
+        requires lines { lines ≡ M.given.lines }
+        requires rows { K.held table.keeper ≡ option_map (λ _. rows_of table.state) M.given.rows }
+        requires written { W.given sink ≡ M.given.written }
+        requires keeper_faults { M.given.keeper_faults ≤ K.faults table.keeper }
+        requires sink_faults { M.given.sink_faults ≤ W.faults sink }
+
+        ensures table { IfOk result (λ book. book.table ≡ table) }
+        ensures places { IfOk result (λ book. book.places ≡ bench) }
+        ensures left { IfOk result (λ book. book.left ≡ lines) }
+        ensures status { IfOk result (λ book. book.status ≡ None) }
+        ensures kept { IfErr result (λ parts.
+            (parts.0 ≡ table) × (parts.1 ≡ bench) × (parts.2 ≡ sink)) }
+    {
+        match Vec::with_capacity(alloc, PENDING_BYTES) {
+            Ok(pending) => Ok(BookOf {
+                alloc,
+                table,
+                bench,
+                left: VecDeque::from_vec(lines.into_vec()),
+                line: 0,
+                pending,
+                sink,
+                status: None,
+                of: PhantomData,
+            }),
+            Err(_) => Err((table, bench, sink)),
+        }
+    }
+
+    /// Executes the next line and writes the reply. No run is unreturned while the session goes on.
+    pub fn front_step(&mut self) -> Front
+        requires { self.old.status ≡ None → self.old.table.state.runs ≡ [] }
+        ensures { IsFronted K.held result self.old self.new }
+    {
+        if self.status.is_some() {
+            return Front::Stopped;
+        }
+        let Some(command) = self.left.pop_front() else {
+            return Front::Ended;
+        };
+        if let Err(trouble) = execute(&mut self.table, self.line + 1, command) {
+            self.status = Some(Stop::from(trouble));
+            return Front::Stopped;
+        }
+        self.line += 1;
+        match tell_last(self.alloc, &self.table, &mut self.pending, &mut self.sink) {
+            Ok(()) => Front::Moved,
+            Err(fault) => {
+                self.status = Some(Stop::from(fault));
+                Front::Stopped
+            }
+        }
+    }
+
+    /// Starts the work that is first, and takes the worker of its instance from the bench.
+    pub fn claim(&mut self) -> Job<B>
+        ensures { IsClaimed K.held B.kind_of result self.old self.new }
+    {
+        if self.status.is_some() {
+            return Job::Stopped;
+        }
+        match self.table.claim() {
+            Ok(None) => Job::None,
+            Ok(Some(claim)) => match claim {
+                Claim::Run(ticket) => {
+                    let Some(seat) = self.bench.take(ticket.instance()) else {
+                        unreachable!();
+                    };
+                    let signal = Signal::never(ticket.task().run);
+                    Job::Run(ticket, seat, signal)
+                }
+                Claim::Failed { seq: _, cause } => {
+                    drop(cause);
+                    Job::Failed
+                }
+            },
+            Err(trouble) => {
+                self.status = Some(Stop::from(trouble));
+                Job::Stopped
+            }
+        }
+    }
+
+    /// Ends the turn of a run as its worker told, and puts the worker back where the run is over.
+    /// Where memory was refused to the worker, the session ends.
+    pub fn report(
+        &mut self,
+        ticket: Ticket,
+        seat: SeatedOf<B>,
+        told: Result<Told, AllocError>,
+    ) -> After<B>
+        requires stands { Stands self.old.table.state ticket }
+        requires number { seat.number ≡ ticket.instance }
+        requires kind { B.kind_of seat.worker ≡ ticket.kind }
+        requires away { IsAwayAt seat.number (B.kind_of seat.worker) self.old.places }
+        ensures { IsReported K.held ticket seat told result self.old self.new }
+    {
+        if self.status.is_some() {
+            drop(told);
+            give_back(&mut self.table, &mut self.bench, ticket, seat);
+            return After::Stopped;
+        }
+        let Ok(told) = told else {
+            self.status = Some(Stop::Memory);
+            give_back(&mut self.table, &mut self.bench, ticket, seat);
+            return After::Stopped;
+        };
+        match self.table.turn(ticket, told) {
+            TurnAnswer::Finished => {
+                self.bench.give(seat);
+                After::Over
+            }
+            TurnAnswer::Again(ticket) => After::Again(ticket, seat),
+            TurnAnswer::Refused(ticket, told, trouble) => {
+                drop(told);
+                self.status = Some(Stop::from(trouble));
+                give_back(&mut self.table, &mut self.bench, ticket, seat);
+                After::Stopped
+            }
+        }
+    }
+
+    /// The number of the next line, from 1; none where no line is left. It takes no memory.
+    pub fn next_line(&self) -> Option<u32>
+        ensures none { IsNone result ↔ (self.now.left ≡ []) }
+        ensures some { IsSome result → result ≡ Some (self.now.line + 1) }
+    {
+        if self.left.is_empty() {
+            None
+        } else {
+            Some(self.line + 1)
+        }
+    }
+
+    /// Writes what is pending, and hands everything back. No worker is away, and while the session
+    /// goes on no line is left and nothing to do.
+    pub fn finish(self) -> EndedOf<K, W, B>
+        requires idle { AreIdle self.places }
+        requires lines { self.status ≡ None → self.left ≡ [] }
+        requires quiet { self.status ≡ None → IsQuiet self.table.state }
+        ensures status { IsSessionStatus result.status }
+        ensures done { result.status ≡ Status.Done → self.status ≡ None }
+        ensures began { IsTrue result.began }
+        ensures first { result.first ≡ M.given.first }
+        ensures first_is { result.first ≡ self.table.first }
+        ensures log { result.log ≡ self.table.log }
+        ensures last { result.last ≡ self.table.state }
+        ensures hands { result.hands.items ≡ idle_hands self.places }
+        ensures workers { map (place_traits B.kind_of) self.places
+            ≡ map instance_traits result.last.instances }
+        ensures replay { Replay result.first result.log result.last }
+        ensures valid { Valid result.last }
+        ensures commands { HasCommands M.given.lines result.status result.log }
+        ensures bytes { IsTextGiven M.given.written
+            (W.given result.sink) result.status result.first result.log }
+        ensures rows { K.held result.keeper ≡ option_map (λ _. rows_of result.last) M.given.rows }
+        ensures keeper_fault { result.status ≡ Status.KeeperFault → Failed M.given.keeper_faults
+            (K.faults result.keeper) }
+        ensures sink_fault { result.status ≡ Status.SinkFault → Failed M.given.sink_faults
+            (W.faults result.sink) }
+    {
+        let BookOf {
+            alloc: _,
+            table,
+            bench,
+            left,
+            line: _,
+            mut pending,
+            mut sink,
+            status,
+            of: _,
+        } = self;
+        drop(left);
+        let status = status_after(status, write_pending(&mut sink, &mut pending));
+        let TableEnd {
+            first,
+            last,
+            log,
+            keeper,
+        } = table.end();
+        EndedOf {
+            status,
+            began: true,
+            first,
+            log,
+            last,
+            keeper,
+            sink,
+            hands: bench.back(),
+        }
+    }
+}

@@ -1,0 +1,64 @@
+ghost use Rattle.std.specs.Prelude.{◌≡◌, [], false};
+ghost use Rattle.wm_machine.specs.Opened.{opening_state};
+
+use crate::opening::opening_state;
+use crate::status::Status;
+use std::alloc::Global;
+use wm_bench::HandOf;
+use wm_collections::Items;
+use wm_machine::{Event, State};
+use wm_worker::Worker;
+
+/// What a run hands back.
+#[derive(Drop)]
+pub struct EndedOf<K, W, B> {
+    /// How it ended.
+    pub status: Status,
+    /// Whether the store was opened and the table begun.
+    pub began: bool,
+    /// The state that the store opened to; that of an empty store without workers where the table
+    /// wasn't begun.
+    pub first: State,
+    /// The events since, in order.
+    pub log: Items<Event>,
+    /// The state after them.
+    pub last: State,
+    pub keeper: K,
+    pub sink: W,
+    /// The workers, in the order in which they were given.
+    pub hands: Vec<HandOf<B>>,
+}
+
+/// What a run hands back whose workers were boxed.
+pub type Ended<K, W> = EndedOf<K, W, Box<dyn Worker + Send>>;
+
+impl<K, W, B> EndedOf<K, W, B> {
+    /// A run that ended before its table was begun.
+    pub fn before_begin(
+        alloc: Global,
+        status: Status,
+        keeper: K,
+        sink: W,
+        hands: Vec<HandOf<B>>,
+    ) -> EndedOf<K, W, B>
+        ensures status { result.status ≡ status }
+        ensures began { result.began ≡ false }
+        ensures first { result.first ≡ opening_state [] [] }
+        ensures log { result.log ≡ [] }
+        ensures last { result.last ≡ opening_state [] [] }
+        ensures keeper { result.keeper ≡ keeper }
+        ensures sink { result.sink ≡ sink }
+        ensures hands { result.hands ≡ hands }
+    {
+        EndedOf {
+            status,
+            began: false,
+            first: opening_state(alloc, Items::new(alloc)),
+            log: Items::new(alloc),
+            last: opening_state(alloc, Items::new(alloc)),
+            keeper,
+            sink,
+            hands,
+        }
+    }
+}

@@ -1,0 +1,27 @@
+//! A session: the table of works and runs, the book that a script is executed in, and the serial
+//! run.
+//!
+//! [`Table`] makes the events of the machine, one a call, and keeps their rows. [`BookOf`] holds a
+//! table with the bench of workers, the lines that are left and what is still to be written, and its
+//! type keeps what the promises of a run rest on. [`run_serial`] executes the lines one after
+//! another, and after each of them drives all that may start.
+#![tactic(auto)]
+
+pub mod book;
+pub mod ended;
+mod mark;
+mod opening;
+pub mod serial;
+pub mod status;
+mod steps;
+pub mod table;
+mod writing;
+
+pub use book::{After, BookOf, Front, Job, Stop};
+pub use ended::{Ended, EndedOf};
+pub use mark::Mark;
+pub use opening::opening_state;
+pub use serial::run_serial;
+pub use status::Status;
+pub use table::ticket::Ticket;
+pub use table::{BeginFault, Claim, Table, TableEnd, Trouble, TurnAnswer};

@@ -1,0 +1,170 @@
+//! The serial run: the lines one after another, and after each of them all that may start.
+ghost use Rattle.std.specs.Prelude.{◌≡◌, ◌<◌, [], List, Option, None, IsSome, IsTrue, true, option_map};
+ghost use Rattle.std.specs.List.{AllByRecursion};
+ghost use Rattle.wm_bench.specs.Places.{IsAwayAt};
+ghost use Rattle.wm_faults.specs.Faults.{Failed};
+ghost use Rattle.wm_machine.specs.Built.{IsBuilt};
+ghost use Rattle.wm_machine.specs.Quiet.{IsQuiet};
+ghost use Rattle.wm_machine.specs.Replay.{Replay};
+ghost use Rattle.wm_machine.specs.Rows.{rows_of};
+ghost use Rattle.wm_machine.specs.Serial.{MayGoOn};
+ghost use Rattle.wm_machine.specs.Waiting.{waiting_count};
+ghost use Rattle.wm_session.specs.Bench.{place_diaries, AreIdle};
+ghost use Rattle.wm_session.specs.Drive.{IsDriven};
+ghost use Rattle.wm_session.specs.Ended.{AreHandsBack, HasCommands, HaveTold, IsSerialRun, IsSessionStatus, IsTextGiven};
+ghost use Rattle.wm_session.specs.Rest.{IsAtRest, IsReady, KeepDiaries, NoneRetired};
+ghost use Rattle.wm_session.specs.Table.{IsTicketIn};
+ghost use Rattle.wm_worker.specs.declared.answer.Entry.{Entry};
+
+use crate::book::{After, BookOf, Front, Job};
+use crate::ended::EndedOf;
+use crate::mark::Mark;
+use crate::status::Status;
+use crate::table::ticket::Ticket;
+use std::alloc::Global;
+use wm_bench::SeatedOf;
+use wm_io::Sink;
+use wm_keeper::Keeper;
+use wm_worker::{Signal, Worker};
+
+/// What became of the work that was first.
+#[derive(Clone, Copy, Debug, PartialEq, Eq)]
+enum Progress {
+    /// It was driven to its end, or couldn't start, or the session ended early while it ran.
+    Driven,
+    /// Nothing is startable.
+    Nothing,
+    /// The session has ended early.
+    Stopped,
+}
+
+/// Executes the lines of a book one after another. After each line, or once where there is no line,
+/// the work that is first is started and driven to its end, until there is nothing left to do. It
+/// waits for nothing, and returns.
+pub fn run_serial<K: Keeper, W: Sink, B: Worker, M: Mark>(
+    alloc: Global,
+    mut book: BookOf<K, W, B, M>,
+) -> EndedOf<K, W, B>
+    requires log { book.table.log ≡ [] }
+    requires no_run { book.table.state.runs ≡ [] }
+    requires idle { AreIdle book.places }
+    requires not_retired { NoneRetired book.places }
+    requires begun { book.table.state ≡ book.table.first }
+    requires lines { M.given.lines ≡ book.left }
+    requires built { AllByRecursion IsBuilt M.given.lines }
+    ensures status { IsSessionStatus result.status }
+    ensures began { IsTrue result.began }
+    ensures first { result.first ≡ M.given.first }
+    ensures replay { Replay result.first result.log result.last }
+    ensures commands { HasCommands M.given.lines result.status result.log }
+    ensures bytes { IsTextGiven M.given.written
+        (W.given result.sink) result.status result.first result.log }
+    ensures rows { K.held result.keeper ≡ option_map (λ _. rows_of result.last) M.given.rows }
+    ensures end { result.status ≡ Status.Done → IsQuiet result.last }
+    ensures hands { AreHandsBack B.kind_of result.last result.hands.items }
+    ensures diaries { result.status ≡ Status.Done
+        → HaveTold B.diary_of (place_diaries B.diary_of book.places)
+        result.first result.log result.hands.items }
+    ensures serial { IsSerialRun M.given.lines result.status result.first result.log result.last }
+    ensures keeper_fault { result.status ≡ Status.KeeperFault → Failed M.given.keeper_faults
+        (K.faults result.keeper) }
+    ensures sink_fault { result.status ≡ Status.SinkFault → Failed M.given.sink_faults
+        (W.faults result.sink) }
+{
+    if book.next_line().is_none() {
+        drain(alloc, &mut book);
+    }
+    execute_lines(alloc, &mut book);
+    book.finish()
+}
+
+/// Executes the lines that are left, and after each of them drives all that may start.
+fn execute_lines<K: Keeper, W: Sink, B: Worker, M: Mark>(
+    alloc: Global,
+    book: &mut BookOf<K, W, B, M>,
+)
+    requires rest { IsAtRest M.given.lines book.old }
+    requires ready { book.old.status ≡ None → IsReady book.old.left book.old }
+    ensures rest { IsAtRest M.given.lines book.new }
+    ensures done { book.new.status ≡ None → book.new.left ≡ [] }
+    ensures quiet { book.new.status ≡ None → IsQuiet book.new.table.state }
+    ensures diaries { (diaries : List (Option (List Entry)))
+        → KeepDiaries B.diary_of diaries book.old
+        → KeepDiaries B.diary_of diaries book.new }
+{
+    'lines: loop {
+        match book.front_step() {
+            Front::Moved => drain(alloc, book),
+            Front::Ended | Front::Stopped => return,
+        }
+    }
+}
+
+/// Drives all that may start, until there is nothing left to do. Each start leaves one waiting work
+/// fewer, so it ends.
+fn drain<K: Keeper, W: Sink, B: Worker, M: Mark>(alloc: Global, book: &mut BookOf<K, W, B, M>)
+    requires rest { IsAtRest M.given.lines book.old }
+    requires may_go_on { MayGoOn M.given.lines book.old.table.log }
+    ensures rest { IsAtRest M.given.lines book.new }
+    ensures left { book.new.left ≡ book.old.left }
+    ensures quiet { book.new.status ≡ None → IsQuiet book.new.table.state }
+    ensures diaries { (diaries : List (Option (List Entry)))
+        → KeepDiaries B.diary_of diaries book.old
+        → KeepDiaries B.diary_of diaries book.new }
+{
+    'starts: while let Progress::Driven = drive_first(alloc, book) {}
+}
+
+/// Starts the work that is first, and drives its run to its end.
+fn drive_first<K: Keeper, W: Sink, B: Worker, M: Mark>(
+    alloc: Global,
+    book: &mut BookOf<K, W, B, M>,
+) -> Progress
+    requires rest { IsAtRest M.given.lines book.old }
+    requires may_go_on { MayGoOn M.given.lines book.old.table.log }
+    ensures rest { IsAtRest M.given.lines book.new }
+    ensures may_go_on { MayGoOn M.given.lines book.new.table.log }
+    ensures left { book.new.left ≡ book.old.left }
+    ensures fewer { result ≡ Progress.Driven
+        → waiting_count book.new.table.state.works < waiting_count book.old.table.state.works }
+    ensures nothing { result ≡ Progress.Nothing → IsQuiet book.new.table.state }
+    ensures stopped { result ≡ Progress.Stopped → IsSome book.new.status }
+    ensures diaries { (diaries : List (Option (List Entry)))
+        → KeepDiaries B.diary_of diaries book.old
+        → KeepDiaries B.diary_of diaries book.new }
+{
+    match book.claim() {
+        Job::Run(ticket, seat, signal) => {
+            drive(alloc, book, ticket, seat, &signal);
+            Progress::Driven
+        }
+        Job::Failed => Progress::Driven,
+        Job::None => Progress::Nothing,
+        Job::Stopped => Progress::Stopped,
+    }
+}
+
+/// Drives a run to its end: its worker begins, takes its turn, and is put back.
+fn drive<K: Keeper, W: Sink, B: Worker, M: Mark>(
+    alloc: Global,
+    book: &mut BookOf<K, W, B, M>,
+    ticket: Ticket,
+    mut seat: SeatedOf<B>,
+    signal: &Signal,
+)
+    requires ticket_in { IsTicketIn book.old.table.state ticket }
+    requires number { seat.number ≡ ticket.instance }
+    requires kind { B.kind_of seat.worker ≡ ticket.kind }
+    requires away { IsAwayAt seat.number (B.kind_of seat.worker) book.old.places }
+    requires signal_is { signal.now ≡ record { run = ticket.task.run; never = true } }
+    ensures { IsDriven K.held B.diary_of ticket seat.worker book.old book.new }
+{
+    let told = match seat.begin(alloc, ticket.task()) {
+        Ok(()) => seat.turn(alloc, ticket.task(), ticket.k(), signal),
+        Err(refused) => Err(refused),
+    };
+    match book.report(ticket, seat, told) {
+        After::Over | After::Stopped => {}
+        After::Again(..) => unreachable!(),
+    }
+}

@@ -1,0 +1,130 @@
+//! What a book does with its parts: it executes a line, writes what is pending, and puts ticket and
+//! worker back.
+ghost use Rattle.std.specs.Prelude.{◌≡◌, ◌++◌, [], None, Some, IsNone, IfErr, IfSome, OnOk, OnErr};
+ghost use Rattle.wm_bench.specs.Places.{changed_at, made_idle, IsAwayAt};
+ghost use Rattle.wm_machine.specs.Built.{IsBuilt};
+ghost use Rattle.wm_machine.specs.Texts.{event_text, HasText, IsWritten};
+ghost use Rattle.wm_machine.specs.declared.event.Event.{Event};
+ghost use Rattle.wm_machine.specs.declared.event.Event.TheVariants as event;
+ghost use Rattle.wm_machine.specs.declared.reply.Reply.{Reply};
+ghost use Rattle.wm_machine.specs.declared.state.State.{State};
+ghost use Rattle.wm_session.specs.Causes.{status_by_stop, stop_by_fault};
+ghost use Rattle.wm_session.specs.Kept.{AreTextsKept};
+ghost use Rattle.wm_session.specs.Table.{last_of, IsOneStep, IsUntouched, Stands, TroubleCause};
+ghost use Rattle.wm_session.specs.Writing.{WriteCause};
+
+use crate::book::Stop;
+use crate::status::Status;
+use crate::table::ticket::Ticket;
+use crate::table::{Table, Trouble};
+use crate::writing::{WriteFault, write_front};
+use std::alloc::Global;
+use wm_bench::{BenchOf, SeatedOf};
+use wm_io::Sink;
+use wm_keeper::Keeper;
+use wm_machine::{Command, Event, event_text};
+use wm_worker::Worker;
+
+/// Executes the command of a line. Its reply stands in the table's last event.
+pub fn execute<K: Keeper>(table: &mut Table<K>, line: u32, command: Command) -> Result<(), Trouble>
+    requires built { IsBuilt command }
+    requires no_run { table.old.state.runs ≡ [] }
+    ensures ok { OnOk result ((reply : Reply) × IsWritten reply
+        × IsOneStep K.held (event.Command line command reply) table.old table.new) }
+    ensures err { OnErr result (IsUntouched K.held table.old table.new) }
+    ensures cause { TroubleCause result (K.faults table.old.keeper) (K.faults table.new.keeper) }
+{
+    match table.command(line, command) {
+        Ok(reply) => {
+            drop(reply);
+            Ok(())
+        }
+        Err(trouble) => Err(trouble),
+    }
+}
+
+/// Takes a ticket without an event, and puts its worker back at its place.
+pub fn give_back<K: Keeper, B: Worker>(
+    table: &mut Table<K>,
+    bench: &mut BenchOf<B>,
+    ticket: Ticket,
+    seat: SeatedOf<B>,
+)
+    requires stands { Stands table.old.state ticket }
+    requires away { IsAwayAt seat.number (B.kind_of seat.worker) bench.old }
+    ensures table { table.new ≡ table.old }
+    ensures places { bench.new ≡ changed_at (made_idle seat.worker) seat.number bench.old }
+{
+    table.take_back(ticket);
+    bench.give(seat);
+}
+
+/// Puts the text of the table's last event behind what is pending, and writes what is pending.
+pub fn tell_last<K: Keeper, W: Sink>(
+    alloc: Global,
+    table: &Table<K>,
+    pending: &mut Vec<u8>,
+    sink: &mut W,
+) -> Result<(), WriteFault>
+    requires { IfSome (last_of table.now.log) HasText }
+    ensures ok { OnOk result ((s : State) (e : Event) → last_of table.now.log ≡ Some e
+        → AreTextsKept None (W.given sink.old) (W.given sink.new) (pending.old.items ++ event_text s e) pending.new.items) }
+    ensures err { IfErr result (λ fault. (s : State) (e : Event) → last_of table.now.log ≡ Some e
+        → AreTextsKept (Some (stop_by_fault fault)) (W.given sink.old) (W.given sink.new) (pending.old.items ++ event_text s e) pending.new.items) }
+    ensures cause { WriteCause result (W.faults sink.old) (W.faults sink.new) }
+{
+    match table.last_event() {
+        Some(event) => tell(alloc, event, pending, sink),
+        None => Ok(()),
+    }
+}
+
+/// Puts the text of an event behind what is pending, and writes what is pending.
+fn tell<W: Sink>(
+    alloc: Global,
+    event: &Event,
+    pending: &mut Vec<u8>,
+    sink: &mut W,
+) -> Result<(), WriteFault>
+    requires { HasText event.now }
+    ensures ok { OnOk result ((s : State) → AreTextsKept None (W.given sink.old) (W.given sink.new)
+        (pending.old.items ++ event_text s event.now) pending.new.items) }
+    ensures err { IfErr result (λ fault. (s : State) → AreTextsKept (Some (stop_by_fault fault))
+        (W.given sink.old) (W.given sink.new)
+        (pending.old.items ++ event_text s event.now) pending.new.items) }
+    ensures cause { WriteCause result (W.faults sink.old) (W.faults sink.new) }
+{
+    let Ok(text) = event_text(alloc, event) else {
+        return Err(WriteFault::Memory);
+    };
+    if pending.extend_from_slice(&text).is_err() {
+        return Err(WriteFault::Memory);
+    }
+    write_pending(sink, pending)
+}
+
+/// Writes what is pending, as far as the sink takes it; the rest stays pending.
+pub fn write_pending<W: Sink>(sink: &mut W, pending: &mut Vec<u8>) -> Result<(), WriteFault>
+    ensures all { OnOk result (pending.new.items ≡ []) }
+    ensures kept { AreTextsKept None (W.given sink.old)
+        (W.given sink.new) pending.old.items pending.new.items }
+    ensures cause { WriteCause result (W.faults sink.old) (W.faults sink.new) }
+{
+    let (taken, result) = write_front(sink, pending);
+    pending.drain(..taken);
+    result
+}
+
+/// How a session ends that stopped for this, or whose last write was answered so.
+pub fn status_after(stop: Option<Stop>, written: Result<(), WriteFault>) -> Status
+    ensures stopped { IfSome stop (λ why. result ≡ status_by_stop why) }
+    ensures refused { IsNone stop → IfErr written (λ fault. result
+        ≡ status_by_stop (stop_by_fault fault)) }
+    ensures done { IsNone stop → OnOk written (result ≡ Status.Done) }
+{
+    match (stop, written) {
+        (Some(stop), _) => Status::from(stop),
+        (None, Err(fault)) => Status::from(Stop::from(fault)),
+        (None, Ok(())) => Status::Done,
+    }
+}
