@@ -1,10 +1,9 @@
--- That the changes of a commit keep rows in ascending number, and where a row of the highest number
--- goes.
+-- That a change keeps rows in ascending number, and where a row of the highest number goes.
 use Rattle.std.proofs.Common.{◌≡◌, ℤ, true, false, cond, List, [], ◌∷◌, ◌++◌, refl, ap, arith}
 use Rattle.std.specs.Prelude.{◌<ℤ◌, ◌≤ℤ◌, int_lt}
 use Rattle.std.specs.List.{AllByRecursion}
 use Rattle.std.proofs.lemmas.Int.{ints, by_lt_z}
-use Rattle.wm_keeper.specs.Keeper.{Ascends, put_row, remove_row, changed_by, changed}
+use Rattle.wm_keeper.specs.Keeper.{Ascends, put_row, remove_row, changed_by}
 use Rattle.wm_keeper.specs.declared.row.Row.{Row}
 use Rattle.wm_keeper.specs.declared.row.Change.{Change}
 use Rattle.wm_keeper.specs.declared.row.Change.TheVariants.{Put, Remove}
@@ -81,8 +80,3 @@ remove_row-Ascends seq (first ∷ rows) h =
 pub changed_by-Ascends : (change : Change) (rows : List Row) → Ascends rows → Ascends (changed_by change rows)
 changed_by-Ascends (Put row) rows h = put_row-Ascends row rows h
 changed_by-Ascends (Remove seq) rows h = remove_row-Ascends seq rows h
-
--- the changes of a commit keep the order
-pub changed-Ascends : (changes : List Change) (rows : List Row) → Ascends rows → Ascends (changed changes rows)
-changed-Ascends [] rows h = h
-changed-Ascends (change ∷ changes) rows h = changed-Ascends changes (changed_by change rows) (changed_by-Ascends change rows h)

@@ -24,7 +24,7 @@ impl Model for MemoryKeeper {
 
     ghost Value = { MemoryState };
 
-    ghost view = { λ keeper. record { rows = keeper.rows.rows; failing = keeper.failing.items; calls = keeper.calls; faults = keeper.faults } };
+    ghost view = { λ keeper. record { rows = keeper.rows.rows.items; failing = keeper.failing.items; calls = keeper.calls; faults = keeper.faults } };
 
     // The count of faults fits its type.
     ghost invariant = { λ keeper. keeper.faults < 2 ^ 64 };
@@ -105,7 +105,7 @@ impl Keeper for MemoryKeeper {
         ensures counted { CountsCall self.old self.new }
     {
         self.begin()?;
-        self.rows = self.rows.changed(changes)?;
+        self.rows.change(changes)?;
         Ok(())
     }
 }

@@ -93,3 +93,12 @@ pub enum Change {
     /// No row stands under this number from now on.
     Remove(i64),
 }
+
+impl Replica for Change {
+    fn replica(&self, alloc: Global) -> Result<Change, AllocError> {
+        match self {
+            Change::Put(row) => Ok(Change::Put(row.replica(alloc)?)),
+            Change::Remove(seq) => Ok(Change::Remove(*seq)),
+        }
+    }
+}

@@ -18,7 +18,7 @@ impl Model for SureKeeper {
 
     ghost Value = { List Row };
 
-    ghost view = { λ keeper. keeper.rows.rows };
+    ghost view = { λ keeper. keeper.rows.rows.items };
 }
 
 impl SureKeeper {
@@ -59,7 +59,7 @@ impl Keeper for SureKeeper {
         ensures err { OnErr result (self.new ≡ self.old) }
         ensures memory_only { IsOkUnless result KeepFault.Memory }
     {
-        self.rows = self.rows.changed(changes)?;
+        self.rows.change(changes)?;
         Ok(())
     }
 }
