@@ -48,6 +48,22 @@ impl MemoryKeeper {
         }
     }
 
+    /// The rows held.
+    pub fn rows(&self) -> &[Row]
+        ensures rows { result.now ≡ self.now.rows }
+        ensures ascending { Ascends result.now }
+    {
+        self.rows.as_slice()
+    }
+
+    /// Gives the rows held up.
+    pub fn into_rows(self) -> Vec<Row>
+        ensures rows { result.items ≡ self.rows }
+        ensures ascending { Ascends result.items }
+    {
+        self.rows.into_vec()
+    }
+
     /// Counts a call, and a fault where it is one of those that fail.
     fn begin(&mut self) -> Result<(), KeepFault>
         ensures rows { self.new.rows ≡ self.old.rows }

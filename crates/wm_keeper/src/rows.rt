@@ -24,6 +24,21 @@ impl Rows {
         Rows { rows }
     }
 
+    pub fn as_slice(&self) -> &[Row]
+        ensures rows { result.now ≡ self.now.rows.items }
+        ensures ascending { Ascends result.now }
+    {
+        self.rows.as_slice()
+    }
+
+    /// Gives the rows as a `Vec`.
+    pub fn into_vec(self) -> Vec<Row>
+        ensures rows { result.items ≡ self.rows.items }
+        ensures ascending { Ascends result.items }
+    {
+        self.rows
+    }
+
     /// Copies of the rows.
     pub fn copies(&self) -> Result<Vec<Row>, AllocError>
         ensures { IfOk result (λ copies. copies.items ≡ self.now.rows.items) }
