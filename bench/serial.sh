@@ -1,7 +1,8 @@
 #!/usr/bin/env bash
-# Times the program on scripts that enqueue works of class Echo, and prints both times and their
-# ratio. The works of the longer script are four times those of the shorter. A script has at most
-# 65,536 bytes, so that 760 works are about the most that one has.
+# Measures the program on scripts that enqueue works of class Echo: the time of each run and, where
+# valgrind is there, its instructions, which other work on the machine doesn't change; and the ratios
+# of the two runs. The works of the longer script are four times those of the shorter. A script has
+# at most 65,536 bytes, so that 760 works are about the most that one has.
 set -euo pipefail
 root=$(cd "$(dirname "${BASH_SOURCE[0]}")/.." && pwd)
 few=${1:-190}
@@ -14,24 +15,47 @@ script() {
   done
 }
 
+# Runs the script of so many works by a command, and sees that each of them was enqueued.
+run() {
+  local lines=$1
+  shift
+  "$@" --store bench < "$work/script.$lines" > "$work/replies"
+  [ "$(grep -c '"ok":"enqueued"' "$work/replies")" -eq "$lines" ]
+}
+
 # Prints how many milliseconds the best of five runs of a script takes.
 milliseconds() {
-  local lines=$1 best=0 start now
-  script "$lines" > "$work/script"
+  local best=0 start now
   for _ in 1 2 3 4 5; do
     start=$(date +%s%N)
-    "$root/bin/work" --store bench < "$work/script" > "$work/replies"
+    run "$1" "$root/bin/work"
     now=$((($(date +%s%N) - start) / 1000))
     if [ "$best" -eq 0 ] || [ "$now" -lt "$best" ]; then best=$now; fi
   done
-  [ "$(grep -c '"ok":"enqueued"' "$work/replies")" -eq "$lines" ]
   awk -v us="$best" 'BEGIN { printf "%.1f", us / 1000 }'
+}
+
+# Prints how many million instructions a run of a script takes.
+instructions() {
+  run "$1" valgrind --quiet --tool=callgrind --callgrind-out-file="$work/callgrind" "$root/crates/work/out/work"
+  awk '/^totals:/ { printf "%.1f", $2 / 1000000 }' "$work/callgrind"
+}
+
+# Prints what both runs take, and the ratio.
+compare() {
+  local unit=$1 short=$2 long=$3
+  echo "$few works: $short $unit"
+  echo "$many works: $long $unit"
+  awk -v a="$short" -v b="$long" 'BEGIN { printf "ratio: %.1f\n", b / a }'
 }
 
 work=$(mktemp -d)
 trap 'rm -rf "$work"' EXIT
-short=$(milliseconds "$few")
-long=$(milliseconds "$many")
-echo "$few works: $short ms"
-echo "$many works: $long ms"
-awk -v a="$short" -v b="$long" 'BEGIN { printf "ratio: %.1f\n", b / a }'
+script "$few" > "$work/script.$few"
+script "$many" > "$work/script.$many"
+compare ms "$(milliseconds "$few")" "$(milliseconds "$many")"
+if command -v valgrind > /dev/null; then
+  compare "million instructions" "$(instructions "$few")" "$(instructions "$many")"
+else
+  echo "instructions: not counted, since valgrind isn't there"
+fi
