@@ -32,7 +32,8 @@ above_lower a b (row ∷ rows) lower h = (omega (arith, ints, h.0), above_lower 
 All-put_row : (P : Row → Type 0) (row : Row) (rows : List Row) → P row → AllByRecursion P rows → AllByRecursion P (put_row row rows)
 All-put_row P row [] p h = (p, tt)
 All-put_row P row (first ∷ rows) p h =
-    elim (int_lt row.seq first.seq) as (λ below. AllByRecursion P (cond below (row ∷ first ∷ rows) (cond (int_lt first.seq row.seq) (first ∷ put_row row rows) (row ∷ rows)))) [
+    elim (int_lt row.seq first.seq)
+    as (λ below. AllByRecursion P (cond below (row ∷ first ∷ rows) (cond (int_lt first.seq row.seq) (first ∷ put_row row rows) (row ∷ rows)))) [
       | true ↦ (p, h)
       | false ↦ elim (int_lt first.seq row.seq) as (λ above. AllByRecursion P (cond above (first ∷ put_row row rows) (row ∷ rows))) [
         | true ↦ (h.0, All-put_row P row rows p h.1)

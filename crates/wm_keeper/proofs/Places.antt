@@ -71,7 +71,8 @@ remove_row-gap seq (first ∷ rows) (suc i) le h =
     (ap (λ rest. first ∷ rest) (remove_row-gap seq rows i (omega arith) (tail_gap seq first rows i h)))
 
 -- a row of a number that stands there takes the place of that row
-pub put_row-at : (row : Row) (rows : List Row) (i : ℕ) → Ascends rows → i < length rows → HoldsAt (λ r. r.seq ≡ row.seq) rows i → put_row row rows ≡ set rows i row
+pub put_row-at : (row : Row) (rows : List Row) (i : ℕ) → Ascends rows → i < length rows → HoldsAt (λ r. r.seq ≡ row.seq) rows i
+    → put_row row rows ≡ set rows i row
 put_row-at row [] i h within e = absurd (omega arith)
 put_row-at row (first ∷ rows) zero h within e =
     let equal = e row in
@@ -83,7 +84,8 @@ put_row-at row (first ∷ rows) (suc i) h within e =
     (ap (λ rest. first ∷ rest) (put_row-at row rows i h.1 (omega arith) e))
 
 -- the row of a number is removed at its place
-pub remove_row-at : (seq : ℤ) (rows : List Row) (i : ℕ) → Ascends rows → i < length rows → HoldsAt (λ r. r.seq ≡ seq) rows i → remove_row seq rows ≡ remove rows i
+pub remove_row-at : (seq : ℤ) (rows : List Row) (i : ℕ) → Ascends rows → i < length rows → HoldsAt (λ r. r.seq ≡ seq) rows i
+    → remove_row seq rows ≡ remove rows i
 remove_row-at seq [] i h within e = absurd (omega arith)
 remove_row-at seq (first ∷ rows) zero h within e =
     let equal = e first in
@@ -95,11 +97,15 @@ remove_row-at seq (first ∷ rows) (suc i) h within e =
     (ap (λ rest. first ∷ rest) (remove_row-at seq rows i h.1 (omega arith) e))
 
 -- a search by number finds the row of the number
-pub search_found : (seq : ℤ) (rows : List Row) (r : Result ℕ ℕ) → IsBinarySearchResult (λ row. int_cmp row.seq seq) rows r → IfOk r (HoldsAt (λ row. row.seq ≡ seq) rows)
+pub search_found : (seq : ℤ) (rows : List Row) (r : Result ℕ ℕ) → IsBinarySearchResult (λ row. int_cmp row.seq seq) rows r
+    → IfOk r (HoldsAt (λ row. row.seq ≡ seq) rows)
 search_found seq rows (Ok i) h = λ d. same _ _ (h d)
 search_found seq rows (Err i) h = tt
 
 -- or else the place between the lower numbers and the higher ones
-pub search_missing : (seq : ℤ) (rows : List Row) (r : Result ℕ ℕ) → Ascends rows → IsBinarySearchResult (λ row. int_cmp row.seq seq) rows r → IfErr r (IsPartitionPoint (λ row. row.seq <ℤ seq) (λ row. seq <ℤ row.seq) rows)
+pub search_missing : (seq : ℤ) (rows : List Row) (r : Result ℕ ℕ) → Ascends rows → IsBinarySearchResult (λ row. int_cmp row.seq seq) rows r
+    → IfErr r (IsPartitionPoint (λ row. row.seq <ℤ seq) (λ row. seq <ℤ row.seq) rows)
 search_missing seq rows (Ok i) h at = tt
-search_missing seq rows (Err i) h at = let point = at (searchable seq rows h) in (λ k d from to. lower _ _ (point.0 k d from to), λ k d from to. higher _ _ (point.1 k d from to))
+search_missing seq rows (Err i) h at =
+    let point = at (searchable seq rows h) in
+    (λ k d from to. lower _ _ (point.0 k d from to), λ k d from to. higher _ _ (point.1 k d from to))
