@@ -17,6 +17,3 @@ pub use bench::{Bench, BenchOf, MAX_HANDS};
 pub use hand::{Hand, HandOf};
 pub use place::{Place, Presence};
 pub use seat::{Seated, SeatedOf};
-
-#[cfg(test)]
-mod tests;

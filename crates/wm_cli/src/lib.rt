@@ -8,8 +8,6 @@
 mod instances;
 mod program;
 mod script;
-#[cfg(test)]
-mod tests;
 mod words;
 
 pub use program::run;

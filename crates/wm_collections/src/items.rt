@@ -118,28 +118,3 @@ pub fn push_both<T: Drop, U: Drop>(
         }
     }
 }
-
-#[cfg(test)]
-mod tests {
-    use super::*;
-    use std::test::Fail;
-
-    #[test]
-    fn a_list_grows_and_shrinks(rt: HostRuntime) -> Result<(), Fail> {
-        let alloc = rt.alloc();
-        let mut first = Items::new(alloc);
-        let mut second = Items::from_vec(vec![in alloc; 7u8]?);
-        assert!(rt; first.is_empty());
-        first.push(1u8)?;
-        push_both(&mut first, 2, &mut second, 8)?;
-        assert_eq!(rt; first.as_slice(), [1, 2].as_slice());
-        assert_eq!(rt; second.as_slice(), [7, 8].as_slice());
-        assert_eq!(rt; first.replace(0, 5), 1);
-        assert_eq!(rt; second.remove(0), 7);
-        assert_eq!(rt; second.as_slice(), [8].as_slice());
-        first.truncate(1);
-        assert_eq!(rt; first.len(), 1);
-        assert_eq!(rt; first.into_vec().as_slice(), [5].as_slice());
-        Ok(())
-    }
-}

@@ -62,33 +62,3 @@ impl Replica for Data {
         })
     }
 }
-
-#[cfg(test)]
-mod tests {
-    use super::*;
-    use std::test::Fail;
-
-    fn entry(alloc: Global, key: &str, value: Value) -> Result<DataEntry, AllocError> {
-        Ok(DataEntry {
-            key: Text::from_str(alloc, key)?,
-            value,
-        })
-    }
-
-    #[test]
-    fn data_is_copied(rt: HostRuntime) -> Result<(), Fail> {
-        let alloc = rt.alloc();
-        assert!(rt; Data::empty(alloc).is_empty());
-        let mut entries = Items::new(alloc);
-        entries.push(entry(alloc, "int", Value::Int(-7))?)?;
-        let texts = Items::from_vec(vec![in alloc; Text::from_str(alloc, "a")?]?);
-        entries.push(entry(alloc, "texts", Value::Texts(texts))?)?;
-        let data = Data { entries };
-        let copy = data.replica(alloc)?;
-        assert!(rt; !copy.is_empty());
-        assert_eq!(rt; copy.entries.len(), 2);
-        assert_eq!(rt; copy.entries.as_slice()[1].key.as_str(), "texts");
-        assert!(rt; matches!(&copy.entries.as_slice()[0].value, Value::Int(-7)));
-        Ok(())
-    }
-}

@@ -14,6 +14,3 @@ pub use keeper::{KeepFault, Keeper};
 pub use memory::MemoryKeeper;
 pub use row::{Change, Row};
 pub use sure::SureKeeper;
-
-#[cfg(test)]
-mod tests;

@@ -308,6 +308,3 @@ fn enqueue_command(alloc: Global, request: Request) -> Result<Command, AllocErro
         batch: Batch { works },
     })
 }
-
-#[cfg(test)]
-mod tests;

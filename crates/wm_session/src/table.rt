@@ -22,8 +22,6 @@ mod lifecycle;
 mod placing;
 mod scan;
 mod starting;
-#[cfg(test)]
-mod tests;
 pub mod ticket;
 
 use crate::opening::opening_state;

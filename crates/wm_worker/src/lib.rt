@@ -18,6 +18,3 @@ pub use signal::{Raised, Signal};
 pub use task::Task;
 pub use told::Told;
 pub use worker::Worker;
-
-#[cfg(test)]
-mod tests;

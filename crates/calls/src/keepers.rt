@@ -1,14 +1,12 @@
+//! Keepers of rows, of `wm_keeper`.
 ghost use Rattle.std.specs.Prelude.{◌≡◌, ◌∷◌, [], IfOk};
 ghost use Rattle.wm_keeper.specs.Keeper.{Ascends};
 
-use crate::keeper::{KeepFault, Keeper};
-use crate::memory::MemoryKeeper;
-use crate::row::{Change, Row};
-use crate::sure::SureKeeper;
 use std::alloc::{AllocError, Global};
 use std::process::Abort;
 use std::test::Fail;
 use wm_collections::{Items, Text};
+use wm_keeper::{Change, KeepFault, Keeper, MemoryKeeper, Row, SureKeeper};
 
 /// A row of this number and attempt.
 fn row(alloc: Global, seq: i64, attempt: i64) -> Result<Row, AllocError>
@@ -75,9 +73,12 @@ fn commit<K: Keeper>(
     Ok(())
 }
 
-/// Puts and removes at each place.
+/// Puts and removes at each place of a keeper without rows.
 fn edits<K: Keeper>(rt: &impl Abort, alloc: Global, keeper: &mut K) -> Result<(), Fail> {
-    let steps: [(i64, Option<i64>, &[(i64, i64)]); 10] = [
+    assert!(rt; keeper.load("work")?.is_empty());
+    let steps: [(i64, Option<i64>, &[(i64, i64)]); 12] = [
+        (1, None, &[]),
+        (1, Some(0), &[(1, 0)]),
         (1, None, &[]),
         (5, Some(0), &[(5, 0)]),
         (9, Some(0), &[(5, 0), (9, 0)]),
@@ -93,18 +94,6 @@ fn edits<K: Keeper>(rt: &impl Abort, alloc: Global, keeper: &mut K) -> Result<()
         commit(alloc, keeper, seq, attempt)?;
         assert_eq!(rt; loaded(alloc, keeper)?.as_slice(), expected, "after {seq}");
     }
-    Ok(())
-}
-
-#[test]
-fn memory_keeper_puts_and_removes(rt: HostRuntime) -> Result<(), Fail> {
-    let alloc = rt.alloc();
-    let mut keeper = MemoryKeeper::new(Vec::new(alloc), Vec::new(alloc));
-    assert!(rt; keeper.load("work")?.is_empty());
-    keeper.commit(&[Change::Put(row(alloc, 1, 0)?)])?;
-    assert_eq!(rt; loaded(alloc, &mut keeper)?.as_slice(), [(1, 0)].as_slice());
-    keeper.commit(&[Change::Remove(1)])?;
-    assert!(rt; keeper.load("work")?.is_empty());
     Ok(())
 }
 

@@ -1,17 +1,17 @@
-//! Tests of the table over a keeper that fails at the commits that it is told to.
+//! The table of `wm_session`, over a keeper that fails at the commits that it is told to.
 ghost use Rattle.std.specs.Prelude.{◌≡◌, [], IfOk};
 ghost use Rattle.wm_machine.specs.Built.{IsBuilt};
 ghost use Rattle.wm_session.specs.Table.{AreFresh, Stands};
 
-use super::*;
-use std::process::Abort;
+use std::alloc::{AllocError, Global};
 use std::test::Fail;
 use uuid::Uuid;
-use wm_collections::Text;
+use wm_collections::{Items, Text};
 use wm_data::{Data, Merger};
 use wm_keeper::MemoryKeeper;
-use wm_machine::{Backoff, Constraints, Kind, Node, Request};
-use wm_worker::{Answer, Task};
+use wm_machine::{Backoff, Batch, Command, Constraints, Instance, Kind, Node, Reply, Request};
+use wm_session::{Claim, Table, Ticket, Trouble, TurnAnswer};
+use wm_worker::{Answer, Task, Told};
 
 /// One idle Echo.
 fn one_echo(alloc: Global) -> Result<Items<Instance>, AllocError>

@@ -1,0 +1,204 @@
+//! Lines, statuses and whole runs, of `wm_machine` and `wm_cli`, as far as no script shows them.
+ghost use Rattle.std.specs.Prelude.{◌≡◌, ◌≤◌, vec_len, IfOk};
+ghost use Rattle.wm_bench.specs.declared.bench.TheConstants.{MAX_HANDS};
+ghost use Rattle.wm_session.specs.Hands.{AreEchoes};
+
+use crate::diarist::{Diarist, told_runs};
+use std::alloc::{AllocError, Global};
+use std::test::Fail;
+use wm_bench::{Hand, HandOf};
+use wm_cli::{Status, run};
+use wm_collections::Text;
+use wm_io::{MemorySink, MemorySource, StdSink, StdSource};
+use wm_keeper::SureKeeper;
+use wm_machine::{Command, Limit, LineFault, read_lines};
+use wm_stock::Echo;
+use wm_worker::{Kind, Worker};
+
+/// Which of the built commands it is.
+fn name_of(command: &Command) -> &'static str {
+    match command {
+        Command::Enqueue { .. } => "enqueue",
+        Command::Query(_) => "query",
+        Command::Faulty(LineFault::NotBuilt) => "not built",
+        _ => "another",
+    }
+}
+
+/// The names of the commands of a script.
+fn names_of(alloc: Global, script: &str) -> Result<Vec<&'static str>, Fail> {
+    let commands = read_lines(alloc, script.as_bytes())?;
+    let mut names = Vec::new(alloc);
+    for command in commands.as_slice() {
+        names.push(name_of(command))?;
+    }
+    Ok(names)
+}
+
+#[test]
+fn lines_are_commands(rt: HostRuntime) -> Result<(), Fail> {
+    let alloc = rt.alloc();
+    let names = names_of(
+        alloc,
+        r#"{"cmd":"enqueue","works":[{"class":"Nope","id":"00000000-0000-0000-0000-000000000001"}]}
+{"cmd":"query"}
+not json
+{"cmd":"prune"}"#,
+    )?;
+    let expected = ["enqueue", "query", "not built", "not built"];
+    assert_eq!(rt; names.as_slice(), expected.as_slice());
+    Ok(())
+}
+
+#[test]
+fn a_status_has_a_code_and_a_text(rt: HostRuntime) -> Result<(), Fail> {
+    let alloc = rt.alloc();
+    let cases = [
+        (Status::Done, 0, ""),
+        (
+            Status::Usage,
+            2,
+            "usage: work --store NAME [--workers N] [--generate SEED]",
+        ),
+        (Status::SourceFault, 3, "read failed"),
+        (Status::SinkFault, 4, "write failed"),
+        (Status::KeeperFault, 5, "store failed"),
+        (
+            Status::BadStore {
+                seq: 3,
+                bad_row: true,
+            },
+            6,
+            "bad store: row 3: bad row",
+        ),
+        (
+            Status::BadStore {
+                seq: 5,
+                bad_row: false,
+            },
+            6,
+            "bad store: row 5: unsound",
+        ),
+        (
+            Status::BadStore {
+                seq: -7,
+                bad_row: true,
+            },
+            6,
+            "bad store: row -7: bad row",
+        ),
+        (
+            Status::ScriptTooLong(Limit::Bytes),
+            7,
+            "script too long: bytes",
+        ),
+        (
+            Status::ScriptTooLong(Limit::Line),
+            7,
+            "script too long: line",
+        ),
+        (
+            Status::ScriptTooLong(Limit::Lines),
+            7,
+            "script too long: lines",
+        ),
+        (Status::Memory, 8, "out of memory"),
+    ];
+    for (status, code, text) in cases {
+        assert_eq!(rt; status.code(), code);
+        assert_eq!(rt; status.text(alloc)?.as_str(), text);
+    }
+    Ok(())
+}
+
+const WORDS: &[&str] = &["--store", "demo"];
+
+const SCRIPT: &str =
+    r#"{"cmd":"enqueue","works":[{"class":"Echo","id":"00000000-0000-0000-0000-000000000001"}]}
+{"cmd":"query"}
+"#;
+
+const REPLIES: &str = r#"{"line":1,"ok":"enqueued","works":[1]}
+{"line":2,"ok":"query","works":[{"attempt":1,"generation":0,"id":"00000000-0000-0000-0000-000000000001","output":{},"progress":{},"seq":1,"state":"SUCCEEDED","tags":[]}]}
+"#;
+
+fn words(alloc: Global, words: &[&str]) -> Result<Vec<String>, AllocError> {
+    let mut copies = Vec::new(alloc);
+    for word in words {
+        copies.push(String::from_str(alloc, word)?)?;
+    }
+    Ok(copies)
+}
+
+/// A worker of class Echo.
+fn echo(alloc: Global) -> Result<HandOf<Echo>, AllocError> {
+    Ok(HandOf {
+        class: Text::from_str(alloc, "Echo")?,
+        worker: Echo::new(),
+    })
+}
+
+/// Two workers of class Echo.
+fn echoes(alloc: Global) -> Result<Vec<HandOf<Echo>>, AllocError>
+    ensures few { IfOk result (λ hands. vec_len hands ≤ MAX_HANDS) }
+    ensures echoes { IfOk result (λ hands. AreEchoes ⟦<Echo as Worker>⟧.kind_of hands.items) }
+{
+    let mut hands = Vec::new(alloc);
+    hands.push(echo(alloc)?)?;
+    hands.push(echo(alloc)?)?;
+    Ok(hands)
+}
+
+/// A run over std's reader and writer and a keeper that never fails.
+#[test]
+fn a_run_takes_any_source_sink_and_keeper(rt: HostRuntime) -> Result<(), Fail> {
+    let alloc = rt.alloc();
+    let mut written = Vec::new(alloc);
+    let mut source = StdSource::new(SCRIPT.as_bytes());
+    let words = words(alloc, WORDS)?;
+    let sink = StdSink::new(&mut written);
+    let keeper = SureKeeper::new(Vec::new(alloc));
+    let hands = echoes(alloc)?;
+    let ended = run(alloc, &words, hands, &mut source, sink, keeper);
+    assert_eq!(rt; ended.status, Status::Done);
+    drop(ended);
+    assert_eq!(rt; written.as_slice(), REPLIES.as_bytes());
+    Ok(())
+}
+
+/// The one hand of a run: a boxed worker of class and kind Echo.
+fn one_hand(alloc: Global, worker: Box<dyn Worker + Send>) -> Result<Vec<Hand>, AllocError>
+    requires { ⟦<Box<dyn Worker + Send> as Worker>⟧.kind_of worker ≡ Kind.Echo }
+    ensures few { IfOk result (λ hands. vec_len hands ≤ MAX_HANDS) }
+    ensures echoes { IfOk result
+        (λ hands. AreEchoes ⟦<Box<dyn Worker + Send> as Worker>⟧.kind_of hands.items) }
+{
+    let mut hands = Vec::new(alloc);
+    hands.push(HandOf {
+        class: Text::from_str(alloc, "Echo")?,
+        worker,
+    })?;
+    Ok(hands)
+}
+
+#[test]
+fn a_boxed_worker_comes_back_with_its_diary(rt: HostRuntime) -> Result<(), Fail> {
+    let alloc = rt.alloc();
+    let hands = one_hand(alloc, Box::new(alloc, Diarist::new(alloc))?)?;
+    let script = Vec::from_slice(alloc, SCRIPT.as_bytes())?;
+    let mut source = MemorySource::new(script, 100, Vec::new(alloc));
+    let sink = MemorySink::new(100, Vec::new(alloc));
+    let keeper = SureKeeper::new(Vec::new(alloc));
+    let words = words(alloc, WORDS)?;
+    let ended = run(alloc, &words, hands, &mut source, sink, keeper);
+    assert_eq!(rt; ended.status, Status::Done);
+    assert_eq!(rt; ended.sink.bytes(), REPLIES.as_bytes());
+    let [hand] = ended.hands.as_slice() else {
+        panic!(rt; "not one hand");
+    };
+    assert_eq!(rt; hand.class.as_str(), "Echo");
+    let runs = [(1, None), (1, Some((0, true)))];
+    let diary = told_runs(alloc, &hand.worker)?;
+    assert_eq!(rt; diary.as_deref(), Some(runs.as_slice()));
+    Ok(())
+}

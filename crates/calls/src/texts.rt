@@ -1,0 +1,269 @@
+//! The texts of events and the rows of records, of `wm_machine`.
+ghost use Rattle.std.specs.Prelude.{◌≡◌, [], Some, IfOk};
+ghost use Rattle.wm_machine.specs.Rows.{FitsRow, HasNoData};
+ghost use Rattle.wm_machine.specs.Texts as texts;
+
+use std::alloc::{AllocError, Global};
+use std::test::Fail;
+use uuid::Uuid;
+use wm_collections::{Items, Replica, Text};
+use wm_data::{Data, Merger};
+use wm_keeper::Row;
+use wm_machine::{
+    Backoff, Command, Constraints, Event, How, LineFault, Network, Period, Phase, Record, Refusal,
+    Reply, Request, Shown, WorkInfo, event_text, to_row,
+};
+
+/// The text of a reply to a line.
+fn text_of(alloc: Global, line: u32, reply: Reply) -> Result<Vec<u8>, AllocError>
+    requires { texts.IsWritten reply }
+{
+    let event = Event::Command {
+        line,
+        command: Command::Settle,
+        reply,
+    };
+    event_text(alloc, &event)
+}
+
+/// What is told of a work that was enqueued under a name and waits, with two tags.
+fn enqueued_info(alloc: Global) -> Result<WorkInfo, AllocError>
+    ensures { IfOk result (λ info. texts.TellsNoData info) }
+{
+    let mut tags = Items::new(alloc);
+    tags.push(Text::from_str(alloc, "a")?)?;
+    tags.push(Text::from_str(alloc, "b")?)?;
+    Ok(WorkInfo {
+        seq: 7,
+        id: Uuid::from_u128(0x67e5_5044_10b1_426f_9247_bb68_0e5f_e0c8),
+        name: Some(Text::from_str(alloc, "sync")?),
+        state: Shown::Enqueued,
+        attempt: 0,
+        due: Some(0),
+        generation: 3,
+        output: Data::empty(alloc),
+        progress: Data::empty(alloc),
+        tags,
+    })
+}
+
+/// What is told of the first work, after one attempt, without name or tags.
+fn ended_info(alloc: Global, state: Shown) -> WorkInfo
+    ensures { texts.TellsNoData result }
+{
+    WorkInfo {
+        seq: 1,
+        id: Uuid::from_u128(1),
+        name: None,
+        state,
+        attempt: 1,
+        due: None,
+        generation: 0,
+        output: Data::empty(alloc),
+        progress: Data::empty(alloc),
+        tags: Items::new(alloc),
+    }
+}
+
+/// The reply that tells two works that ended, in this order.
+fn ended_query(alloc: Global, first: Shown, second: Shown) -> Result<Reply, AllocError>
+    ensures { IfOk result (λ reply. texts.IsWritten reply) }
+{
+    let mut works = Items::new(alloc);
+    works.push(ended_info(alloc, first))?;
+    works.push(ended_info(alloc, second))?;
+    Ok(Reply::Query(works))
+}
+
+/// A replica of the reply that tells one work that waits.
+fn waiting_query(alloc: Global) -> Result<Reply, AllocError>
+    ensures { IfOk result (λ reply. texts.IsWritten reply) }
+{
+    let mut works = Items::new(alloc);
+    works.push(enqueued_info(alloc)?)?;
+    Reply::Query(works).replica(alloc)
+}
+
+/// Refusals, each with the number of its line and its text.
+fn refusals(alloc: Global) -> Result<Vec<(u32, Refusal, &'static str)>, AllocError> {
+    let first = Uuid::from_u128(1);
+    let key = Text::from_str(alloc, "a\"b")?;
+    Ok(vec![in alloc;
+        (
+            1,
+            Refusal::Line(LineFault::NotBuilt),
+            "{\"error\":\"NotBuilt\",\"line\":1}\n"
+        ),
+        (
+            2,
+            Refusal::IdInUse { id: first },
+            "{\"error\":\"IdInUse\",\"id\":\"00000000-0000-0000-0000-000000000001\",\"line\":2}\n"
+        ),
+        (
+            3,
+            Refusal::TooManyWorks { count: 100_000 },
+            "{\"count\":100000,\"error\":\"TooManyWorks\",\"line\":3}\n"
+        ),
+        (
+            4,
+            Refusal::NumbersSpent {
+                next: 9_007_199_254_740_992
+            },
+            "{\"error\":\"NumbersSpent\",\"line\":4,\"next\":9007199254740992}\n"
+        ),
+        (
+            5,
+            Refusal::Line(LineFault::BadData { key }),
+            "{\"error\":\"BadData\",\"key\":\"a\\\"b\",\"line\":5}\n"
+        ),
+        (
+            6,
+            Refusal::Line(LineFault::TooLarge { size: 10_241 }),
+            "{\"error\":\"TooLarge\",\"line\":6,\"size\":10241}\n"
+        ),
+        (
+            7,
+            Refusal::MomentBack { now: 8 },
+            "{\"error\":\"MomentBack\",\"line\":7,\"now\":8}\n"
+        ),
+        (
+            4_294_967_295,
+            Refusal::NoSuchClass,
+            "{\"error\":\"NoSuchClass\",\"line\":4294967295}\n"
+        ),
+    ]?)
+}
+
+#[test]
+fn replies_alone_are_written(rt: HostRuntime) -> Result<(), Fail> {
+    let alloc = rt.alloc();
+    let works: [(&[u64], &str); 3] = [
+        (&[], "{\"line\":7,\"ok\":\"enqueued\",\"works\":[]}\n"),
+        (&[1], "{\"line\":7,\"ok\":\"enqueued\",\"works\":[1]}\n"),
+        (
+            &[9, 10, 11],
+            "{\"line\":7,\"ok\":\"enqueued\",\"works\":[9,10,11]}\n",
+        ),
+    ];
+    for (numbers, expected) in works {
+        let works = Items::from_vec(numbers.to_vec(alloc)?);
+        let text = text_of(alloc, 7, Reply::Enqueued(works))?;
+        assert_eq!(rt; text.as_slice(), expected.as_bytes());
+    }
+    for (line, refusal, expected) in refusals(alloc)? {
+        let text = text_of(alloc, line, Reply::Refused(refusal))?;
+        assert_eq!(rt; text.as_slice(), expected.as_bytes());
+    }
+    assert!(rt; event_text(alloc, &Event::TimedOut { run: 1 })?.is_empty());
+    Ok(())
+}
+
+#[test]
+fn works_are_told(rt: HostRuntime) -> Result<(), Fail> {
+    let alloc = rt.alloc();
+    let none = text_of(alloc, 2, Reply::Query(Items::new(alloc)))?;
+    let expected = "{\"line\":2,\"ok\":\"query\",\"works\":[]}\n";
+    assert_eq!(rt; none.as_slice(), expected.as_bytes());
+    let ended = ended_query(alloc, Shown::Failed, Shown::Cancelled)?;
+    let expected =
+        "{\"line\":2,\"ok\":\"query\",\"works\":[{\"attempt\":1,\"generation\":0,\"id\":\"00000000-0000-0000-0000-000000000001\",\"output\":{},\"progress\":{},\"seq\":1,\"state\":\"FAILED\",\"tags\":[]},{\"attempt\":1,\"generation\":0,\"id\":\"00000000-0000-0000-0000-000000000001\",\"output\":{},\"progress\":{},\"seq\":1,\"state\":\"CANCELLED\",\"tags\":[]}]}\n";
+    assert_eq!(rt; text_of(alloc, 2, ended)?.as_slice(), expected.as_bytes());
+    let waiting = waiting_query(alloc)?;
+    let expected =
+        "{\"line\":3,\"ok\":\"query\",\"works\":[{\"attempt\":0,\"due\":0,\"generation\":3,\"id\":\"67e55044-10b1-426f-9247-bb680e5fe0c8\",\"name\":\"sync\",\"output\":{},\"progress\":{},\"seq\":7,\"state\":\"ENQUEUED\",\"tags\":[\"a\",\"b\"]}]}\n";
+    assert_eq!(rt; text_of(alloc, 3, waiting)?.as_slice(), expected.as_bytes());
+    Ok(())
+}
+
+/// A request of the second work under a period, with a tag.
+fn request(alloc: Global) -> Result<Request, AllocError>
+    ensures input { IfOk result (λ request. request.input ≡ []) }
+    ensures delay { IfOk result (λ request. request.initial_delay ≡ 3) }
+    ensures wait { IfOk result (λ request. request.backoff.delay ≡ 30000) }
+    ensures period { IfOk result (λ request. request.period ≡ Some (record { period = 900000; flex = 300000 })) }
+{
+    let mut tags = Items::new(alloc);
+    tags.push(Text::from_str(alloc, "a")?)?;
+    Ok(Request {
+        id: Uuid::from_u128(2),
+        class: Text::from_str(alloc, "Echo")?,
+        input: Data::empty(alloc),
+        merger: Merger::ArrayCreating,
+        tags,
+        constraints: Constraints {
+            network: Network::Metered,
+            charging: true,
+            ..Constraints::NONE
+        },
+        backoff: Backoff::DEFAULT,
+        initial_delay: 3,
+        period: Some(Period {
+            period: 900_000,
+            flex: 300_000,
+        }),
+    })
+}
+
+/// The record of the second work, which came after the first and has succeeded.
+fn record(alloc: Global) -> Result<Record, AllocError>
+    ensures fits { IfOk result (λ work. FitsRow work) }
+    ensures no_data { IfOk result (λ work. HasNoData work) }
+{
+    let mut prior = Items::new(alloc);
+    prior.push(1)?;
+    Ok(Record {
+        seq: 2,
+        name: Some(Text::from_str(alloc, "sync")?),
+        request: request(alloc)?,
+        prior,
+        phase: Phase::Done(How::Succeeded),
+        attempt: 4,
+        backoff_n: 5,
+        runs: 6,
+        generation: 7,
+        enqueued_at: 8,
+        output: Data::empty(alloc),
+        progress: Data::empty(alloc),
+    })
+}
+
+/// The numbers of a row, in the order of its fields.
+fn numbers_of(row: &Row) -> [i64; 17] {
+    [
+        row.version,
+        row.seq,
+        row.kind,
+        row.period,
+        row.flex,
+        row.delay,
+        row.policy,
+        row.wait,
+        row.merger,
+        row.network,
+        row.flags,
+        row.phase,
+        row.attempt,
+        row.backoff_n,
+        row.runs,
+        row.generation,
+        row.enqueued_at,
+    ]
+}
+
+#[test]
+fn a_record_has_its_row(rt: HostRuntime) -> Result<(), Fail> {
+    let alloc = rt.alloc();
+    let row = to_row(alloc, &record(alloc)?)?;
+    let numbers = [
+        1, 2, 1, 900_000, 300_000, 3, 1, 30_000, 1, 4, 8, 2, 4, 5, 6, 7, 8,
+    ];
+    assert_eq!(rt; numbers_of(&row), numbers);
+    let id = [0, 0, 0, 0, 0, 0, 0, 0, 0, 0, 0, 0, 0, 0, 0, 2];
+    assert_eq!(rt; row.id.as_slice(), id.as_slice());
+    assert_eq!(rt; row.name.as_ref().map(|name| name.as_str()), Some("sync"));
+    assert_eq!(rt; row.class.as_str(), "Echo");
+    assert_eq!(rt; (row.input.as_str(), row.output.as_str()), ("{}", "{}"));
+    assert_eq!(rt; row.prior.as_slice(), [1].as_slice());
+    assert_eq!(rt; row.tags.len(), 1);
+    Ok(())
+}
