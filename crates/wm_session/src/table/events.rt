@@ -1,13 +1,22 @@
 //! How an event is appended, and with it the one row that it changes.
-ghost use Rattle.std.specs.Prelude.{◌≡◌, ◌<◌, ◌∷◌, ◌++◌, [], length, slice_set, IfOk, OnOk, OnErr, option_map};
+ghost use Rattle.std.specs.Prelude.{◌≡◌, ◌<◌, ◌∷◌, ◌++◌, [], Ok, length, slice_set, IfOk, OnOk, OnErr, option_map};
 ghost use Rattle.wm_keeper.specs.Keeper.{put_row};
+ghost use Rattle.wm_machine.specs.Rows.{row_of, FitsRow, HasNoData};
 ghost use Rattle.wm_session.specs.Table.{TroubleCause};
 
 use crate::table::Trouble;
 use std::alloc::{AllocError, Global};
 use wm_collections::{Items, Replica};
 use wm_keeper::{Change, Keeper, Row};
-use wm_machine::{Event, Record};
+use wm_machine::{Event, Record, to_row};
+
+/// A value with another one, unless memory was refused to that. It is generic, since the proof of an
+/// early return beside a live record or event goes through all shapes of these, and takes minutes.
+pub fn with<T: Drop, U: Drop>(value: T, other: Result<U, AllocError>) -> Result<(T, U), AllocError>
+    ensures { IfOk result (λ both. (both.0 ≡ value) × (other ≡ Ok both.1)) }
+{
+    Ok((value, other?))
+}
 
 /// A value with a copy of it, and another value.
 pub fn copied<T: Replica, U: Drop>(
@@ -54,6 +63,34 @@ pub struct Changing {
     pub work: Record,
     pub row: Row,
     pub event: Event,
+}
+
+impl Changing {
+    /// The change of the work at an index to this record, by this event.
+    pub fn of(
+        alloc: Global,
+        index: usize,
+        work: Record,
+        event: Event,
+    ) -> Result<Changing, AllocError>
+        requires fits { FitsRow work }
+        requires no_data { HasNoData work }
+        ensures { IfOk result (λ changing. changing ≡ record {
+          index = index;
+          work = work;
+          row = row_of work;
+          event = event;
+        }) }
+    {
+        let row = to_row(alloc, &work);
+        let ((work, event), row) = with((work, event), row)?;
+        Ok(Changing {
+            index,
+            work,
+            row,
+            event,
+        })
+    }
 }
 
 /// Appends the event, commits the row, and puts the changed record in its place. Where there is

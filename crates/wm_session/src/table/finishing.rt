@@ -8,14 +8,14 @@ ghost use Rattle.wm_machine.specs.Valid.{AreNumberedInOrder, IsValidRecord};
 ghost use Rattle.wm_session.specs.Table.{Counts, TroubleCause};
 ghost use Rattle.wm_worker.specs.Answers.{given_of};
 
-use crate::table::events::{Changing, change};
+use crate::table::events::{Changing, change, with};
 use crate::table::starting::set_out;
 use crate::table::{Trouble, lifecycle};
 use std::alloc::{AllocError, Global};
 use wm_collections::{Items, Replica};
 use wm_data::Data;
 use wm_keeper::Keeper;
-use wm_machine::{End, Event, Kind, Phase, Record, Run, State, to_row};
+use wm_machine::{End, Event, Kind, Phase, Record, Run, State};
 use wm_worker::{Answer, Told};
 
 /// The index of the run of this number.
@@ -84,16 +84,18 @@ pub fn finishing(
     }) }
 {
     let changed = lifecycle::succeeded(alloc, work, output)?;
-    let row = to_row(alloc, &changed)?;
-    let event = Event::Finish {
+    let event = finish_event(alloc, run, output);
+    let (changed, event) = with(changed, event)?;
+    Changing::of(alloc, index, changed, event)
+}
+
+/// The event by which a run succeeds with an output.
+fn finish_event(alloc: Global, run: u64, output: &Data) -> Result<Event, AllocError>
+    ensures { IfOk result (λ event. event ≡ Event.Finish run (End.Success output.now)) }
+{
+    Ok(Event::Finish {
         run,
         end: End::Success(output.replica(alloc)?),
-    };
-    Ok(Changing {
-        index,
-        work: changed,
-        row,
-        event,
     })
 }
 

@@ -5,7 +5,7 @@ ghost use Rattle.wm_machine.specs.Enqueued.{placed_record, with_work};
 ghost use Rattle.wm_machine.specs.Rows.{row_of, FitsRow, HasNoData};
 ghost use Rattle.wm_session.specs.Table.{TroubleCause};
 
-use crate::table::events::put;
+use crate::table::events::{put, with};
 use crate::table::{Trouble, enqueue};
 use std::alloc::{AllocError, Global};
 use wm_collections::{Items, push_both};
@@ -36,11 +36,10 @@ impl Placing {
         ensures told { IfOk result (λ placing. placing.told ≡ state.entry.now.next ∷ []) }
     {
         let work = enqueue::placed_record(alloc, state, work)?;
-        let row = to_row(alloc, &work)?;
-        let mut logged = Items::new(alloc);
-        logged.push(work.seq)?;
-        let mut told = Items::new(alloc);
-        told.push(work.seq)?;
+        let row = to_row(alloc, &work);
+        let (work, row) = with(work, row)?;
+        let lists = number_twice(alloc, work.seq);
+        let ((work, row), (logged, told)) = with((work, row), lists)?;
         Ok(Placing {
             work,
             row,
@@ -48,6 +47,17 @@ impl Placing {
             told,
         })
     }
+}
+
+/// Two lists of one number.
+fn number_twice(alloc: Global, number: u64) -> Result<(Items<u64>, Items<u64>), AllocError>
+    ensures { IfOk result (λ lists. lists ≡ (number ∷ [], number ∷ [])) }
+{
+    let mut first = Items::new(alloc);
+    first.push(number)?;
+    let mut second = Items::new(alloc);
+    second.push(number)?;
+    Ok((first, second))
 }
 
 /// Adds a record and its event, and commits its row. Whatever takes memory comes before the

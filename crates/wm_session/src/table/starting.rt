@@ -7,13 +7,13 @@ ghost use Rattle.wm_machine.specs.Valid.{AreNumberedInOrder, IsValidRecord};
 ghost use Rattle.wm_session.specs.Table.{TroubleCause};
 ghost use Rattle.wm_session.specs.TableState.{task_in};
 
-use crate::table::events::{Changing, change, push_with};
+use crate::table::events::{Changing, change, push_with, with};
 use crate::table::{Trouble, lifecycle};
 use std::alloc::{AllocError, Global};
 use std::mem;
 use wm_collections::{Items, Replica};
 use wm_keeper::Keeper;
-use wm_machine::{Cause, Event, How, Instance, Phase, Record, Run, State, to_row};
+use wm_machine::{Cause, Event, How, Instance, Phase, Record, Run, State};
 use wm_worker::Task;
 
 /// What takes memory where a run begins: what it changes, the run, and what its worker is asked.
@@ -46,29 +46,58 @@ impl Starting {
         ensures task { IfOk result
             (λ starting. starting.task ≡ task_in (run_on state.entry.now work.entry.now instance.entry.now)) }
     {
-        let changed = lifecycle::started(alloc, work)?;
-        let row = to_row(alloc, &changed)?;
-        let attempt = changed.attempt;
-        let event = Event::Start {
-            run: state.next_run,
-            seq: work.seq,
-            instance: instance.number,
-            input: work.request.input.replica(alloc)?,
-        };
-        let changing = Changing {
-            index,
-            work: changed,
-            row,
-            event,
-        };
-        let run = run_on(alloc, state, work, attempt, instance)?;
-        let task = task_in(alloc, &run)?;
+        let changing = beginning(alloc, state, index, work, instance)?;
+        let run = run_on(alloc, state, work, changing.work.attempt, instance);
+        let (changing, run) = with(changing, run)?;
+        let task = task_in(alloc, &run);
+        let ((changing, run), task) = with((changing, run), task)?;
         Ok(Starting {
             changing,
             run,
             task,
         })
     }
+}
+
+/// What the start of the work at an index on an instance changes.
+fn beginning(
+    alloc: Global,
+    state: &State,
+    index: usize,
+    work: &Record,
+    instance: &Instance,
+) -> Result<Changing, AllocError>
+    requires waiting { work.now.phase ≡ Phase.Waiting }
+    requires valid { IsValidRecord work.now }
+    ensures { IfOk result (λ changing. changing ≡ record {
+      index = index;
+      work = started work.entry.now;
+      row = row_of (started work.entry.now);
+      event = Event.Start state.entry.now.next_run work.entry.now.seq instance.entry.now.number work.entry.now.request.input;
+    }) }
+{
+    let changed = lifecycle::started(alloc, work)?;
+    let event = start_event(alloc, state, work, instance);
+    let (changed, event) = with(changed, event)?;
+    Changing::of(alloc, index, changed, event)
+}
+
+/// The event by which the next run begins, of a work on an instance.
+fn start_event(
+    alloc: Global,
+    state: &State,
+    work: &Record,
+    instance: &Instance,
+) -> Result<Event, AllocError>
+    ensures { IfOk result (λ event. event
+        ≡ Event.Start state.entry.now.next_run work.entry.now.seq instance.entry.now.number work.entry.now.request.input) }
+{
+    Ok(Event::Start {
+        run: state.next_run,
+        seq: work.seq,
+        instance: instance.number,
+        input: work.request.input.replica(alloc)?,
+    })
 }
 
 /// The next run, which is this attempt of a work on an instance.
@@ -183,15 +212,9 @@ pub fn failing(alloc: Global, index: usize, work: &Record) -> Result<Changing, A
     }) }
 {
     let changed = lifecycle::not_started(alloc, work)?;
-    let row = to_row(alloc, &changed)?;
     let event = Event::StartFailed {
         seq: work.seq,
         cause: Cause::NoWorker,
     };
-    Ok(Changing {
-        index,
-        work: changed,
-        row,
-        event,
-    })
+    Changing::of(alloc, index, changed, event)
 }
