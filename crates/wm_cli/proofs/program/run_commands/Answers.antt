@@ -5,7 +5,6 @@ use Rattle.wm_cli.proofs.Opening.{begin_early, keeper_early, IsSerialRun-unopene
 use Rattle.wm_session.specs.Causes.{status_by_begin, status_by_keeper}
 use Rattle.wm_session.specs.Hands.{instances_from}
 use Rattle.wm_session.specs.Table.{AreFresh}
-use Rattle.wm_session.specs.declared.status.Status.TheVariants as status
 use Rattle.wm_cli.proofs.program.run_commands.Goals as goal
 
 pub returns-in-Err-clause-bytes : goal.returns-in-Err-clause-bytes
@@ -28,9 +27,9 @@ returns-in_default-clause-bytes g c =
 pub returns-in_default-clause-serial : goal.returns-in_default-clause-serial
 returns-in_default-clause-serial g c =
     let ended = c.before_begin-in_default.result in
-    let is : ended.status ≡ status.Memory = c.before_begin-in_default.ensures.status in
     IsSerialRun-unopened c.args.commands ended.status ended.first ended.log ended.last c.requires.built
-    (λ done. let clash : status.Memory ≡ status.Done = sym is ∙ done in absurd (cc)) c.before_begin-in_default.ensures.first c.before_begin-in_default.ensures.log
+    (λ done. let clash = sym c.before_begin-in_default.ensures.status ∙ done in absurd (cc))
+    c.before_begin-in_default.ensures.first c.before_begin-in_default.ensures.log
 
 pub begin-requires-clause-instances : goal.begin-requires-clause-instances
 begin-requires-clause-instances g c =
