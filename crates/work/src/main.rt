@@ -3,6 +3,9 @@
 //! contract of [`wm_cli::run`].
 #![tactic(auto)]
 
+#[cfg(test)]
+mod tests;
+
 ghost use Rattle.std.specs.Prelude.{◌≡◌, ◌+◌, vec_len, OnOk};
 ghost use Rattle.wm_session.specs.Hands.{AreEchoes};
 
@@ -13,7 +16,7 @@ use std::{env, io};
 use wm_bench::Hand;
 use wm_cli::Status;
 use wm_collections::Text;
-use wm_io::{StdSink, StdSource};
+use wm_io::{Sink, Source, StdSink, StdSource};
 use wm_keeper::SureKeeper;
 use wm_stock::Echo;
 use wm_worker::{Kind, Worker};
@@ -44,19 +47,20 @@ fn add_echo(
     Ok(())
 }
 
-/// Runs the script with four workers.
-fn run(rt: &HostRuntime) -> Result<Status, AllocError> {
-    let alloc = rt.alloc();
-    let words = words(rt)?;
+/// Runs a script with these words and four workers.
+fn run<S: Source, W: Sink + Send + Drop>(
+    alloc: Global,
+    words: &[String],
+    source: &mut S,
+    sink: W,
+) -> Result<Status, AllocError> {
     let mut hands = Vec::new(alloc);
     add_echo(alloc, &mut hands, Box::new(alloc, Echo::new())?)?;
     add_echo(alloc, &mut hands, Box::new(alloc, Echo::new())?)?;
     add_echo(alloc, &mut hands, Box::new(alloc, Echo::new())?)?;
     add_echo(alloc, &mut hands, Box::new(alloc, Echo::new())?)?;
-    let mut source = StdSource::new(rt.stdin());
-    let sink = StdSink::new(rt.stdout());
     let keeper = SureKeeper::new(Vec::new(alloc));
-    Ok(wm_cli::run(alloc, &words, hands, &mut source, sink, keeper).status)
+    Ok(wm_cli::run(alloc, words, hands, source, sink, keeper).status)
 }
 
 /// Prints what a status has to say on standard error.
@@ -68,12 +72,22 @@ fn report(rt: &impl Eprint, alloc: Global, status: &Status) -> io::Result<()> {
     Ok(())
 }
 
-fn main(rt: HostRuntime) -> ExitCode {
-    let status = match run(&rt) {
-        Ok(status) => status,
-        Err(_) => Status::Memory,
-    };
+/// The exit status of a run, which has said what it has to say. Where memory was refused before
+/// the run, it ended so.
+fn exit(rt: &impl Eprint, alloc: Global, ran: Result<Status, AllocError>) -> ExitCode {
+    let status = ran.unwrap_or(Status::Memory);
     // A text that can't be printed changes nothing of how the run ended.
-    let _ = report(&rt, rt.alloc(), &status);
+    let _ = report(rt, alloc, &status);
     ExitCode::from(status.code())
+}
+
+/// Runs the script on standard input with the words of the command line.
+fn run_streams(rt: &HostRuntime) -> Result<Status, AllocError> {
+    let words = words(rt)?;
+    let mut source = StdSource::new(rt.stdin());
+    run(rt.alloc(), &words, &mut source, StdSink::new(rt.stdout()))
+}
+
+fn main(rt: HostRuntime) -> ExitCode {
+    exit(&rt, rt.alloc(), run_streams(&rt))
 }

@@ -1,0 +1,70 @@
+//! The worked cases of whole runs: the program reads the case files where it runs, has
+//! [`wm_cli::run`] do each case over a source, a sink and a keeper in memory, and prints what came
+//! of it. What it has to print stands in the crate's file `stdout`, written by hand.
+//!
+//! A case file ends in `.cases`; the files are read in the order of their names. The folder
+//! `faulty` has files that are out of form: what is printed for each is why it is refused.
+//! `data/README.md` has the form of a case and of its outcome.
+#![tactic(auto)]
+
+mod event;
+mod outcome;
+mod part;
+mod reader;
+mod row;
+
+use crate::outcome::tell_cases;
+use crate::reader::read_parts;
+use std::alloc::Global;
+use std::process::ExitCode;
+use std::rt::Files;
+use std::{fs, io};
+
+/// The names of the case files of a folder, in order.
+fn case_files<R: Files + Alloc<A = Global> + Clone + Drop>(
+    rt: &R,
+    folder: &str,
+) -> io::Result<Vec<String>> {
+    let mut names = Vec::new(rt.alloc());
+    for entry in fs::read_dir(rt, folder)? {
+        let entry = entry?;
+        if entry.file_name().ends_with(".cases") {
+            names.push(String::from_str(rt.alloc(), entry.file_name())?)?;
+        }
+    }
+    names.sort()?;
+    Ok(names)
+}
+
+/// What comes of the cases of a file, or why the file is refused; and whether it is in form.
+fn told<R: Files + Alloc<A = Global>>(
+    rt: &R,
+    folder: &str,
+    name: &str,
+) -> io::Result<(String, bool)> {
+    let alloc = rt.alloc();
+    let path = format!(in alloc; "{folder}/{name}")?;
+    let text = fs::read_to_string(rt, path.as_str())?;
+    match read_parts(alloc, text.as_str()) {
+        Ok(parts) => Ok((tell_cases(alloc, &parts)?, true)),
+        Err(fault) => Ok((format!(in alloc; "{name}:{fault}\n")?, false)),
+    }
+}
+
+/// Prints what comes of the files of a folder, and answers whether each is in form, or is not.
+fn print_folder(rt: &HostRuntime, folder: &str, in_form: bool) -> io::Result<bool> {
+    let mut as_wanted = true;
+    for name in case_files(rt, folder)? {
+        let (text, is_in_form) = told(rt, folder, name.as_str())?;
+        rt.print(text)?;
+        as_wanted = as_wanted && is_in_form == in_form;
+    }
+    Ok(as_wanted)
+}
+
+/// Ends with status 1 where a case file is refused, or one that is out of form isn't.
+fn main(rt: HostRuntime) -> io::Result<ExitCode> {
+    let cases = print_folder(&rt, ".", true)?;
+    let faulty = print_folder(&rt, "faulty", false)?;
+    Ok(ExitCode::from(u8::from(!(cases && faulty))))
+}

@@ -1,0 +1,183 @@
+//! Runs the cases, and tells what came of them.
+ghost use Rattle.std.specs.Prelude.{◌≡◌, ◌+◌, vec_len, IfOk, OnOk};
+ghost use Rattle.wm_keeper.specs.Keeper.{Ascends};
+ghost use Rattle.wm_session.specs.Hands.{AreEchoes};
+
+use crate::event::event_words;
+use crate::part::{Failing, Part};
+use crate::row::row_text;
+use std::alloc::{AllocError, Global};
+use wm_bench::Hand;
+use wm_cli::{EndedOf, Status};
+use wm_collections::{Replica, Text};
+use wm_io::{MemorySink, MemorySource};
+use wm_keeper::{Change, Keeper, MemoryKeeper, Row, SureKeeper};
+use wm_stock::Echo;
+use wm_worker::{Kind, Worker};
+
+/// What comes of the parts of a case file, one after another.
+pub fn tell_cases(alloc: Global, parts: &[Part]) -> Result<String, AllocError> {
+    let mut told = String::new(alloc);
+    let mut store = SureKeeper::new(Vec::new(alloc));
+    for part in parts {
+        if part.name.is_some() {
+            store = SureKeeper::new(Vec::new(alloc));
+        }
+        put_rows(alloc, &mut store, &part.rows)?;
+        store = tell_part(alloc, &mut told, part, &mut store)?;
+    }
+    Ok(told)
+}
+
+/// Puts the rows that stand before a run.
+fn put_rows(alloc: Global, store: &mut SureKeeper, rows: &[Row]) -> Result<(), AllocError> {
+    for row in rows {
+        let copy = row.replica(alloc)?;
+        store.commit(&[Change::Put(copy)]).map_err(|_| AllocError)?;
+    }
+    Ok(())
+}
+
+/// Runs a part on these rows, once for each choice of failing calls, and answers the rows that the
+/// last run kept.
+fn tell_part(
+    alloc: Global,
+    told: &mut String,
+    part: &Part,
+    store: &mut SureKeeper,
+) -> Result<SureKeeper, AllocError> {
+    if part.failing.is_empty() {
+        return tell_run(alloc, told, part, &Failing::none(alloc), store);
+    }
+    let mut kept = SureKeeper::new(Vec::new(alloc));
+    for failing in &part.failing {
+        kept = tell_run(alloc, told, part, failing, store)?;
+    }
+    Ok(kept)
+}
+
+/// Adds a worker of kind Echo, for the works of class `Echo`.
+fn add_echo(
+    alloc: Global,
+    hands: &mut Vec<Hand>,
+    worker: Box<dyn Worker + Send>,
+) -> Result<(), AllocError>
+    requires kind { ⟦<Box<dyn Worker + Send> as Worker>⟧.kind_of worker ≡ Kind.Echo }
+    requires echoes { AreEchoes ⟦<Box<dyn Worker + Send> as Worker>⟧.kind_of hands.old.items }
+    ensures echoes { OnOk result
+        (AreEchoes ⟦<Box<dyn Worker + Send> as Worker>⟧.kind_of hands.new.items) }
+    ensures one_more { OnOk result (vec_len hands.new ≡ vec_len hands.old + 1) }
+{
+    let class = Text::from_str(alloc, "Echo")?;
+    hands.push(Hand { class, worker })?;
+    Ok(())
+}
+
+/// Runs a part on these rows with these calls failing and the workers of the program, tells what
+/// came of it, and answers the rows that it kept.
+fn tell_run(
+    alloc: Global,
+    told: &mut String,
+    part: &Part,
+    failing: &Failing,
+    store: &mut SureKeeper,
+) -> Result<SureKeeper, AllocError> {
+    told.push_str(heading(alloc, part, failing)?.as_str())?;
+    let mut hands = Vec::new(alloc);
+    add_echo(alloc, &mut hands, Box::new(alloc, Echo::new())?)?;
+    add_echo(alloc, &mut hands, Box::new(alloc, Echo::new())?)?;
+    add_echo(alloc, &mut hands, Box::new(alloc, Echo::new())?)?;
+    add_echo(alloc, &mut hands, Box::new(alloc, Echo::new())?)?;
+    let mut source = source_of(alloc, part, failing)?;
+    let sink = MemorySink::new(part.moves, Vec::from_slice(alloc, &failing.sink)?);
+    let keeper = keeper_of(alloc, store, failing)?;
+    let ended = wm_cli::run(alloc, &part.words, hands, &mut source, sink, keeper);
+    tell_ended(alloc, told, &ended)?;
+    Ok(SureKeeper::new(ended.keeper.into_rows()))
+}
+
+/// The first line of what is told of a run.
+fn heading(alloc: Global, part: &Part, failing: &Failing) -> Result<String, AllocError> {
+    let begins = match &part.name {
+        Some(name) => format!(in alloc; "case {name}")?,
+        None => String::from_str(alloc, "then")?,
+    };
+    if failing.text.is_empty() {
+        format!(in alloc; "{begins}\n")
+    } else {
+        format!(in alloc; "{begins}, fails {}\n", failing.text)
+    }
+}
+
+fn source_of(alloc: Global, part: &Part, failing: &Failing) -> Result<MemorySource, AllocError> {
+    let script = Vec::from_slice(alloc, &part.script)?;
+    let failing = Vec::from_slice(alloc, &failing.source)?;
+    Ok(MemorySource::new(script, part.moves, failing))
+}
+
+/// A keeper of the store's rows.
+fn keeper_of(
+    alloc: Global,
+    store: &mut SureKeeper,
+    failing: &Failing,
+) -> Result<MemoryKeeper, AllocError> {
+    let failing = Vec::from_slice(alloc, &failing.keeper)?;
+    match store.load("") {
+        Ok(rows) => Ok(MemoryKeeper::new(rows, failing)),
+        Err(_) => Err(AllocError),
+    }
+}
+
+/// Tells how a run ended: its status, whether the table was begun, the events of its log, the rows
+/// kept, and the bytes written.
+fn tell_ended<B: Worker>(
+    alloc: Global,
+    told: &mut String,
+    ended: &EndedOf<MemoryKeeper, MemorySink, B>,
+) -> Result<(), AllocError> {
+    told.push_str(status_line(alloc, &ended.status)?.as_str())?;
+    told.push_str(if ended.began {
+        "begun\n"
+    } else {
+        "not begun\n"
+    })?;
+    for event in ended.log.as_slice() {
+        let words = event_words(alloc, event)?;
+        tell_line(told, "event ", words.as_str())?;
+    }
+    for row in ended.keeper.rows() {
+        let text = row_text(alloc, row)?;
+        tell_line(told, "row ", text.as_str())?;
+    }
+    tell_bytes(alloc, told, ended.sink.bytes())
+}
+
+/// A status with its code, and its text where it has one.
+fn status_line(alloc: Global, status: &Status) -> Result<String, AllocError> {
+    let code = status.code();
+    let text = status.text(alloc)?;
+    if text.is_empty() {
+        format!(in alloc; "status {status:?}, code {code}\n")
+    } else {
+        format!(in alloc; "status {status:?}, code {code}: {text}\n")
+    }
+}
+
+/// Tells one line.
+fn tell_line(told: &mut String, begins: &str, text: &str) -> Result<(), AllocError> {
+    told.push_str(begins)?;
+    told.push_str(text)?;
+    told.push('\n')
+}
+
+/// Tells the bytes written, each line after `|`, and what is left without a line feed after `>`.
+fn tell_bytes(alloc: Global, told: &mut String, bytes: &[u8]) -> Result<(), AllocError> {
+    for line in bytes.split_inclusive(|byte| *byte == b'\n') {
+        let text = String::from_utf8_lossy(alloc, line)?;
+        match text.as_str().strip_suffix('\n') {
+            Some(text) => tell_line(told, "| ", text)?,
+            None => tell_line(told, "> ", text.as_str())?,
+        }
+    }
+    Ok(())
+}

@@ -1,0 +1,67 @@
+//! What the program says in the end.
+
+use crate::{exit, run};
+use std::alloc::{AllocError, Global};
+use std::cell::RefCell;
+use std::fmt::Display;
+use std::io;
+use std::process::ExitCode;
+use std::test::Fail;
+use wm_io::{StdSink, StdSource};
+
+/// Standard error, in memory.
+struct Page {
+    alloc: Global,
+    text: RefCell<String>,
+}
+
+impl Eprint for Page {
+    fn eprint<D: Display + Drop>(&self, value: D) -> io::Result<()> {
+        let text = value.to_string(self.alloc)?;
+        match self.text.try_borrow_mut() {
+            Ok(mut page) => Ok(page.push_str(text.as_str())?),
+            Err(_) => Err(io::ErrorKind::Other.into()),
+        }
+    }
+
+    fn eprintln<D: Display + Drop>(&self, value: D) -> io::Result<()> {
+        self.eprint(value)?;
+        self.eprint("\n")
+    }
+}
+
+/// How the program ends with these words on a script of so many bytes that is one line, and what
+/// it says on standard error.
+fn ended(alloc: Global, words: &[&str], bytes: usize) -> Result<(ExitCode, String), AllocError> {
+    let mut copies = Vec::new(alloc);
+    for word in words {
+        copies.push(String::from_str(alloc, word)?)?;
+    }
+    let script = vec![in alloc; b'x'; bytes]?;
+    let mut replies = Vec::new(alloc);
+    let mut source = StdSource::new(script.as_slice());
+    let ran = run(alloc, &copies, &mut source, StdSink::new(&mut replies));
+    let page = Page {
+        alloc,
+        text: RefCell::new(String::new(alloc)),
+    };
+    let code = exit(&page, alloc, ran);
+    let Page { alloc: _, text } = page;
+    Ok((code, text.into_inner()))
+}
+
+#[test]
+fn the_program_ends_with_a_code_and_a_text(rt: HostRuntime) -> Result<(), Fail> {
+    let usage = "usage: work --store NAME [--workers N] [--generate SEED]\n";
+    let cases: [(&[&str], usize, u8, &str); 3] = [
+        (&["--store", "demo"], 65_536, 0, ""),
+        (&["--store"], 1, 2, usage),
+        (&["--store", "demo"], 65_537, 7, "script too long: bytes\n"),
+    ];
+    for (words, bytes, code, text) in cases {
+        let (ended, said) = ended(rt.alloc(), words, bytes)?;
+        assert!(rt; ended == ExitCode::from(code), "{text}");
+        assert_eq!(rt; said.as_str(), text);
+    }
+    Ok(())
+}
