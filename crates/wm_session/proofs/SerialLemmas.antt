@@ -1,5 +1,5 @@
 -- What the steps of a serial session make of its book.
-use Rattle.std.proofs.Common.{◌≡◌, ◌⊎◌, ℕ, ◌<◌, ◌≤◌, cond, not, eqb, List, [], ◌∷◌, ◌++◌, length, Option, Some, None, IsSome, Result, Ok, Err, IfOk, refl, sym, ◌∙◌, ap, subst, inl, inr, arith, append_assoc, ◌+◌}
+use Rattle.std.proofs.Common.{◌≡◌, ◌⊎◌, ℕ, ◌<◌, ◌≤◌, cond, not, eqb, List, [], ◌∷◌, ◌++◌, length, Option, Some, None, IsSome, Result, Ok, Err, refl, sym, ◌∙◌, ap, subst, inl, inr, arith, append_assoc, ◌+◌}
 use Rattle.std.specs.List.{AllByRecursion}
 use Rattle.std.specs.declared.alloc.AllocError.{AllocError}
 use Rattle.std.proofs.lemmas.Bool.{cond_both, eq-eqb}
@@ -35,7 +35,7 @@ use Rattle.wm_session.proofs.HandLemmas.{AreIdle-back, NoneRetired-back, hand_di
 use Rattle.wm_session.specs.Bench.{AreIdle, place_diaries}
 use Rattle.wm_session.specs.Book.{GoesOn, IsBegun, IsFronted, IsLineDone, IsReported, IsStartFailed}
 use Rattle.wm_session.specs.BookState.{BookState}
-use Rattle.wm_session.specs.Drive.{IsDone, IsDriven, IsGivenUp}
+use Rattle.wm_session.specs.Drive.{HasWritten, IsDone, IsDriven, IsGivenUp}
 use Rattle.wm_session.specs.Ended.{HasCommands, HaveTold, IsSerialRun}
 use Rattle.wm_session.specs.Rest.{IsAtRest, IsReady, KeepDiaries, NoneRetired}
 use Rattle.wm_session.specs.Table.{IsOneStep, IsUntouched}
@@ -53,11 +53,6 @@ use Rattle.wm_worker.specs.declared.answer.Entry.TheVariants.{Begun}
 use Rattle.wm_worker.specs.declared.kind.Kind.{Kind}
 
 -- ---- a run is driven
-
--- what a worker has written down once it has told this, where it did
-abbrev pub HasWritten : {B : Type 0} → (B → Option (List Entry)) → TicketState → B → B → Result Report AllocError → Type 0
-HasWritten diary_of ticket worker now told =
-    IfOk told (λ answered. diary_of now ≡ diary_with (turn_entries ticket.task.run ticket.k answered.answer) (diary_with (Begun ticket.task.run ∷ []) (diary_of worker)))
 
 -- once its worker's report is given, the run is over, or the session has stopped early
 pub IsDriven-reported : {K W B : Type 0} (held : K → Option (List Row)) (diary_of : B → Option (List Entry)) (ticket : TicketState) (worker : B) (seat : Seat B) (told : Result Report AllocError) (result : After B) (old new : BookState K W B) → IsReported held ticket seat told result old new → (result ≡ report.Over) ⊎ (result ≡ report.Stopped) → seat.number ≡ ticket.instance → HasWritten diary_of ticket worker seat.worker told → IsDriven held diary_of ticket worker old new

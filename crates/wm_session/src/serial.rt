@@ -1,5 +1,5 @@
 //! The serial run: the lines one after another, and after each of them all that may start.
-ghost use Rattle.std.specs.Prelude.{◌≡◌, ◌<◌, [], List, Option, None, IsSome, IsTrue, true, option_map};
+ghost use Rattle.std.specs.Prelude.{◌≡◌, ◌<◌, [], List, Option, None, IsSome, IsTrue, true, IfOk, option_map};
 ghost use Rattle.std.specs.List.{AllByRecursion};
 ghost use Rattle.wm_bench.specs.Places.{IsAwayAt};
 ghost use Rattle.wm_faults.specs.Faults.{Failed};
@@ -10,10 +10,12 @@ ghost use Rattle.wm_machine.specs.Rows.{rows_of};
 ghost use Rattle.wm_machine.specs.Serial.{MayGoOn};
 ghost use Rattle.wm_machine.specs.Waiting.{waiting_count};
 ghost use Rattle.wm_session.specs.Bench.{place_diaries, AreIdle};
-ghost use Rattle.wm_session.specs.Drive.{IsDriven};
+ghost use Rattle.wm_session.specs.Drive.{HasWritten, IsDriven};
 ghost use Rattle.wm_session.specs.Ended.{AreHandsBack, HasCommands, HaveTold, IsSerialRun, IsSessionStatus, IsTextGiven};
 ghost use Rattle.wm_session.specs.Rest.{IsAtRest, IsReady, KeepDiaries, NoneRetired};
 ghost use Rattle.wm_session.specs.Table.{IsTicketIn};
+ghost use Rattle.wm_worker.specs.Answers.{given_of};
+ghost use Rattle.wm_worker.specs.Told.{IsReportOf};
 ghost use Rattle.wm_worker.specs.declared.answer.Entry.{Entry};
 
 use crate::book::{After, BookOf, Front, Job};
@@ -21,11 +23,11 @@ use crate::ended::EndedOf;
 use crate::mark::Mark;
 use crate::status::Status;
 use crate::table::ticket::Ticket;
-use std::alloc::Global;
+use std::alloc::{AllocError, Global};
 use wm_bench::SeatedOf;
 use wm_io::Sink;
 use wm_keeper::Keeper;
-use wm_worker::{Signal, Worker};
+use wm_worker::{Signal, Told, Worker};
 
 /// What became of the work that was first.
 #[derive(Clone, Copy, Debug, PartialEq, Eq)]
@@ -159,12 +161,27 @@ fn drive<K: Keeper, W: Sink, B: Worker, M: Mark>(
     requires signal_is { signal.now ≡ record { run = ticket.task.run; never = true } }
     ensures { IsDriven K.held B.diary_of ticket seat.worker book.old book.new }
 {
-    let told = match seat.begin(alloc, ticket.task()) {
-        Ok(()) => seat.turn(alloc, ticket.task(), ticket.k(), signal),
-        Err(refused) => Err(refused),
-    };
+    let told = run_worker(alloc, &mut seat, &ticket, signal);
     match book.report(ticket, seat, told) {
         After::Over | After::Stopped => {}
         After::Again(..) => unreachable!(),
     }
+}
+
+/// Has the worker of a run begin it and take its turn, whose signal is never raised.
+fn run_worker<B: Worker>(
+    alloc: Global,
+    seat: &mut SeatedOf<B>,
+    ticket: &Ticket,
+    signal: &Signal,
+) -> Result<Told, AllocError>
+    requires { signal.now ≡ record { run = ticket.now.task.run; never = true } }
+    ensures number { seat.new.number ≡ seat.old.number }
+    ensures kind { B.kind_of seat.new.worker ≡ B.kind_of seat.old.worker }
+    ensures told { IfOk result (IsReportOf (B.kind_of seat.old.worker) ticket.now.task ticket.now.k) }
+    ensures given { IfOk result (λ told. IsSome (given_of told.answer)) }
+    ensures written { HasWritten B.diary_of ticket.now seat.old.worker seat.new.worker result }
+{
+    seat.begin(alloc, ticket.task())?;
+    seat.turn(alloc, ticket.task(), ticket.k(), signal)
 }
