@@ -11,7 +11,8 @@ use wm_cli::{Status, run};
 use wm_collections::Text;
 use wm_io::{MemorySink, MemorySource, StdSink, StdSource};
 use wm_keeper::SureKeeper;
-use wm_machine::{Command, Limit, LineFault, read_lines};
+use wm_machine::{Command, LineFault};
+use wm_script::{Limit, read_lines};
 use wm_stock::Echo;
 use wm_worker::{Kind, Worker};
 

@@ -1,7 +1,7 @@
 //! The table of `wm_session`, over a keeper that fails at the commits that it is told to.
 ghost use Rattle.std.specs.Prelude.{◌≡◌, [], IfOk};
 ghost use Rattle.wm_machine.specs.Built.{IsBuilt};
-ghost use Rattle.wm_session.specs.Table.{AreFresh, Stands};
+ghost use Rattle.wm_table.specs.Table.{AreFresh, Stands};
 
 use std::alloc::{AllocError, Global};
 use std::test::Fail;
@@ -10,7 +10,7 @@ use wm_collections::{Items, Text};
 use wm_data::{Data, Merger};
 use wm_keeper::MemoryKeeper;
 use wm_machine::{Backoff, Batch, Command, Constraints, Instance, Kind, Node, Reply, Request};
-use wm_session::{Claim, Table, Ticket, Trouble, TurnAnswer};
+use wm_table::{Claim, Table, Ticket, Trouble, TurnAnswer};
 use wm_worker::{Answer, Task, Told};
 
 /// One idle Echo.

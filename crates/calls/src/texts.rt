@@ -1,7 +1,8 @@
 //! The texts of events and the rows of records, of `wm_machine`.
 ghost use Rattle.std.specs.Prelude.{◌≡◌, [], Some, IfOk};
-ghost use Rattle.wm_machine.specs.Rows.{FitsRow, HasNoData};
-ghost use Rattle.wm_machine.specs.Texts as texts;
+ghost use Rattle.wm_machine.specs.Limits.{FitsRow};
+ghost use Rattle.wm_machine.specs.Rows.{HasNoData};
+ghost use Rattle.wm_machine.specs.Built.{IsWritten, TellsNoData};
 
 use std::alloc::{AllocError, Global};
 use std::test::Fail;
@@ -11,12 +12,14 @@ use wm_data::{Data, Merger};
 use wm_keeper::Row;
 use wm_machine::{
     Backoff, Command, Constraints, Event, How, LineFault, Network, Period, Phase, Record, Refusal,
-    Reply, Request, Shown, WorkInfo, event_text, to_row,
+    Reply, Request, Shown, WorkInfo,
 };
+use wm_rows::to_row;
+use wm_script::event_text;
 
 /// The text of a reply to a line.
 fn text_of(alloc: Global, line: u32, reply: Reply) -> Result<Vec<u8>, AllocError>
-    requires { texts.IsWritten reply }
+    requires { IsWritten reply }
 {
     let event = Event::Command {
         line,
@@ -28,7 +31,7 @@ fn text_of(alloc: Global, line: u32, reply: Reply) -> Result<Vec<u8>, AllocError
 
 /// What is told of a work that was enqueued under a name and waits, with two tags.
 fn enqueued_info(alloc: Global) -> Result<WorkInfo, AllocError>
-    ensures { IfOk result (λ info. texts.TellsNoData info) }
+    ensures { IfOk result (λ info. TellsNoData info) }
 {
     let mut tags = Items::new(alloc);
     tags.push(Text::from_str(alloc, "a")?)?;
@@ -49,7 +52,7 @@ fn enqueued_info(alloc: Global) -> Result<WorkInfo, AllocError>
 
 /// What is told of the first work, after one attempt, without name or tags.
 fn ended_info(alloc: Global, state: Shown) -> WorkInfo
-    ensures { texts.TellsNoData result }
+    ensures { TellsNoData result }
 {
     WorkInfo {
         seq: 1,
@@ -67,7 +70,7 @@ fn ended_info(alloc: Global, state: Shown) -> WorkInfo
 
 /// The reply that tells two works that ended, in this order.
 fn ended_query(alloc: Global, first: Shown, second: Shown) -> Result<Reply, AllocError>
-    ensures { IfOk result (λ reply. texts.IsWritten reply) }
+    ensures { IfOk result (λ reply. IsWritten reply) }
 {
     let mut works = Items::new(alloc);
     works.push(ended_info(alloc, first))?;
@@ -77,7 +80,7 @@ fn ended_query(alloc: Global, first: Shown, second: Shown) -> Result<Reply, Allo
 
 /// A replica of the reply that tells one work that waits.
 fn waiting_query(alloc: Global) -> Result<Reply, AllocError>
-    ensures { IfOk result (λ reply. texts.IsWritten reply) }
+    ensures { IfOk result (λ reply. IsWritten reply) }
 {
     let mut works = Items::new(alloc);
     works.push(enqueued_info(alloc)?)?;

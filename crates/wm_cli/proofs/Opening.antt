@@ -13,13 +13,13 @@ use Rattle.wm_machine.specs.declared.event.Event.{Event}
 use Rattle.wm_machine.specs.declared.state.State.{State}
 use Rattle.wm_keeper.specs.declared.keeper.KeepFault.{KeepFault}
 use Rattle.wm_keeper.specs.declared.keeper.KeepFault.TheVariants as keep
-use Rattle.wm_session.proofs.TableSteps.{Valid-opening}
+use Rattle.wm_table.proofs.TableSteps.{Valid-opening}
 use Rattle.wm_session.specs.Causes.{status_by_begin, status_by_keeper}
 use Rattle.wm_session.specs.Ended.{IsSerialRun}
-use Rattle.wm_session.specs.Table.{HoldsRowsOf}
+use Rattle.wm_table.specs.Table.{HoldsRowsOf}
 use Rattle.wm_session.specs.declared.status.Status.{Status}
-use Rattle.wm_session.specs.declared.table.BeginFault.{BeginFault}
-use Rattle.wm_session.specs.declared.table.BeginFault.TheVariants as begin
+use Rattle.wm_table.specs.declared.table.BeginFault.{BeginFault}
+use Rattle.wm_table.specs.declared.table.BeginFault.TheVariants as begin
 use Rattle.wm_session.specs.declared.status.Status.TheVariants as status
 
 no_order : (lines : List Command) (first : State) → AreInOrder lines first []

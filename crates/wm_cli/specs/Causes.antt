@@ -1,8 +1,8 @@
 -- Which status a fault of reading gives, and when each status comes. This project's own choice.
 use Rattle.std.specs.Prelude.{◌≡◌, ◌⊎◌, ℕ, ℤ, ◌<◌, ◌≤◌, true, List, [], ◌∷◌, length, Option, IfSome, IsSomeAnd}
 use Rattle.wm_keeper.specs.declared.row.Row.{Row}
-use Rattle.wm_machine.specs.declared.lines.Limit.TheVariants.{Bytes}
-use Rattle.wm_machine.specs.declared.lines.TheConstants.{MAX_SCRIPT_BYTES}
+use Rattle.wm_script.specs.declared.lines.Limit.TheVariants.{Bytes}
+use Rattle.wm_script.specs.declared.lines.TheConstants.{MAX_SCRIPT_BYTES}
 use Rattle.wm_session.specs.declared.status.Status.{Status}
 use Rattle.wm_session.specs.declared.status.Status.TheVariants as status
 

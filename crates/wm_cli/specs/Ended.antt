@@ -3,7 +3,7 @@
 use Rattle.std.specs.Prelude.{◌≡◌, ℕ, Bool, true, false, List, [], Option, IfSome, MatchBool, option_map}
 use Rattle.wm_bench.specs.declared.hand.HandOf.{HandOf}
 use Rattle.wm_keeper.specs.declared.row.Row.{Row}
-use Rattle.wm_machine.specs.Lines.{commands_in}
+use Rattle.wm_script.specs.Lines.{commands_in}
 use Rattle.wm_machine.specs.Opened.{opening_state, Opened}
 use Rattle.wm_machine.specs.Quiet.{IsQuiet}
 use Rattle.wm_machine.specs.Replay.{Replay}

@@ -5,10 +5,10 @@ use Rattle.wm_cli.specs.Ended.{ForScript}
 use Rattle.wm_session.specs.declared.status.Status.{Status}
 use Rattle.wm_session.specs.declared.status.Status.TheVariants as status
 use Rattle.wm_faults.specs.Faults.{Failed}
-use Rattle.wm_machine.specs.Lines.{commands_in}
+use Rattle.wm_script.specs.Lines.{commands_in}
 use Rattle.wm_machine.specs.declared.command.Command.{Command}
-use Rattle.wm_machine.specs.declared.lines.Limit.TheVariants.{Bytes}
-use Rattle.wm_machine.specs.declared.lines.TheConstants.{MAX_SCRIPT_BYTES}
+use Rattle.wm_script.specs.declared.lines.Limit.TheVariants.{Bytes}
+use Rattle.wm_script.specs.declared.lines.TheConstants.{MAX_SCRIPT_BYTES}
 
 -- the commands are those of the script, which is within the limit
 abbrev pub AreCommandsOf : Option (List ℕ) → List Command → Type 0

@@ -3,7 +3,7 @@ use Rattle.std.specs.Prelude.{◌≡◌, ℕ, ◌<◌, ◌≤◌, Bool, true, fa
 use Rattle.wm_faults.specs.Faults as faults
 use Rattle.wm_cli.specs.declared.script.ReadFault.{ReadFault}
 use Rattle.wm_cli.specs.declared.script.ReadFault.TheVariants.{Failed, Memory}
-use Rattle.wm_machine.specs.declared.lines.TheConstants.{MAX_SCRIPT_BYTES}
+use Rattle.wm_script.specs.declared.lines.TheConstants.{MAX_SCRIPT_BYTES}
 
 -- where the source tells what it has left, this was taken from its front
 abbrev pub IsTakenFrom : Option (List ℕ) → Option (List ℕ) → List ℕ → Type 0

@@ -14,12 +14,12 @@ ghost use Rattle.wm_machine.specs.Opened.{opening_state};
 ghost use Rattle.wm_machine.specs.Quiet.{IsQuiet};
 ghost use Rattle.wm_machine.specs.Replay.{Replay};
 ghost use Rattle.wm_machine.specs.Rows.{rows_of};
-ghost use Rattle.wm_machine.specs.declared.lines.TheConstants.{MAX_SCRIPT_BYTES};
+ghost use Rattle.wm_script.specs.declared.lines.TheConstants.{MAX_SCRIPT_BYTES};
 ghost use Rattle.wm_session.specs.Bench.{place_diaries};
 ghost use Rattle.wm_session.specs.Given.{given_to};
 ghost use Rattle.wm_session.specs.Ended.{AreHandsBack, HasCommands, HaveTold, IsSerialRun, IsSessionStatus, IsTextGiven};
 ghost use Rattle.wm_session.specs.Hands.{instances_from, AreEchoes};
-ghost use Rattle.wm_session.specs.Table.{HoldsRowsOf};
+ghost use Rattle.wm_table.specs.Table.{HoldsRowsOf};
 
 use crate::instances::instances_of;
 use crate::script::{ReadFault, read_script};
@@ -30,8 +30,10 @@ use wm_bench::{BenchOf, HandOf};
 use wm_collections::Items;
 use wm_io::{Sink, Source};
 use wm_keeper::{Keeper, Row};
-use wm_machine::{Command, Limit, ScriptFault, read_lines};
-use wm_session::{BookOf, EndedOf, Mark, Status, Table, TableEnd, run_serial};
+use wm_machine::Command;
+use wm_script::{Limit, ScriptFault, read_lines};
+use wm_session::{BookOf, EndedOf, Mark, Status, run_serial};
+use wm_table::{Table, TableEnd};
 use wm_worker::Worker;
 
 /// Reads the commands of a script, or says with which status a run ends without them.

@@ -1,11 +1,9 @@
 pub mod DiaryLogs
 pub mod Drains
 pub mod Firsts
-pub mod LinesLemmas
 pub mod Lists
 pub mod Logs
 pub mod Runnings
 pub mod Serials
 pub mod States
-pub mod TextsLemmas
 pub mod Waitings

@@ -4,7 +4,6 @@ use Rattle.std.proofs.lemmas.List.{append-nil}
 use Rattle.wm_machine.specs.Log.{command_in, commands_of, AreNumberedFrom}
 use Rattle.wm_machine.specs.Replay.{Replay}
 use Rattle.wm_machine.specs.Step.{Legal, after}
-use Rattle.wm_machine.specs.Texts.{event_text, log_text}
 use Rattle.wm_machine.specs.declared.command.Command.{Command}
 use Rattle.wm_machine.specs.declared.event.Event.{Event}
 use Rattle.wm_machine.specs.declared.event.Event.TheVariants as event
@@ -19,12 +18,6 @@ pub commands_of-push : (log : List Event) (e : Event) → commands_of (log ++ e 
 commands_of-push [] e = append-nil (command_in e)
 commands_of-push (d ∷ log) e =
     ap (λ rest. command_in d ++ rest) (commands_of-push log e) ∙ sym (append_assoc (command_in d) (commands_of log) (command_in e))
-
-pub log_text-push : (first : State) (log : List Event) (last : State) (e : Event) → Replay first log last → log_text first (log ++ e ∷ []) ≡ log_text first log ++ event_text last e
-log_text-push first [] last e replays = append-nil (event_text first e) ∙ ap (λ s. event_text s e) (sym replays)
-log_text-push first (d ∷ log) last e replays =
-    ap (λ rest. event_text first d ++ rest) (log_text-push (after first d) log last e replays.1)
-    ∙ sym (append_assoc (event_text first d) (log_text (after first d) log) (event_text last e))
 
 pub AreNumberedFrom-push : (line : ℕ) (log : List Event) (number : ℕ) (asked : Command) (reply : Reply) → AreNumberedFrom line log → number ≡ line + length (commands_of log) → AreNumberedFrom line (log ++ event.Command number asked reply ∷ [])
 AreNumberedFrom-push line [] number asked reply numbered is = (is ∙ omega arith, tt)

@@ -12,7 +12,7 @@ use Rattle.wm_machine.proofs.Lists.{All-both, All-filter, All-find, All-map, All
 use Rattle.wm_machine.proofs.Runnings.{AllAreApart-filter, AllAreApart-push, AreNumberedInOrder-made, changed, changed_both, changed_there, found_or_apart, IsAlone-stored, IsFoundOrApart, made, made_both, made_there, numbers-changed, old_work, other_number, other_work, records-changed, same_instance, WorksAscend-changed}
 use Rattle.wm_machine.specs.Enqueued.{placed_record, placed, with_work, first_of, refusal_of, state_by, too_many_works, numbers_spent, id_in_use}
 use Rattle.wm_machine.specs.First.{first_of as first_work, idle_instance}
-use Rattle.wm_machine.specs.Lines.{plain_request}
+use Rattle.wm_machine.specs.Requests.{plain_request}
 use Rattle.wm_machine.specs.Rows.{row_of}
 use Rattle.wm_machine.specs.Runs.{closed, other_runs, run_numbered, run_on, start_on, started, succeeded, success_of, with_failure, with_start, with_success}
 use Rattle.wm_machine.specs.Step.{after, after_command, Legal, start_of}

@@ -1,8 +1,14 @@
--- Which commands are built. Each command that joins the grammar joins them.
+-- Which commands, and which replies to them, are built. Each command that joins the grammar joins them.
 use Rattle.std.specs.Prelude.{◌≡◌, ℕ, List, [], ◌∷◌, None}
-use Rattle.wm_machine.specs.Lines.{plain_request}
+use Rattle.std.specs.List.{AllByRecursion}
+use Rattle.wm_machine.specs.Requests.{plain_request}
 use Rattle.wm_machine.specs.declared.command.Command.{Command}
 use Rattle.wm_machine.specs.declared.command.Command.TheVariants as command
+use Rattle.wm_machine.specs.declared.event.Event.{Event}
+use Rattle.wm_machine.specs.declared.event.Event.TheVariants as event
+use Rattle.wm_machine.specs.declared.reply.Reply.{Reply}
+use Rattle.wm_machine.specs.declared.reply.Reply.TheVariants as reply
+use Rattle.wm_machine.specs.declared.reply.WorkInfo.{WorkInfo}
 use Rattle.wm_machine.specs.declared.request.Node.{Node}
 use Rattle.wm_machine.specs.declared.state.WorkQuery.{WorkQuery}
 
@@ -25,3 +31,20 @@ IsBuilt (command.Enqueue None batch) = IsPlain batch.works
 IsBuilt (command.Query query) = NamesNothing query
 IsBuilt (command.Faulty fault) = Unit {0}
 IsBuilt _ = ⊥
+
+-- nothing is told of a work's data
+pub record TellsNoData (info : WorkInfo) : Type 0 where
+  pub output : info.output ≡ []
+  pub progress : info.progress ≡ []
+
+-- the replies to these commands
+abbrev pub IsWritten : Reply → Type 0
+IsWritten (reply.Enqueued works) = Unit {0}
+IsWritten (reply.Query works) = AllByRecursion TellsNoData works
+IsWritten (reply.Refused found) = Unit {0}
+IsWritten _ = ⊥
+
+-- the event is no command, or its reply is one of these
+abbrev pub HasText : Event → Type 0
+HasText (event.Command line asked answer) = IsWritten answer
+HasText _ = Unit {0}

@@ -1,5 +1,5 @@
 -- The rows that are kept for a state. The form is this project's own choice.
-use Rattle.std.specs.Prelude.{◌≡◌, ℕ, ◌+◌, ◌^◌, ◌<◌, ◌≤◌, ℤ, pos, Bool, List, [], All, map, Option, Some, None, IfSome, if◌then◌else◌}
+use Rattle.std.specs.Prelude.{◌≡◌, ℕ, ◌+◌, ℤ, pos, Bool, List, [], map, Option, Some, None, if◌then◌else◌}
 use Rattle.wm_data.specs.DataJson.{data_text}
 use Rattle.wm_data.specs.declared.merger.Merger.{Merger}
 use Rattle.wm_data.specs.declared.merger.Merger.TheVariants.{Overwriting, ArrayCreating}
@@ -89,16 +89,6 @@ row_of work = record {
 -- the rows of a state, in ascending number
 abbrev pub rows_of : State → List Row
 rows_of s = map row_of s.works
-
--- the numbers of a record are within their limits
-pub record FitsRow (work : Record) : Type 0 where
-  pub seq : work.seq < 2 ^ 53
-  pub prior : All (λ number. number < 2 ^ 53) work.prior
-  pub generation : work.generation < 2 ^ 53
-  pub enqueued_at : work.enqueued_at < 2 ^ 53
-  pub delay : work.request.initial_delay ≤ 315360000000
-  pub wait : work.request.backoff.delay ≤ 18000000
-  pub period : IfSome work.request.period (λ p. (p.period ≤ 315360000000) × (p.flex ≤ 315360000000))
 
 -- a record takes no data and gave none
 pub record HasNoData (work : Record) : Type 0 where

@@ -1,7 +1,8 @@
 -- What holds of every state that the machine reaches. This project's own choice.
 use Rattle.std.specs.Prelude.{◌≡◌, ◌≢◌, ◌⊎◌, ℕ, ◌+◌, ◌^◌, ◌==◌, ◌<◌, ◌≤◌, true, List, [], ◌∷◌, length, None}
 use Rattle.std.specs.List.{AllByRecursion, list_any}
-use Rattle.wm_machine.specs.Rows.{FitsRow, HasNoData}
+use Rattle.wm_machine.specs.Limits.{FitsRow}
+use Rattle.wm_machine.specs.Rows.{HasNoData}
 use Rattle.wm_machine.specs.declared.record.Phase.TheVariants as phase
 use Rattle.wm_machine.specs.declared.record.Record.{Record}
 use Rattle.wm_machine.specs.declared.state.Instance.{Instance}

@@ -7,7 +7,7 @@ use Rattle.wm_machine.specs.First.{first_of}
 use Rattle.wm_machine.specs.Log.{command_in, AreNumberedFrom}
 use Rattle.wm_machine.specs.Runs.{run_numbered, start_on, success_of, with_out}
 use Rattle.wm_machine.specs.Step.{after_command, start_of, IsStart}
-use Rattle.wm_machine.specs.Texts.{event_text}
+use Rattle.wm_script.specs.Texts.{event_text}
 use Rattle.wm_machine.specs.Valid.{Valid}
 use Rattle.wm_machine.specs.declared.command.Command.TheVariants as command
 use Rattle.wm_machine.specs.declared.command.Command.{Command}
@@ -19,7 +19,7 @@ use Rattle.wm_machine.specs.declared.reply.Refusal.{Refusal}
 use Rattle.wm_machine.specs.declared.request.Node.{Node}
 use Rattle.wm_machine.specs.declared.state.Run.{Run}
 use Rattle.wm_machine.specs.declared.state.State.{State}
-use Rattle.wm_session.specs.TableState.{TicketState, ticket_of}
+use Rattle.wm_table.specs.TableState.{TicketState, ticket_of}
 use Rattle.wm_worker.specs.declared.kind.Kind.TheVariants.{Echo}
 
 -- ---- events that aren't commands

@@ -16,15 +16,15 @@ use Rattle.wm_session.specs.Book as book
 use Rattle.wm_session.specs.BookState.{BookState}
 use Rattle.wm_session.specs.Causes.{stop_by_fault, stop_by_trouble, StopCause}
 use Rattle.wm_session.specs.Kept.{AreAwayKept, AreLinesKept, AreTextsKept}
-use Rattle.wm_session.specs.Table.{last_of, IsClaimed, IsOneStep, IsTicketIn, IsUntouched, TurnCause}
-use Rattle.wm_session.specs.TableState.{TableState, TicketState}
+use Rattle.wm_table.specs.Table.{last_of, IsClaimed, IsOneStep, IsTicketIn, IsUntouched, TurnCause}
+use Rattle.wm_table.specs.TableState.{TableState, TicketState}
 use Rattle.wm_session.specs.Writing.{WriteCause}
 use Rattle.wm_session.specs.declared.book.Stop.{Stop}
-use Rattle.wm_session.specs.declared.table.Claim.TheVariants as claim
-use Rattle.wm_session.specs.declared.table.Claim.{Claim}
-use Rattle.wm_session.specs.declared.table.Trouble.TheVariants as trouble
-use Rattle.wm_session.specs.declared.table.Trouble.{Trouble}
-use Rattle.wm_session.specs.declared.table.TurnAnswer.TheVariants as turn
+use Rattle.wm_table.specs.declared.table.Claim.TheVariants as claim
+use Rattle.wm_table.specs.declared.table.Claim.{Claim}
+use Rattle.wm_table.specs.declared.table.Trouble.TheVariants as trouble
+use Rattle.wm_table.specs.declared.table.Trouble.{Trouble}
+use Rattle.wm_table.specs.declared.table.TurnAnswer.TheVariants as turn
 use Rattle.wm_session.specs.declared.writing.WriteFault.TheVariants as fault
 use Rattle.wm_session.specs.declared.writing.WriteFault.{WriteFault}
 use Rattle.wm_worker.specs.Told.{Report}

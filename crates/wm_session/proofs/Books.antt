@@ -8,14 +8,15 @@ use Rattle.wm_bench.specs.declared.place.Place.{Place}
 use Rattle.wm_data.specs.declared.data.DataEntry.{DataEntry}
 use Rattle.wm_keeper.specs.declared.row.Row.{Row}
 use Rattle.wm_machine.proofs.Firsts.{idle_instance-idle, idle_instance-stored}
-use Rattle.wm_machine.proofs.Logs.{Replay-push, commands_of-push, log_text-push, AreNumberedFrom-push}
+use Rattle.wm_machine.proofs.Logs.{Replay-push, commands_of-push, AreNumberedFrom-push}
+use Rattle.wm_script.proofs.LogTexts.{log_text-push}
 use Rattle.wm_machine.proofs.States.{Valid-after}
 use Rattle.wm_machine.specs.Built.{IsBuilt}
 use Rattle.wm_machine.specs.Log.{command_in, commands_of, AreNumberedFrom, BeginsWith}
 use Rattle.wm_machine.specs.Replay.{Replay}
 use Rattle.wm_machine.specs.Rows.{rows_of}
 use Rattle.wm_machine.specs.Runs.{run_numbered, with_out}
-use Rattle.wm_machine.specs.Texts.{event_text, log_text}
+use Rattle.wm_script.specs.Texts.{event_text, log_text}
 use Rattle.wm_machine.specs.Valid.{Valid}
 use Rattle.wm_machine.specs.declared.command.Command.{Command}
 use Rattle.wm_machine.specs.declared.event.Cause.{Cause}
@@ -34,13 +35,13 @@ use Rattle.wm_session.specs.BookState.{BookState}
 use Rattle.wm_session.specs.Causes.{stop_by_fault, stop_by_trouble, StopCause}
 use Rattle.wm_session.specs.Given.{Given}
 use Rattle.wm_session.specs.Kept.{AreAwayKept, AreLinesKept, AreTextsKept, IsBookKept}
-use Rattle.wm_session.specs.Table.{last_of, IsOneStep, IsTicketIn, IsUntouched, Stands, TurnCause}
-use Rattle.wm_session.specs.TableState.{TableState, TicketState}
+use Rattle.wm_table.specs.Table.{last_of, IsOneStep, IsTicketIn, IsUntouched, Stands, TurnCause}
+use Rattle.wm_table.specs.TableState.{TableState, TicketState}
 use Rattle.wm_session.specs.Writing.{WriteCause}
 use Rattle.wm_session.specs.declared.book.Stop.TheVariants as why
 use Rattle.wm_session.specs.declared.book.Stop.{Stop}
-use Rattle.wm_session.specs.declared.table.Trouble.{Trouble}
-use Rattle.wm_session.specs.declared.table.TurnAnswer.TheVariants as turn
+use Rattle.wm_table.specs.declared.table.Trouble.{Trouble}
+use Rattle.wm_table.specs.declared.table.TurnAnswer.TheVariants as turn
 use Rattle.wm_session.specs.declared.writing.WriteFault.{WriteFault}
 use Rattle.wm_worker.specs.Signal.{SignalState}
 use Rattle.wm_worker.specs.Told.{Report}

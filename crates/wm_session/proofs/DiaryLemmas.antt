@@ -24,8 +24,8 @@ use Rattle.wm_session.specs.Book.{GoesOn, IsBegun}
 use Rattle.wm_session.specs.BookState.{BookState}
 use Rattle.wm_session.specs.Drive.{IsDone, IsDriven}
 use Rattle.wm_session.specs.Rest.{KeepDiaries}
-use Rattle.wm_session.specs.Table.{IsOneStep, IsTicketIn}
-use Rattle.wm_session.specs.TableState.{TableState, TicketState, ticket_of}
+use Rattle.wm_table.specs.Table.{IsOneStep, IsTicketIn}
+use Rattle.wm_table.specs.TableState.{TableState, TicketState, ticket_of}
 use Rattle.wm_worker.specs.Diary.{diary_with}
 use Rattle.wm_worker.specs.Signal.{SignalState}
 use Rattle.wm_worker.specs.declared.answer.Entry.{Entry}

@@ -3,11 +3,7 @@ pub mod BookEnds
 pub mod BookEvents
 pub mod BookParts
 pub mod Books
-pub mod Changes
 pub mod DiaryLemmas
 pub mod HandLemmas
 pub mod Pieces
-pub mod Placing
-pub mod ScanLemmas
 pub mod SerialLemmas
-pub mod TableSteps

@@ -38,8 +38,8 @@ use Rattle.wm_session.specs.BookState.{BookState}
 use Rattle.wm_session.specs.Drive.{HasWritten, IsDone, IsDriven, IsGivenUp}
 use Rattle.wm_session.specs.Ended.{HasCommands, HaveTold, IsSerialRun}
 use Rattle.wm_session.specs.Rest.{IsAtRest, IsReady, KeepDiaries, NoneRetired}
-use Rattle.wm_session.specs.Table.{IsOneStep, IsUntouched}
-use Rattle.wm_session.specs.TableState.{TableState, TicketState}
+use Rattle.wm_table.specs.Table.{IsOneStep, IsUntouched}
+use Rattle.wm_table.specs.TableState.{TableState, TicketState}
 use Rattle.wm_session.specs.declared.book.Front.TheVariants as front
 use Rattle.wm_session.specs.declared.book.After.{After}
 use Rattle.wm_session.specs.declared.book.After.TheVariants as report

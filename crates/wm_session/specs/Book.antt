@@ -10,8 +10,8 @@ use Rattle.wm_machine.specs.declared.event.Cause.{Cause}
 use Rattle.wm_machine.specs.declared.event.Event.TheVariants as event
 use Rattle.wm_machine.specs.declared.reply.Reply.{Reply}
 use Rattle.wm_session.specs.BookState.{BookState}
-use Rattle.wm_session.specs.Table.{IsOneStep, IsUntouched, IsTicketIn, CountsIn, IsFinished}
-use Rattle.wm_session.specs.TableState.{TicketState}
+use Rattle.wm_table.specs.Table.{IsOneStep, IsUntouched, IsTicketIn, CountsIn, IsFinished}
+use Rattle.wm_table.specs.TableState.{TicketState}
 use Rattle.wm_session.specs.declared.book.After.{After}
 use Rattle.wm_session.specs.declared.book.After.TheVariants as after
 use Rattle.wm_session.specs.declared.book.Front.{Front}

@@ -7,10 +7,10 @@ use Rattle.wm_session.specs.declared.book.Stop.{Stop}
 use Rattle.wm_session.specs.declared.book.Stop.TheVariants as stop
 use Rattle.wm_session.specs.declared.status.Status.{Status}
 use Rattle.wm_session.specs.declared.status.Status.TheVariants as status
-use Rattle.wm_session.specs.declared.table.BeginFault.{BeginFault}
-use Rattle.wm_session.specs.declared.table.BeginFault.TheVariants as begin
-use Rattle.wm_session.specs.declared.table.Trouble.{Trouble}
-use Rattle.wm_session.specs.declared.table.Trouble.TheVariants as trouble
+use Rattle.wm_table.specs.declared.table.BeginFault.{BeginFault}
+use Rattle.wm_table.specs.declared.table.BeginFault.TheVariants as begin
+use Rattle.wm_table.specs.declared.table.Trouble.{Trouble}
+use Rattle.wm_table.specs.declared.table.Trouble.TheVariants as trouble
 use Rattle.wm_session.specs.declared.writing.WriteFault.{WriteFault}
 use Rattle.wm_session.specs.declared.writing.WriteFault.TheVariants as fault
 

@@ -8,8 +8,8 @@ use Rattle.wm_machine.specs.declared.event.End.TheVariants.{Success}
 use Rattle.wm_machine.specs.declared.event.Event.TheVariants as event
 use Rattle.wm_session.specs.Book.{GoesOn, HasStopped}
 use Rattle.wm_session.specs.BookState.{BookState}
-use Rattle.wm_session.specs.Table.{IsOneStep}
-use Rattle.wm_session.specs.TableState.{TicketState}
+use Rattle.wm_table.specs.Table.{IsOneStep}
+use Rattle.wm_table.specs.TableState.{TicketState}
 use Rattle.wm_worker.specs.Diary.{diary_with, turn_entries}
 use Rattle.wm_worker.specs.Told.{Report}
 use Rattle.wm_worker.specs.declared.answer.Entry.{Entry}

@@ -4,7 +4,7 @@ use Rattle.wm_bench.specs.declared.hand.HandOf.{HandOf}
 use Rattle.wm_machine.specs.Diaries.{diaries_after}
 use Rattle.wm_machine.specs.Log.{commands_of, AreNumberedFrom, BeginsWith}
 use Rattle.wm_machine.specs.Serial.{IsSerial, BeginsSerial}
-use Rattle.wm_machine.specs.Texts.{log_text}
+use Rattle.wm_script.specs.Texts.{log_text}
 use Rattle.wm_machine.specs.declared.command.Command.{Command}
 use Rattle.wm_machine.specs.declared.event.Event.{Event}
 use Rattle.wm_machine.specs.declared.state.State.{State}

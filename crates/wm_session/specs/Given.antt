@@ -4,7 +4,7 @@ use Rattle.wm_keeper.specs.declared.row.Row.{Row}
 use Rattle.wm_machine.specs.Opened.{opening_state}
 use Rattle.wm_machine.specs.declared.command.Command.{Command}
 use Rattle.wm_machine.specs.declared.state.State.{State}
-use Rattle.wm_session.specs.TableState.{TableState}
+use Rattle.wm_table.specs.TableState.{TableState}
 
 -- the state that its store opened to, the rows that its keeper held and the bytes that its sink had been given, where they are told,
 -- its lines, and how many faults keeper and sink had met

@@ -6,7 +6,7 @@ use Rattle.wm_machine.specs.Built.{IsBuilt}
 use Rattle.wm_machine.specs.Log.{commands_of, AreNumberedFrom, BeginsWith}
 use Rattle.wm_machine.specs.Replay.{Replay}
 use Rattle.wm_machine.specs.Rows.{rows_of}
-use Rattle.wm_machine.specs.Texts.{log_text}
+use Rattle.wm_script.specs.Texts.{log_text}
 use Rattle.wm_machine.specs.Valid.{Valid}
 use Rattle.wm_machine.specs.declared.command.Command.{Command}
 use Rattle.wm_session.specs.Bench.{instance_traits, is_away, place_traits}

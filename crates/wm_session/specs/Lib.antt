@@ -9,7 +9,4 @@ pub mod Hands
 pub mod Kept
 pub mod Rest
 pub mod Status
-pub mod Table
-pub mod TableState
-pub mod Trouble
 pub mod Writing

@@ -12,14 +12,12 @@ ghost use Rattle.wm_machine.specs.Valid.{Valid};
 ghost use Rattle.wm_session.specs.Bench.{instance_traits, place_traits, AreIdle};
 ghost use Rattle.wm_session.specs.Book.{IsClaimed, IsFronted, IsReported};
 ghost use Rattle.wm_session.specs.Ended.{HasCommands, IsSessionStatus, IsTextGiven};
-ghost use Rattle.wm_session.specs.Table.{IsTicketIn, Stands};
+ghost use Rattle.wm_table.specs.Table.{IsTicketIn, Stands};
 
 use crate::ended::EndedOf;
 use crate::mark::Mark;
 use crate::status::Status;
 use crate::steps::{execute, give_back, status_after, tell_last, write_pending};
-use crate::table::ticket::Ticket;
-use crate::table::{Claim, Table, TableEnd, Trouble, TurnAnswer};
 use crate::writing::WriteFault;
 use std::alloc::{AllocError, Global};
 use std::collections::VecDeque;
@@ -29,6 +27,7 @@ use wm_collections::Items;
 use wm_io::Sink;
 use wm_keeper::Keeper;
 use wm_machine::Command;
+use wm_table::{Claim, Table, TableEnd, Ticket, Trouble, TurnAnswer};
 use wm_worker::{Signal, Told, Worker};
 
 /// Why a session ended before its last line.

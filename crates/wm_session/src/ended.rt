@@ -1,12 +1,12 @@
 ghost use Rattle.std.specs.Prelude.{◌≡◌, [], false};
 ghost use Rattle.wm_machine.specs.Opened.{opening_state};
 
-use crate::opening::opening_state;
 use crate::status::Status;
 use std::alloc::Global;
 use wm_bench::HandOf;
 use wm_collections::Items;
 use wm_machine::{Event, State};
+use wm_table::opening_state;
 use wm_worker::Worker;
 
 /// What a run hands back.

@@ -10,18 +10,13 @@
 pub mod book;
 pub mod ended;
 mod mark;
-mod opening;
 pub mod serial;
 pub mod status;
 mod steps;
-pub mod table;
 mod writing;
 
 pub use book::{After, BookOf, Front, Job, Stop};
 pub use ended::{Ended, EndedOf};
 pub use mark::Mark;
-pub use opening::opening_state;
 pub use serial::run_serial;
 pub use status::Status;
-pub use table::ticket::Ticket;
-pub use table::{BeginFault, Claim, Table, TableEnd, Trouble, TurnAnswer};

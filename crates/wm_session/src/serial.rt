@@ -13,7 +13,7 @@ ghost use Rattle.wm_session.specs.Bench.{place_diaries, AreIdle};
 ghost use Rattle.wm_session.specs.Drive.{HasWritten, IsDriven};
 ghost use Rattle.wm_session.specs.Ended.{AreHandsBack, HasCommands, HaveTold, IsSerialRun, IsSessionStatus, IsTextGiven};
 ghost use Rattle.wm_session.specs.Rest.{IsAtRest, IsReady, KeepDiaries, NoneRetired};
-ghost use Rattle.wm_session.specs.Table.{IsTicketIn};
+ghost use Rattle.wm_table.specs.Table.{IsTicketIn};
 ghost use Rattle.wm_worker.specs.Answers.{given_of};
 ghost use Rattle.wm_worker.specs.Told.{IsReportOf};
 ghost use Rattle.wm_worker.specs.declared.answer.Entry.{Entry};
@@ -22,11 +22,11 @@ use crate::book::{After, BookOf, Front, Job};
 use crate::ended::EndedOf;
 use crate::mark::Mark;
 use crate::status::Status;
-use crate::table::ticket::Ticket;
 use std::alloc::{AllocError, Global};
 use wm_bench::SeatedOf;
 use wm_io::Sink;
 use wm_keeper::Keeper;
+use wm_table::Ticket;
 use wm_worker::{Signal, Told, Worker};
 
 /// What became of the work that was first.

@@ -2,10 +2,10 @@ ghost use Rattle.std.specs.Prelude.{◌≡◌, IfOk, string_bytes};
 ghost use Rattle.wm_session.specs.Status.{code_of, text_of, limit_name, row_fault_name, bad_store_text};
 
 use crate::book::Stop;
-use crate::table::BeginFault;
 use std::alloc::{AllocError, Global};
 use wm_keeper::KeepFault;
-use wm_machine::Limit;
+use wm_script::Limit;
+use wm_table::BeginFault;
 
 /// How a run ended.
 #[derive(Clone, Copy, Debug, PartialEq, Eq)]

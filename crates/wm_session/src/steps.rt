@@ -2,27 +2,27 @@
 //! worker back.
 ghost use Rattle.std.specs.Prelude.{◌≡◌, ◌++◌, [], None, Some, IsNone, IfErr, IfSome, OnOk, OnErr};
 ghost use Rattle.wm_bench.specs.Places.{changed_at, made_idle, IsAwayAt};
-ghost use Rattle.wm_machine.specs.Built.{IsBuilt};
-ghost use Rattle.wm_machine.specs.Texts.{event_text, HasText, IsWritten};
+ghost use Rattle.wm_machine.specs.Built.{HasText, IsBuilt, IsWritten};
+ghost use Rattle.wm_script.specs.Texts.{event_text};
 ghost use Rattle.wm_machine.specs.declared.event.Event.{Event};
 ghost use Rattle.wm_machine.specs.declared.event.Event.TheVariants as event;
 ghost use Rattle.wm_machine.specs.declared.reply.Reply.{Reply};
 ghost use Rattle.wm_machine.specs.declared.state.State.{State};
 ghost use Rattle.wm_session.specs.Causes.{status_by_stop, stop_by_fault};
 ghost use Rattle.wm_session.specs.Kept.{AreTextsKept};
-ghost use Rattle.wm_session.specs.Table.{last_of, IsOneStep, IsUntouched, Stands, TroubleCause};
+ghost use Rattle.wm_table.specs.Table.{last_of, IsOneStep, IsUntouched, Stands, TroubleCause};
 ghost use Rattle.wm_session.specs.Writing.{WriteCause};
 
 use crate::book::Stop;
 use crate::status::Status;
-use crate::table::ticket::Ticket;
-use crate::table::{Table, Trouble};
 use crate::writing::{WriteFault, write_front};
 use std::alloc::Global;
 use wm_bench::{BenchOf, SeatedOf};
 use wm_io::Sink;
 use wm_keeper::Keeper;
-use wm_machine::{Command, Event, event_text};
+use wm_machine::{Command, Event};
+use wm_script::event_text;
+use wm_table::{Table, Ticket, Trouble};
 use wm_worker::Worker;
 
 /// Executes the command of a line. Its reply stands in the table's last event.

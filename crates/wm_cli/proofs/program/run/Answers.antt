@@ -3,8 +3,8 @@ use Rattle.wm_cli.proofs.Endings.{IsTextGiven-nothing, HasCommands-nothing, ForS
 use Rattle.wm_cli.proofs.Opening.{IsSerialRun-unopened}
 use Rattle.wm_session.specs.Ended.{HasCommands, IsSerialRun}
 use Rattle.wm_session.specs.declared.status.Status.TheVariants.{Done, Usage}
-use Rattle.wm_machine.proofs.LinesLemmas.{IsBuilt-commands_in}
-use Rattle.wm_machine.specs.Lines.{commands_in}
+use Rattle.wm_script.proofs.LinesLemmas.{IsBuilt-commands_in}
+use Rattle.wm_script.specs.Lines.{commands_in}
 use Rattle.wm_cli.proofs.program.run.Goals as goal
 
 -- the empty log of a run that ended before its store was opened

@@ -8,7 +8,7 @@ use Rattle.wm_machine.specs.declared.state.State.{State}
 use Rattle.wm_session.specs.Bench.{place_diaries}
 use Rattle.wm_session.specs.Ended.{HaveTold}
 use Rattle.wm_session.specs.Hands.{instances_from}
-use Rattle.wm_session.proofs.TableSteps.{Valid-opening}
+use Rattle.wm_table.proofs.TableSteps.{Valid-opening}
 use Rattle.wm_session.specs.declared.status.Status.TheVariants as status
 use Rattle.wm_cli.proofs.program.run_begun.Goals as goal
 

@@ -4,7 +4,7 @@ use Rattle.wm_cli.proofs.Hands.{AreFresh-instances_from}
 use Rattle.wm_cli.proofs.Opening.{begin_early, keeper_early, IsSerialRun-unopened}
 use Rattle.wm_session.specs.Causes.{status_by_begin, status_by_keeper}
 use Rattle.wm_session.specs.Hands.{instances_from}
-use Rattle.wm_session.specs.Table.{AreFresh}
+use Rattle.wm_table.specs.Table.{AreFresh}
 use Rattle.wm_cli.proofs.program.run_commands.Goals as goal
 
 pub returns-in-Err-clause-bytes : goal.returns-in-Err-clause-bytes

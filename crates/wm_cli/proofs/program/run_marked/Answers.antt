@@ -11,7 +11,7 @@ use Rattle.wm_session.specs.Bench.{instance_traits, place_traits, AreIdle}
 use Rattle.wm_session.specs.Hands.{instances_from}
 use Rattle.wm_session.specs.Rest.{NoneRetired}
 use Rattle.wm_session.proofs.HandLemmas.{AreIdle-hands, NoneRetired-hands}
-use Rattle.wm_session.proofs.TableSteps.{Valid-opening}
+use Rattle.wm_table.proofs.TableSteps.{Valid-opening}
 use Rattle.wm_session.specs.declared.status.Status.TheVariants as status
 use Rattle.wm_cli.proofs.program.run_marked.Goals as goal
 

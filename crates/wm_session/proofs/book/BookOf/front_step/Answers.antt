@@ -1,6 +1,6 @@
 use Rattle.std.proofs.Common.{◌+◌, sym, subst, rules}
 use Rattle.std.specs.Option.{IfSome}
-use Rattle.wm_machine.specs.Texts.{HasText}
+use Rattle.wm_machine.specs.Built.{HasText}
 use Rattle.wm_machine.specs.declared.event.Event.TheVariants as event
 use Rattle.wm_session.proofs.BookParts.{last_of-step}
 use Rattle.wm_session.proofs.Books.{IsBookKept-cut, IsBookKept-told}

@@ -2,7 +2,7 @@ use Rattle.std.proofs.Common.{subst, sym, rules}
 use Rattle.wm_bench.specs.Places.{IsAwayAt}
 use Rattle.wm_session.proofs.Benches.{traits-back}
 use Rattle.wm_session.proofs.Books.{IsBookKept-memory, IsBookKept-over, IsBookKept-placed, IsBookKept-refused}
-use Rattle.wm_session.specs.Table.{Stands}
+use Rattle.wm_table.specs.Table.{Stands}
 use Rattle.wm_session.proofs.book.BookOf.report.Goals as goal
 
 pub invariant_of-self : goal.invariant_of-self

@@ -1,0 +1,161 @@
+ghost use Rattle.std.specs.Prelude.{◌≡◌, ◌^◌, ◌<◌, All, map, pos, IfOk, IfSome};
+ghost use Rattle.wm_machine.specs.Limits.{FitsRow};
+ghost use Rattle.wm_machine.specs.Rows.{row_of, HasNoData, kind_code, period_code, flex_code, policy_code, merger_code, network_code, flags_code, phase_code};
+
+use std::alloc::{AllocError, Global};
+use uuid::Uuid;
+use wm_collections::{Items, Replica, Text};
+use wm_data::Merger;
+use wm_keeper::Row;
+use wm_machine::{BackoffPolicy, Constraints, How, Network, Period, Phase, Record};
+
+/// The form of the rows that are written.
+const ROW_VERSION: i64 = 1;
+
+/// The canonical text of Data without entries.
+const NO_DATA: &str = "{}";
+
+fn kind_code(period: &Option<Period>) -> i64
+    ensures { result ≡ kind_code period.now }
+{
+    match period {
+        None => 0,
+        Some(_) => 1,
+    }
+}
+
+fn period_code(period: &Option<Period>) -> i64
+    requires { IfSome period.now (λ p. p.period < 2 ^ 53) }
+    ensures { result ≡ period_code period.now }
+{
+    match period {
+        None => 0,
+        Some(period) => stored_number(period.period),
+    }
+}
+
+fn flex_code(period: &Option<Period>) -> i64
+    requires { IfSome period.now (λ p. p.flex < 2 ^ 53) }
+    ensures { result ≡ flex_code period.now }
+{
+    match period {
+        None => 0,
+        Some(period) => stored_number(period.flex),
+    }
+}
+
+fn policy_code(policy: BackoffPolicy) -> i64
+    ensures { result ≡ policy_code policy }
+{
+    match policy {
+        BackoffPolicy::Linear => 0,
+        BackoffPolicy::Exponential => 1,
+    }
+}
+
+fn merger_code(merger: Merger) -> i64
+    ensures { result ≡ merger_code merger }
+{
+    match merger {
+        Merger::Overwriting => 0,
+        Merger::ArrayCreating => 1,
+    }
+}
+
+fn network_code(network: Network) -> i64
+    ensures { result ≡ network_code network }
+{
+    match network {
+        Network::NotRequired => 0,
+        Network::Connected => 1,
+        Network::Unmetered => 2,
+        Network::NotRoaming => 3,
+        Network::Metered => 4,
+    }
+}
+
+fn flags_code(constraints: &Constraints) -> i64
+    ensures { result ≡ flags_code constraints.now }
+{
+    let charging = if constraints.charging { 8 } else { 0 };
+    let idle = if constraints.idle { 4 } else { 0 };
+    let battery_not_low = if constraints.battery_not_low { 2 } else { 0 };
+    let storage_not_low = if constraints.storage_not_low { 1 } else { 0 };
+    let flags: u8 = charging + idle + battery_not_low + storage_not_low;
+    i64::from(flags)
+}
+
+fn phase_code(phase: Phase) -> i64
+    ensures { result ≡ phase_code phase }
+{
+    match phase {
+        Phase::Waiting => 0,
+        Phase::Running => 1,
+        Phase::Done(How::Succeeded) => 2,
+        Phase::Done(How::Failed) => 3,
+        Phase::Done(How::Cancelled) => 4,
+    }
+}
+
+/// A number as a row holds it.
+fn stored_number(number: u64) -> i64
+    requires { number < 2 ^ 53 }
+    ensures { result ≡ pos number }
+{
+    number as i64
+}
+
+/// The bytes of an id.
+fn stored_id(alloc: Global, id: &Uuid) -> Result<Items<u8>, AllocError>
+    ensures { IfOk result (λ bytes. bytes ≡ id.now) }
+{
+    Ok(Items::from_vec(Vec::from_slice(alloc, id.as_bytes())?))
+}
+
+/// Numbers as a row holds them.
+fn stored_numbers(alloc: Global, numbers: &[u64]) -> Result<Items<i64>, AllocError>
+    requires { All (λ number. number < 2 ^ 53) numbers.now }
+    ensures { IfOk result (λ stored. stored ≡ map pos numbers.now) }
+{
+    let mut stored = Items::new(alloc);
+    for number in numbers {
+        stored.push(stored_number(*number))?;
+    }
+    Ok(stored)
+}
+
+/// The row of a record, whose numbers are within their limits and which has no data. Its progress
+/// isn't stored.
+pub fn to_row(alloc: Global, work: &Record) -> Result<Row, AllocError>
+    requires fits { FitsRow work.now }
+    requires no_data { HasNoData work.now }
+    ensures { IfOk result (λ row. row ≡ row_of work.now) }
+{
+    let request = &work.request;
+    Ok(Row {
+        version: ROW_VERSION,
+        seq: stored_number(work.seq),
+        id: stored_id(alloc, &request.id)?,
+        name: work.name.replica(alloc)?,
+        class: request.class.replica(alloc)?,
+        kind: kind_code(&request.period),
+        period: period_code(&request.period),
+        flex: flex_code(&request.period),
+        delay: stored_number(request.initial_delay),
+        policy: policy_code(request.backoff.policy),
+        wait: stored_number(request.backoff.delay),
+        merger: merger_code(request.merger),
+        network: network_code(request.constraints.network),
+        flags: flags_code(&request.constraints),
+        phase: phase_code(work.phase),
+        attempt: i64::from(work.attempt),
+        backoff_n: i64::from(work.backoff_n),
+        runs: i64::from(work.runs),
+        generation: stored_number(work.generation),
+        enqueued_at: stored_number(work.enqueued_at),
+        input: Text::from_str(alloc, NO_DATA)?,
+        output: Text::from_str(alloc, NO_DATA)?,
+        prior: stored_numbers(alloc, work.prior.as_slice())?,
+        tags: request.tags.replica(alloc)?,
+    })
+}

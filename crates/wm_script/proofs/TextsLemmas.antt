@@ -1,0 +1,75 @@
+-- No reply has a float, nor has data, so its compact text is what `to_vec` gives.
+use Rattle.std.proofs.Common.{◌≡◌, ℕ, ℤ, pos, negsuc, List, [], ◌∷◌, map, Option, Some, None, false, refl}
+use Rattle.serde_json.specs.Data as json
+use Rattle.serde_json.specs.View.{items_of}
+use Rattle.serde_json.specs.Written.{has_float, items_have_float, members_have_float}
+use Rattle.wm_data.specs.DataJson.{entries_json, value_json, whole}
+use Rattle.wm_data.specs.declared.data.DataEntry.{DataEntry}
+use Rattle.wm_data.specs.declared.value.Value.{Value}
+use Rattle.wm_data.specs.declared.value.Value.TheVariants as value
+use Rattle.wm_script.specs.Texts.{count, info_json, info_members, reply_json, with_due, with_name}
+use Rattle.wm_machine.specs.declared.command.LineFault.{LineFault}
+use Rattle.wm_machine.specs.declared.command.LineFault.TheVariants as fault
+use Rattle.wm_machine.specs.declared.reply.Refusal.{Refusal}
+use Rattle.wm_machine.specs.declared.reply.Refusal.TheVariants as refusal
+use Rattle.wm_machine.specs.declared.reply.Reply.{Reply}
+use Rattle.wm_machine.specs.declared.reply.Reply.TheVariants as reply
+use Rattle.wm_machine.specs.declared.reply.WorkInfo.{WorkInfo}
+
+-- a list has no float where none of its items has one
+list_has_no_float : {T : Type 0} (form : T → json.Data) (contents : List T) → ((content : T) → has_float (form content) ≡ false) → items_have_float (items_of (map form contents)) ≡ false
+list_has_no_float form [] each = refl
+list_has_no_float form (content ∷ contents) each = rw (each content) (list_has_no_float form contents each)
+
+-- ---- data
+
+whole_is_no_float : (n : ℤ) → has_float (whole n) ≡ false
+whole_is_no_float (pos n) = refl
+whole_is_no_float (negsuc n) = refl
+
+value_has_no_float : (v : Value) → has_float (value_json v) ≡ false
+value_has_no_float (value.Bool b) = refl
+value_has_no_float (value.Byte n) = rw (whole_is_no_float n)
+value_has_no_float (value.Int n) = rw (whole_is_no_float n)
+value_has_no_float (value.Long n) = rw (whole_is_no_float n)
+value_has_no_float (value.Text text) = refl
+value_has_no_float (value.Bools bs) = rw (list_has_no_float json.boolean bs (λ b. refl))
+value_has_no_float (value.Bytes ns) = rw (list_has_no_float whole ns whole_is_no_float)
+value_has_no_float (value.Ints ns) = rw (list_has_no_float whole ns whole_is_no_float)
+value_has_no_float (value.Longs ns) = rw (list_has_no_float whole ns whole_is_no_float)
+value_has_no_float (value.Texts texts) = rw (list_has_no_float json.string texts (λ text. refl))
+
+entries_have_no_float : (entries : List DataEntry) → members_have_float (entries_json entries) ≡ false
+entries_have_no_float [] = refl
+entries_have_no_float (entry ∷ entries) = rw (value_has_no_float entry.value) (entries_have_no_float entries)
+
+-- ---- what is told of a work
+
+members_have_no_float : (info : WorkInfo) → members_have_float (info_members info) ≡ false
+members_have_no_float info =
+    rw (entries_have_no_float info.output, entries_have_no_float info.progress, list_has_no_float json.string info.tags (λ text. refl))
+
+named_has_no_float : (name : Option (List ℕ)) (due : Option ℕ) (info : WorkInfo) → has_float (json.object (with_name name (with_due due (info_members info)))) ≡ false
+named_has_no_float None None info = members_have_no_float info
+named_has_no_float None (Some due) info = members_have_no_float info
+named_has_no_float (Some name) None info = members_have_no_float info
+named_has_no_float (Some name) (Some due) info = members_have_no_float info
+
+info_has_no_float : (info : WorkInfo) → has_float (info_json info) ≡ false
+info_has_no_float info = named_has_no_float info.name info.due info
+
+-- ---- replies
+
+fault_has_no_float : (line : ℕ) (found : LineFault) → has_float (reply_json line (reply.Refused (refusal.Line found))) ≡ false
+fault_has_no_float line (fault.BadData key) = refl
+fault_has_no_float line _ = refl
+
+refusal_has_no_float : (line : ℕ) (found : Refusal) → has_float (reply_json line (reply.Refused found)) ≡ false
+refusal_has_no_float line (refusal.Line found) = fault_has_no_float line found
+refusal_has_no_float line _ = refl
+
+pub reply_has_no_float : (line : ℕ) (answer : Reply) → has_float (reply_json line answer) ≡ false
+reply_has_no_float line (reply.Enqueued works) = rw (list_has_no_float count works (λ n. refl))
+reply_has_no_float line (reply.Query works) = rw (list_has_no_float info_json works info_has_no_float)
+reply_has_no_float line (reply.Refused found) = refusal_has_no_float line found
+reply_has_no_float line _ = refl

@@ -1,0 +1,297 @@
+ghost use Rattle.std.specs.Prelude.{◌≡◌, [], IfOk, OnOk, OnErr};
+ghost use Rattle.std.specs.List.{AllByRecursion};
+ghost use Rattle.serde_json.specs.View.{view, members_view};
+ghost use Rattle.wm_data.specs.DataJson.{data_json};
+ghost use Rattle.wm_machine.specs.Built.{HasText, IsWritten, TellsNoData};
+ghost use Rattle.wm_script.specs.Texts as texts;
+ghost use Rattle.wm_machine.specs.declared.state.State.{State};
+
+use serde_json::{Map, Value, json, push, put};
+use std::alloc::{AllocError, Global};
+use uuid::Uuid;
+use wm_collections::Text;
+use wm_data::Data;
+use wm_machine::{Event, LineFault, Refusal, Reply, Shown, WorkInfo};
+
+/// What is written for an event: the reply to a line as one compact JSON object, keys in ascending
+/// byte order, and LF; for any other event nothing.
+#[tactic(auto, unfolding(crate::specs::Texts::event_text))]
+pub fn event_text(alloc: Global, event: &Event) -> Result<Vec<u8>, AllocError>
+    requires { HasText event.now }
+    ensures { IfOk result (λ text. (s : State) → text.items ≡ texts.event_text s event.now) }
+{
+    match event {
+        Event::Command { line, reply, .. } => reply_text(alloc, *line, reply),
+        _ => Ok(Vec::new(alloc)),
+    }
+}
+
+// The reply to a line, and LF.
+#[tactic(auto, using(crate::proofs::TextsLemmas::reply_has_no_float))]
+fn reply_text(alloc: Global, line: u32, reply: &Reply) -> Result<Vec<u8>, AllocError>
+    requires { IsWritten reply.now }
+    ensures { IfOk result (λ text. text.items ≡ texts.reply_text line reply.now) }
+{
+    let mut text = reply_value(alloc, line, reply)?.to_vec(alloc)?;
+    text.push(b'\n')?;
+    Ok(text)
+}
+
+fn reply_value(alloc: Global, line: u32, reply: &Reply) -> Result<Value, AllocError>
+    requires { IsWritten reply.now }
+    ensures { IfOk result (λ value. view value ≡ texts.reply_json line reply.now) }
+{
+    match reply {
+        Reply::Enqueued(works) => enqueued_value(alloc, line, works.as_slice()),
+        Reply::Query(works) => query_value(alloc, line, works.as_slice()),
+        Reply::Refused(refusal) => refused_value(alloc, line, refusal),
+        _ => unreachable!(),
+    }
+}
+
+fn enqueued_value(alloc: Global, line: u32, works: &[u64]) -> Result<Value, AllocError>
+    ensures { IfOk result
+        (λ value. view value ≡ texts.reply_json line (Reply.Enqueued works.now)) }
+{
+    let numbers = numbers_value(alloc, works)?;
+    json!(in alloc; {"line": line, "ok": "enqueued", "works": numbers})
+}
+
+fn query_value(alloc: Global, line: u32, works: &[WorkInfo]) -> Result<Value, AllocError>
+    requires { AllByRecursion TellsNoData works.now }
+    ensures { IfOk result (λ value. view value ≡ texts.reply_json line (Reply.Query works.now)) }
+{
+    let infos = infos_value(alloc, works)?;
+    json!(in alloc; {"line": line, "ok": "query", "works": infos})
+}
+
+fn refused_value(alloc: Global, line: u32, refusal: &Refusal) -> Result<Value, AllocError>
+    ensures { IfOk result
+        (λ value. view value ≡ texts.reply_json line (Reply.Refused refusal.now)) }
+{
+    let name = Value::try_from_str(alloc, refusal_name(refusal))?;
+    let mut members = Map::new(alloc);
+    put(&mut members, alloc, "error", name)?;
+    put(&mut members, alloc, "line", Value::from(line))?;
+    put_shown(&mut members, alloc, refusal)?;
+    Ok(Value::Object(members))
+}
+
+fn numbers_value(alloc: Global, works: &[u64]) -> Result<Value, AllocError>
+    ensures { IfOk result (λ value. view value ≡ texts.numbers works.now) }
+{
+    let mut values = Vec::new(alloc);
+    for work in works {
+        push(&mut values, Value::from(*work))?;
+    }
+    Ok(Value::Array(values))
+}
+
+fn infos_value(alloc: Global, works: &[WorkInfo]) -> Result<Value, AllocError>
+    requires { AllByRecursion TellsNoData works.now }
+    ensures { IfOk result (λ value. view value ≡ texts.infos works.now) }
+{
+    let mut values = Vec::new(alloc);
+    for info in works {
+        push(&mut values, info_value(alloc, info)?)?;
+    }
+    Ok(Value::Array(values))
+}
+
+// What is told of one work.
+fn info_value(alloc: Global, info: &WorkInfo) -> Result<Value, AllocError>
+    requires { TellsNoData info.now }
+    ensures { IfOk result (λ value. view value ≡ texts.info_json info.now) }
+{
+    let mut members = info_members(alloc, info)?;
+    put_due(&mut members, alloc, info.due)?;
+    put_name(&mut members, alloc, &info.name)?;
+    Ok(Value::Object(members))
+}
+
+// What is told of every work.
+fn info_members(alloc: Global, info: &WorkInfo) -> Result<Map<String, Value>, AllocError>
+    requires { TellsNoData info.now }
+    ensures { IfOk result (λ members. members_view members.entries
+        ≡ texts.info_members info.now) }
+{
+    let mut members = Map::new(alloc);
+    put(&mut members, alloc, "attempt", Value::from(info.attempt))?;
+    let generation = Value::from(info.generation);
+    put(&mut members, alloc, "generation", generation)?;
+    put(&mut members, alloc, "id", id_value(alloc, &info.id)?)?;
+    let output = data_value(alloc, &info.output);
+    put(&mut members, alloc, "output", output)?;
+    let progress = data_value(alloc, &info.progress);
+    put(&mut members, alloc, "progress", progress)?;
+    put(&mut members, alloc, "seq", Value::from(info.seq))?;
+    let state = Value::try_from_str(alloc, state_name(info.state))?;
+    put(&mut members, alloc, "state", state)?;
+    let tags = tags_value(alloc, info.tags.as_slice())?;
+    put(&mut members, alloc, "tags", tags)?;
+    Ok(members)
+}
+
+// The data of a work, of which nothing is told yet.
+fn data_value(alloc: Global, told: &Data) -> Value
+    requires { told.now ≡ [] }
+    ensures { view result ≡ data_json told.now }
+{
+    prove!(told.is_empty());
+    Value::Object(Map::new(alloc))
+}
+
+fn tags_value(alloc: Global, tags: &[Text]) -> Result<Value, AllocError>
+    ensures { IfOk result (λ value. view value ≡ texts.texts tags.now) }
+{
+    let mut values = Vec::new(alloc);
+    for tag in tags {
+        push(&mut values, Value::try_from_str(alloc, tag.as_str())?)?;
+    }
+    Ok(Value::Array(values))
+}
+
+// Puts the moment at which the work is due, where it shows one.
+fn put_due(
+    members: &mut Map<String, Value>,
+    alloc: Global,
+    due: Option<u64>,
+) -> Result<(), AllocError>
+    ensures ok { OnOk result (members_view members.new.entries
+        ≡ texts.with_due due (members_view members.old.entries)) }
+    ensures err { OnErr result (members.new.entries ≡ members.old.entries) }
+{
+    match due {
+        Some(due) => put(members, alloc, "due", Value::from(due)),
+        None => Ok(()),
+    }
+}
+
+// Puts the unique name of the work, where it has one.
+fn put_name(
+    members: &mut Map<String, Value>,
+    alloc: Global,
+    name: &Option<Text>,
+) -> Result<(), AllocError>
+    ensures ok { OnOk result (members_view members.new.entries
+        ≡ texts.with_name name.now (members_view members.old.entries)) }
+    ensures err { OnErr result (members.new.entries ≡ members.old.entries) }
+{
+    match name {
+        Some(name) => {
+            let shown = Value::try_from_str(alloc, name.as_str())?;
+            put(members, alloc, "name", shown)
+        }
+        None => Ok(()),
+    }
+}
+
+// An id, hyphenated and in lower case.
+fn id_value(alloc: Global, id: &Uuid) -> Result<Value, AllocError>
+    ensures { IfOk result (λ value. view value ≡ texts.id_text id.now) }
+{
+    let mut buffer = Uuid::encode_buffer();
+    Value::try_from_str(alloc, id.hyphenated().encode_lower(&mut buffer))
+}
+
+// The name of a state, after `androidx.work.WorkInfo.State`.
+fn state_name(state: Shown) -> &'static str
+    ensures { result.now ≡ texts.state_name state }
+{
+    match state {
+        Shown::Enqueued => "ENQUEUED",
+        Shown::Running => "RUNNING",
+        Shown::Succeeded => "SUCCEEDED",
+        Shown::Failed => "FAILED",
+        Shown::Blocked => "BLOCKED",
+        Shown::Cancelled => "CANCELLED",
+    }
+}
+
+fn fault_name(fault: &LineFault) -> &'static str
+    ensures { result.now ≡ texts.fault_name fault.now }
+{
+    match fault {
+        LineFault::NotBuilt => "NotBuilt",
+        LineFault::Bad => "Bad",
+        LineFault::EmptyKey => "EmptyKey",
+        LineFault::BadData { .. } => "BadData",
+        LineFault::TooLarge { .. } => "TooLarge",
+        LineFault::NoClass => "NoClass",
+        LineFault::TooManyTags => "TooManyTags",
+        LineFault::DelayTooLong => "DelayTooLong",
+        LineFault::IdTwice { .. } => "IdTwice",
+        LineFault::PeriodicInChain { .. } => "PeriodicInChain",
+    }
+}
+
+fn refusal_name(refusal: &Refusal) -> &'static str
+    ensures { result.now ≡ texts.refusal_name refusal.now }
+{
+    match refusal {
+        Refusal::Line(fault) => fault_name(fault),
+        Refusal::MomentBack { .. } => "MomentBack",
+        Refusal::NoSuchWork { .. } => "NoSuchWork",
+        Refusal::KindMismatch { .. } => "KindMismatch",
+        Refusal::TooManyWorks { .. } => "TooManyWorks",
+        Refusal::NumbersSpent { .. } => "NumbersSpent",
+        Refusal::IdInUse { .. } => "IdInUse",
+        Refusal::NoSuchPrerequisite { .. } => "NoSuchPrerequisite",
+        Refusal::PeriodicInChain { .. } => "PeriodicInChain",
+        Refusal::TooManyPrerequisites { .. } => "TooManyPrerequisites",
+        Refusal::TooManyObservers { .. } => "TooManyObservers",
+        Refusal::NoSuchClass => "NoSuchClass",
+    }
+}
+
+// Puts the value that shows the fault under its own name.
+fn put_fault(
+    members: &mut Map<String, Value>,
+    alloc: Global,
+    fault: &LineFault,
+) -> Result<(), AllocError>
+    ensures ok { OnOk result (members_view members.new.entries
+        ≡ texts.with_fault fault.now (members_view members.old.entries)) }
+    ensures err { OnErr result (members.new.entries ≡ members.old.entries) }
+{
+    match fault {
+        LineFault::BadData { key } => {
+            let shown = Value::try_from_str(alloc, key.as_str())?;
+            put(members, alloc, "key", shown)
+        }
+        LineFault::TooLarge { size } => put(members, alloc, "size", Value::from(*size)),
+        LineFault::IdTwice { id } | LineFault::PeriodicInChain { id } => {
+            put(members, alloc, "id", id_value(alloc, id)?)
+        }
+        _ => Ok(()),
+    }
+}
+
+// Puts the value that shows the refusal under its own name.
+fn put_shown(
+    members: &mut Map<String, Value>,
+    alloc: Global,
+    refusal: &Refusal,
+) -> Result<(), AllocError>
+    ensures ok { OnOk result (members_view members.new.entries
+        ≡ texts.with_refusal refusal.now (members_view members.old.entries)) }
+    ensures err { OnErr result (members.new.entries ≡ members.old.entries) }
+{
+    match refusal {
+        Refusal::Line(fault) => put_fault(members, alloc, fault),
+        Refusal::MomentBack { now } => put(members, alloc, "now", Value::from(*now)),
+        Refusal::NoSuchWork { id }
+        | Refusal::KindMismatch { id }
+        | Refusal::IdInUse { id }
+        | Refusal::NoSuchPrerequisite { id }
+        | Refusal::PeriodicInChain { id }
+        | Refusal::TooManyPrerequisites { id } => {
+            put(members, alloc, "id", id_value(alloc, id)?)
+        }
+        Refusal::TooManyWorks { count } | Refusal::TooManyObservers { count } => {
+            put(members, alloc, "count", Value::from(*count))
+        }
+        Refusal::NumbersSpent { next } => put(members, alloc, "next", Value::from(*next)),
+        Refusal::NoSuchClass => Ok(()),
+    }
+}

@@ -1,6 +1,0 @@
-use Rattle.std.proofs.Common.{sym}
-use Rattle.wm_session.proofs.ScanLemmas.{due_of-valid}
-use Rattle.wm_session.proofs.table.scan.due.Goals as goal
-
-pub returns : goal.returns
-returns c = sym (due_of-valid c.args.work.now c.requires)

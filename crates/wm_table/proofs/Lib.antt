@@ -1,0 +1,4 @@
+pub mod Changes
+pub mod Placing
+pub mod ScanLemmas
+pub mod TableSteps

@@ -1,0 +1,11 @@
+use Rattle.std.proofs.Common.{◌≡◌, List, ◌-◌, length, slice_get, ◌∙◌, ap}
+use Rattle.wm_machine.specs.declared.event.Event.{Event}
+use Rattle.wm_table.proofs.TableSteps.{slice_get-last}
+use Rattle.wm_table.specs.Table.{last_of}
+use Rattle.wm_table.proofs.table.Table.last_event.Goals as goal
+
+pub returns : goal.returns
+returns g c =
+    let log : List Event = c.self.inside.log in
+    let log_is : c.self.inside.log ≡ c.args.self.now.log = cc in
+    c.last.ensures.value ∙ ap (λ (log : List Event). slice_get log (length log - 1)) c.as_slice.ensures ∙ slice_get-last log ∙ ap (λ (log : List Event). last_of log) log_is

@@ -1,0 +1,143 @@
+-- What the calls of the table do to the state, its log and the rows held. This project's own choice.
+use Rattle.std.specs.Prelude.{◌≡◌, ℕ, ◌+◌, ◌≤◌, true, false, List, [], ◌∷◌, ◌++◌, length, Option, Some, None, IsSome, IsSomeAnd, option_map, Result, Ok, Err}
+use Rattle.std.specs.List.{AllByRecursion}
+use Rattle.wm_data.specs.declared.data.DataEntry.{DataEntry}
+use Rattle.wm_faults.specs.Faults as faults
+use Rattle.wm_keeper.specs.declared.row.Row.{Row}
+use Rattle.wm_machine.specs.First.{first_of}
+use Rattle.wm_machine.specs.Replay.{Replay}
+use Rattle.wm_machine.specs.Rows.{rows_of}
+use Rattle.wm_machine.specs.Runs.{run_numbered}
+use Rattle.wm_machine.specs.Step.{Legal, after}
+use Rattle.wm_machine.specs.Valid.{Valid, AreNumberedInOrder}
+use Rattle.wm_machine.specs.declared.event.End.TheVariants.{Success}
+use Rattle.wm_machine.specs.declared.event.Event.{Event}
+use Rattle.wm_machine.specs.declared.event.Event.TheVariants as event
+use Rattle.wm_machine.specs.declared.state.Instance.{Instance}
+use Rattle.wm_machine.specs.declared.state.Run.{Run}
+use Rattle.wm_machine.specs.declared.state.State.{State}
+use Rattle.wm_table.specs.TableState.{TableState, TicketState, task_in, ticket_of}
+use Rattle.wm_table.specs.declared.table.BeginFault.{BeginFault}
+use Rattle.wm_table.specs.declared.table.BeginFault.TheVariants as begin
+use Rattle.wm_table.specs.declared.table.Claim.{Claim}
+use Rattle.wm_table.specs.declared.table.Claim.TheVariants as claim
+use Rattle.wm_table.specs.declared.table.Trouble.{Trouble}
+use Rattle.wm_table.specs.declared.table.Trouble.TheVariants as trouble
+use Rattle.wm_table.specs.declared.table.TurnAnswer.{TurnAnswer}
+use Rattle.wm_table.specs.declared.table.TurnAnswer.TheVariants as turn
+use Rattle.wm_worker.specs.Answers.{given_of}
+use Rattle.wm_worker.specs.Told.{Report, IsReportOf}
+use Rattle.wm_worker.specs.declared.answer.Answer.TheVariants as answer
+use Rattle.wm_worker.specs.declared.kind.Kind.TheVariants.{Echo}
+
+-- ---- one event
+
+-- one step of the machine: its event is appended, the state is the one after it, and the rows held are those of the new state
+pub record IsOneStep {K : Type 0} (held : K → Option (List Row)) (e : Event) (old new : TableState K) : Type 0 where
+  pub first : new.first ≡ old.first
+  pub legal : Legal old.state e
+  pub state : new.state ≡ after old.state e
+  pub appended : new.log ≡ old.log ++ e ∷ []
+  pub rows : held new.keeper ≡ option_map (λ _. rows_of new.state) (held old.keeper)
+
+-- state, log and the rows held are as they were
+pub record IsUntouched {K : Type 0} (held : K → Option (List Row)) (old new : TableState K) : Type 0 where
+  pub first : new.first ≡ old.first
+  pub state : new.state ≡ old.state
+  pub log : new.log ≡ old.log
+  pub rows : held new.keeper ≡ held old.keeper
+
+-- `KeeperFault` comes only where the keeper's count rose, and any other answer leaves it
+abbrev pub TroubleCause : {T : Type 0} → Result T Trouble → ℕ → ℕ → Type 0
+TroubleCause (Ok value) before now = now ≡ before
+TroubleCause (Err trouble.KeeperFault) before now = faults.Failed before now
+TroubleCause (Err trouble.Memory) before now = now ≡ before
+
+-- ---- begin
+
+-- an instance that a run is given: neither out nor retired, and an Echo
+pub record IsFresh (instance : Instance) : Type 0 where
+  pub out : instance.out ≡ false
+  pub retired : instance.retired ≡ false
+  pub kind : instance.kind ≡ Echo
+
+-- the instances that a run is given, numbered from 0
+pub record AreFresh (instances : List Instance) : Type 0 where
+  pub in_order : AreNumberedInOrder 0 instances
+  pub all : AllByRecursion IsFresh instances
+
+-- `Bad` names the first row, as one that is out of form
+abbrev pub BeginCause : List Row → BeginFault → Type 0
+BeginCause [] (begin.Bad seq bad_row) = ⊥
+BeginCause (row ∷ rows) (begin.Bad seq bad_row) = (seq ≡ row.seq) × (bad_row ≡ true)
+BeginCause rows begin.Memory = Unit {0}
+
+-- ---- claim
+
+-- the run of this number stands in the state, and the ticket holds what it keeps
+abbrev pub IsTicketIn : State → TicketState → Type 0
+IsTicketIn s ticket = IsSomeAnd (run_numbered ticket.task.run s.runs) (λ run. ticket ≡ ticket_of run)
+
+-- none where nothing is startable, else one event: the start of the work that is first, or that it couldn't start
+abbrev pub IsClaimed : {K : Type 0} → (K → Option (List Row)) → Option Claim → TableState K → TableState K → Type 0
+IsClaimed held None old new = (first_of old.state ≡ None) × (new ≡ old)
+IsClaimed held (Some (claim.Run ticket)) old new =
+    IsOneStep held (event.Start ticket.task.run ticket.seq ticket.instance ticket.task.input) old new × IsTicketIn new.state ticket
+IsClaimed held (Some (claim.Failed seq cause)) old new = IsOneStep held (event.StartFailed seq cause) old new
+
+-- ---- turn
+
+-- the ticket's run stands in the state, on the ticket's instance and of its kind
+abbrev pub Stands : State → TicketState → Type 0
+Stands s ticket = IsSomeAnd (run_numbered ticket.task.run s.runs) (λ run. (run.instance ≡ ticket.instance) × (run.kind ≡ ticket.kind))
+
+-- a report counts for a run: it is of its kind, about its task and its turn, and wasn't cut
+pub record Counts (run : Run) (told : Report) : Type 0 where
+  pub about : IsReportOf run.kind (task_in run) run.turn told
+  pub given : IsSome (given_of told.answer)
+
+-- a report counts for the run of this number
+abbrev pub CountsIn : State → ℕ → Report → Type 0
+CountsIn s number told = IsSomeAnd (run_numbered number s.runs) (λ run. Counts run told)
+
+-- the run is over: its work succeeded with the output that was told
+pub record IsFinished {K : Type 0} (held : K → Option (List Row)) (number : ℕ) (told : Report) (old new : TableState K) : Type 0 where
+  pub output : List DataEntry
+  pub told_is : told.answer ≡ answer.Success output
+  pub step : IsOneStep held (event.Finish number (Success output)) old new
+
+-- Finished where the report counts, with its event; Again where it doesn't, and nothing changes; Refused where it counts and there is
+-- trouble
+abbrev pub IsTurned : {K : Type 0} → (K → Option (List Row)) → TicketState → Report → TurnAnswer → TableState K → TableState K → Type 0
+IsTurned held ticket told turn.Finished old new =
+    CountsIn old.state ticket.task.run told × IsFinished held ticket.task.run told old new
+IsTurned held ticket told (turn.Again same) old new =
+    (CountsIn old.state ticket.task.run told → ⊥) × (same ≡ ticket) × (new ≡ old)
+IsTurned held ticket told (turn.Refused same report why) old new =
+    CountsIn old.state ticket.task.run told × (same ≡ ticket) × (report ≡ told) × IsUntouched held old new
+
+-- `KeeperFault` comes only where the keeper's count rose, and any other answer leaves it
+abbrev pub TurnCause : TurnAnswer → ℕ → ℕ → Type 0
+TurnCause turn.Finished before now = now ≡ before
+TurnCause (turn.Again same) before now = now ≡ before
+TurnCause (turn.Refused same report trouble.KeeperFault) before now = faults.Failed before now
+TurnCause (turn.Refused same report trouble.Memory) before now = now ≡ before
+
+-- ---- what a table keeps
+
+-- where the keeper tells its rows, they are those of the state
+abbrev pub HoldsRowsOf : State → Option (List Row) → Type 0
+HoldsRowsOf s held = held ≡ option_map (λ _. rows_of s) held
+
+-- the log replays from the first state to the state now, which is valid, and whose rows are held
+pub record IsTableKept (first state : State) (log : List Event) (held : Option (List Row)) : Type 0 where
+  pub replay : Replay first log state
+  pub valid : Valid state
+  pub rows : HoldsRowsOf state held
+  pub few_runs : state.next_run ≤ length log + 1
+
+-- the last of a list
+abbrev pub last_of : {T : Type 0} → List T → Option T
+last_of [] = None
+last_of (x ∷ []) = Some x
+last_of (x ∷ y ∷ xs) = last_of (y ∷ xs)

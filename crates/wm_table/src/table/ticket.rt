@@ -1,0 +1,72 @@
+ghost use Rattle.std.specs.Prelude.{◌≡◌};
+
+use std::marker::Model;
+use wm_worker::{Kind, Task};
+
+/// The right to report on one run of a work: it names the work, and holds what the run took and
+/// which turn it is at. It must be spent: [`Table::turn`](crate::Table::turn) or
+/// [`Table::take_back`](crate::Table::take_back) takes it. A contract sees all that it holds.
+#[derive(Debug)]
+pub struct Ticket {
+    pub(crate) seq: u64,
+    pub(crate) task: Task,
+    pub(crate) kind: Kind,
+    pub(crate) instance: u32,
+    pub(crate) k: u32,
+}
+
+impl Model for Ticket {
+    ghost use Rattle.wm_table.specs.TableState.{TicketState};
+
+    ghost Value = { TicketState };
+
+    ghost view = { λ t. record { seq = t.seq; task = t.task; kind = t.kind; instance = t.instance; k = t.k } };
+}
+
+impl Ticket {
+    /// What the worker is asked: the number of the run, the attempt and the input that it took.
+    pub fn task(&self) -> &Task
+        ensures { result.now ≡ self.now.task }
+    {
+        &self.task
+    }
+
+    /// The number of the work.
+    pub fn seq(&self) -> u64
+        ensures { result ≡ self.now.seq }
+    {
+        self.seq
+    }
+
+    /// The kind of the instance that the run is on.
+    pub fn kind(&self) -> Kind
+        ensures { result ≡ self.now.kind }
+    {
+        self.kind
+    }
+
+    /// The number of that instance.
+    pub fn instance(&self) -> u32
+        ensures { result ≡ self.now.instance }
+    {
+        self.instance
+    }
+
+    /// Which turn of the run it is at, from 0.
+    pub fn k(&self) -> u32
+        ensures { result ≡ self.now.k }
+    {
+        self.k
+    }
+
+    /// Lets the ticket go.
+    pub(crate) fn spend(self) {
+        let Ticket {
+            seq: _,
+            task: _,
+            kind: _,
+            instance: _,
+            k: _,
+        } = self;
+    }
+}
