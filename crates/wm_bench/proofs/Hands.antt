@@ -7,7 +7,8 @@ use Rattle.wm_bench.specs.declared.hand.HandOf.{HandOf}
 use Rattle.wm_bench.specs.declared.place.Place.{Place}
 
 -- its instance is idle
-pub idle_hands-idle : {B : Type 0} (places : List (Place B)) (place : Place B) (hand : HandOf B) → idle_hand place ≡ Some hand → idle_hands (places ++ place ∷ []) ≡ idle_hands places ++ hand ∷ []
+pub idle_hands-idle : {B : Type 0} (places : List (Place B)) (place : Place B) (hand : HandOf B) → idle_hand place ≡ Some hand
+    → idle_hands (places ++ place ∷ []) ≡ idle_hands places ++ hand ∷ []
 idle_hands-idle places place hand is = rw (filter_map-append idle_hand places (place ∷ []), is)
 
 -- its instance is away

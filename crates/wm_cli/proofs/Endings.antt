@@ -14,7 +14,8 @@ use Rattle.wm_machine.specs.declared.event.Event.{Event}
 use Rattle.wm_machine.specs.declared.state.State.{State}
 
 -- no event has no text
-pub IsTextGiven-nothing : (before now : Option (List ℕ)) (ended : Status) (first : State) (log : List Event) → now ≡ before → log ≡ [] → IsTextGiven before now ended first log
+pub IsTextGiven-nothing : (before now : Option (List ℕ)) (ended : Status) (first : State) (log : List Event) → now ≡ before → log ≡ []
+    → IsTextGiven before now ended first log
 IsTextGiven-nothing before now ended first log same none =
     let empty : log_text first log ≡ [] = ap (log_text first) none in
     let given : IsGiven before now [] = same ∙ IsGiven-nothing before in
@@ -24,7 +25,8 @@ IsTextGiven-nothing before now ended first log same none =
     }
 
 -- no event is a front of any commands
-pub HasCommands-nothing : (commands : List Command) (ended : Status) (log : List Event) → log ≡ [] → (ended ≡ status.Done → [] ≡ commands) → HasCommands commands ended log
+pub HasCommands-nothing : (commands : List Command) (ended : Status) (log : List Event) → log ≡ [] → (ended ≡ status.Done → [] ≡ commands)
+    → HasCommands commands ended log
 HasCommands-nothing commands ended log none all = record {
   front = (commands, ap (λ (l : List Event). commands_of l ++ commands) (sym none));
   numbered = subst (AreNumberedFrom 1) (sym none) tt;

@@ -16,7 +16,8 @@ use Rattle.wm_worker.specs.declared.kind.Kind.{Kind}
 use Rattle.std.proofs.Common.{Option}
 
 module _ {B : Type 0} (kind_of : B → Kind) where
-  pub instances_from-push : (number : ℕ) (hands : List (HandOf B)) (hand : HandOf B) → instances_from kind_of number (hands ++ hand ∷ []) ≡ instances_from kind_of number hands ++ instance_of kind_of (number + length hands) hand ∷ []
+  pub instances_from-push : (number : ℕ) (hands : List (HandOf B)) (hand : HandOf B)
+      → instances_from kind_of number (hands ++ hand ∷ []) ≡ instances_from kind_of number hands ++ instance_of kind_of (number + length hands) hand ∷ []
   instances_from-push number [] hand = ap (λ n. instance_of kind_of n hand ∷ []) (omega arith)
   instances_from-push number (first ∷ hands) hand =
       ap (λ rest. instance_of kind_of number first ∷ rest)
@@ -41,17 +42,20 @@ module _ {B : Type 0} (kind_of : B → Kind) where
   all_in number (hand ∷ hands) = (refl, all_in (number + 1) hands)
 
   -- their places are those of the instances
-  pub traits-places : (number : ℕ) (hands : List (HandOf B)) → map (place_traits kind_of) (map place_of hands) ≡ map instance_traits (instances_from kind_of number hands)
+  pub traits-places : (number : ℕ) (hands : List (HandOf B))
+      → map (place_traits kind_of) (map place_of hands) ≡ map instance_traits (instances_from kind_of number hands)
   traits-places number [] = refl
   traits-places number (hand ∷ hands) = ap (λ rest. place_traits kind_of (place_of hand) ∷ rest) (traits-places (number + 1) hands)
 
   -- they are those of the instances that aren't retired
-  pub traits-hands : (number : ℕ) (hands : List (HandOf B)) → map (hand_traits kind_of) hands ≡ map instance_traits (filter (λ instance. not instance.retired) (instances_from kind_of number hands))
+  pub traits-hands : (number : ℕ) (hands : List (HandOf B))
+      → map (hand_traits kind_of) hands ≡ map instance_traits (filter (λ instance. not instance.retired) (instances_from kind_of number hands))
   traits-hands number [] = refl
   traits-hands number (hand ∷ hands) = ap (λ rest. hand_traits kind_of hand ∷ rest) (traits-hands (number + 1) hands)
 
   -- where nothing has happened since an empty store was opened, they come back
-  pub AreHandsBack-opened : (last : State) (hands back : List (HandOf B)) → last ≡ opening_state [] (instances_from kind_of 0 hands) → back ≡ hands → AreHandsBack kind_of last back
+  pub AreHandsBack-opened : (last : State) (hands back : List (HandOf B)) → last ≡ opening_state [] (instances_from kind_of 0 hands) → back ≡ hands
+      → AreHandsBack kind_of last back
   AreHandsBack-opened last hands back is same =
       ap (map (hand_traits kind_of)) same
       ∙ traits-hands 0 hands
@@ -62,6 +66,7 @@ pub idle_hands-places : {B : Type 0} (hands : List (HandOf B)) → idle_hands (m
 idle_hands-places [] = refl
 idle_hands-places (hand ∷ hands) = ap (λ rest. hand ∷ rest) (idle_hands-places hands)
 
-pub place_diaries-places : {B : Type 0} (diary_of : B → Option (List Entry)) (hands : List (HandOf B)) → place_diaries diary_of (map place_of hands) ≡ hand_diaries diary_of hands
+pub place_diaries-places : {B : Type 0} (diary_of : B → Option (List Entry)) (hands : List (HandOf B))
+    → place_diaries diary_of (map place_of hands) ≡ hand_diaries diary_of hands
 place_diaries-places diary_of [] = refl
 place_diaries-places diary_of (hand ∷ hands) = ap (λ rest. diary_of hand.worker ∷ rest) (place_diaries-places diary_of hands)

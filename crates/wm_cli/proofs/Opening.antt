@@ -27,21 +27,25 @@ no_order [] first = tt
 no_order (asked ∷ lines) first = tt
 
 -- the empty log is a front of a serial log, over any commands that are built
-pub BeginsSerial-nothing : (lines : List Command) (first : State) (log : List Event) → AllByRecursion IsBuilt lines → Valid first → first.runs ≡ [] → log ≡ [] → BeginsSerial lines first log
+pub BeginsSerial-nothing : (lines : List Command) (first : State) (log : List Event) → AllByRecursion IsBuilt lines → Valid first → first.runs ≡ [] → log ≡ []
+    → BeginsSerial lines first log
 BeginsSerial-nothing lines first log built valid no_run none =
     subst (BeginsSerial lines first) (sym none)
     (BeginsSerial-goes-on lines lines first first [] built refl refl valid (rw no_run (omega arith)) (no_order lines first))
 
 -- a run that ended early
-pub IsSerialRun-early : (lines : List Command) (ended : Status) (first : State) (log : List Event) (last : State) → (ended ≡ status.Done → ⊥) → BeginsSerial lines first log → IsSerialRun lines ended first log last
+pub IsSerialRun-early : (lines : List Command) (ended : Status) (first : State) (log : List Event) (last : State) → (ended ≡ status.Done → ⊥)
+    → BeginsSerial lines first log → IsSerialRun lines ended first log last
 IsSerialRun-early lines status.Done first log last early begins = absurd (early refl)
 IsSerialRun-early lines _ first log last early begins = begins
 
 -- the same for a run whose store wasn't opened
-pub IsSerialRun-unopened : (lines : List Command) (ended : Status) (first : State) (log : List Event) (last : State) → AllByRecursion IsBuilt lines → (ended ≡ status.Done → ⊥) → first ≡ opening_state [] [] → log ≡ [] → IsSerialRun lines ended first log last
+pub IsSerialRun-unopened : (lines : List Command) (ended : Status) (first : State) (log : List Event) (last : State) → AllByRecursion IsBuilt lines
+    → (ended ≡ status.Done → ⊥) → first ≡ opening_state [] [] → log ≡ [] → IsSerialRun lines ended first log last
 IsSerialRun-unopened lines ended first log last built early is none =
     IsSerialRun-early lines ended first log last early
-    (BeginsSerial-nothing lines first log built (subst Valid (sym is) (Valid-opening [] (record { in_order = tt; all = tt }))) (ap (λ (s : State). s.runs) is) none)
+    (BeginsSerial-nothing lines first log built (subst Valid (sym is) (Valid-opening [] (record { in_order = tt; all = tt })))
+    (ap (λ (s : State). s.runs) is) none)
 
 -- a fault of the keeper, or of opening the rows, ends the run early
 pub keeper_early : (fault : KeepFault) → status_by_keeper fault ≡ status.Done → ⊥
@@ -53,7 +57,8 @@ begin_early (begin.Bad seq bad_row) done = absurd (cc)
 begin_early begin.Memory done = absurd (cc)
 
 -- where the keeper tells its rows, there is none, and a state without works has none
-pub HoldsRowsOf-empty : (rows : List Row) (held : Option (List Row)) (s : State) → IfSome held (λ kept. rows ≡ kept) → rows ≡ [] → s.works ≡ [] → HoldsRowsOf s held
+pub HoldsRowsOf-empty : (rows : List Row) (held : Option (List Row)) (s : State) → IfSome held (λ kept. rows ≡ kept) → rows ≡ [] → s.works ≡ []
+    → HoldsRowsOf s held
 HoldsRowsOf-empty rows None s told empty none = refl
 HoldsRowsOf-empty rows (Some kept) s told empty none =
     let nothing : kept ≡ [] = sym told ∙ empty in

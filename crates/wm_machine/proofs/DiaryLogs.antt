@@ -7,7 +7,8 @@ use Rattle.wm_machine.specs.Step.{after}
 use Rattle.wm_machine.specs.declared.event.Event.{Event}
 use Rattle.wm_machine.specs.declared.state.State.{State}
 
-pub log_entries-push : (number : ℕ) (first : State) (log : List Event) (last : State) (e : Event) → Replay first log last → log_entries number first (log ++ e ∷ []) ≡ log_entries number first log ++ event_entries number last e
+pub log_entries-push : (number : ℕ) (first : State) (log : List Event) (last : State) (e : Event) → Replay first log last
+    → log_entries number first (log ++ e ∷ []) ≡ log_entries number first log ++ event_entries number last e
 log_entries-push number first [] last e replays = append-nil (event_entries number first e) ∙ ap (λ s. event_entries number s e) (sym replays)
 log_entries-push number first (d ∷ log) last e replays =
     ap (λ rest. event_entries number first d ++ rest) (log_entries-push number (after first d) log last e replays.1)

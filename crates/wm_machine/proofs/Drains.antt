@@ -38,7 +38,8 @@ use Rattle.wm_worker.specs.declared.answer.Given.TheVariants as given
 
 -- ---- two logs, one after the other
 
-pub Replay-append : (first : State) (log : List Event) (between : State) (more : List Event) (last : State) → Replay first log between → Replay between more last → Replay first (log ++ more) last
+pub Replay-append : (first : State) (log : List Event) (between : State) (more : List Event) (last : State) → Replay first log between
+    → Replay between more last → Replay first (log ++ more) last
 Replay-append first [] between more last replays goes = subst (λ s. Replay s more last) replays goes
 Replay-append first (e ∷ log) between more last replays goes = (replays.0, Replay-append (after first e) log between more last replays.1 goes)
 
@@ -47,7 +48,8 @@ commands_of-append [] more = refl
 commands_of-append (e ∷ log) more =
     ap (λ rest. command_in e ++ rest) (commands_of-append log more) ∙ sym (append_assoc (command_in e) (commands_of log) (commands_of more))
 
-pub AreInTurn-append : (first : State) (log : List Event) (last : State) (more : List Event) → AreInTurn first log → Replay first log last → AreInTurn last more → AreInTurn first (log ++ more)
+pub AreInTurn-append : (first : State) (log : List Event) (last : State) (more : List Event) → AreInTurn first log → Replay first log last → AreInTurn last more
+    → AreInTurn first (log ++ more)
 AreInTurn-append first [] last more turns replays goes = subst (λ s. AreInTurn s more) replays goes
 AreInTurn-append first (e ∷ log) last more turns replays goes = (turns.0, AreInTurn-append (after first e) log last more turns.1 replays.1 goes)
 
@@ -133,7 +135,8 @@ abbrev Recur : State → Type 0
 Recur s = (t : State) → Valid t → t.runs ≡ [] → waiting_count t.works < waiting_count s.works → GoesOn [] t
 
 -- the first work starts, where its class has an idle instance, and fails, where it has no worker
-start_or_fail : (s : State) (work : Record) (o : Option Instance) → Recur s → first_of s ≡ Some work → idle_instance s.instances work.request.class ≡ o → Valid s → s.runs ≡ [] → GoesOn [] s
+start_or_fail : (s : State) (work : Record) (o : Option Instance) → Recur s → first_of s ≡ Some work → idle_instance s.instances work.request.class ≡ o
+    → Valid s → s.runs ≡ [] → GoesOn [] s
 start_or_fail s work None recur first none valid no_run =
     let e = event.StartFailed work.seq NoWorker in
     let legal : Legal s e = record {
@@ -143,7 +146,8 @@ start_or_fail s work None recur first none valid no_run =
       seq_is = refl;
       cause_is = refl;
     } in
-    GoesOn-more s e [] legal no_run (recur (after s e) (Valid-after s e valid legal) no_run (waiting_count-started s work (closed how.Failed) first (λ other. refl)))
+    GoesOn-more s e [] legal no_run
+    (recur (after s e) (Valid-after s e valid legal) no_run (waiting_count-started s work (closed how.Failed) first (λ other. refl)))
 start_or_fail s work (Some idle) recur first found valid no_run =
     let e = event.Start s.next_run work.seq idle.number (input_of work) in
     let legal : Legal s e = record {
@@ -162,7 +166,9 @@ start_or_fail s work (Some idle) recur first found valid no_run =
     let one : t.runs ≡ run ∷ [] = ap (λ runs. runs ++ run ∷ []) no_run in
     let fewer : waiting_count t.works < waiting_count s.works = waiting_count-started s work started first (λ other. refl) in
     let more = waiting_count-changed (succeeded run.input) run.seq t.works (λ other. refl) in
-    GoesOn-more s e [] legal no_run (subst (GoesOn []) (sym same) (finish t run (subst Valid same (Valid-after s e valid legal)) one (λ valid_then. recur (with_success t run run.input) valid_then (none_left run t.runs one) (omega arith))))
+    GoesOn-more s e [] legal no_run
+    (subst (GoesOn []) (sym same) (finish t run (subst Valid same (Valid-after s e valid legal)) one
+    (λ valid_then. recur (with_success t run run.input) valid_then (none_left run t.runs one) (omega arith))))
 
 drain_by : (s : State) (o : Option Record) → Recur s → first_of s ≡ o → Valid s → s.runs ≡ [] → GoesOn [] s
 drain_by s None recur none valid no_run = GoesOn-nothing s valid (record { nothing_startable = none; no_run = no_run })
@@ -216,4 +222,6 @@ goes_on (asked ∷ lines) s built valid few =
     let e = event.Command 0 asked answer.0 in
     let legal : Legal t e = (built.0, answer.1) in
     let no_run : (after t e).runs ≡ [] = runs-after_command t asked ∙ done.quiet.no_run in
-    GoesOn-then s (asked ∷ lines) done (GoesOn-more t e lines legal done.quiet (goes_on lines (after t e) built.1 (Valid-after t e done.valid legal) (subst (λ (runs : List Run). length runs ≤ 1) (sym no_run) (omega arith))))
+    GoesOn-then s (asked ∷ lines) done
+    (GoesOn-more t e lines legal done.quiet
+    (goes_on lines (after t e) built.1 (Valid-after t e done.valid legal) (subst (λ (runs : List Run). length runs ≤ 1) (sym no_run) (omega arith))))

@@ -13,7 +13,8 @@ use Rattle.wm_machine.specs.declared.state.State.{State}
 -- ---- the work that is first
 
 -- of two works one is the first
-earlier_from : (P : Record → Type 0) (work : Record) (other : Option Record) → P work → ((found : Record) → other ≡ Some found → P found) → P (earlier_of work other)
+earlier_from : (P : Record → Type 0) (work : Record) (other : Option Record) → P work → ((found : Record) → other ≡ Some found → P found)
+    → P (earlier_of work other)
 earlier_from P work None here there = here
 earlier_from P work (Some other) here there = cond_both (comes_before other work) other work P (λ e. there other refl) (λ e. here)
 
@@ -25,14 +26,17 @@ least-from P (first ∷ works) work is all =
     subst P same (earlier_from P first (least works) all.0 (λ found e. least-from P works found e all.1))
 
 -- what holds of each startable work holds of the first
-pub first_of-from : (s : State) (work : Record) (P : Record → Type 0) → first_of s ≡ Some work → AllByRecursion (λ other. is_startable s other ≡ true → P other) s.works → P work
+pub first_of-from : (s : State) (work : Record) (P : Record → Type 0) → first_of s ≡ Some work
+    → AllByRecursion (λ other. is_startable s other ≡ true → P other) s.works → P work
 unfolding first_of
 first_of-from s work P is all = least-from P (filter (is_startable s) s.works) work is (All-filter P (is_startable s) s.works all)
 
 -- the first work is one of the records
 pub first_of-stored : (s : State) (work : Record) → first_of s ≡ Some work → HasOne (λ other. other ≡ work) s.works
 first_of-stored s work is =
-    first_of-from s work (λ work. HasOne (λ other. other ≡ work) s.works) is (All-weaker (λ work. HasOne (λ other. other ≡ work) s.works) (λ work. is_startable s work ≡ true → HasOne (λ other. other ≡ work) s.works) s.works (λ work one startable. one) (All-stored s.works))
+    first_of-from s work (λ work. HasOne (λ other. other ≡ work) s.works) is
+    (All-weaker (λ work. HasOne (λ other. other ≡ work) s.works) (λ work. is_startable s work ≡ true → HasOne (λ other. other ≡ work) s.works) s.works
+    (λ work one startable. one) (All-stored s.works))
 
 pub first_of-contained : (s : State) (work : Record) → first_of s ≡ Some work → Contains s.works work
 first_of-contained s work is = Contains-from_one s.works work (first_of-stored s work is)
@@ -40,7 +44,9 @@ first_of-contained s work is = Contains-from_one s.works work (first_of-stored s
 -- the first work is startable
 pub first_of-startable : (s : State) (work : Record) → first_of s ≡ Some work → is_startable s work ≡ true
 first_of-startable s work is =
-    first_of-from s work (λ work. is_startable s work ≡ true) is (All-weaker (λ work. HasOne (λ other. other ≡ work) s.works) (λ work. is_startable s work ≡ true → is_startable s work ≡ true) s.works (λ work one startable. startable) (All-stored s.works))
+    first_of-from s work (λ work. is_startable s work ≡ true) is
+    (All-weaker (λ work. HasOne (λ other. other ≡ work) s.works) (λ work. is_startable s work ≡ true → is_startable s work ≡ true) s.works
+    (λ work one startable. startable) (All-stored s.works))
 
 -- what makes a work startable
 pub record IsStartable (s : State) (work : Record) : Type 0 where
@@ -71,14 +77,16 @@ pub first_of-room : (s : State) (work : Record) → first_of s ≡ Some work →
 first_of-room s work is = (IsStartable-from s work (first_of-startable s work is)).room
 
 -- where the class of the first work has no idle instance, it has no worker
-pub first_of-no_worker : (s : State) (work : Record) → first_of s ≡ Some work → idle_instance s.instances work.request.class ≡ None → is_live s.instances work.request.class ≡ false
+pub first_of-no_worker : (s : State) (work : Record) → first_of s ≡ Some work → idle_instance s.instances work.request.class ≡ None
+    → is_live s.instances work.request.class ≡ false
 first_of-no_worker s work is none =
     not-true (is_live s.instances work.request.class) (rw none at (first_of-room s work is))
 
 -- ---- the idle instance
 
 -- the idle instance is one of the instances
-pub idle_instance-stored : (instances : List Instance) (class : List ℕ) (idle : Instance) → idle_instance instances class ≡ Some idle → HasOne (λ other. other ≡ idle) instances
+pub idle_instance-stored : (instances : List Instance) (class : List ℕ) (idle : Instance) → idle_instance instances class ≡ Some idle
+    → HasOne (λ other. other ≡ idle) instances
 unfolding idle_instance
 idle_instance-stored instances class idle found = find-stored (is_idle class) instances idle found
 

@@ -18,11 +18,13 @@ pub All-both : {T : Type 0} (P Q : T → Type 0) (xs : List T) → AllByRecursio
 All-both P Q [] all every = tt
 All-both P Q (x ∷ xs) all every = ((all.0, every.0), All-both P Q xs all.1 every.1)
 
-pub All-map : {T U : Type 0} (P : T → Type 0) (Q : U → Type 0) (f : T → U) (xs : List T) → ((x : T) → P x → Q (f x)) → AllByRecursion P xs → AllByRecursion Q (map f xs)
+pub All-map : {T U : Type 0} (P : T → Type 0) (Q : U → Type 0) (f : T → U) (xs : List T) → ((x : T) → P x → Q (f x)) → AllByRecursion P xs
+    → AllByRecursion Q (map f xs)
 All-map P Q f [] step all = tt
 All-map P Q f (x ∷ xs) step all = (step x all.0, All-map P Q f xs step all.1)
 
-pub All-filter : {T : Type 0} (P : T → Type 0) (test : T → Bool) (xs : List T) → AllByRecursion (λ x. test x ≡ true → P x) xs → AllByRecursion P (filter test xs)
+pub All-filter : {T : Type 0} (P : T → Type 0) (test : T → Bool) (xs : List T) → AllByRecursion (λ x. test x ≡ true → P x) xs
+    → AllByRecursion P (filter test xs)
 All-filter P test [] all = tt
 All-filter P test (x ∷ xs) all =
     cond_both (test x) (x ∷ filter test xs) (filter test xs) (AllByRecursion P) (λ e. (all.0 e, All-filter P test xs all.1)) (λ e. All-filter P test xs all.1)
@@ -30,7 +32,8 @@ All-filter P test (x ∷ xs) all =
 pub All-find : {T : Type 0} (P : T → Type 0) (test : T → Bool) (xs : List T) (x : T) → find test xs ≡ Some x → AllByRecursion P xs → P x
 All-find P test [] x found all = absurd (cc)
 All-find {T} P test (y ∷ xs) x found all =
-    cond_both (test y) (Some y) (find test xs) (λ (o : Option T). o ≡ Some x → P x) (λ e is. let same : y ≡ x = cc in subst P same all.0) (λ e is. All-find P test xs x is all.1) found
+    cond_both (test y) (Some y) (find test xs) (λ (o : Option T). o ≡ Some x → P x) (λ e is. let same : y ≡ x = cc in subst P same all.0)
+    (λ e is. All-find P test xs x is all.1) found
 
 pub All-any : {T : Type 0} (P : T → Type 0) (xs : List T) → ((x : T) → P x) → AllByRecursion P xs
 All-any P [] each = tt
@@ -49,7 +52,8 @@ one_gives A P C [] gives all one = absurd one
 one_gives A P C (x ∷ xs) gives all (inl p) = gives x all.0 p
 one_gives A P C (x ∷ xs) gives all (inr one) = one_gives A P C xs gives all.1 one
 
-pub HasOne-map : {T U : Type 0} (A P : T → Type 0) (Q : U → Type 0) (f : T → U) (xs : List T) → ((x : T) → A x → P x → Q (f x)) → AllByRecursion A xs → HasOne P xs → HasOne Q (map f xs)
+pub HasOne-map : {T U : Type 0} (A P : T → Type 0) (Q : U → Type 0) (f : T → U) (xs : List T) → ((x : T) → A x → P x → Q (f x)) → AllByRecursion A xs
+    → HasOne P xs → HasOne Q (map f xs)
 HasOne-map A P Q f [] step all one = one
 HasOne-map A P Q f (x ∷ xs) step all (inl p) = inl (step x all.0 p)
 HasOne-map A P Q f (x ∷ xs) step all (inr one) = inr (HasOne-map A P Q f xs step all.1 one)
@@ -70,7 +74,8 @@ pub HasOne-last : {T : Type 0} (P : T → Type 0) (xs : List T) (x : T) → P x 
 HasOne-last P [] x p = inl p
 HasOne-last P (y ∷ xs) x p = inr (HasOne-last P xs x p)
 
-pub HasOne-filter : {T : Type 0} (A P : T → Type 0) (test : T → Bool) (xs : List T) → ((x : T) → A x → P x → test x ≡ true) → AllByRecursion A xs → HasOne P xs → HasOne P (filter test xs)
+pub HasOne-filter : {T : Type 0} (A P : T → Type 0) (test : T → Bool) (xs : List T) → ((x : T) → A x → P x → test x ≡ true) → AllByRecursion A xs → HasOne P xs
+    → HasOne P (filter test xs)
 HasOne-filter A P test [] passes all one = one
 HasOne-filter A P test (x ∷ xs) passes all (inl p) =
     cond_both (test x) (x ∷ filter test xs) (filter test xs) (HasOne P) (λ e. inl p) (λ e. absurd (false≢true (sym e ∙ passes x all.0 p)))
@@ -86,7 +91,8 @@ find-stored test xs x found = All-find (λ x. HasOne (λ y. y ≡ x) xs) test xs
 pub find-passes : {T : Type 0} (test : T → Bool) (xs : List T) (x : T) → find test xs ≡ Some x → test x ≡ true
 find-passes test [] x found = absurd (cc)
 find-passes {T} test (y ∷ xs) x found =
-    cond_both (test y) (Some y) (find test xs) (λ (o : Option T). o ≡ Some x → test x ≡ true) (λ e is. let same : y ≡ x = cc in subst (λ z. test z ≡ true) same e) (λ e is. find-passes test xs x is) found
+    cond_both (test y) (Some y) (find test xs) (λ (o : Option T). o ≡ Some x → test x ≡ true)
+    (λ e is. let same : y ≡ x = cc in subst (λ z. test z ≡ true) same e) (λ e is. find-passes test xs x is) found
 
 pub Contains-from_one : {T : Type 0} (xs : List T) (x : T) → HasOne (λ y. y ≡ x) xs → Contains xs x
 Contains-from_one [] x one = absurd one
@@ -104,8 +110,10 @@ none_pass test [] none = tt
 none_pass test (x ∷ xs) none = let parts = or_parts (test x) (list_any test xs) none in (parts.0, none_pass test xs parts.1)
 
 -- a filter that drops none that pass
-pub list_any-filter : {T : Type 0} (test keep : T → Bool) (xs : List T) → AllByRecursion (λ x. keep x ≡ false → test x ≡ false) xs → list_any test (filter keep xs) ≡ list_any test xs
+pub list_any-filter : {T : Type 0} (test keep : T → Bool) (xs : List T) → AllByRecursion (λ x. keep x ≡ false → test x ≡ false) xs
+    → list_any test (filter keep xs) ≡ list_any test xs
 list_any-filter test keep [] all = refl
 list_any-filter {T} test keep (x ∷ xs) all =
     let rest = list_any-filter test keep xs all.1 in
-    cond_both (keep x) (x ∷ filter keep xs) (filter keep xs) (λ (l : List T). list_any test l ≡ (test x || list_any test xs)) (λ e. ap (λ b. test x || b) rest) (λ e. rw (all.0 e) rest)
+    cond_both (keep x) (x ∷ filter keep xs) (filter keep xs) (λ (l : List T). list_any test l ≡ (test x || list_any test xs)) (λ e. ap (λ b. test x || b) rest)
+    (λ e. rw (all.0 e) rest)

@@ -10,7 +10,8 @@ use Rattle.wm_machine.specs.declared.event.Event.TheVariants as event
 use Rattle.wm_machine.specs.declared.reply.Reply.{Reply}
 use Rattle.wm_machine.specs.declared.state.State.{State}
 
-pub Replay-push : (first : State) (log : List Event) (last : State) (e : Event) → Replay first log last → Legal last e → Replay first (log ++ e ∷ []) (after last e)
+pub Replay-push : (first : State) (log : List Event) (last : State) (e : Event) → Replay first log last → Legal last e
+    → Replay first (log ++ e ∷ []) (after last e)
 Replay-push first [] last e replays legal = (subst (λ s. Legal s e) replays legal, ap (λ s. after s e) replays)
 Replay-push first (d ∷ log) last e replays legal = (replays.0, Replay-push (after first d) log last e replays.1 legal)
 
@@ -19,11 +20,13 @@ commands_of-push [] e = append-nil (command_in e)
 commands_of-push (d ∷ log) e =
     ap (λ rest. command_in d ++ rest) (commands_of-push log e) ∙ sym (append_assoc (command_in d) (commands_of log) (command_in e))
 
-pub AreNumberedFrom-push : (line : ℕ) (log : List Event) (number : ℕ) (asked : Command) (reply : Reply) → AreNumberedFrom line log → number ≡ line + length (commands_of log) → AreNumberedFrom line (log ++ event.Command number asked reply ∷ [])
+pub AreNumberedFrom-push : (line : ℕ) (log : List Event) (number : ℕ) (asked : Command) (reply : Reply) → AreNumberedFrom line log
+    → number ≡ line + length (commands_of log) → AreNumberedFrom line (log ++ event.Command number asked reply ∷ [])
 AreNumberedFrom-push line [] number asked reply numbered is = (is ∙ omega arith, tt)
 AreNumberedFrom-push line (event.Command first c r ∷ log) number asked reply numbered is =
     (numbered.0, AreNumberedFrom-push (line + 1) log number asked reply numbered.1 (omega arith))
-AreNumberedFrom-push line (event.Start run seq instance input ∷ log) number asked reply numbered is = AreNumberedFrom-push line log number asked reply numbered is
+AreNumberedFrom-push line (event.Start run seq instance input ∷ log) number asked reply numbered is =
+    AreNumberedFrom-push line log number asked reply numbered is
 AreNumberedFrom-push line (event.StartFailed seq cause ∷ log) number asked reply numbered is = AreNumberedFrom-push line log number asked reply numbered is
 AreNumberedFrom-push line (event.Turn run progress ∷ log) number asked reply numbered is = AreNumberedFrom-push line log number asked reply numbered is
 AreNumberedFrom-push line (event.Finish run end ∷ log) number asked reply numbered is = AreNumberedFrom-push line log number asked reply numbered is

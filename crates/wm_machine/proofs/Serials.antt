@@ -16,7 +16,8 @@ use Rattle.wm_machine.specs.declared.reply.Reply.{Reply}
 use Rattle.wm_machine.specs.declared.state.Run.{Run}
 use Rattle.wm_machine.specs.declared.state.State.{State}
 
-pub AreInOrder-append : (lines : List Command) (first : State) (log : List Event) (last : State) (more : List Event) → AreInOrder lines first log → Replay first log last → MayGoOn lines log → AreInTurn last more → AreInOrder lines first (log ++ more)
+pub AreInOrder-append : (lines : List Command) (first : State) (log : List Event) (last : State) (more : List Event) → AreInOrder lines first log
+    → Replay first log last → MayGoOn lines log → AreInTurn last more → AreInOrder lines first (log ++ more)
 AreInOrder-append [] first log last more order replays may turns = AreInTurn-append first log last more order replays turns
 AreInOrder-append (asked ∷ lines) first [] last more order replays may turns = absurd may
 AreInOrder-append (asked ∷ lines) first (event.Command number command reply ∷ log) last more order replays may turns =
@@ -24,15 +25,18 @@ AreInOrder-append (asked ∷ lines) first (event.Command number command reply �
 AreInOrder-append (asked ∷ lines) first (_ ∷ log) last more order replays may turns = absurd order
 
 -- one event more, in its turn
-pub AreInOrder-push : (lines : List Command) (first : State) (log : List Event) (last : State) (e : Event) → AreInOrder lines first log → Replay first log last → MayGoOn lines log → IsInTurn last e → AreInOrder lines first (log ++ e ∷ [])
+pub AreInOrder-push : (lines : List Command) (first : State) (log : List Event) (last : State) (e : Event) → AreInOrder lines first log → Replay first log last
+    → MayGoOn lines log → IsInTurn last e → AreInOrder lines first (log ++ e ∷ [])
 AreInOrder-push lines first log last e order replays may turn = AreInOrder-append lines first log last (e ∷ []) order replays may (turn, tt)
 
 -- the first line comes at once
-pub AreInOrder-first : (asked : Command) (lines : List Command) (first : State) (number : ℕ) (reply : Reply) → AreInOrder (asked ∷ lines) first (event.Command number asked reply ∷ [])
+pub AreInOrder-first : (asked : Command) (lines : List Command) (first : State) (number : ℕ) (reply : Reply)
+    → AreInOrder (asked ∷ lines) first (event.Command number asked reply ∷ [])
 AreInOrder-first asked lines first number reply = tt
 
 -- a log that has begun goes on
-begun : (lines left : List Command) (first now : State) (log : List Event) → AllByRecursion IsBuilt left → lines ≡ commands_of log ++ left → Replay first log now → Valid now → length now.runs ≤ 1 → AreInOrder lines first log → MayGoOn lines log → BeginsSerial lines first log
+begun : (lines left : List Command) (first now : State) (log : List Event) → AllByRecursion IsBuilt left → lines ≡ commands_of log ++ left
+    → Replay first log now → Valid now → length now.runs ≤ 1 → AreInOrder lines first log → MayGoOn lines log → BeginsSerial lines first log
 begun lines left first now log built whole replays valid few order may =
     let rest = goes_on left now built valid few in record {
       rest = rest.log;
@@ -46,12 +50,16 @@ begun lines left first now log built whole replays valid few order may =
     }
 
 -- no event yet: the first line comes at once
-unbegun : (asked : Command) (lines : List Command) (first : State) → AllByRecursion IsBuilt (asked ∷ lines) → Valid first → length first.runs ≤ 1 → BeginsSerial (asked ∷ lines) first []
+unbegun : (asked : Command) (lines : List Command) (first : State) → AllByRecursion IsBuilt (asked ∷ lines) → Valid first → length first.runs ≤ 1
+    → BeginsSerial (asked ∷ lines) first []
 unbegun asked lines first built valid few =
     let answer = answered first asked built.0 in
     let e = event.Command 0 asked answer.0 in
     let legal : Legal first e = (built.0, answer.1) in
-    let rest = goes_on lines (after first e) built.1 (Valid-after first e valid legal) (subst (λ (runs : List Run). length runs ≤ 1) (sym (runs-after_command first asked)) few) in record {
+    let rest =
+    goes_on lines (after first e) built.1 (Valid-after first e valid legal)
+    (subst (λ (runs : List Run). length runs ≤ 1) (sym (runs-after_command first asked)) few) in
+    record {
       rest = e ∷ rest.log;
       last = rest.last;
       whole = record {
@@ -63,7 +71,8 @@ unbegun asked lines first built valid few =
     }
 
 -- a log in serial order with at most one unreturned run goes on to the log of a whole serial run
-pub BeginsSerial-goes-on : (lines left : List Command) (first now : State) (log : List Event) → AllByRecursion IsBuilt left → lines ≡ commands_of log ++ left → Replay first log now → Valid now → length now.runs ≤ 1 → AreInOrder lines first log → BeginsSerial lines first log
+pub BeginsSerial-goes-on : (lines left : List Command) (first now : State) (log : List Event) → AllByRecursion IsBuilt left → lines ≡ commands_of log ++ left
+    → Replay first log now → Valid now → length now.runs ≤ 1 → AreInOrder lines first log → BeginsSerial lines first log
 BeginsSerial-goes-on [] left first now log built whole replays valid few order = begun [] left first now log built whole replays valid few order tt
 BeginsSerial-goes-on (asked ∷ lines) left first now [] built whole replays valid few order =
     unbegun asked lines first (subst (AllByRecursion IsBuilt) (sym whole) built) (subst Valid replays valid) (subst (λ s. length s.runs ≤ 1) replays few)

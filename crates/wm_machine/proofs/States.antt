@@ -36,7 +36,8 @@ use Rattle.wm_worker.specs.declared.kind.Kind.{Kind}
 use Rattle.wm_worker.specs.declared.kind.Kind.TheVariants.{Echo}
 
 -- the number of each row is below the next one
-pub rows_below : (works : List Record) (next : ℕ) → AllByRecursion (λ w. w.seq < next) works → AllByRecursion (λ (row : Row). row.seq <ℤ pos next) (map row_of works)
+pub rows_below : (works : List Record) (next : ℕ) → AllByRecursion (λ w. w.seq < next) works
+    → AllByRecursion (λ (row : Row). row.seq <ℤ pos next) (map row_of works)
 rows_below [] next below = tt
 rows_below (work ∷ works) next below = (search (rules, below.0), rows_below works next below.1)
 
@@ -105,15 +106,19 @@ IsValidRecord-succeeded output work none valid = record {
 
 -- ---- an enqueue
 
-WorksAscend-push : (works : List Record) (work : Record) → AllByRecursion (λ other. other.seq < work.seq) works → WorksAscend works → WorksAscend (works ++ work ∷ [])
+WorksAscend-push : (works : List Record) (work : Record) → AllByRecursion (λ other. other.seq < work.seq) works → WorksAscend works
+    → WorksAscend (works ++ work ∷ [])
 WorksAscend-push [] work below ascend = (tt, tt)
 WorksAscend-push (first ∷ works) work below ascend =
     (All-push (λ later. first.seq < later.seq) works work ascend.0 below.0, WorksAscend-push works work below.1 ascend.1)
 
 -- a record under the next number, which isn't running, keeps what is valid, where there is room
-Valid-with_work : (s : State) (work : Record) → Valid s → work.seq ≡ s.next → IsValidRecord work → (work.phase ≡ phase.Running → ⊥) → length s.works + 1 ≤ 100000 → s.next + 1 ≤ 2 ^ 53 → Valid (with_work s work)
+Valid-with_work : (s : State) (work : Record) → Valid s → work.seq ≡ s.next → IsValidRecord work → (work.phase ≡ phase.Running → ⊥)
+    → length s.works + 1 ≤ 100000 → s.next + 1 ≤ 2 ^ 53 → Valid (with_work s work)
 Valid-with_work s work valid numbered fine idle room numbers = record {
-  numbers = All-push (λ w. w.seq < s.next + 1) s.works work (All-weaker (λ w. w.seq < s.next) (λ w. w.seq < s.next + 1) s.works (λ w below. omega arith) valid.numbers) (omega arith);
+  numbers =
+      All-push (λ w. w.seq < s.next + 1) s.works work
+      (All-weaker (λ w. w.seq < s.next) (λ w. w.seq < s.next + 1) s.works (λ w below. omega arith) valid.numbers) (omega arith);
   ascending = WorksAscend-push s.works work (subst (λ n. AllByRecursion (λ w. w.seq < n) s.works) (sym numbered) valid.numbers) valid.ascending;
   records = All-push IsValidRecord s.works work valid.records fine;
   running = All-push (λ w. w.phase ≡ phase.Running → HasOne (λ run. run.seq ≡ w.seq) s.runs) s.works work valid.running (λ e. absurd (idle e));
@@ -134,7 +139,8 @@ Valid-with_work s work valid numbered fine idle room numbers = record {
 }
 
 -- a plain work is placed
-Valid-plain : (s : State) (id class : List ℕ) → Valid s → length s.works + 1 ≤ 100000 → s.next + 1 ≤ 2 ^ 53 → Valid (placed s None (record { request = plain_request id class; after = [] } ∷ []))
+Valid-plain : (s : State) (id class : List ℕ) → Valid s → length s.works + 1 ≤ 100000 → s.next + 1 ≤ 2 ^ 53
+    → Valid (placed s None (record { request = plain_request id class; after = [] } ∷ []))
 Valid-plain s id class valid room numbers =
     Valid-with_work s (placed_record s None (record { request = plain_request id class; after = [] })) valid refl (record {
       fits = record {
@@ -171,7 +177,8 @@ room s works none =
       ltb-false (2 ^ 53) (s.next + length works) (not_found (ltb (2 ^ 53) (s.next + length works)) (NumbersSpent s.next) second.0),
     )
 
-enqueued : (s : State) (id class : List ℕ) (found : Option Refusal) → refusal_of s (record { request = plain_request id class; after = [] } ∷ []) ≡ found → Valid s → Valid (state_by found s (placed s None (record { request = plain_request id class; after = [] } ∷ [])))
+enqueued : (s : State) (id class : List ℕ) (found : Option Refusal) → refusal_of s (record { request = plain_request id class; after = [] } ∷ []) ≡ found
+    → Valid s → Valid (state_by found s (placed s None (record { request = plain_request id class; after = [] } ∷ [])))
 enqueued s id class (Some found) is valid = valid
 enqueued s id class None is valid =
     let fits = room s (record { request = plain_request id class; after = [] } ∷ []) is in Valid-plain s id class valid fits.0 fits.1
@@ -179,9 +186,11 @@ enqueued s id class None is valid =
 -- ---- a start
 
 -- no run is on an instance that isn't out
-free_instance : (s : State) (idle : Instance) → Valid s → idle.out ≡ false → HasOne (λ other. other ≡ idle) s.instances → AllByRecursion (λ run. eqb run.instance idle.number ≡ false) s.runs
+free_instance : (s : State) (idle : Instance) → Valid s → idle.out ≡ false → HasOne (λ other. other ≡ idle) s.instances
+    → AllByRecursion (λ run. eqb run.instance idle.number ≡ false) s.runs
 free_instance s idle valid is_in stored =
-    none_pass (λ run. eqb run.instance idle.number) s.runs (one_gives (IsValidInstance s.runs) (λ other. other ≡ idle) (list_any (λ run. eqb run.instance idle.number) s.runs ≡ false) s.instances (λ other is same.
+    none_pass (λ run. eqb run.instance idle.number) s.runs
+    (one_gives (IsValidInstance s.runs) (λ other. other ≡ idle) (list_any (λ run. eqb run.instance idle.number) s.runs ≡ false) s.instances (λ other is same.
     sym (subst (λ (i : Instance). i.out ≡ list_any (λ run. eqb run.instance i.number) s.runs) same is.out) ∙ is_in) valid.instances stored)
 
 -- what doesn't pass makes no difference
@@ -191,17 +200,20 @@ or_neither false true e = e
 or_neither false false e = refl
 
 -- an instance is out exactly where a run is on it, after a start on this one
-IsValidInstance-made : (runs : List Run) (run : Run) (other : Instance) → IsValidInstance runs other → IsValidInstance (runs ++ run ∷ []) (made true run.instance other)
+IsValidInstance-made : (runs : List Run) (run : Run) (other : Instance) → IsValidInstance runs other
+    → IsValidInstance (runs ++ run ∷ []) (made true run.instance other)
 IsValidInstance-made runs run other valid =
     made_both (IsValidInstance (runs ++ run ∷ [])) true run.instance other (λ e. record {
       out = sym (list_any-append (λ r. eqb r.instance other.number) runs (run ∷ []) ∙ or_right _ _ (or_left _ _ (eq-eqb run.instance other.number (sym e))));
       kind = valid.kind;
     }) (λ e. record {
-      out = valid.out ∙ sym (list_any-append (λ r. eqb r.instance other.number) runs (run ∷ []) ∙ or_neither _ _ (ne_eqb run.instance other.number (λ same. e (sym same))));
+      out = valid.out ∙ sym
+          (list_any-append (λ r. eqb r.instance other.number) runs (run ∷ []) ∙ or_neither _ _ (ne_eqb run.instance other.number (λ same. e (sym same))));
       kind = valid.kind;
     })
 
-Valid-start : (s : State) (work : Record) (idle : Instance) → Valid s → first_work s ≡ Some work → idle_instance s.instances work.request.class ≡ Some idle → Valid (with_start s work idle)
+Valid-start : (s : State) (work : Record) (idle : Instance) → Valid s → first_work s ≡ Some work → idle_instance s.instances work.request.class ≡ Some idle
+    → Valid (with_start s work idle)
 Valid-start s work idle valid first found =
     let stored = first_of-stored s work first in
     let waiting = first_of-waiting s work first in
@@ -209,34 +221,44 @@ Valid-start s work idle valid first found =
     let there = idle_instance-stored s.instances work.request.class idle found in
     let free = free_instance s idle valid (idle_instance-idle s.instances work.request.class idle found).is_in there in
     let run = run_on s work idle in
-    let fine : IsValidRecord work = one_gives IsValidRecord (λ other. other ≡ work) (IsValidRecord work) s.works (λ other is same. subst IsValidRecord same is) valid.records stored in
-    let kind : idle.kind ≡ Echo = one_gives (IsValidInstance s.runs) (λ other. other ≡ idle) (idle.kind ≡ Echo) s.instances (λ other is same. subst (λ (i : Instance). i.kind ≡ Echo) same is.kind) valid.instances there in record {
+    let fine : IsValidRecord work =
+    one_gives IsValidRecord (λ other. other ≡ work) (IsValidRecord work) s.works (λ other is same. subst IsValidRecord same is) valid.records stored in
+    let kind : idle.kind ≡ Echo =
+    one_gives (IsValidInstance s.runs) (λ other. other ≡ idle) (idle.kind ≡ Echo) s.instances
+    (λ other is same. subst (λ (i : Instance). i.kind ≡ Echo) same is.kind) valid.instances there in
+    record {
       numbers = numbers-changed s.next started work.seq s.works (λ w. refl) valid.numbers;
       ascending = WorksAscend-changed started work.seq s.works (λ w. refl) valid.ascending;
       records = records-changed started work.seq s.works IsValidRecord-started valid.records;
-      running = All-map (λ w. w.phase ≡ phase.Running → HasOne (λ r. r.seq ≡ w.seq) s.runs) (λ w. w.phase ≡ phase.Running → HasOne (λ r. r.seq ≡ w.seq) (s.runs ++ run ∷ [])) (changed started work.seq) s.works (λ w has.
-          changed_both (λ c. c.phase ≡ phase.Running → HasOne (λ r. r.seq ≡ c.seq) (s.runs ++ run ∷ [])) started work.seq w (λ e running. HasOne-last (λ r. r.seq ≡ w.seq) s.runs run (sym e)) (λ e running. HasOne-front (λ r. r.seq ≡ w.seq) s.runs (run ∷ []) (has running))) valid.running;
-      runs = All-push (IsValidRun (with_start s work idle)) s.runs run (All-weaker (IsValidRun s) (IsValidRun (with_start s work idle)) s.runs (λ r is. let below = is.number in record {
-        number = omega arith;
-        current = is.current;
-        turn = is.turn;
-        no_input = is.no_input;
-        work = old_work started work s.works r waiting alone is.work;
-        instance = same_instance true idle.number s.instances r is.instance;
-      }) valid.runs) (record {
-        number = omega arith;
-        current = refl;
-        turn = refl;
-        no_input = fine.no_data.input;
-        work = changed_there (IsWorkOf run) started work s.works (record { seq = refl; running = refl; attempt = refl }) stored;
-        instance = made_there (IsInstanceOf run) true idle s.instances (record { number = refl; kind = refl }) there;
-      });
-      apart = AllAreApart-push s.runs run valid.apart (All-weaker (λ r. IsValidRun s r × (eqb r.instance idle.number ≡ false)) (λ r. AreApart r run) s.runs (λ r both. let below = both.0.number in record {
-        runs = λ e. absurd (omega arith);
-        works = other_number work s.works r waiting alone both.0.work;
-        instances = eqb-false r.instance idle.number both.1;
-      }) (All-both (IsValidRun s) (λ r. eqb r.instance idle.number ≡ false) s.runs valid.runs free));
-      instances = All-map (IsValidInstance s.runs) (IsValidInstance (s.runs ++ run ∷ [])) (made true idle.number) s.instances (IsValidInstance-made s.runs run) valid.instances;
+      running = All-map (λ w. w.phase ≡ phase.Running → HasOne (λ r. r.seq ≡ w.seq) s.runs)
+          (λ w. w.phase ≡ phase.Running → HasOne (λ r. r.seq ≡ w.seq) (s.runs ++ run ∷ [])) (changed started work.seq) s.works (λ w has.
+          changed_both (λ c. c.phase ≡ phase.Running → HasOne (λ r. r.seq ≡ c.seq) (s.runs ++ run ∷ [])) started work.seq w
+          (λ e running. HasOne-last (λ r. r.seq ≡ w.seq) s.runs run (sym e))
+          (λ e running. HasOne-front (λ r. r.seq ≡ w.seq) s.runs (run ∷ []) (has running))) valid.running;
+      runs = All-push (IsValidRun (with_start s work idle)) s.runs run
+          (All-weaker (IsValidRun s) (IsValidRun (with_start s work idle)) s.runs (λ r is. let below = is.number in record {
+            number = omega arith;
+            current = is.current;
+            turn = is.turn;
+            no_input = is.no_input;
+            work = old_work started work s.works r waiting alone is.work;
+            instance = same_instance true idle.number s.instances r is.instance;
+          }) valid.runs) (record {
+            number = omega arith;
+            current = refl;
+            turn = refl;
+            no_input = fine.no_data.input;
+            work = changed_there (IsWorkOf run) started work s.works (record { seq = refl; running = refl; attempt = refl }) stored;
+            instance = made_there (IsInstanceOf run) true idle s.instances (record { number = refl; kind = refl }) there;
+          });
+      apart = AllAreApart-push s.runs run valid.apart
+          (All-weaker (λ r. IsValidRun s r × (eqb r.instance idle.number ≡ false)) (λ r. AreApart r run) s.runs (λ r both. let below = both.0.number in record {
+            runs = λ e. absurd (omega arith);
+            works = other_number work s.works r waiting alone both.0.work;
+            instances = eqb-false r.instance idle.number both.1;
+          }) (All-both (IsValidRun s) (λ r. eqb r.instance idle.number ≡ false) s.runs valid.runs free));
+      instances = All-map (IsValidInstance s.runs) (IsValidInstance (s.runs ++ run ∷ [])) (made true idle.number) s.instances
+          (IsValidInstance-made s.runs run) valid.instances;
       in_order = AreNumberedInOrder-made true idle.number 0 s.instances valid.in_order;
       next = valid.next;
       now = valid.now;
@@ -253,8 +275,10 @@ Valid-failure s work valid first =
       numbers = numbers-changed s.next (closed how.Failed) work.seq s.works (λ w. refl) valid.numbers;
       ascending = WorksAscend-changed (closed how.Failed) work.seq s.works (λ w. refl) valid.ascending;
       records = records-changed (closed how.Failed) work.seq s.works IsValidRecord-closed valid.records;
-      running = All-map (λ w. w.phase ≡ phase.Running → HasOne (λ r. r.seq ≡ w.seq) s.runs) (λ w. w.phase ≡ phase.Running → HasOne (λ r. r.seq ≡ w.seq) s.runs) (changed (closed how.Failed) work.seq) s.works (λ w has.
-          changed_both (λ c. c.phase ≡ phase.Running → HasOne (λ r. r.seq ≡ c.seq) s.runs) (closed how.Failed) work.seq w (λ e running. absurd (cc)) (λ e. has)) valid.running;
+      running = All-map (λ w. w.phase ≡ phase.Running → HasOne (λ r. r.seq ≡ w.seq) s.runs) (λ w. w.phase ≡ phase.Running → HasOne (λ r. r.seq ≡ w.seq) s.runs)
+          (changed (closed how.Failed) work.seq) s.works (λ w has.
+          changed_both (λ c. c.phase ≡ phase.Running → HasOne (λ r. r.seq ≡ c.seq) s.runs) (closed how.Failed) work.seq w (λ e running. absurd (cc))
+          (λ e. has)) valid.running;
       runs = All-weaker (IsValidRun s) (IsValidRun (with_failure s work.seq)) s.runs (λ r is. record {
         number = is.number;
         current = is.current;
@@ -274,7 +298,8 @@ Valid-failure s work valid first =
 -- ---- a finish
 
 -- an Echo gives its input
-echoed : (kind : Kind) (input output : List DataEntry) (attempt turn : ℕ) → kind ≡ Echo → MayGive kind input attempt turn (given.Success output) → output ≡ input
+echoed : (kind : Kind) (input output : List DataEntry) (attempt turn : ℕ) → kind ≡ Echo → MayGive kind input attempt turn (given.Success output)
+    → output ≡ input
 echoed kind input output attempt turn echo gives =
     let same : given.Success output ≡ given.Success input = subst (λ k. MayGive k input attempt turn (given.Success output)) echo gives in cc
 
@@ -296,40 +321,54 @@ abbrev stays : Run → Run → Bool
 stays run other = not (eqb other.run run.run)
 
 -- what holds of each run apart from this one holds of those that stay
-others : (s : State) (run : Run) (P : Run → Type 0) → AllByRecursion (IsTold s run) s.runs → ((other : Run) → AreApart run other → IsValidRun s other → P other) → AllByRecursion P (other_runs run.run s.runs)
+others : (s : State) (run : Run) (P : Run → Type 0) → AllByRecursion (IsTold s run) s.runs → ((other : Run) → AreApart run other → IsValidRun s other → P other)
+    → AllByRecursion P (other_runs run.run s.runs)
 others s run P told each =
     All-filter P (stays run) s.runs (All-weaker (IsTold s run) (λ other. stays run other ≡ true → P other) s.runs (λ other is kept.
     elim is.0 [ inl found ↦ absurd (true≢false (sym found.0 ∙ not-true (eqb other.run run.run) kept)) | inr apart ↦ each other apart.1 is.1 ]) told)
 
 -- a running work other than this run's keeps its run
-running_stays : (s : State) (run : Run) (seq : ℕ) → AllByRecursion (IsTold s run) s.runs → (seq ≡ run.seq → ⊥) → HasOne (λ r. r.seq ≡ seq) s.runs → HasOne (λ r. r.seq ≡ seq) (other_runs run.run s.runs)
+running_stays : (s : State) (run : Run) (seq : ℕ) → AllByRecursion (IsTold s run) s.runs → (seq ≡ run.seq → ⊥) → HasOne (λ r. r.seq ≡ seq) s.runs
+    → HasOne (λ r. r.seq ≡ seq) (other_runs run.run s.runs)
 running_stays s run seq told differs one =
     HasOne-filter (IsTold s run) (λ r. r.seq ≡ seq) (stays run) s.runs (λ r is same.
     elim is.0 [ inl found ↦ absurd (differs (sym same ∙ ap (λ (x : Run). x.seq) found.1)) | inr apart ↦ ap not apart.0 ]) told one
 
 -- an instance is out exactly where a run is on it, after this run is over
-IsValidInstance-freed : (s : State) (run : Run) (i : Instance) → AllByRecursion (IsTold s run) s.runs → IsValidInstance s.runs i → IsValidInstance (other_runs run.run s.runs) (made false run.instance i)
+IsValidInstance-freed : (s : State) (run : Run) (i : Instance) → AllByRecursion (IsTold s run) s.runs → IsValidInstance s.runs i
+    → IsValidInstance (other_runs run.run s.runs) (made false run.instance i)
 IsValidInstance-freed s run i told valid =
     let on : Run → Bool = λ r. eqb r.instance i.number in
     made_both (IsValidInstance (other_runs run.run s.runs)) false run.instance i (λ e. record {
-      out = sym (list_any-false on (other_runs run.run s.runs) (others s run (λ r. on r ≡ false) told (λ other apart is. ne_eqb other.instance i.number (λ same. apart.instances (sym (same ∙ e))))));
+      out = sym
+          (list_any-false on (other_runs run.run s.runs)
+          (others s run (λ r. on r ≡ false) told (λ other apart is. ne_eqb other.instance i.number (λ same. apart.instances (sym (same ∙ e))))));
       kind = valid.kind;
     }) (λ differs. record {
       out = valid.out ∙ sym (list_any-filter on (stays run) s.runs (All-weaker (IsTold s run) (λ r. stays run r ≡ false → on r ≡ false) s.runs (λ r is dropped.
-          elim is.0 [ inl found ↦ ne_eqb r.instance i.number (λ same. differs (sym same ∙ ap (λ (x : Run). x.instance) found.1)) | inr apart ↦ absurd (true≢false (sym (ap not apart.0) ∙ dropped)) ]) told));
+          elim is.0 [
+            | inl found ↦ ne_eqb r.instance i.number (λ same. differs (sym same ∙ ap (λ (x : Run). x.instance) found.1))
+            | inr apart ↦ absurd
+                (true≢false (sym (ap not apart.0) ∙ dropped))
+          ]) told));
       kind = valid.kind;
     })
 
-Valid-success : (s : State) (number : ℕ) (run : Run) (output : List DataEntry) → Valid s → run_numbered number s.runs ≡ Some run → output ≡ [] → Valid (with_success s run output)
+Valid-success : (s : State) (number : ℕ) (run : Run) (output : List DataEntry) → Valid s → run_numbered number s.runs ≡ Some run → output ≡ []
+    → Valid (with_success s run output)
 Valid-success s number run output valid found none =
     let same : run.run ≡ number = eqb-true run.run number (find-passes (λ r. eqb r.run number) s.runs run found) in
-    let told = All-both (IsFoundOrApart run.run run) (IsValidRun s) s.runs (found_or_apart run.run run s.runs (subst (λ n. run_numbered n s.runs ≡ Some run) (sym same) found) valid.apart) valid.runs in
+    let told =
+    All-both (IsFoundOrApart run.run run) (IsValidRun s) s.runs
+    (found_or_apart run.run run s.runs (subst (λ n. run_numbered n s.runs ≡ Some run) (sym same) found) valid.apart) valid.runs in
     let change = succeeded output in record {
       numbers = numbers-changed s.next change run.seq s.works (λ w. refl) valid.numbers;
       ascending = WorksAscend-changed change run.seq s.works (λ w. refl) valid.ascending;
       records = records-changed change run.seq s.works (λ w fine. IsValidRecord-succeeded output w none fine) valid.records;
-      running = All-map (λ w. w.phase ≡ phase.Running → HasOne (λ r. r.seq ≡ w.seq) s.runs) (λ w. w.phase ≡ phase.Running → HasOne (λ r. r.seq ≡ w.seq) (other_runs run.run s.runs)) (changed change run.seq) s.works (λ w has.
-          changed_both (λ c. c.phase ≡ phase.Running → HasOne (λ r. r.seq ≡ c.seq) (other_runs run.run s.runs)) change run.seq w (λ e running. absurd (cc)) (λ differs running. running_stays s run w.seq told differs (has running))) valid.running;
+      running = All-map (λ w. w.phase ≡ phase.Running → HasOne (λ r. r.seq ≡ w.seq) s.runs)
+          (λ w. w.phase ≡ phase.Running → HasOne (λ r. r.seq ≡ w.seq) (other_runs run.run s.runs)) (changed change run.seq) s.works (λ w has.
+          changed_both (λ c. c.phase ≡ phase.Running → HasOne (λ r. r.seq ≡ c.seq) (other_runs run.run s.runs)) change run.seq w (λ e running. absurd (cc))
+          (λ differs running. running_stays s run w.seq told differs (has running))) valid.running;
       runs = others s run (IsValidRun (with_success s run output)) told (λ other apart is. record {
         number = is.number;
         current = is.current;
@@ -339,7 +378,8 @@ Valid-success s number run output valid found none =
         instance = same_instance false run.instance s.instances other is.instance;
       });
       apart = AllAreApart-filter (stays run) s.runs valid.apart;
-      instances = All-map (IsValidInstance s.runs) (IsValidInstance (other_runs run.run s.runs)) (made false run.instance) s.instances (λ i is. IsValidInstance-freed s run i told is) valid.instances;
+      instances = All-map (IsValidInstance s.runs) (IsValidInstance (other_runs run.run s.runs)) (made false run.instance) s.instances
+          (λ i is. IsValidInstance-freed s run i told is) valid.instances;
       in_order = AreNumberedInOrder-made false run.instance 0 s.instances valid.in_order;
       next = valid.next;
       now = valid.now;
@@ -351,9 +391,11 @@ Valid-success s number run output valid found none =
 -- every step keeps what is valid
 pub Valid-after : (s : State) (e : Event) → Valid s → Legal s e → Valid (after s e)
 Valid-after s (event.Command line (command.Enqueue None batch) reply) valid legal =
-    subst (λ works. Valid (after_command s (command.Enqueue None (record { works = works })))) (sym legal.0.one) (enqueued s legal.0.id legal.0.class (refusal_of s (record { request = plain_request legal.0.id legal.0.class; after = [] } ∷ [])) refl valid)
+    subst (λ works. Valid (after_command s (command.Enqueue None (record { works = works })))) (sym legal.0.one)
+    (enqueued s legal.0.id legal.0.class (refusal_of s (record { request = plain_request legal.0.id legal.0.class; after = [] } ∷ [])) refl valid)
 Valid-after s (event.Start run seq instance input) valid legal =
-    subst (λ o. Valid (start_of s o)) (sym legal.is_first) (subst (λ o. Valid (start_on s legal.work o)) (sym legal.is_idle) (Valid-start s legal.work legal.idle valid legal.is_first legal.is_idle))
+    subst (λ o. Valid (start_of s o)) (sym legal.is_first)
+    (subst (λ o. Valid (start_on s legal.work o)) (sym legal.is_idle) (Valid-start s legal.work legal.idle valid legal.is_first legal.is_idle))
 Valid-after s (event.StartFailed seq cause) valid legal =
     subst (λ n. Valid (with_failure s n)) (sym legal.seq_is) (Valid-failure s legal.work valid legal.is_first)
 Valid-after s (event.Finish number (end.Success output)) valid legal =

@@ -27,12 +27,14 @@ unfolding weight
 weight-waiting work waits = rw waits
 
 -- a work that no longer waits weighs no more
-weight-changed : (change : Record → Record) (seq : ℕ) (work : Record) → ((other : Record) → is_waiting (change other).phase ≡ false) → weight (changed change seq work) ≤ weight work
+weight-changed : (change : Record → Record) (seq : ℕ) (work : Record) → ((other : Record) → is_waiting (change other).phase ≡ false)
+    → weight (changed change seq work) ≤ weight work
 weight-changed change seq work ends =
     changed_both (λ w. weight w ≤ weight work) change seq work (λ e. let none = weight-not_waiting (change work) (ends work) in omega arith) (λ e. omega arith)
 
 -- no more works wait
-pub waiting_count-changed : (change : Record → Record) (seq : ℕ) (works : List Record) → ((other : Record) → is_waiting (change other).phase ≡ false) → waiting_count (changed_work change seq works) ≤ waiting_count works
+pub waiting_count-changed : (change : Record → Record) (seq : ℕ) (works : List Record) → ((other : Record) → is_waiting (change other).phase ≡ false)
+    → waiting_count (changed_work change seq works) ≤ waiting_count works
 waiting_count-changed change seq [] ends = omega arith
 waiting_count-changed change seq (work ∷ works) ends =
     let before = waiting_count-cons work works in
@@ -42,13 +44,16 @@ waiting_count-changed change seq (work ∷ works) ends =
     omega (arith, before, now, one, rest)
 
 -- fewer works wait, where one of them did
-waiting_count-fewer : (change : Record → Record) (first : Record) (works : List Record) → ((other : Record) → is_waiting (change other).phase ≡ false) → is_waiting first.phase ≡ true → HasOne (λ other. other ≡ first) works → waiting_count (changed_work change first.seq works) < waiting_count works
+waiting_count-fewer : (change : Record → Record) (first : Record) (works : List Record) → ((other : Record) → is_waiting (change other).phase ≡ false)
+    → is_waiting first.phase ≡ true → HasOne (λ other. other ≡ first) works → waiting_count (changed_work change first.seq works) < waiting_count works
 waiting_count-fewer change first [] ends waits one = absurd one
 waiting_count-fewer change first (work ∷ works) ends waits (inl is) =
     let before = waiting_count-cons work works in
     let now = waiting_count-cons (changed change first.seq work) (changed_work change first.seq works) in
     let one = weight-waiting work (ap (λ (w : Record). is_waiting w.phase) is ∙ waits) in
-    let none : weight (changed change first.seq work) ≡ 0 = changed_both (λ w. weight w ≡ 0) change first.seq work (λ e. weight-not_waiting (change work) (ends work)) (λ no. absurd (no (ap (λ (w : Record). w.seq) is))) in
+    let none : weight (changed change first.seq work) ≡ 0 =
+    changed_both (λ w. weight w ≡ 0) change first.seq work (λ e. weight-not_waiting (change work) (ends work))
+    (λ no. absurd (no (ap (λ (w : Record). w.seq) is))) in
     let rest = waiting_count-changed change first.seq works ends in
     omega (arith, before, now, one, none, rest)
 waiting_count-fewer change first (work ∷ works) ends waits (inr there) =
@@ -59,6 +64,7 @@ waiting_count-fewer change first (work ∷ works) ends waits (inr there) =
     omega (arith, before, now, one, rest)
 
 -- fewer works wait, once the first of them is started or fails
-pub waiting_count-started : (s : State) (work : Record) (change : Record → Record) → first_of s ≡ Some work → ((other : Record) → is_waiting (change other).phase ≡ false) → waiting_count (changed_work change work.seq s.works) < waiting_count s.works
+pub waiting_count-started : (s : State) (work : Record) (change : Record → Record) → first_of s ≡ Some work
+    → ((other : Record) → is_waiting (change other).phase ≡ false) → waiting_count (changed_work change work.seq s.works) < waiting_count s.works
 waiting_count-started s work change first ends =
     waiting_count-fewer change work s.works ends (first_of-waiting s work first) (first_of-stored s work first)

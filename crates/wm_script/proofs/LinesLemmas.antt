@@ -31,7 +31,8 @@ is_lf byte = eqb byte 10
 
 -- one byte more, which is an LF or joins the first line
 cut_step : (b : Bool) (byte n : ℕ) (bytes : List ℕ) → onto_first byte (cut bytes) ≡ (byte ∷ take n bytes) ∷ cut (drop (n + 1) bytes)
-    → cond b ([] ∷ cut bytes) (onto_first byte (cut bytes)) ≡ take (cond (not b) (1 + n) 0) (byte ∷ bytes) ∷ cut (drop (cond (not b) (1 + n) 0 + 1) (byte ∷ bytes))
+    → cond b ([] ∷ cut bytes) (onto_first byte (cut bytes)) ≡ take (cond (not b) (1 + n) 0) (byte ∷ bytes) ∷ cut
+    (drop (cond (not b) (1 + n) 0 + 1) (byte ∷ bytes))
 cut_step true byte n bytes e = refl
 cut_step false byte n bytes e = simp (one-add, add-one) (rw add-one at e)
 
@@ -66,7 +67,9 @@ length-onto_first byte (line ∷ lines) n h = omega arith
 pub length-cut : (bytes : List ℕ) → length (cut bytes) ≤ length bytes
 length-cut [] = omega arith
 length-cut (byte ∷ bytes) =
-    elim (is_lf byte) as (λ b. length (cond b ([] ∷ cut bytes) (onto_first byte (cut bytes))) ≤ suc (length bytes)) [ true ↦ omega (arith, length-cut bytes) | false ↦ omega (arith, length-onto_first byte (cut bytes) (length bytes) (length-cut bytes)) ]
+    elim (is_lf byte) as
+    (λ b. length (cond b ([] ∷ cut bytes) (onto_first byte (cut bytes))) ≤ suc (length bytes))
+    [ true ↦ omega (arith, length-cut bytes) | false ↦ omega (arith, length-onto_first byte (cut bytes) (length bytes) (length-cut bytes)) ]
 
 -- ---- objects
 
@@ -84,14 +87,16 @@ pub member_count-members_view : (entries : List (String Global × Value)) → me
 member_count-members_view [] = refl
 member_count-members_view (e ∷ es) = omega (arith, member_count-members_view es)
 
-none_unless : (b : Bool) (first second : Option json.Data) → b ≡ false → option_and_then {U = json.Data × json.Data} (λ x. option_and_then (λ y. cond b (Some (x, y)) None) second) first ≡ None
+none_unless : (b : Bool) (first second : Option json.Data) → b ≡ false
+    → option_and_then {U = json.Data × json.Data} (λ x. option_and_then (λ y. cond b (Some (x, y)) None) second) first ≡ None
 none_unless b None second e = refl
 none_unless b (Some x) None e = refl
 none_unless b (Some x) (Some y) e = rw e
 
 -- the values of two keys, in an object that has no other key
 pub both_found : (key other : List ℕ) (d : json.Data) (entries : List (String Global × Value)) (first second : json.Data)
-    → as_object d ≡ Some (members_view entries) → length entries ≡ 2 → get key d ≡ Some first → get other d ≡ Some second → both key other d ≡ Some (first, second)
+    → as_object d ≡ Some (members_view entries) → length entries ≡ 2 → get key d ≡ Some first → get other d ≡ Some second → both key other d ≡ Some
+    (first, second)
 unfolding both
 both_found key other d entries first second object two one another =
     let ms = members_view entries in
@@ -100,7 +105,8 @@ both_found key other d entries first second object two one another =
     rw (object, found, found_other, member_count-members_view entries, two)
 
 -- no values, where it has more keys or fewer
-pub both_none : (key other : List ℕ) (d : json.Data) (entries : List (String Global × Value)) → as_object d ≡ Some (members_view entries) → (length entries ≡ 2 → ⊥) → both key other d ≡ None
+pub both_none : (key other : List ℕ) (d : json.Data) (entries : List (String Global × Value)) → as_object d ≡ Some (members_view entries)
+    → (length entries ≡ 2 → ⊥) → both key other d ≡ None
 unfolding both
 both_none key other d entries object not_two =
     let count = member_count-members_view entries in
@@ -117,7 +123,8 @@ none_unless_only b None e = refl
 none_unless_only b (Some x) e = rw e
 
 -- the value of a key, in an object that has no other key
-pub only_found : (key : List ℕ) (d : json.Data) (entries : List (String Global × Value)) → as_object d ≡ Some (members_view entries) → length entries ≡ 1 → get key d ≡ only key d
+pub only_found : (key : List ℕ) (d : json.Data) (entries : List (String Global × Value)) → as_object d ≡ Some (members_view entries) → length entries ≡ 1
+    → get key d ≡ only key d
 unfolding only
 only_found key d entries object one =
     let ms = members_view entries in
@@ -125,7 +132,8 @@ only_found key d entries object one =
     rw (get-object key d ms object, object) (only_if _ (get_member key ms) (grind (arith, nat_tests)))
 
 -- no value, where it has more keys or none
-pub only_none : (key : List ℕ) (d : json.Data) (entries : List (String Global × Value)) → as_object d ≡ Some (members_view entries) → (length entries ≡ 1 → ⊥) → None ≡ only key d
+pub only_none : (key : List ℕ) (d : json.Data) (entries : List (String Global × Value)) → as_object d ≡ Some (members_view entries) → (length entries ≡ 1 → ⊥)
+    → None ≡ only key d
 unfolding only
 only_none key d entries object not_one =
     let count = member_count-members_view entries in

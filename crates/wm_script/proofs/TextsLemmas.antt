@@ -17,7 +17,8 @@ use Rattle.wm_machine.specs.declared.reply.Reply.TheVariants as reply
 use Rattle.wm_machine.specs.declared.reply.WorkInfo.{WorkInfo}
 
 -- a list has no float where none of its items has one
-list_has_no_float : {T : Type 0} (form : T → json.Data) (contents : List T) → ((content : T) → has_float (form content) ≡ false) → items_have_float (items_of (map form contents)) ≡ false
+list_has_no_float : {T : Type 0} (form : T → json.Data) (contents : List T) → ((content : T) → has_float (form content) ≡ false)
+    → items_have_float (items_of (map form contents)) ≡ false
 list_has_no_float form [] each = refl
 list_has_no_float form (content ∷ contents) each = rw (each content) (list_has_no_float form contents each)
 
@@ -49,7 +50,8 @@ members_have_no_float : (info : WorkInfo) → members_have_float (info_members i
 members_have_no_float info =
     rw (entries_have_no_float info.output, entries_have_no_float info.progress, list_has_no_float json.string info.tags (λ text. refl))
 
-named_has_no_float : (name : Option (List ℕ)) (due : Option ℕ) (info : WorkInfo) → has_float (json.object (with_name name (with_due due (info_members info)))) ≡ false
+named_has_no_float : (name : Option (List ℕ)) (due : Option ℕ) (info : WorkInfo)
+    → has_float (json.object (with_name name (with_due due (info_members info)))) ≡ false
 named_has_no_float None None info = members_have_no_float info
 named_has_no_float None (Some due) info = members_have_no_float info
 named_has_no_float (Some name) None info = members_have_no_float info

@@ -22,27 +22,36 @@ kind_at-away kind_of (Idle worker) = refl
 kind_at-away kind_of (Away kind) = refl
 
 -- a worker that is taken leaves the traits
-pub traits-taken : {B : Type 0} (kind_of : B → Kind) (number : ℕ) (places : List (Place B)) → map (place_traits kind_of) (changed_at (made_away kind_of) number places) ≡ map (place_traits kind_of) places
+pub traits-taken : {B : Type 0} (kind_of : B → Kind) (number : ℕ) (places : List (Place B))
+    → map (place_traits kind_of) (changed_at (made_away kind_of) number places) ≡ map (place_traits kind_of) places
 traits-taken kind_of number [] = refl
 traits-taken kind_of zero (place ∷ places) =
-    ap (λ (kind : Kind). record { class = place.class; kind = kind; retired = place.retired } ∷ map (place_traits kind_of) places) (kind_at-away kind_of place.presence)
+    ap (λ (kind : Kind). record { class = place.class; kind = kind; retired = place.retired } ∷ map (place_traits kind_of) places)
+    (kind_at-away kind_of place.presence)
 traits-taken kind_of (suc number) (place ∷ places) = ap (λ (rest : List Traits). place_traits kind_of place ∷ rest) (traits-taken kind_of number places)
 
 -- a worker that comes back leaves the traits, where one of its kind was away
-pub traits-given : {B : Type 0} (kind_of : B → Kind) (worker : B) (number : ℕ) (places : List (Place B)) → IsAwayAt number (kind_of worker) places → map (place_traits kind_of) (changed_at (made_idle worker) number places) ≡ map (place_traits kind_of) places
+pub traits-given : {B : Type 0} (kind_of : B → Kind) (worker : B) (number : ℕ) (places : List (Place B)) → IsAwayAt number (kind_of worker) places
+    → map (place_traits kind_of) (changed_at (made_idle worker) number places) ≡ map (place_traits kind_of) places
 traits-given kind_of worker number [] away = refl
 traits-given kind_of worker zero (place ∷ places) away =
-    ap (λ (kind : Kind). record { class = place.class; kind = kind; retired = place.retired } ∷ map (place_traits kind_of) places) (ap (kind_at kind_of) (sym away))
-traits-given kind_of worker (suc number) (place ∷ places) away = ap (λ (rest : List Traits). place_traits kind_of place ∷ rest) (traits-given kind_of worker number places away)
+    ap (λ (kind : Kind). record { class = place.class; kind = kind; retired = place.retired } ∷ map (place_traits kind_of) places)
+    (ap (kind_at kind_of) (sym away))
+traits-given kind_of worker (suc number) (place ∷ places) away =
+    ap (λ (rest : List Traits). place_traits kind_of place ∷ rest) (traits-given kind_of worker number places away)
 
-pub traits-back : {B : Type 0} (kind_of : B → Kind) (worker : B) (number : ℕ) (places now : List (Place B)) → IsAwayAt number (kind_of worker) places → now ≡ changed_at (made_idle worker) number places → map (place_traits kind_of) now ≡ map (place_traits kind_of) places
+pub traits-back : {B : Type 0} (kind_of : B → Kind) (worker : B) (number : ℕ) (places now : List (Place B)) → IsAwayAt number (kind_of worker) places
+    → now ≡ changed_at (made_idle worker) number places → map (place_traits kind_of) now ≡ map (place_traits kind_of) places
 traits-back kind_of worker number places now away are = ap (map (place_traits kind_of)) are ∙ traits-given kind_of worker number places away
 
 -- an instance that is out or back keeps its traits
-pub traits-with_out : (out : Bool) (number : ℕ) (instances : List Instance) → map instance_traits (with_out out number instances) ≡ map instance_traits instances
+pub traits-with_out : (out : Bool) (number : ℕ) (instances : List Instance)
+    → map instance_traits (with_out out number instances) ≡ map instance_traits instances
 traits-with_out out number [] = refl
 traits-with_out out number (instance ∷ instances) =
-    made_both (λ changed. instance_traits changed ∷ map instance_traits (with_out out number instances) ≡ instance_traits instance ∷ map instance_traits instances) out number instance
+    made_both
+    (λ changed. instance_traits changed ∷ map instance_traits (with_out out number instances) ≡ instance_traits instance
+    ∷ map instance_traits instances) out number instance
     (λ same. ap (λ (rest : List Traits). instance_traits instance ∷ rest) (traits-with_out out number instances))
     (λ other. ap (λ (rest : List Traits). instance_traits instance ∷ rest) (traits-with_out out number instances))
 
@@ -55,7 +64,8 @@ abbrev out_list : List Instance → List Bool
 out_list instances = map (λ instance. instance.out) instances
 
 -- below the first number nothing changes
-out_list-below : (out : Bool) (number first : ℕ) (instances : List Instance) → AreNumberedInOrder first instances → number < first → out_list (with_out out number instances) ≡ out_list instances
+out_list-below : (out : Bool) (number first : ℕ) (instances : List Instance) → AreNumberedInOrder first instances → number < first
+    → out_list (with_out out number instances) ≡ out_list instances
 out_list-below out number first [] in_order below = refl
 out_list-below out number first (instance ∷ instances) in_order below =
     made_both (λ changed. changed.out ∷ out_list (with_out out number instances) ≡ instance.out ∷ out_list instances) out number instance
@@ -63,23 +73,31 @@ out_list-below out number first (instance ∷ instances) in_order below =
     (λ other. ap (λ rest. instance.out ∷ rest) (out_list-below out number (first + 1) instances in_order.1 (omega arith)))
 
 -- a place and the instance of its number change alike
-pub away-changed : {B : Type 0} (change : Place B → Place B) (away : Bool) (number first : ℕ) (places : List (Place B)) (instances : List Instance) → ((place : Place B) → is_away (change place).presence ≡ away) → AreNumberedInOrder first instances → away_list places ≡ out_list instances → away_list (changed_at change number places) ≡ out_list (with_out away (first + number) instances)
+pub away-changed : {B : Type 0} (change : Place B → Place B) (away : Bool) (number first : ℕ) (places : List (Place B)) (instances : List Instance)
+    → ((place : Place B) → is_away (change place).presence ≡ away) → AreNumberedInOrder first instances → away_list places ≡ out_list instances
+    → away_list (changed_at change number places) ≡ out_list (with_out away (first + number) instances)
 away-changed change away number first [] [] changes in_order same = refl
 away-changed change away number first [] (instance ∷ instances) changes in_order same = absurd cc
 away-changed change away number first (place ∷ places) [] changes in_order same = absurd cc
 away-changed change away zero first (place ∷ places) (instance ∷ instances) changes in_order same =
     let rest : away_list places ≡ out_list instances = cc in
     let is : instance.number ≡ first = in_order.0 in
-    made_both (λ changed. is_away (change place).presence ∷ away_list places ≡ changed.out ∷ out_list (with_out away (first + zero) instances)) away (first + zero) instance
-    (λ here. ap (λ bit. bit ∷ away_list places) (changes place) ∙ ap (λ bits. away ∷ bits) (rest ∙ sym (out_list-below away (first + zero) (first + 1) instances in_order.1 (omega arith))))
+    made_both (λ changed. is_away (change place).presence ∷ away_list places ≡ changed.out ∷ out_list (with_out away (first + zero) instances)) away
+    (first + zero) instance
+    (λ here. ap (λ bit. bit ∷ away_list places) (changes place) ∙ ap (λ bits. away ∷ bits)
+    (rest ∙ sym (out_list-below away (first + zero) (first + 1) instances in_order.1 (omega arith))))
     (λ other. absurd (other (omega arith)))
 away-changed change away (suc number) first (place ∷ places) (instance ∷ instances) changes in_order same =
     let rest : away_list places ≡ out_list instances = cc in
     let head : is_away place.presence ≡ instance.out = cc in
     let is : instance.number ≡ first = in_order.0 in
     let further : first + 1 + number ≡ first + suc number = omega arith in
-    let more : away_list (changed_at change number places) ≡ out_list (with_out away (first + suc number) instances) = away-changed change away number (first + 1) places instances changes in_order.1 rest ∙ ap (λ n. out_list (with_out away n instances)) further in
-    made_both (λ changed. is_away place.presence ∷ away_list (changed_at change number places) ≡ changed.out ∷ out_list (with_out away (first + suc number) instances)) away (first + suc number) instance
+    let more : away_list (changed_at change number places) ≡ out_list (with_out away (first + suc number) instances) =
+    away-changed change away number (first + 1) places instances changes in_order.1 rest ∙ ap (λ n. out_list (with_out away n instances)) further in
+    made_both
+    (λ changed. is_away place.presence ∷ away_list (changed_at change number places) ≡ changed.out ∷ out_list
+    (with_out away (first + suc number) instances)) away
+    (first + suc number) instance
     (λ here. absurd (omega arith))
     (λ other. ap (λ bit. bit ∷ away_list (changed_at change number places)) head ∙ ap (λ bits. instance.out ∷ bits) more)
 
@@ -92,7 +110,9 @@ pub away-taken : {B : Type 0} (kind_of : B → Kind) (place : Place B) → is_aw
 away-taken kind_of place = away_by kind_of place.presence
 
 -- nobody is away, and nobody is out
-pub all_here : {B : Type 0} (kind_of : B → Kind) (places : List (Place B)) (instances : List Instance) → map (place_traits kind_of) places ≡ map instance_traits instances → AreIdle places → AllByRecursion (λ instance. instance.out ≡ false) instances → map (λ place. is_away place.presence) places ≡ map (λ instance. instance.out) instances
+pub all_here : {B : Type 0} (kind_of : B → Kind) (places : List (Place B)) (instances : List Instance)
+    → map (place_traits kind_of) places ≡ map instance_traits instances → AreIdle places → AllByRecursion (λ instance. instance.out ≡ false) instances
+    → map (λ place. is_away place.presence) places ≡ map (λ instance. instance.out) instances
 all_here kind_of [] [] same idle all_in = refl
 all_here kind_of [] (instance ∷ instances) same idle all_in = absurd cc
 all_here kind_of (place ∷ places) [] same idle all_in = absurd cc
@@ -104,7 +124,8 @@ all_here kind_of (place ∷ places) (instance ∷ instances) same idle all_in =
 
 -- ---- who is idle
 
-number-from : (first : ℕ) (idle : Instance) (instances : List Instance) → AreNumberedInOrder first instances → HasOne (λ other. other ≡ idle) instances → first ≤ idle.number
+number-from : (first : ℕ) (idle : Instance) (instances : List Instance) → AreNumberedInOrder first instances → HasOne (λ other. other ≡ idle) instances
+    → first ≤ idle.number
 number-from first idle [] in_order stored = absurd stored
 number-from first idle (instance ∷ instances) in_order (inl same) =
     let is : instance.number ≡ idle.number = ap (λ (i : Instance). i.number) same in
@@ -117,7 +138,9 @@ idle_in-here (Idle worker) here none = cc
 idle_in-here (Away kind) here none = cc
 
 -- the worker of an instance that isn't out is at its place
-pub idle_at-in : {B : Type 0} (idle : Instance) (number first : ℕ) (places : List (Place B)) (instances : List Instance) → AreNumberedInOrder first instances → away_list places ≡ out_list instances → HasOne (λ other. other ≡ idle) instances → idle.out ≡ false → idle.number ≡ first + number → idle_at number places ≡ None → ⊥
+pub idle_at-in : {B : Type 0} (idle : Instance) (number first : ℕ) (places : List (Place B)) (instances : List Instance) → AreNumberedInOrder first instances
+    → away_list places ≡ out_list instances → HasOne (λ other. other ≡ idle) instances → idle.out ≡ false → idle.number ≡ first + number
+    → idle_at number places ≡ None → ⊥
 idle_at-in idle number first places [] in_order same stored is_in is none = stored
 idle_at-in idle number first [] (instance ∷ instances) in_order same stored is_in is none = cc
 idle_at-in idle zero first (place ∷ places) (instance ∷ instances) in_order same (inl here) is_in is none =
@@ -133,25 +156,30 @@ idle_at-in idle (suc number) first (place ∷ places) (instance ∷ instances) i
     idle_at-in idle number (first + 1) places instances in_order.1 rest later is_in (is ∙ omega arith) none
 
 -- a seat that was taken holds the worker that was idle there
-pub seat_is : {B : Type 0} (number : ℕ) (idle : Option B) (seat : Seat B) → Some seat ≡ option_map (λ worker. record { number = number; worker = worker }) idle → (idle ≡ Some seat.worker) × (seat.number ≡ number)
+pub seat_is : {B : Type 0} (number : ℕ) (idle : Option B) (seat : Seat B) → Some seat ≡ option_map (λ worker. record { number = number; worker = worker }) idle
+    → (idle ≡ Some seat.worker) × (seat.number ≡ number)
 seat_is number None seat is = absurd cc
 seat_is {B} number (Some worker) seat is =
     let made : Seat B = record { number = number; worker = worker } in
     let same : seat ≡ made = cc in
     (ap (λ (s : Seat B). Some s.worker) (sym same), ap (λ (s : Seat B). s.number) same)
 
-pub no_seat : {B : Type 0} (number : ℕ) (idle : Option B) → None ≡ option_map (λ worker. let made : Seat B = record { number = number; worker = worker } in made) idle → idle ≡ None
+pub no_seat : {B : Type 0} (number : ℕ) (idle : Option B)
+    → None ≡ option_map (λ worker. let made : Seat B = record { number = number; worker = worker } in made) idle → idle ≡ None
 no_seat number None is = refl
 no_seat number (Some worker) is = absurd cc
 
 -- ---- what kind a worker is of
 
-kind_at-idle : {B : Type 0} (kind_of : B → Kind) (presence : Presence B) (worker : B) → idle_in presence ≡ Some worker → kind_at kind_of presence ≡ kind_of worker
+kind_at-idle : {B : Type 0} (kind_of : B → Kind) (presence : Presence B) (worker : B) → idle_in presence ≡ Some worker
+    → kind_at kind_of presence ≡ kind_of worker
 kind_at-idle kind_of (Idle other) worker is = let same : other ≡ worker = cc in ap kind_of same
 kind_at-idle kind_of (Away kind) worker is = absurd cc
 
 -- every worker is an Echo, as every instance is
-pub kind-Echo : {B : Type 0} (kind_of : B → Kind) (runs : List Run) (worker : B) (number : ℕ) (places : List (Place B)) (instances : List Instance) → AllByRecursion (IsValidInstance runs) instances → map (place_traits kind_of) places ≡ map instance_traits instances → idle_at number places ≡ Some worker → kind_of worker ≡ Echo
+pub kind-Echo : {B : Type 0} (kind_of : B → Kind) (runs : List Run) (worker : B) (number : ℕ) (places : List (Place B)) (instances : List Instance)
+    → AllByRecursion (IsValidInstance runs) instances → map (place_traits kind_of) places ≡ map instance_traits instances → idle_at number places ≡ Some worker
+    → kind_of worker ≡ Echo
 kind-Echo kind_of runs worker number [] instances valid same is = absurd cc
 kind-Echo kind_of runs worker number (place ∷ places) [] valid same is = absurd cc
 kind-Echo kind_of runs worker zero (place ∷ places) (instance ∷ instances) valid same is =

@@ -28,7 +28,10 @@ done_is (Some why.KeeperFault) ended is done = absurd cc
 done_is (Some why.SinkFault) ended is done = absurd cc
 done_is (Some why.Memory) ended is done = absurd cc
 
-pub HasCommands-kept : {K W B : Type 0} {run : Given} {kind_of : B → Kind} {held : K → Option (List Row)} {keeper_faults : K → ℕ} {given : W → Option (List ℕ)} {sink_faults : W → ℕ} {book : BookState K W B} (ended : Status) (log : List Event) → IsBookKept run kind_of held keeper_faults given sink_faults book → log ≡ book.table.log → IfSome book.status (λ why. ended ≡ status_by_stop why) → (book.status ≡ None → book.left ≡ []) → HasCommands run.lines ended log
+pub HasCommands-kept : {K W B : Type 0} {run : Given} {kind_of : B → Kind} {held : K → Option (List Row)} {keeper_faults : K → ℕ} {given : W → Option (List ℕ)}
+    {sink_faults : W → ℕ} {book : BookState K W B} (ended : Status) (log : List Event)
+    → IsBookKept run kind_of held keeper_faults given sink_faults book → log ≡ book.table.log → IfSome book.status (λ why. ended ≡ status_by_stop why)
+    → (book.status ≡ None → book.left ≡ []) → HasCommands run.lines ended log
 HasCommands-kept {run = run} {book = book} ended log kept same stopped none_left =
     let done = commands_of book.table.log in
     let commands : done ≡ commands_of log = ap commands_of (sym same) in
@@ -42,15 +45,22 @@ HasCommands-kept {run = run} {book = book} ended log kept same stopped none_left
     }
 
 -- everything pending was written, where the last write went well
-all_written : {P : Type 0} (stop : Option Stop) (written : Result (Unit {0}) WriteFault) (ended : Status) → (IsNone stop → IfErr written (λ fault. ended ≡ status_by_stop (stop_by_fault fault))) → stop ≡ None → ended ≡ status.Done → OnOk written P → P
+all_written : {P : Type 0} (stop : Option Stop) (written : Result (Unit {0}) WriteFault) (ended : Status)
+    → (IsNone stop → IfErr written (λ fault. ended ≡ status_by_stop (stop_by_fault fault))) → stop ≡ None → ended ≡ status.Done → OnOk written P → P
 all_written (Some why) written ended refused going done ok = absurd cc
 all_written None (Ok value) ended refused going done ok = ok
 all_written None (Err fault.Failed) ended refused going done ok = let is : ended ≡ status.SinkFault = refused refl in absurd cc
 all_written None (Err fault.Memory) ended refused going done ok = let is : ended ≡ status.Memory = refused refl in absurd cc
 
-pub IsTextGiven-kept : {K W B : Type 0} {run : Given} {kind_of : B → Kind} {held : K → Option (List Row)} {keeper_faults : K → ℕ} {given : W → Option (List ℕ)} {sink_faults : W → ℕ} {book : BookState K W B} (ended : Status) (first : State) (log : List Event) (now : Option (List ℕ)) (left : List ℕ) (written : Result (Unit {0}) WriteFault) → IsBookKept run kind_of held keeper_faults given sink_faults book → first ≡ book.table.first → log ≡ book.table.log → AreTextsKept None (given book.sink) now book.pending left → OnOk written (left ≡ []) → IfSome book.status (λ why. ended ≡ status_by_stop why) → (IsNone book.status → IfErr written (λ fault. ended ≡ status_by_stop (stop_by_fault fault))) → IsTextGiven run.written now ended first log
+pub IsTextGiven-kept : {K W B : Type 0} {run : Given} {kind_of : B → Kind} {held : K → Option (List Row)} {keeper_faults : K → ℕ} {given : W → Option (List ℕ)}
+    {sink_faults : W → ℕ} {book : BookState K W B} (ended : Status) (first : State) (log : List Event) (now : Option (List ℕ)) (left : List ℕ)
+    (written : Result (Unit {0}) WriteFault)
+    → IsBookKept run kind_of held keeper_faults given sink_faults book → first ≡ book.table.first → log ≡ book.table.log
+    → AreTextsKept None (given book.sink) now book.pending left → OnOk written (left ≡ []) → IfSome book.status (λ why. ended ≡ status_by_stop why)
+    → (IsNone book.status → IfErr written (λ fault. ended ≡ status_by_stop (stop_by_fault fault))) → IsTextGiven run.written now ended first log
 IsTextGiven-kept {run = run} {given = given} {book = book} ended first log now left written kept first_is log_is told all stopped refused =
-    let text : log_text book.table.first book.table.log ≡ log_text first log = ap (log_text book.table.first) (sym log_is) ∙ ap (λ s. log_text s log) (sym first_is) in
+    let text : log_text book.table.first book.table.log ≡ log_text first log =
+    ap (log_text book.table.first) (sym log_is) ∙ ap (λ s. log_text s log) (sym first_is) in
     let texts = subst (λ l. AreTextsKept book.status run.written (given book.sink) l book.pending) text kept.texts in
     record {
       front = IsPartGiven-kept book.status run.written (given book.sink) now (log_text first log) book.pending left texts told;

@@ -63,18 +63,22 @@ AreNumberedFrom-silent line (event.Late run ∷ log) e is numbered = AreNumbered
 
 -- ---- the instances after an event
 
-pub instances-started : (s : State) (run seq instance : ℕ) (input : List DataEntry) → IsStart s run seq instance input → (start_of s (first_of s)).instances ≡ with_out true instance s.instances
+pub instances-started : (s : State) (run seq instance : ℕ) (input : List DataEntry) → IsStart s run seq instance input
+    → (start_of s (first_of s)).instances ≡ with_out true instance s.instances
 instances-started s run seq instance input start =
     ap (λ work. (start_of s work).instances) start.is_first
     ∙ ap (λ idle. (start_on s start.work idle).instances) start.is_idle
     ∙ ap (λ number. with_out true number s.instances) (sym start.instance_is)
 
-pub instances-finished : (s : State) (ticket : TicketState) (output : List DataEntry) (found : Option Run) → IsSomeAnd found (λ run. (run.instance ≡ ticket.instance) × (run.kind ≡ ticket.kind)) → (success_of s found output).instances ≡ with_out false ticket.instance s.instances
+pub instances-finished : (s : State) (ticket : TicketState) (output : List DataEntry) (found : Option Run)
+    → IsSomeAnd found (λ run. (run.instance ≡ ticket.instance) × (run.kind ≡ ticket.kind))
+    → (success_of s found output).instances ≡ with_out false ticket.instance s.instances
 instances-finished s ticket output None stands = absurd stands
 instances-finished s ticket output (Some run) stands = ap (λ number. with_out false number s.instances) stands.0
 
 -- a ticket in a valid state is of an Echo
-pub ticket_kind : (s : State) (ticket : TicketState) (found : Option Run) → Valid s → run_numbered ticket.task.run s.runs ≡ found → IsSomeAnd found (λ run. ticket ≡ ticket_of run) → ticket.kind ≡ Echo
+pub ticket_kind : (s : State) (ticket : TicketState) (found : Option Run) → Valid s → run_numbered ticket.task.run s.runs ≡ found
+    → IsSomeAnd found (λ run. ticket ≡ ticket_of run) → ticket.kind ≡ Echo
 ticket_kind s ticket None valid is stands = absurd stands
 ticket_kind s ticket (Some run) valid is stands =
     ap (λ (t : TicketState). t.kind) stands ∙ run_kind s run valid (found_valid s ticket.task.run run valid is)
@@ -89,5 +93,6 @@ instances-state_by s t (Some found) same = refl
 
 -- no command changes the instances
 pub instances-after_command : (s : State) (asked : Command) → (after_command s asked).instances ≡ s.instances
-instances-after_command s (command.Enqueue None batch) = instances-state_by s (placed s None batch.works) (refusal_of s batch.works) (instances-placed s None batch.works)
+instances-after_command s (command.Enqueue None batch) =
+    instances-state_by s (placed s None batch.works) (refusal_of s batch.works) (instances-placed s None batch.works)
 instances-after_command s _ = refl

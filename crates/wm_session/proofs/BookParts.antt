@@ -30,7 +30,8 @@ use Rattle.wm_session.specs.declared.writing.WriteFault.{WriteFault}
 use Rattle.wm_worker.specs.Told.{Report}
 
 -- rows that are a state's where they are told are then those of the next one
-pub rows_then : (old new : State) (stored held kept : Option (List Row)) → held ≡ option_map (λ _. rows_of old) stored → kept ≡ option_map (λ _. rows_of new) held → kept ≡ option_map (λ _. rows_of new) stored
+pub rows_then : (old new : State) (stored held kept : Option (List Row)) → held ≡ option_map (λ _. rows_of old) stored
+    → kept ≡ option_map (λ _. rows_of new) held → kept ≡ option_map (λ _. rows_of new) stored
 rows_then old new None held kept is then = then ∙ ap (option_map (λ _. rows_of new)) is
 rows_then old new (Some rows) held kept is then = then ∙ ap (option_map (λ _. rows_of new)) is
 
@@ -42,7 +43,8 @@ pub AreLinesKept-front : (status : Option Stop) (lines done left : List Command)
 AreLinesKept-front None lines done left kept = (left, kept)
 AreLinesKept-front (Some why) lines done left kept = kept
 
-pub AreTextsKept-stopped : (status : Option Stop) (why : Stop) (before now : Option (List ℕ)) (text pending : List ℕ) → AreTextsKept status before now text pending → AreTextsKept (Some why) before now text pending
+pub AreTextsKept-stopped : (status : Option Stop) (why : Stop) (before now : Option (List ℕ)) (text pending : List ℕ)
+    → AreTextsKept status before now text pending → AreTextsKept (Some why) before now text pending
 AreTextsKept-stopped None why before now text pending kept = AreTextsKept-front why before now text pending kept
 AreTextsKept-stopped (Some other) why before now text pending kept = record { written = kept.written; given = kept.given; kept = kept.kept }
 
@@ -50,7 +52,8 @@ pub AreAwayKept-stopped : {K W B : Type 0} (status : Option Stop) (book : BookSt
 AreAwayKept-stopped (Some why) book stopped = tt
 AreAwayKept-stopped None book stopped = absurd cc
 
-pub AreAwayKept-from : {K W B : Type 0} (status : Option Stop) (book : BookState K W B) → map (λ place. is_away place.presence) book.places ≡ map (λ instance. instance.out) book.table.state.instances → AreAwayKept status book
+pub AreAwayKept-from : {K W B : Type 0} (status : Option Stop) (book : BookState K W B)
+    → map (λ place. is_away place.presence) book.places ≡ map (λ instance. instance.out) book.table.state.instances → AreAwayKept status book
 AreAwayKept-from None book same = same
 AreAwayKept-from (Some why) book same = tt
 
@@ -67,12 +70,14 @@ failed_since start before now failed later =
     }
 
 -- why a session stops whose table had trouble at the end of a turn
-pub StopCause-turn : (ticket : TicketState) (told : Report) (why : Trouble) (before now start sink sink_now : ℕ) → TurnCause (turn.Refused ticket told why) before now → start ≤ before → (before ≤ now) × StopCause (Some (stop_by_trouble why)) start now sink sink_now
+pub StopCause-turn : (ticket : TicketState) (told : Report) (why : Trouble) (before now start sink sink_now : ℕ)
+    → TurnCause (turn.Refused ticket told why) before now → start ≤ before → (before ≤ now) × StopCause (Some (stop_by_trouble why)) start now sink sink_now
 StopCause-turn ticket told trouble.KeeperFault before now start sink sink_now failed later = (failed.later, failed_since start before now failed later)
 StopCause-turn ticket told trouble.Memory before now start sink sink_now same later = (omega arith, tt)
 
 -- why a session stops whose sink refused a write
-pub StopCause-write : (why : WriteFault) (keeper keeper_now before now start : ℕ) → WriteCause {T = Unit {0}} (Err why) before now → start ≤ before → (before ≤ now) × StopCause (Some (stop_by_fault why)) keeper keeper_now start now
+pub StopCause-write : (why : WriteFault) (keeper keeper_now before now start : ℕ) → WriteCause {T = Unit {0}} (Err why) before now → start ≤ before
+    → (before ≤ now) × StopCause (Some (stop_by_fault why)) keeper keeper_now start now
 StopCause-write fault.Failed keeper keeper_now before now start failed later = (failed.later, failed_since start before now failed later)
 StopCause-write fault.Memory keeper keeper_now before now start same later = (omega arith, tt)
 
@@ -91,13 +96,17 @@ last_of-push (y ∷ z ∷ xs) x = last_of-push (z ∷ xs) x
 pub last_of-step : {K : Type 0} (held : K → Option (List Row)) (e : Event) (old new : TableState K) → IsOneStep held e old new → last_of new.log ≡ Some e
 last_of-step held e old new step = ap last_of step.appended ∙ last_of-push old.log e
 
-pub claimed_run : {K : Type 0} (held : K → Option (List Row)) (claimed : Option Claim) (ticket : TicketState) (old new : TableState K) → claimed ≡ Some (claim.Run ticket) → IsClaimed held claimed old new → IsOneStep held (event.Start ticket.task.run ticket.seq ticket.instance ticket.task.input) old new × IsTicketIn new.state ticket
+pub claimed_run : {K : Type 0} (held : K → Option (List Row)) (claimed : Option Claim) (ticket : TicketState) (old new : TableState K)
+    → claimed ≡ Some (claim.Run ticket) → IsClaimed held claimed old new
+    → IsOneStep held (event.Start ticket.task.run ticket.seq ticket.instance ticket.task.input) old new × IsTicketIn new.state ticket
 claimed_run held claimed ticket old new is done = subst (λ (c : Option Claim). IsClaimed held c old new) is done
 
-pub claimed_failed : {K : Type 0} (held : K → Option (List Row)) (claimed : Option Claim) (seq : ℕ) (cause : Cause) (old new : TableState K) → claimed ≡ Some (claim.Failed seq cause) → IsClaimed held claimed old new → IsOneStep held (event.StartFailed seq cause) old new
+pub claimed_failed : {K : Type 0} (held : K → Option (List Row)) (claimed : Option Claim) (seq : ℕ) (cause : Cause) (old new : TableState K)
+    → claimed ≡ Some (claim.Failed seq cause) → IsClaimed held claimed old new → IsOneStep held (event.StartFailed seq cause) old new
 claimed_failed held claimed seq cause old new is done = subst (λ (c : Option Claim). IsClaimed held c old new) is done
 
-pub IsStartFailed-kept : {K W B : Type 0} (held : K → Option (List Row)) (old : BookState K W B) (table : TableState K) (seq : ℕ) (cause : Cause) → old.status ≡ None → IsOneStep held (event.StartFailed seq cause) old.table table → book.IsStartFailed held old (record old { table = table })
+pub IsStartFailed-kept : {K W B : Type 0} (held : K → Option (List Row)) (old : BookState K W B) (table : TableState K) (seq : ℕ) (cause : Cause)
+    → old.status ≡ None → IsOneStep held (event.StartFailed seq cause) old.table table → book.IsStartFailed held old (record old { table = table })
 IsStartFailed-kept held old table seq cause going step = record {
   seq = seq;
   cause = cause;

@@ -7,9 +7,11 @@ use Rattle.wm_session.specs.Writing.{IsGiven, IsPartGiven}
 use Rattle.wm_session.specs.declared.book.Stop.{Stop}
 
 -- a text after a text is one text
-pub IsGiven-append : (before between now : Option (List ℕ)) (first second : List ℕ) → IsGiven before between first → IsGiven between now second → IsGiven before now (first ++ second)
+pub IsGiven-append : (before between now : Option (List ℕ)) (first second : List ℕ) → IsGiven before between first → IsGiven between now second
+    → IsGiven before now (first ++ second)
 IsGiven-append None between now first second given more = more ∙ ap (option_map (λ l. l ++ second)) given
-IsGiven-append (Some bytes) between now first second given more = more ∙ ap (option_map (λ l. l ++ second)) given ∙ ap (λ (l : List ℕ). Some l) (append_assoc bytes first second)
+IsGiven-append (Some bytes) between now first second given more =
+    more ∙ ap (option_map (λ l. l ++ second)) given ∙ ap (λ (l : List ℕ). Some l) (append_assoc bytes first second)
 
 -- nothing is given
 pub IsGiven-nothing : (before : Option (List ℕ)) → IsGiven before before []
@@ -17,14 +19,17 @@ IsGiven-nothing None = refl
 IsGiven-nothing (Some bytes) = ap (λ (l : List ℕ). Some l) (sym (append-nil bytes))
 
 -- a front of the text, and then a piece of its rest
-pub IsGiven-piece : (before between now : Option (List ℕ)) (text : List ℕ) (taken count : ℕ) → IsGiven before between (take taken text) → IsGiven between now (take count (take (length text - taken) (drop taken text))) → IsGiven before now (take (taken + count) text)
+pub IsGiven-piece : (before between now : Option (List ℕ)) (text : List ℕ) (taken count : ℕ) → IsGiven before between (take taken text)
+    → IsGiven between now (take count (take (length text - taken) (drop taken text))) → IsGiven before now (take (taken + count) text)
 IsGiven-piece before between now text taken count given more =
-    let tail : take (length text - taken) (drop taken text) ≡ drop taken text = take_all (length text - taken) (drop taken text) (omega (arith, length-drop taken text)) in
+    let tail : take (length text - taken) (drop taken text) ≡ drop taken text =
+    take_all (length text - taken) (drop taken text) (omega (arith, length-drop taken text)) in
     IsGiven-append before between now (take taken text) (take count (take (length text - taken) (drop taken text))) given more
     ∙ ap (λ (l : List ℕ). option_map (λ given. given ++ l) before) (ap (λ (l : List ℕ). take taken text ++ take count l) tail ∙ sym (take-add taken count text))
 
 -- what was taken of the pending was given, and the rest is pending
-pub AreTextsKept-taken : (before now : Option (List ℕ)) (pending left : List ℕ) (taken : ℕ) → IsGiven before now (take taken pending) → left ≡ drop taken pending → AreTextsKept None before now pending left
+pub AreTextsKept-taken : (before now : Option (List ℕ)) (pending left : List ℕ) (taken : ℕ) → IsGiven before now (take taken pending)
+    → left ≡ drop taken pending → AreTextsKept None before now pending left
 AreTextsKept-taken before now pending left taken given is = record {
   written = take taken pending;
   given = given;
@@ -32,7 +37,8 @@ AreTextsKept-taken before now pending left taken given is = record {
 }
 
 -- bytes that are the whole text are a front of it
-pub AreTextsKept-front : (why : Stop) (before now : Option (List ℕ)) (text pending : List ℕ) → AreTextsKept None before now text pending → AreTextsKept (Some why) before now text pending
+pub AreTextsKept-front : (why : Stop) (before now : Option (List ℕ)) (text pending : List ℕ) → AreTextsKept None before now text pending
+    → AreTextsKept (Some why) before now text pending
 AreTextsKept-front why before now text pending kept = record {
   written = kept.written;
   given = kept.given;
@@ -48,7 +54,9 @@ pub AreTextsKept-unwritten : (before : Option (List ℕ)) (pending : List ℕ) �
 AreTextsKept-unwritten before pending = record { written = []; given = IsGiven-nothing before; kept = refl }
 
 -- more text, and then more written or pending
-pub AreTextsKept-more : (status : Option Stop) (before between now : Option (List ℕ)) (text more pending left : List ℕ) → AreTextsKept None before between text pending → AreTextsKept status between now (pending ++ more) left → AreTextsKept status before now (text ++ more) left
+pub AreTextsKept-more : (status : Option Stop) (before between now : Option (List ℕ)) (text more pending left : List ℕ)
+    → AreTextsKept None before between text pending → AreTextsKept status between now (pending ++ more) left
+    → AreTextsKept status before now (text ++ more) left
 AreTextsKept-more None before between now text more pending left first then = record {
   written = first.written ++ then.written;
   given = IsGiven-append before between now first.written then.written first.given then.given;
@@ -71,12 +79,14 @@ AreTextsKept-more (Some why) before between now text more pending left first the
   );
 }
 
-AreTextsKept-whole : (status : Option Stop) (before now : Option (List ℕ)) (text pending : List ℕ) → AreTextsKept status before now text pending → (written : List ℕ) × (rest : List ℕ) × IsGiven before now written × (text ≡ (written ++ pending) ++ rest)
+AreTextsKept-whole : (status : Option Stop) (before now : Option (List ℕ)) (text pending : List ℕ) → AreTextsKept status before now text pending
+    → (written : List ℕ) × (rest : List ℕ) × IsGiven before now written × (text ≡ (written ++ pending) ++ rest)
 AreTextsKept-whole None before now text pending kept = (kept.written, [], kept.given, kept.kept ∙ sym (append-nil (kept.written ++ pending)))
 AreTextsKept-whole (Some why) before now text pending kept = (kept.written, kept.kept.0, kept.given, kept.kept.1)
 
 -- what was written in the end is a front of the text
-pub IsPartGiven-kept : (status : Option Stop) (before between now : Option (List ℕ)) (text pending left : List ℕ) → AreTextsKept status before between text pending → AreTextsKept None between now pending left → IsPartGiven before now text
+pub IsPartGiven-kept : (status : Option Stop) (before between now : Option (List ℕ)) (text pending left : List ℕ)
+    → AreTextsKept status before between text pending → AreTextsKept None between now pending left → IsPartGiven before now text
 IsPartGiven-kept status before between now text pending left kept more =
     let whole = AreTextsKept-whole status before between text pending kept in
     let first : List ℕ = whole.0 in
@@ -88,7 +98,8 @@ IsPartGiven-kept status before between now text pending left kept more =
     )
 
 -- where nothing is pending any more, the text was given
-pub IsGiven-kept : (before between now : Option (List ℕ)) (text pending left : List ℕ) → AreTextsKept None before between text pending → AreTextsKept None between now pending left → left ≡ [] → IsGiven before now text
+pub IsGiven-kept : (before between now : Option (List ℕ)) (text pending left : List ℕ) → AreTextsKept None before between text pending
+    → AreTextsKept None between now pending left → left ≡ [] → IsGiven before now text
 IsGiven-kept before between now text pending left kept more none =
     let whole : text ≡ kept.written ++ more.written =
     kept.kept ∙ ap (λ (l : List ℕ). kept.written ++ l) (more.kept ∙ ap (λ (l : List ℕ). more.written ++ l) none ∙ append-nil more.written) in

@@ -47,7 +47,8 @@ IsFronted held front.Stopped old new =
 -- ---- a start
 
 -- a run began: its ticket holds what it keeps, and the worker of its instance is out with the seat
-pub record IsBegun {K W B : Type 0} (held : K → Option (List Row)) (kind_of : B → Kind) (ticket : TicketState) (seat : Seat B) (signal : SignalState) (old new : BookState K W B) : Type 0 where
+pub record IsBegun {K W B : Type 0} (held : K → Option (List Row)) (kind_of : B → Kind) (ticket : TicketState) (seat : Seat B) (signal : SignalState)
+    (old new : BookState K W B) : Type 0 where
   pub goes_on : GoesOn old new
   pub step : IsOneStep held (event.Start ticket.task.run ticket.seq ticket.instance ticket.task.input) old.table new.table
   pub ticket_in : IsTicketIn new.table.state ticket
@@ -82,7 +83,8 @@ IsClaimed held kind_of job.Stopped old new = HasStopped held old new × (new.pla
 -- ---- a report
 
 -- a run is over, and its worker is at its place again
-pub record IsOver {K W B : Type 0} (held : K → Option (List Row)) (ticket : TicketState) (seat : Seat B) (told : Report) (old new : BookState K W B) : Type 0 where
+pub record IsOver {K W B : Type 0} (held : K → Option (List Row)) (ticket : TicketState) (seat : Seat B) (told : Report)
+    (old new : BookState K W B) : Type 0 where
   pub goes_on : GoesOn old new
   pub counts : CountsIn old.table.state ticket.task.run told
   pub finished : IsFinished held ticket.task.run told old.table new.table
@@ -91,7 +93,8 @@ pub record IsOver {K W B : Type 0} (held : K → Option (List Row)) (ticket : Ti
 
 -- Over where what was told counts, with its event; Again where it doesn't, and nothing changes; Stopped where the session has stopped
 -- early, and the worker is at its place again
-abbrev pub IsReported : {K W B : Type 0} → (K → Option (List Row)) → TicketState → Seat B → Result Report AllocError → After B → BookState K W B → BookState K W B → Type 0
+abbrev pub IsReported : {K W B : Type 0} → (K → Option (List Row)) → TicketState → Seat B → Result Report AllocError → After B → BookState K W B
+    → BookState K W B → Type 0
 IsReported held ticket seat (Ok told) after.Over old new = IsOver held ticket seat told old new
 IsReported held ticket seat (Ok told) (after.Again same kept) old new =
     (old.status ≡ None) × (CountsIn old.table.state ticket.task.run told → ⊥) × (same ≡ ticket) × (kept ≡ seat) × (new ≡ old)

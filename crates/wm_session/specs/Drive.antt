@@ -19,10 +19,12 @@ use Rattle.wm_worker.specs.declared.answer.Given.TheVariants as given
 -- what a worker has written down once it has told this, where it did
 abbrev pub HasWritten : {B : Type 0} → (B → Option (List Entry)) → TicketState → B → B → Result Report AllocError → Type 0
 HasWritten diary_of ticket worker now told =
-    IfOk told (λ answered. diary_of now ≡ diary_with (turn_entries ticket.task.run ticket.k answered.answer) (diary_with (Begun ticket.task.run ∷ []) (diary_of worker)))
+    IfOk told
+    (λ answered. diary_of now ≡ diary_with (turn_entries ticket.task.run ticket.k answered.answer) (diary_with (Begun ticket.task.run ∷ []) (diary_of worker)))
 
 -- the run is over, and its worker, which has written down that it began and what it gave, is at its place again
-pub record IsDone {K W B : Type 0} (held : K → Option (List Row)) (diary_of : B → Option (List Entry)) (ticket : TicketState) (worker : B) (old new : BookState K W B) : Type 0 where
+pub record IsDone {K W B : Type 0} (held : K → Option (List Row)) (diary_of : B → Option (List Entry)) (ticket : TicketState) (worker : B)
+    (old new : BookState K W B) : Type 0 where
   pub output : List DataEntry
   pub back : B
   pub goes_on : GoesOn old new

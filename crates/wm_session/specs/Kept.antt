@@ -39,10 +39,11 @@ abbrev pub AreAwayKept : {K W B : Type 0} → Option Stop → BookState K W B �
 AreAwayKept None book = map (λ place. is_away place.presence) book.places ≡ map (λ instance. instance.out) book.table.state.instances
 AreAwayKept (Some why) book = Unit {0}
 
--- The facts of a book, of what its run was given: the log replays from the first state to the state now, which is valid; its commands are the lines up to the one that
--- is next; the bytes written and pending are its text; the rows held are those of the state; the workers are the instances; and the
--- counts of faults haven't fallen, and have risen where a fault stopped the session.
-pub record IsBookKept {K W B : Type 0} (run : Given) (kind_of : B → Kind) (held : K → Option (List Row)) (keeper_faults : K → ℕ) (given : W → Option (List ℕ)) (sink_faults : W → ℕ) (book : BookState K W B) : Type 0 where
+-- The facts of a book, of what its run was given: the log replays from the first state to the state now, which is valid; its commands are
+-- the lines up to the one that is next; the bytes written and pending are its text; the rows held are those of the state; the workers are
+-- the instances; and the counts of faults haven't fallen, and have risen where a fault stopped the session.
+pub record IsBookKept {K W B : Type 0} (run : Given) (kind_of : B → Kind) (held : K → Option (List Row)) (keeper_faults : K → ℕ) (given : W → Option (List ℕ))
+    (sink_faults : W → ℕ) (book : BookState K W B) : Type 0 where
   pub first : book.table.first ≡ run.first
   pub replay : Replay book.table.first book.table.log book.table.state
   pub valid : Valid book.table.state

@@ -26,7 +26,8 @@ abbrev pub plain_work : List ℕ → List ℕ → Node
 plain_work id class = record { request = plain_request id class; after = [] }
 
 -- where a plain work isn't refused, its record is within the limits of a row
-pub FitsRow-placed : (s : State) (id class : List ℕ) → Valid s → refusal_of s (plain_work id class ∷ []) ≡ None → FitsRow (placed_record s None (plain_work id class))
+pub FitsRow-placed : (s : State) (id class : List ℕ) → Valid s → refusal_of s (plain_work id class ∷ []) ≡ None
+    → FitsRow (placed_record s None (plain_work id class))
 FitsRow-placed s id class valid accepted =
     let fits = room s (plain_work id class ∷ []) accepted in
     record {
@@ -49,7 +50,12 @@ rows-placed s work valid next =
     put_row-above (row_of work) (rows_of s) (rw next below) ∙ sym (map-push row_of s.works work)
 
 -- a plain work is placed
-pub placing-step : {K : Type 0} (held : K → Option (List Row)) (old new : TableState K) (line : ℕ) (batch : Batch) (plain : IsPlain batch.works) → Valid old.state → HoldsRowsOf old.state (held old.keeper) → refusal_of old.state batch.works ≡ None → new.first ≡ old.first → new.state ≡ with_work old.state (placed_record old.state None (plain_work plain.id plain.class)) → new.log ≡ old.log ++ event.Command line (command.Enqueue None batch) (reply.Enqueued (old.state.next ∷ [])) ∷ [] → held new.keeper ≡ option_map (put_row (row_of (placed_record old.state None (plain_work plain.id plain.class)))) (held old.keeper) → IsOneStep held (event.Command line (command.Enqueue None batch) (reply.Enqueued (old.state.next ∷ []))) old new
+pub placing-step : {K : Type 0} (held : K → Option (List Row)) (old new : TableState K) (line : ℕ) (batch : Batch) (plain : IsPlain batch.works)
+    → Valid old.state → HoldsRowsOf old.state (held old.keeper) → refusal_of old.state batch.works ≡ None → new.first ≡ old.first
+    → new.state ≡ with_work old.state (placed_record old.state None (plain_work plain.id plain.class))
+    → new.log ≡ old.log ++ event.Command line (command.Enqueue None batch) (reply.Enqueued (old.state.next ∷ [])) ∷ []
+    → held new.keeper ≡ option_map (put_row (row_of (placed_record old.state None (plain_work plain.id plain.class)))) (held old.keeper)
+    → IsOneStep held (event.Command line (command.Enqueue None batch) (reply.Enqueued (old.state.next ∷ []))) old new
 placing-step held old new line batch plain valid holds accepted first state appended rows =
     let s = old.state in
     let work = plain_work plain.id plain.class in
@@ -64,6 +70,7 @@ placing-step held old new line batch plain valid holds accepted first state appe
       appended = appended;
       rows =
           rows
-          ∙ rows-put s (with_work s (placed_record s None work)) (row_of (placed_record s None work)) (held old.keeper) holds (rows-placed s (placed_record s None work) valid refl)
+          ∙ rows-put s (with_work s (placed_record s None work)) (row_of (placed_record s None work)) (held old.keeper) holds
+          (rows-placed s (placed_record s None work) valid refl)
           ∙ ap (λ (t : State). option_map (λ _. rows_of t) (held old.keeper)) (sym state);
     }

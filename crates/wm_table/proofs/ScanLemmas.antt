@@ -19,12 +19,16 @@ unfolding due_of
 due_of-valid work valid = rw (valid.no_retry) (rw (valid.one_time) refl)
 
 -- the idle instance is the one at the place of the first that is idle
-pub idle_instance-at : (instances : List Instance) (class : List ℕ) (index : Option ℕ) → index ≡ position (is_idle class) instances → MatchOption index (idle_instance instances class ≡ None) (λ i. (i < length instances) × (idle_instance instances class ≡ slice_get instances i))
+pub idle_instance-at : (instances : List Instance) (class : List ℕ) (index : Option ℕ) → index ≡ position (is_idle class) instances
+    → MatchOption index (idle_instance instances class ≡ None) (λ i. (i < length instances) × (idle_instance instances class ≡ slice_get instances i))
 unfolding idle_instance
 idle_instance-at instances class index is =
     let place = position_or_len (is_idle class) instances in
     let found = find_at (is_idle class) instances in
-    rw is (cond_both (ltb place (length instances)) (Some place) None (λ (o : Option ℕ). MatchOption o (find (is_idle class) instances ≡ None) (λ i. (i < length instances) × (find (is_idle class) instances ≡ slice_get instances i))) (λ e. (ltb-true _ _ e, found)) (λ e. found ∙ slice_get_past instances place (ltb-false _ _ e)))
+    rw is
+    (cond_both (ltb place (length instances)) (Some place) None (λ (o : Option ℕ). MatchOption o (find (is_idle class) instances ≡ None)
+    (λ i. (i < length instances) × (find (is_idle class) instances ≡ slice_get instances i))) (λ e. (ltb-true _ _ e, found)) (λ e. found
+    ∙ slice_get_past instances place (ltb-false _ _ e)))
 
 -- the startable work from an index on that starts next
 abbrev pub first_from : State → ℕ → Option Record
@@ -34,12 +38,14 @@ drop-at : (works : List Record) (i j : ℕ) (work : Record) → j ≡ i + 1 → 
 drop-at works i j work next below is = let e = drop_more works i work below in cc
 
 -- with a startable work more, the first is the earlier of it and the first so far
-pub first_from-startable : (s : State) (i j : ℕ) (work : Record) → j ≡ i + 1 → i < length s.works → work ≡ get_or s.works i work → is_startable s work ≡ true → first_from s i ≡ Some (earlier_of work (first_from s j))
+pub first_from-startable : (s : State) (i j : ℕ) (work : Record) → j ≡ i + 1 → i < length s.works → work ≡ get_or s.works i work → is_startable s work ≡ true
+    → first_from s i ≡ Some (earlier_of work (first_from s j))
 first_from-startable s i j work next below is startable =
     rw (drop-at s.works i j work next below is) (rw startable refl)
 
 -- the first work from the beginning on is the first of all
-pub first_of-at : (s : State) (index : ℕ) (first : Option ℕ) → index ≤ 0 → first_from s index ≡ option_and_then (slice_get s.works) first → IfSome first (λ i. i < length s.works) → MatchOption first (first_of s ≡ None) (λ i. (i < length s.works) × (first_of s ≡ slice_get s.works i))
+pub first_of-at : (s : State) (index : ℕ) (first : Option ℕ) → index ≤ 0 → first_from s index ≡ option_and_then (slice_get s.works) first
+    → IfSome first (λ i. i < length s.works) → MatchOption first (first_of s ≡ None) (λ i. (i < length s.works) × (first_of s ≡ slice_get s.works i))
 unfolding first_of
 first_of-at s zero None begun is within = is
 first_of-at s zero (Some i) begun is within = (within, is)

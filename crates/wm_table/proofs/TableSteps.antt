@@ -55,7 +55,8 @@ HoldsRowsOf-told now None held is = is ∙ ap (option_map (λ _. rows_of now)) (
 HoldsRowsOf-told now (Some rows) held is = is ∙ ap (option_map (λ _. rows_of now)) (sym is)
 
 -- a row that is put among the rows of a state makes those of another
-pub rows-put : (s t : State) (row : Row) (held : Option (List Row)) → HoldsRowsOf s held → put_row row (rows_of s) ≡ rows_of t → option_map (put_row row) held ≡ option_map (λ _. rows_of t) held
+pub rows-put : (s t : State) (row : Row) (held : Option (List Row)) → HoldsRowsOf s held → put_row row (rows_of s) ≡ rows_of t
+    → option_map (put_row row) held ≡ option_map (λ _. rows_of t) held
 rows-put s t row None holds makes = refl
 rows-put s t row (Some rows) holds makes =
     let same : rows ≡ rows_of s = cc in
@@ -102,7 +103,9 @@ holds_none None none = refl
 holds_none (Some rows) none = ap (λ (rs : List Row). Some rs) (sym none)
 
 -- what a table keeps when it begins
-pub kept-opening : (instances : List Instance) (rows : List Row) (held : Option (List Row)) (first s : State) (log : List Event) → AreFresh instances → IfSome held (λ stored. rows ≡ stored) → rows ≡ [] → first ≡ opening_state [] instances → s ≡ opening_state [] instances → log ≡ [] → IsTableKept first s log held
+pub kept-opening : (instances : List Instance) (rows : List Row) (held : Option (List Row)) (first s : State) (log : List Event) → AreFresh instances
+    → IfSome held (λ stored. rows ≡ stored) → rows ≡ [] → first ≡ opening_state [] instances → s ≡ opening_state [] instances → log ≡ []
+    → IsTableKept first s log held
 kept-opening instances rows held first s log fresh told none first_is s_is log_is =
     let stored : IfSome held (λ stored. [] ≡ stored) = subst (λ (rs : List Row). IfSome held (λ stored. rs ≡ stored)) none told in
     rw (first_is, s_is, log_is) (record {
@@ -123,7 +126,8 @@ next_run-state_by s t None same = same
 next_run-state_by s t (Some found) same = refl
 
 next_run-command : (s : State) (asked : Command) → (after_command s asked).next_run ≡ s.next_run
-next_run-command s (command.Enqueue None batch) = next_run-state_by s (placed s None batch.works) (refusal_of s batch.works) (next_run-placed s None batch.works)
+next_run-command s (command.Enqueue None batch) =
+    next_run-state_by s (placed s None batch.works) (refusal_of s batch.works) (next_run-placed s None batch.works)
 next_run-command s _ = refl
 
 next_run-start_on : (s : State) (work : Record) (idle : Option Instance) → (start_on s work idle).next_run ≤ s.next_run + 1
@@ -149,31 +153,41 @@ next_run-after s _ = omega arith
 -- ---- what a table keeps
 
 module _ {K : Type 0} (held : K → Option (List Row)) (old new : TableState K) where
-  pub kept-step : (e : Event) → IsTableKept old.first old.state old.log (held old.keeper) → IsOneStep held e old new → IsTableKept new.first new.state new.log (held new.keeper)
+  pub kept-step : (e : Event) → IsTableKept old.first old.state old.log (held old.keeper) → IsOneStep held e old new
+      → IsTableKept new.first new.state new.log (held new.keeper)
   kept-step e kept step =
       let reached : Replay old.first (old.log ++ e ∷ []) (after old.state e) = Replay-push old.first old.log old.state e kept.replay step.legal in
       record {
-        replay = subst (λ (first : State). Replay first new.log new.state) (sym step.first) (subst (λ (log : List Event). Replay old.first log new.state) (sym step.appended) (subst (λ (s : State). Replay old.first (old.log ++ e ∷ []) s) (sym step.state) reached));
+        replay = subst (λ (first : State). Replay first new.log new.state) (sym step.first)
+            (subst (λ (log : List Event). Replay old.first log new.state) (sym step.appended)
+            (subst (λ (s : State). Replay old.first (old.log ++ e ∷ []) s) (sym step.state) reached));
         valid = subst Valid (sym step.state) (Valid-after old.state e kept.valid step.legal);
         rows = HoldsRowsOf-told new.state (held old.keeper) (held new.keeper) step.rows;
         few_runs =
             let longer : length new.log ≡ length old.log + 1 = ap length step.appended ∙ length-append old.log (e ∷ []) in
-            let more : new.state.next_run ≤ old.state.next_run + 1 = subst (λ (s : State). s.next_run ≤ old.state.next_run + 1) (sym step.state) (next_run-after old.state e) in
+            let more : new.state.next_run ≤ old.state.next_run + 1 =
+            subst (λ (s : State). s.next_run ≤ old.state.next_run + 1) (sym step.state) (next_run-after old.state e) in
             omega (arith, kept.few_runs);
       }
 
-  pub kept-untouched : IsTableKept old.first old.state old.log (held old.keeper) → IsUntouched held old new → IsTableKept new.first new.state new.log (held new.keeper)
+  pub kept-untouched : IsTableKept old.first old.state old.log (held old.keeper) → IsUntouched held old new
+      → IsTableKept new.first new.state new.log (held new.keeper)
   kept-untouched kept same = record {
-    replay = subst (λ (first : State). Replay first new.log new.state) (sym same.first) (subst (λ (log : List Event). Replay old.first log new.state) (sym same.log) (subst (λ (s : State). Replay old.first old.log s) (sym same.state) kept.replay));
+    replay = subst (λ (first : State). Replay first new.log new.state) (sym same.first)
+        (subst (λ (log : List Event). Replay old.first log new.state) (sym same.log)
+        (subst (λ (s : State). Replay old.first old.log s) (sym same.state) kept.replay));
     valid = subst Valid (sym same.state) kept.valid;
-    rows = subst (λ (rows : Option (List Row)). HoldsRowsOf new.state rows) (sym same.rows) (subst (λ (s : State). HoldsRowsOf s (held old.keeper)) (sym same.state) kept.rows);
+    rows = subst (λ (rows : Option (List Row)). HoldsRowsOf new.state rows) (sym same.rows)
+        (subst (λ (s : State). HoldsRowsOf s (held old.keeper)) (sym same.state) kept.rows);
     few_runs = omega (arith, kept.few_runs, ap (λ (s : State). s.next_run) same.state, ap length same.log);
   }
 
 -- the same, where the log alone has changed
-pub kept-same : (first s : State) (log longer : List Event) (held : Option (List Row)) (e : Event) → IsTableKept first s log held → Legal s e → after s e ≡ s → longer ≡ log ++ e ∷ [] → IsTableKept first s longer held
+pub kept-same : (first s : State) (log longer : List Event) (held : Option (List Row)) (e : Event) → IsTableKept first s log held → Legal s e → after s e ≡ s
+    → longer ≡ log ++ e ∷ [] → IsTableKept first s longer held
 kept-same first s log longer held e kept legal same appended =
-    kept-step (λ (rows : Option (List Row)). rows) (record { first = first; state = s; log = log; keeper = held }) (record { first = first; state = s; log = longer; keeper = held }) e kept
+    kept-step (λ (rows : Option (List Row)). rows) (record { first = first; state = s; log = log; keeper = held })
+    (record { first = first; state = s; log = longer; keeper = held }) e kept
     (record { first = refl; legal = legal; state = sym same; appended = appended; rows = kept.rows })
 
 -- ---- replies and rest
@@ -181,7 +195,8 @@ kept-same first s log longer held e kept legal same appended =
 -- nothing is told of data, since no record has any
 pub infos-tell : (s : State) → Valid s → AllByRecursion TellsNoData (infos_of s)
 unfolding infos_of
-infos-tell s valid = All-map IsValidRecord TellsNoData (info_of s.works) s.works (λ work is. record { output = is.no_data.output; progress = is.no_progress }) valid.records
+infos-tell s valid =
+    All-map IsValidRecord TellsNoData (info_of s.works) s.works (λ work is. record { output = is.no_data.output; progress = is.no_progress }) valid.records
 
 -- something stands at each index
 none-within : {T : Type 0} (xs : List T) (i : ℕ) → i < length xs → slice_get xs i ≡ None → ⊥
@@ -195,7 +210,9 @@ empty-from_length [] none = refl
 empty-from_length (x ∷ xs) none = absurd (omega arith)
 
 -- where no run is unreturned, nothing is left to do exactly where no index of a work that is first was found
-pub quiet-told : (s : State) (found : Option ℕ) (told : Bool) → MatchOption found (first_of s ≡ None) (λ i. (i < length s.works) × (first_of s ≡ slice_get s.works i)) → is_some found ≡ not told → s.runs ≡ [] → IsTrue told ↔ IsQuiet s
+pub quiet-told : (s : State) (found : Option ℕ) (told : Bool)
+    → MatchOption found (first_of s ≡ None) (λ i. (i < length s.works) × (first_of s ≡ slice_get s.works i)) → is_some found ≡ not told → s.runs ≡ []
+    → IsTrue told ↔ IsQuiet s
 quiet-told s None true is none no_run = (λ t. record { nothing_startable = is; no_run = no_run }, λ q. refl)
 quiet-told s None false is none no_run = absurd (true≢false (sym none))
 quiet-told s (Some i) true is none no_run = absurd (true≢false none)
@@ -212,7 +229,10 @@ pub record Chosen (s : State) (i j : ℕ) (work : Record) (idle : Instance) : Ty
   pub within : idle.number < length s.instances
 
 -- what was read at the indices where these stand are they
-pub chosen : (s t : State) (works : List Record) (instances : List Instance) (i j : ℕ) (work : Record) (idle : Instance) → Valid s → t ≡ s → works ≡ s.works → instances ≡ s.instances → i < length t.works → first_of t ≡ slice_get t.works i → j < length t.instances → IfSome (slice_get t.works i) (λ w. idle_instance t.instances w.request.class ≡ slice_get t.instances j) → work ≡ get_or works i work → idle ≡ get_or instances j idle → Chosen s i j work idle
+pub chosen : (s t : State) (works : List Record) (instances : List Instance) (i j : ℕ) (work : Record) (idle : Instance) → Valid s → t ≡ s → works ≡ s.works
+    → instances ≡ s.instances → i < length t.works → first_of t ≡ slice_get t.works i → j < length t.instances
+    → IfSome (slice_get t.works i) (λ w. idle_instance t.instances w.request.class ≡ slice_get t.instances j) → work ≡ get_or works i work
+    → idle ≡ get_or instances j idle → Chosen s i j work idle
 chosen s t works instances i j work idle valid same works_is instances_is i_below first j_below is_idle work_is idle_is =
     let at : slice_get s.works i ≡ Some work = at-read s.works works i work works_is (subst (λ (u : State). i < length u.works) same i_below) work_is in
     let below : j < length s.instances = subst (λ (u : State). j < length u.instances) same j_below in
@@ -229,13 +249,15 @@ chosen s t works instances i j work idle valid same works_is instances_is i_belo
 
 -- the state in which a run has begun
 abbrev pub begun : State → ℕ → Record → Run → State
-begun s i work run = record s { works = set s.works i work; runs = s.runs ++ run ∷ []; instances = with_out true run.instance s.instances; next_run = s.next_run + 1 }
+begun s i work run =
+    record s { works = set s.works i work; runs = s.runs ++ run ∷ []; instances = with_out true run.instance s.instances; next_run = s.next_run + 1 }
 
 -- the ticket of the run that begins
 pub begun-ticket : (s t : State) (i : ℕ) (work : Record) (run : Run) → Valid s → run.run ≡ s.next_run → t ≡ begun s i work run → IsTicketIn t (ticket_of run)
 begun-ticket s t i work run valid number state =
     let below = All-weaker (IsValidRun s) (λ r. r.run < run.run) s.runs (λ r is. subst (λ n. r.run < n) (sym number) is.number) valid.runs in
-    let found : run_numbered run.run t.runs ≡ Some run = ap (λ (u : State). run_numbered run.run u.runs) state ∙ run_numbered-push run.run s.runs run below refl in
+    let found : run_numbered run.run t.runs ≡ Some run =
+    ap (λ (u : State). run_numbered run.run u.runs) state ∙ run_numbered-push run.run s.runs run below refl in
     subst (λ (o : Option Run). IsSomeAnd o (λ r. ticket_of run ≡ ticket_of r)) (sym found) refl
 
 -- the run that the report counts for
@@ -246,9 +268,12 @@ pub record Reported (s : State) (place : ℕ) (run : Run) (told : Report) : Type
   pub valid : IsValidRun s run
 
 -- what was read at a place where such a run stands is that run
-pub reported : (s t : State) (read : List Run) (place : ℕ) (run : Run) (told : Report) → Valid s → t ≡ s → read ≡ s.runs → run ≡ get_or read place run → IsSomeAnd (slice_get t.runs place) (λ r. Counts r told × (run_numbered r.run t.runs ≡ Some r)) → Reported s place run told
+pub reported : (s t : State) (read : List Run) (place : ℕ) (run : Run) (told : Report) → Valid s → t ≡ s → read ≡ s.runs → run ≡ get_or read place run
+    → IsSomeAnd (slice_get t.runs place) (λ r. Counts r told × (run_numbered r.run t.runs ≡ Some r)) → Reported s place run told
 reported s t read place run told valid same read_is is some =
-    let there = at-some (λ r. Counts r told × (run_numbered r.run s.runs ≡ Some r)) s.runs read place run read_is is (subst (λ (u : State). IsSomeAnd (slice_get u.runs place) (λ r. Counts r told × (run_numbered r.run u.runs ≡ Some r))) same some) in
+    let there =
+    at-some (λ r. Counts r told × (run_numbered r.run s.runs ≡ Some r)) s.runs read place run read_is is
+    (subst (λ (u : State). IsSomeAnd (slice_get u.runs place) (λ r. Counts r told × (run_numbered r.run u.runs ≡ Some r))) same some) in
     record { at = there.0; counts = there.1.0; found = there.1.1; valid = All-at (IsValidRun s) s.runs place run valid.runs there.0 }
 
 waits : (p : Phase) → is_waiting p ≡ true → p ≡ phase.Waiting
@@ -257,7 +282,8 @@ waits phase.Running is = absurd (cc)
 waits (phase.Done how) is = absurd (cc)
 
 -- an Echo that took nothing may give nothing
-pub echo-gives : (kind : Kind) (input output : List DataEntry) (attempt turn : ℕ) → kind ≡ Echo → input ≡ [] → output ≡ [] → MayGive kind input attempt turn (given.Success output)
+pub echo-gives : (kind : Kind) (input output : List DataEntry) (attempt turn : ℕ) → kind ≡ Echo → input ≡ [] → output ≡ []
+    → MayGive kind input attempt turn (given.Success output)
 echo-gives kind input output attempt turn echo none nothing =
     subst (λ k. MayGive k input attempt turn (given.Success output)) (sym echo) (ap (λ (d : List DataEntry). given.Success d) (nothing ∙ sym none))
 
@@ -268,47 +294,91 @@ first-waits s work is_first = waits work.phase (first_of-waiting s work is_first
 module _ {K : Type 0} (held : K → Option (List Row)) (old new : TableState K) where
   module _ (valid : Valid old.state) (holds : HoldsRowsOf old.state (held old.keeper)) (first : new.first ≡ old.first) where
     -- an event that changes the record at an index
-    row-step : (change : Record → Record) (i : ℕ) (work : Record) → KeepsSeq change → slice_get old.state.works i ≡ Some work → new.state.works ≡ set old.state.works i (change work) → held new.keeper ≡ option_map (put_row (row_of (change work))) (held old.keeper) → held new.keeper ≡ option_map (λ _. rows_of new.state) (held old.keeper)
+    row-step : (change : Record → Record) (i : ℕ) (work : Record) → KeepsSeq change → slice_get old.state.works i ≡ Some work
+        → new.state.works ≡ set old.state.works i (change work) → held new.keeper ≡ option_map (put_row (row_of (change work))) (held old.keeper)
+        → held new.keeper ≡ option_map (λ _. rows_of new.state) (held old.keeper)
     row-step change i work keeps at works rows =
         rows ∙ rows-put old.state new.state (row_of (change work)) (held old.keeper) holds
-        (rows-changed change old.state.works i work keeps valid.ascending at ∙ ap (map row_of) (changed_work-at change old.state.works i work valid.ascending at ∙ sym works))
+        (rows-changed change old.state.works i work keeps valid.ascending at ∙ ap (map row_of)
+        (changed_work-at change old.state.works i work valid.ascending at ∙ sym works))
 
     -- a run begins
-    pub start-step : (i : ℕ) (work : Record) (idle : Instance) → slice_get old.state.works i ≡ Some work → first_of old.state ≡ Some work → idle_instance old.state.instances work.request.class ≡ Some idle → new.state ≡ record old.state { works = set old.state.works i (started work); runs = old.state.runs ++ run_on old.state work idle ∷ []; instances = with_out true idle.number old.state.instances; next_run = old.state.next_run + 1 } → new.log ≡ old.log ++ event.Start old.state.next_run work.seq idle.number work.request.input ∷ [] → held new.keeper ≡ option_map (put_row (row_of (started work))) (held old.keeper) → IsOneStep held (event.Start old.state.next_run work.seq idle.number work.request.input) old new
+    pub start-step : (i : ℕ) (work : Record) (idle : Instance) → slice_get old.state.works i ≡ Some work → first_of old.state ≡ Some work
+        → idle_instance old.state.instances work.request.class ≡ Some idle
+        → new.state ≡ record old.state {
+          works = set old.state.works i (started work);
+          runs = old.state.runs ++ run_on old.state work idle ∷
+              [];
+          instances = with_out true idle.number old.state.instances;
+          next_run = old.state.next_run + 1;
+        }
+        → new.log ≡ old.log ++ event.Start old.state.next_run work.seq idle.number work.request.input ∷ []
+        → held new.keeper ≡ option_map (put_row (row_of (started work))) (held old.keeper)
+        → IsOneStep held (event.Start old.state.next_run work.seq idle.number work.request.input) old new
     start-step i work idle at is_first is_idle state appended rows = record {
       first = first;
       legal = record { work = work; idle = idle; is_first = is_first; is_idle = is_idle; run_is = refl; seq_is = refl; instance_is = refl; input_is = refl };
       state =
           state
-          ∙ ap (λ (works : List Record). record old.state { works = works; runs = old.state.runs ++ run_on old.state work idle ∷ []; instances = with_out true idle.number old.state.instances; next_run = old.state.next_run + 1 }) (sym (changed_work-at started old.state.works i work valid.ascending at))
+          ∙ ap
+          (λ (works : List Record). record old.state {
+            works = works;
+            runs = old.state.runs ++ run_on old.state work idle ∷
+                [];
+            instances = with_out true idle.number old.state.instances;
+            next_run = old.state.next_run + 1;
+          })
+          (sym (changed_work-at started old.state.works i work valid.ascending at))
           ∙ sym (ap (start_of old.state) is_first ∙ ap (start_on old.state work) is_idle);
       appended = appended;
       rows = row-step started i work (λ w. refl) at (ap (λ (s : State). s.works) state) rows;
     }
 
     -- a work can't start
-    pub failure-step : (i : ℕ) (work : Record) → slice_get old.state.works i ≡ Some work → first_of old.state ≡ Some work → idle_instance old.state.instances work.request.class ≡ None → new.state ≡ record old.state { works = set old.state.works i (closed how.Failed work) } → new.log ≡ old.log ++ event.StartFailed work.seq NoWorker ∷ [] → held new.keeper ≡ option_map (put_row (row_of (closed how.Failed work))) (held old.keeper) → IsOneStep held (event.StartFailed work.seq NoWorker) old new
+    pub failure-step : (i : ℕ) (work : Record) → slice_get old.state.works i ≡ Some work → first_of old.state ≡ Some work
+        → idle_instance old.state.instances work.request.class ≡ None → new.state ≡ record old.state { works = set old.state.works i (closed how.Failed work) }
+        → new.log ≡ old.log ++ event.StartFailed work.seq NoWorker ∷ []
+        → held new.keeper ≡ option_map (put_row (row_of (closed how.Failed work))) (held old.keeper)
+        → IsOneStep held (event.StartFailed work.seq NoWorker) old new
     failure-step i work at is_first none state appended rows = record {
       first = first;
       legal = record { work = work; is_first = is_first; has_no_worker = first_of-no_worker old.state work is_first none; seq_is = refl; cause_is = refl };
       state =
           state
-          ∙ ap (λ (works : List Record). record old.state { works = works }) (sym (changed_work-at (closed how.Failed) old.state.works i work valid.ascending at));
+          ∙ ap (λ (works : List Record). record old.state { works = works })
+          (sym (changed_work-at (closed how.Failed) old.state.works i work valid.ascending at));
       appended = appended;
       rows = row-step (closed how.Failed) i work (λ w. refl) at (ap (λ (s : State). s.works) state) rows;
     }
 
     -- a run is over, and its work has succeeded
-    pub success-step : (i place : ℕ) (work : Record) (run : Run) (output : List DataEntry) → slice_get old.state.works i ≡ Some work → work.seq ≡ run.seq → slice_get old.state.runs place ≡ Some run → run_numbered run.run old.state.runs ≡ Some run → run.current ≡ true → MayGive run.kind run.input run.attempt run.turn (given.Success output) → new.state ≡ record old.state { works = set old.state.works i (succeeded output work); runs = remove old.state.runs place; instances = with_out false run.instance old.state.instances } → new.log ≡ old.log ++ event.Finish run.run (end.Success output) ∷ [] → held new.keeper ≡ option_map (put_row (row_of (succeeded output work))) (held old.keeper) → IsOneStep held (event.Finish run.run (end.Success output)) old new
+    pub success-step : (i place : ℕ) (work : Record) (run : Run) (output : List DataEntry) → slice_get old.state.works i ≡ Some work → work.seq ≡ run.seq
+        → slice_get old.state.runs place ≡ Some run → run_numbered run.run old.state.runs ≡ Some run → run.current ≡ true
+        → MayGive run.kind run.input run.attempt run.turn (given.Success output)
+        → new.state ≡ record old.state {
+          works = set old.state.works i
+              (succeeded output work);
+          runs = remove old.state.runs place;
+          instances = with_out false run.instance old.state.instances;
+        }
+        → new.log ≡ old.log ++ event.Finish run.run (end.Success output) ∷ []
+        → held new.keeper ≡ option_map (put_row (row_of (succeeded output work))) (held old.keeper)
+        → IsOneStep held (event.Finish run.run (end.Success output)) old new
     success-step i place work run output at seq there found current may_give state appended rows = record {
       first = first;
       legal = record { run = run; is_running = found; is_current = current; may_give = may_give };
       state =
-          let works : set old.state.works i (succeeded output work) ≡ changed_work (succeeded output) run.seq old.state.works = sym (changed_work-at (succeeded output) old.state.works i work valid.ascending at) ∙ ap (λ n. changed_work (succeeded output) n old.state.works) seq in
+          let works : set old.state.works i (succeeded output work) ≡ changed_work (succeeded output) run.seq old.state.works =
+          sym (changed_work-at (succeeded output) old.state.works i work valid.ascending at) ∙ ap
+          (λ n. changed_work (succeeded output) n old.state.works) seq in
           let runs : remove old.state.runs place ≡ other_runs run.run old.state.runs = remove-run old.state.runs place run valid.apart there in
           state
-          ∙ ap (λ (works : List Record). record old.state { works = works; runs = remove old.state.runs place; instances = with_out false run.instance old.state.instances }) works
-          ∙ ap (λ (runs : List Run). record old.state { works = changed_work (succeeded output) run.seq old.state.works; runs = runs; instances = with_out false run.instance old.state.instances }) runs
+          ∙ ap
+          (λ (works : List Record). record old.state
+          { works = works; runs = remove old.state.runs place; instances = with_out false run.instance old.state.instances }) works
+          ∙ ap
+          (λ (runs : List Run). record old.state
+          { works = changed_work (succeeded output) run.seq old.state.works; runs = runs; instances = with_out false run.instance old.state.instances }) runs
           ∙ sym (ap (λ (found : Option Run). success_of old.state found output) found);
       appended = appended;
       rows = row-step (succeeded output) i work (λ w. refl) at (ap (λ (s : State). s.works) state) rows;

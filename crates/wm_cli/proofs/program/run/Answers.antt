@@ -20,7 +20,8 @@ returns-in-Err-clause-serial g c =
     let ended = c.before_begin-in-Err.result in
     ForScript-any (g.S.Source.left c.args.source.now) (λ bytes. IsSerialRun (commands_in bytes) ended.status ended.first ended.log ended.last)
     (λ bytes. IsSerialRun-unopened (commands_in bytes) ended.status ended.first ended.log ended.last (IsBuilt-commands_in bytes)
-    (λ done. not_done c.in-Err.status _ _ _ c.in-Err.ensures.status (sym c.before_begin-in-Err.ensures.status ∙ done)) c.before_begin-in-Err.ensures.first c.before_begin-in-Err.ensures.log)
+    (λ done. not_done c.in-Err.status _ _ _ c.in-Err.ensures.status
+    (sym c.before_begin-in-Err.ensures.status ∙ done)) c.before_begin-in-Err.ensures.first c.before_begin-in-Err.ensures.log)
 
 pub returns-in-Ok-clause-stored_row : goal.returns-in-Ok-clause-stored_row
 returns-in-Ok-clause-stored_row g c = λ row rest words within source held keeper. c.run_commands.ensures.stored_row row rest held keeper
@@ -35,7 +36,8 @@ returns-in_default-clause-commands g c =
 pub returns-in_default-clause-bytes : goal.returns-in_default-clause-bytes
 returns-in_default-clause-bytes g c =
     let ended = c.before_begin.result in
-    IsTextGiven-nothing (g.W.Sink.given c.args.sink) (g.W.Sink.given ended.sink) ended.status ended.first ended.log (ap g.W.Sink.given c.before_begin.ensures.sink) c.before_begin.ensures.log
+    IsTextGiven-nothing (g.W.Sink.given c.args.sink) (g.W.Sink.given ended.sink) ended.status ended.first ended.log
+    (ap g.W.Sink.given c.before_begin.ensures.sink) c.before_begin.ensures.log
 
 pub returns-in-Err-clause-commands : goal.returns-in-Err-clause-commands
 returns-in-Err-clause-commands g c =
@@ -47,4 +49,5 @@ returns-in-Err-clause-commands g c =
 pub returns-in-Err-clause-bytes : goal.returns-in-Err-clause-bytes
 returns-in-Err-clause-bytes g c =
     let ended = c.before_begin-in-Err.result in
-    IsTextGiven-nothing (g.W.Sink.given c.args.sink) (g.W.Sink.given ended.sink) ended.status ended.first ended.log (ap g.W.Sink.given c.before_begin-in-Err.ensures.sink) c.before_begin-in-Err.ensures.log
+    IsTextGiven-nothing (g.W.Sink.given c.args.sink) (g.W.Sink.given ended.sink) ended.status ended.first ended.log
+    (ap g.W.Sink.given c.before_begin-in-Err.ensures.sink) c.before_begin-in-Err.ensures.log

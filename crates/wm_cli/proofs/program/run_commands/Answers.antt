@@ -10,7 +10,8 @@ use Rattle.wm_cli.proofs.program.run_commands.Goals as goal
 pub returns-in-Err-clause-bytes : goal.returns-in-Err-clause-bytes
 returns-in-Err-clause-bytes g c =
     let ended = c.before_begin.result in
-    IsTextGiven-nothing (g.W.Sink.given c.args.sink) (g.W.Sink.given ended.sink) ended.status ended.first ended.log (ap g.W.Sink.given c.before_begin.ensures.sink) c.before_begin.ensures.log
+    IsTextGiven-nothing (g.W.Sink.given c.args.sink) (g.W.Sink.given ended.sink) ended.status ended.first ended.log
+    (ap g.W.Sink.given c.before_begin.ensures.sink) c.before_begin.ensures.log
 
 pub returns-in-Err-clause-serial : goal.returns-in-Err-clause-serial
 returns-in-Err-clause-serial g c =
@@ -22,7 +23,8 @@ returns-in-Err-clause-serial g c =
 pub returns-in_default-clause-bytes : goal.returns-in_default-clause-bytes
 returns-in_default-clause-bytes g c =
     let ended = c.before_begin-in_default.result in
-    IsTextGiven-nothing (g.W.Sink.given c.args.sink) (g.W.Sink.given ended.sink) ended.status ended.first ended.log (ap g.W.Sink.given c.before_begin-in_default.ensures.sink) c.before_begin-in_default.ensures.log
+    IsTextGiven-nothing (g.W.Sink.given c.args.sink) (g.W.Sink.given ended.sink) ended.status ended.first ended.log
+    (ap g.W.Sink.given c.before_begin-in_default.ensures.sink) c.before_begin-in_default.ensures.log
 
 pub returns-in_default-clause-serial : goal.returns-in_default-clause-serial
 returns-in_default-clause-serial g c =
@@ -39,7 +41,8 @@ begin-requires-clause-instances g c =
 pub returns-in-Err-begin-clause-bytes : goal.returns-in-Err-begin-clause-bytes
 returns-in-Err-begin-clause-bytes g c =
     let ended = c.before_begin-in-Err-begin.result in
-    IsTextGiven-nothing (g.W.Sink.given c.args.sink) (g.W.Sink.given ended.sink) ended.status ended.first ended.log (ap g.W.Sink.given c.before_begin-in-Err-begin.ensures.sink) c.before_begin-in-Err-begin.ensures.log
+    IsTextGiven-nothing (g.W.Sink.given c.args.sink) (g.W.Sink.given ended.sink) ended.status ended.first ended.log
+    (ap g.W.Sink.given c.before_begin-in-Err-begin.ensures.sink) c.before_begin-in-Err-begin.ensures.log
 
 pub returns-in-Err-begin-clause-serial : goal.returns-in-Err-begin-clause-serial
 returns-in-Err-begin-clause-serial g c =

@@ -50,7 +50,8 @@ returns-in-Err-clause-bytes g c =
     let ended = c.end_at_once.result in
     let given = g.W.Sink.given in
     let table = c.in-Err.ensures.kept.0 in
-    IsTextGiven-nothing (given c.args.sink) (given ended.sink) ended.status ended.first ended.log (ap given (c.end_at_once.ensures.sink ∙ c.in-Err.ensures.kept.2))
+    IsTextGiven-nothing (given c.args.sink) (given ended.sink) ended.status ended.first ended.log
+    (ap given (c.end_at_once.ensures.sink ∙ c.in-Err.ensures.kept.2))
     (c.end_at_once.ensures.log ∙ ap (λ t. t.log) table ∙ c.requires.log)
 
 pub returns-in-Err-clause-serial : goal.returns-in-Err-clause-serial
@@ -74,4 +75,5 @@ returns-in-Err-clause-hands g c =
     let table = c.in-Err.ensures.kept.0 in
     AreHandsBack-opened g.B.Worker.kind_of ended.last benched.hands ended.hands.items
     (c.end_at_once.ensures.last ∙ ap (λ t. t.state) table ∙ c.requires.state ∙ benched.opened)
-    (ap (λ v. v.items) c.end_at_once.ensures.hands ∙ c.back.ensures ∙ ap idle_hands (c.in-Err.ensures.kept.1 ∙ benched.at_places) ∙ idle_hands-places benched.hands)
+    (ap (λ v. v.items) c.end_at_once.ensures.hands ∙ c.back.ensures ∙ ap idle_hands (c.in-Err.ensures.kept.1 ∙ benched.at_places)
+    ∙ idle_hands-places benched.hands)

@@ -11,5 +11,6 @@ returns-in_err-read_piece-clause-reads g c =
     record {
       bytes = before ++ more.bytes;
       few = omega (arith, length-append before more.bytes, more.few, length-take c.min-room.result c.pieces.buffer, c.pieces.script.ok.0);
-      taken = IsTakenFrom-append (left c.args.source.now) (left c.pieces.source) (left c.read_piece.new.source) before more.bytes c.pieces.invariant.taken more.taken;
+      taken = IsTakenFrom-append (left c.args.source.now) (left c.pieces.source)
+          (left c.read_piece.new.source) before more.bytes c.pieces.invariant.taken more.taken;
     }

@@ -20,7 +20,10 @@ lines-preserved g c =
     record {
       rest = c.drain.ensures.rest;
       ready = λ going. IsReady-quiet new.left new (c.drain.ensures.quiet going);
-      diaries = λ diaries keep. c.drain.ensures.diaries diaries (KeepDiaries-line g.K.Keeper.held g.M.Mark.given.lines g.B.Worker.diary_of diaries c.lines.book c.front_step.new.self kept.rest moved.0 moved.1 moved.2 (kept.diaries diaries keep));
+      diaries = λ diaries keep. c.drain.ensures.diaries diaries
+          (KeepDiaries-line g.K.Keeper.held g.M.Mark.given.lines g.B.Worker.diary_of diaries c.lines.book c.front_step.new.self
+          kept.rest moved.0 moved.1 moved.2
+          (kept.diaries diaries keep));
     }
 
 pub returns-in-Ended : goal.returns-in-Ended

@@ -13,7 +13,8 @@ pub execute_lines-requires-clause-rest : goal.execute_lines-requires-clause-rest
 execute_lines-requires-clause-rest g c =
     let lines = g.M.Mark.given.lines in
     let begin = IsAtRest-begin lines c.args.book c.requires.log c.requires.no_run c.requires.idle c.requires.not_retired c.requires.begun c.requires.lines in
-    elim c.if-is_none.branch [ then-is_none w ↦ subst (IsAtRest lines) (sym w.book-is) w.drain.ensures.rest | else-is_none w ↦ subst (IsAtRest lines) (sym w.book-is) begin ]
+    elim c.if-is_none.branch
+    [ then-is_none w ↦ subst (IsAtRest lines) (sym w.book-is) w.drain.ensures.rest | else-is_none w ↦ subst (IsAtRest lines) (sym w.book-is) begin ]
 
 pub returns-clause-hands : goal.returns-clause-hands
 returns-clause-hands g c =
@@ -33,7 +34,8 @@ returns-clause-diaries g c done =
       | else-is_none w ↦ subst (KeepDiaries diary_of diaries) (sym w.book-is) begin
     ] in
     let book = c.execute_lines.new.book in
-    let told : HaveTold diary_of diaries book.table.first book.table.log (idle_hands book.places) = HaveTold-rest diary_of diaries book rest.idle (c.finish.ensures.done done) (c.execute_lines.ensures.diaries diaries kept) in
+    let told : HaveTold diary_of diaries book.table.first book.table.log (idle_hands book.places) =
+    HaveTold-rest diary_of diaries book rest.idle (c.finish.ensures.done done) (c.execute_lines.ensures.diaries diaries kept) in
     rw (c.finish.ensures.hands, c.finish.ensures.first_is, c.finish.ensures.log) told
 
 pub returns-clause-serial : goal.returns-clause-serial
@@ -42,4 +44,5 @@ returns-clause-serial g c =
     let rest = c.execute_lines.ensures.rest in
     let last = c.finish.result in
     let order : AreInOrder lines last.first last.log = rw (c.finish.ensures.first_is, c.finish.ensures.log) rest.in_order in
-    IsSerialRun-rest lines last.status last.first last.last last.log c.requires.built c.finish.ensures.commands c.finish.ensures.replay c.finish.ensures.valid (rw c.finish.ensures.last rest.few_runs) order (λ done. rw c.finish.ensures.last (c.execute_lines.ensures.quiet (c.finish.ensures.done done)))
+    IsSerialRun-rest lines last.status last.first last.last last.log c.requires.built c.finish.ensures.commands c.finish.ensures.replay c.finish.ensures.valid
+    (rw c.finish.ensures.last rest.few_runs) order (λ done. rw c.finish.ensures.last (c.execute_lines.ensures.quiet (c.finish.ensures.done done)))

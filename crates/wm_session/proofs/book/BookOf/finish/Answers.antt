@@ -10,4 +10,6 @@ returns-clause-commands g c =
 pub returns-clause-bytes : goal.returns-clause-bytes
 returns-clause-bytes g c =
     let ended = c.status_after-status in
-    IsTextGiven-kept ended.result c.end-first.result.first c.end-first.result.log (g.W.Sink.given c.write_pending.new.sink) c.write_pending.new.pending.items c.write_pending.result c.self.invariant c.end-first.ensures.first c.end-first.ensures.log c.write_pending.ensures.kept c.write_pending.ensures.all ended.ensures.stopped ended.ensures.refused
+    IsTextGiven-kept ended.result c.end-first.result.first c.end-first.result.log
+    (g.W.Sink.given c.write_pending.new.sink) c.write_pending.new.pending.items c.write_pending.result c.self.invariant c.end-first.ensures.first
+    c.end-first.ensures.log c.write_pending.ensures.kept c.write_pending.ensures.all ended.ensures.stopped ended.ensures.refused

@@ -15,9 +15,13 @@ tell_last-requires g c =
 pub invariant_of-self-in-Ok : goal.invariant_of-self-in-Ok
 invariant_of-self-in-Ok g c =
     let done = c.in_default-execute.ensures.ok in
-    IsBookKept-told c.execute.new.table c.pop_front.new.self.items c.tell_last.new.pending.items c.tell_last.new.sink c.in-Some.command done.0 c.self.invariant (search rules) done.2 c.in-Some.ensures.items c.in_default-execute.ensures.cause c.in-Ok.ensures.ok c.in-Ok.ensures.cause
+    IsBookKept-told c.execute.new.table c.pop_front.new.self.items c.tell_last.new.pending.items c.tell_last.new.sink c.in-Some.command done.0 c.self.invariant
+    (search rules) done.2 c.in-Some.ensures.items c.in_default-execute.ensures.cause c.in-Ok.ensures.ok c.in-Ok.ensures.cause
 
 pub invariant_of-self-in-Err-tell_last : goal.invariant_of-self-in-Err-tell_last
 invariant_of-self-in-Err-tell_last g c =
     let done = c.in_default-execute.ensures.ok in
-    IsBookKept-cut c.execute.new.table c.pop_front.new.self.items c.tell_last.new.pending.items c.tell_last.new.sink c.in-Err-tell_last.fault c.from-in-Err-tell_last.result c.in-Some.command done.0 c.self.invariant (search rules) done.2 c.in-Some.ensures.items c.in_default-execute.ensures.cause c.in-Err-tell_last.ensures.err c.in-Err-tell_last.ensures.cause c.from-in-Err-tell_last.ensures
+    IsBookKept-cut c.execute.new.table c.pop_front.new.self.items c.tell_last.new.pending.items c.tell_last.new.sink c.in-Err-tell_last.fault
+    c.from-in-Err-tell_last.result c.in-Some.command done.0 c.self.invariant
+    (search rules) done.2 c.in-Some.ensures.items c.in_default-execute.ensures.cause c.in-Err-tell_last.ensures.err c.in-Err-tell_last.ensures.cause
+    c.from-in-Err-tell_last.ensures

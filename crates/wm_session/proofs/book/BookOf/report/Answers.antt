@@ -26,7 +26,8 @@ invariant_of-self-in-Finished g c =
     let finished = c.in-Finished.ensures.answer.1 in
     let stands = subst (λ book. Stands book.table.state c.args.ticket) (sym c.self.view_is) c.requires.stands in
     let away = subst (λ book. IsAwayAt seat.number (g.B.Worker.kind_of seat.worker) book.places) (sym c.self.view_is) c.requires.away in
-    IsBookKept-over c.turn.new.self c.give.new.self c.args.ticket seat.number finished.output seat.worker c.self.invariant (search rules) finished.step stands c.requires.number away c.give.ensures c.in-Finished.ensures.cause
+    IsBookKept-over c.turn.new.self c.give.new.self c.args.ticket seat.number finished.output seat.worker c.self.invariant
+    (search rules) finished.step stands c.requires.number away c.give.ensures c.in-Finished.ensures.cause
 
 pub invariant_of-self-in-Refused : goal.invariant_of-self-in-Refused
 invariant_of-self-in-Refused g c =
@@ -34,5 +35,6 @@ invariant_of-self-in-Refused g c =
     let refused = c.in-Refused in
     let away = subst (λ book. IsAwayAt seat.number (g.B.Worker.kind_of seat.worker) book.places) (sym c.self.view_is) c.requires.away in
     let back = c.give_back-in-Refused in
-    IsBookKept-refused c.turn.new.self back.new.table back.new.bench refused.ticket refused.told refused.trouble c.from.result c.self.invariant refused.ensures.answer.3 back.ensures.table refused.ensures.cause c.from.ensures
+    IsBookKept-refused c.turn.new.self back.new.table back.new.bench refused.ticket refused.told refused.trouble c.from.result c.self.invariant
+    refused.ensures.answer.3 back.ensures.table refused.ensures.cause c.from.ensures
     (traits-back g.B.Worker.kind_of seat.worker seat.number c.self.inside.bench back.new.bench away back.ensures.places)

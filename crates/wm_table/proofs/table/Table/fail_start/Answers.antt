@@ -19,7 +19,9 @@ failing-requires-clause-waiting g c =
     let s = c.self.inside.state in
     let work = c.index-as_slice-index.result in
     let s_is : c.args.self.now.state ≡ s = cc in
-    let at = at-read s.works c.as_slice.result.now c.args.index work c.as_slice.ensures (subst (λ (t : State). c.args.index < length t.works) s_is c.requires.index) c.index-as_slice-index.is in
+    let at =
+    at-read s.works c.as_slice.result.now c.args.index work c.as_slice.ensures
+    (subst (λ (t : State). c.args.index < length t.works) s_is c.requires.index) c.index-as_slice-index.is in
     first-waits s work (subst (λ (t : State). first_of t ≡ slice_get t.works c.args.index) s_is c.requires.first ∙ at)
 
 pub invariant_of-self : goal.invariant_of-self
@@ -40,7 +42,9 @@ abbrev before : (g : Over) (c : goal.In_ok-change g) → TableState g.row.K.Deno
 before g c = let i = c.self.inside in record { first = i.first; state = i.state; log = i.log; keeper = i.keeper }
 
 abbrev now : (g : Over) (c : goal.In_ok-change g) → TableState g.row.K.Denot
-now g c = let i = c.self.inside in record { first = i.first; state = record i.state { works = c.change.new.works }; log = c.change.new.log; keeper = c.change.new.keeper }
+now g c =
+    let i = c.self.inside in
+    record { first = i.first; state = record i.state { works = c.change.new.works }; log = c.change.new.log; keeper = c.change.new.keeper }
 
 -- the work has failed, in one step
 failed : (g : Over) (c : goal.In_ok-change g) → IsOneStep g.K.Keeper.held (event.StartFailed c.index-as_slice-index.result.seq NoWorker) (before g c) (now g c)
@@ -48,17 +52,26 @@ failed g c =
     let s = c.self.inside.state in
     let work = c.index-as_slice-index.result in
     let s_is : c.args.self.now.state ≡ s = cc in
-    let at = at-read s.works c.as_slice.result.now c.args.index work c.as_slice.ensures (subst (λ (t : State). c.args.index < length t.works) s_is c.requires.index) c.index-as_slice-index.is in
+    let at =
+    at-read s.works c.as_slice.result.now c.args.index work c.as_slice.ensures
+    (subst (λ (t : State). c.args.index < length t.works) s_is c.requires.index) c.index-as_slice-index.is in
     let is_first = subst (λ (t : State). first_of t ≡ slice_get t.works c.args.index) s_is c.requires.first ∙ at in
-    let none = subst (λ (o : Option Record). IfSome o (λ w. idle_instance s.instances w.request.class ≡ None)) at (subst (λ (t : State). IfSome (slice_get t.works c.args.index) (λ w. idle_instance t.instances w.request.class ≡ None)) s_is c.requires.no_worker) in
+    let none =
+    subst (λ (o : Option Record). IfSome o (λ w. idle_instance s.instances w.request.class ≡ None)) at
+    (subst (λ (t : State). IfSome (slice_get t.works c.args.index) (λ w. idle_instance t.instances w.request.class ≡ None)) s_is c.requires.no_worker) in
     failure-step g.K.Keeper.held (before g c) (now g c) c.self.invariant.valid c.self.invariant.rows refl c.args.index work at is_first none
-    (ap (λ (works : List Record). record s { works = works }) (c.in_ok-change.ensures.works ∙ ap (λ (changing : Changing). set s.works changing.index changing.work) c.in_ok-changing.ensures))
+    (ap (λ (works : List Record). record s { works = works })
+    (c.in_ok-change.ensures.works ∙ ap (λ (changing : Changing). set s.works changing.index changing.work) c.in_ok-changing.ensures))
     (c.in_ok-change.ensures.log ∙ ap (λ (changing : Changing). c.self.inside.log ++ changing.event ∷ []) c.in_ok-changing.ensures)
-    (c.in_ok-change.ensures.rows ∙ ap (λ (changing : Changing). option_map (put_row changing.row) (g.K.Keeper.held c.self.inside.keeper)) c.in_ok-changing.ensures)
+    (c.in_ok-change.ensures.rows ∙ ap
+    (λ (changing : Changing). option_map (put_row changing.row) (g.K.Keeper.held c.self.inside.keeper)) c.in_ok-changing.ensures)
 
 pub invariant_of-self-2 : goal.invariant_of-self-2
-invariant_of-self-2 g c = kept-step g.K.Keeper.held (before g c) (now g c) (event.StartFailed c.index-as_slice-index.result.seq NoWorker) c.self.invariant (failed g c)
+invariant_of-self-2 g c =
+    kept-step g.K.Keeper.held (before g c) (now g c) (event.StartFailed c.index-as_slice-index.result.seq NoWorker) c.self.invariant (failed g c)
 
 pub returns-clause-ok : goal.returns-clause-ok
 returns-clause-ok g c =
-    subst (λ (t : TableState g.row.K.Denot). IsOneStep g.K.Keeper.held (event.StartFailed c.index-as_slice-index.result.seq NoWorker) t (now g c)) c.self.view_is (failed g c)
+    subst
+    (λ (t : TableState g.row.K.Denot). IsOneStep g.K.Keeper.held (event.StartFailed c.index-as_slice-index.result.seq NoWorker) t (now g c)) c.self.view_is
+    (failed g c)

@@ -20,15 +20,20 @@ unreachable-requires g c =
     let s = c.self.inside.state in
     let s_is : c.args.self.now.state ≡ s = cc in
     let run = c.index-as_slice-place.result in
-    let r = reported s c.args.self.now.state c.as_slice.result.now c.args.place run c.args.told.now c.self.invariant.valid s_is c.as_slice.ensures c.index-as_slice-place.is c.requires in
-    work-found s run c.as_slice-works.result.now c.work_index.result c.self.invariant.valid r.valid c.as_slice-works.ensures c.work_index.ensures c.in_default.is
+    let r =
+    reported s c.args.self.now.state c.as_slice.result.now c.args.place run c.args.told.now c.self.invariant.valid s_is c.as_slice.ensures
+    c.index-as_slice-place.is c.requires in
+    work-found s run c.as_slice-works.result.now c.work_index.result c.self.invariant.valid r.valid c.as_slice-works.ensures c.work_index.ensures
+    c.in_default.is
 
 pub output_of-output-requires-clause-echo : goal.output_of-output-requires-clause-echo
 output_of-output-requires-clause-echo g c =
     let s = c.self.inside.state in
     let s_is : c.args.self.now.state ≡ s = cc in
     let run = c.index-as_slice-place.result in
-    let r = reported s c.args.self.now.state c.as_slice.result.now c.args.place run c.args.told.now c.self.invariant.valid s_is c.as_slice.ensures c.index-as_slice-place.is c.requires in
+    let r =
+    reported s c.args.self.now.state c.as_slice.result.now c.args.place run c.args.told.now c.self.invariant.valid s_is c.as_slice.ensures
+    c.index-as_slice-place.is c.requires in
     r.counts.about.same_kind ∙ run_kind s run c.self.invariant.valid r.valid
 
 pub finishing-requires-clause-running : goal.finishing-requires-clause-running
@@ -36,15 +41,20 @@ finishing-requires-clause-running g c =
     let s = c.self.inside.state in
     let s_is : c.args.self.now.state ≡ s = cc in
     let run = c.index-as_slice-place.result in
-    let r = reported s c.args.self.now.state c.as_slice.result.now c.args.place run c.args.told.now c.self.invariant.valid s_is c.as_slice.ensures c.index-as_slice-place.is c.requires in
-    (work-read s run c.as_slice-works.result.now c.work_index.result c.in-Some.index c.index-works-index.result c.self.invariant.valid r.valid c.as_slice-works.ensures c.work_index.ensures c.in-Some.is c.index-works-index.is).1.running
+    let r =
+    reported s c.args.self.now.state c.as_slice.result.now c.args.place run c.args.told.now c.self.invariant.valid s_is c.as_slice.ensures
+    c.index-as_slice-place.is c.requires in
+    (work-read s run c.as_slice-works.result.now c.work_index.result c.in-Some.index c.index-works-index.result c.self.invariant.valid r.valid
+    c.as_slice-works.ensures c.work_index.ensures c.in-Some.is c.index-works-index.is).1.running
 
 pub finishing-requires-clause-empty : goal.finishing-requires-clause-empty
 finishing-requires-clause-empty g c =
     let s = c.self.inside.state in
     let s_is : c.args.self.now.state ≡ s = cc in
     let run = c.index-as_slice-place.result in
-    let r = reported s c.args.self.now.state c.as_slice.result.now c.args.place run c.args.told.now c.self.invariant.valid s_is c.as_slice.ensures c.index-as_slice-place.is c.requires in
+    let r =
+    reported s c.args.self.now.state c.as_slice.result.now c.args.place run c.args.told.now c.self.invariant.valid s_is c.as_slice.ensures
+    c.index-as_slice-place.is c.requires in
     c.output_of-output.ensures.input ∙ r.counts.about.same_input ∙ r.valid.no_input
 
 pub finish-requires-clause-place : goal.finish-requires-clause-place
@@ -52,7 +62,9 @@ finish-requires-clause-place g c =
     let s = c.self.inside.state in
     let s_is : c.args.self.now.state ≡ s = cc in
     let run = c.index-as_slice-place.result in
-    let r = reported s c.args.self.now.state c.as_slice.result.now c.args.place run c.args.told.now c.self.invariant.valid s_is c.as_slice.ensures c.index-as_slice-place.is c.requires in
+    let r =
+    reported s c.args.self.now.state c.as_slice.result.now c.args.place run c.args.told.now c.self.invariant.valid s_is c.as_slice.ensures
+    c.index-as_slice-place.is c.requires in
     slice_get_within s.runs c.args.place run r.at
 
 pub finish-requires-clause-instance : goal.finish-requires-clause-instance
@@ -60,8 +72,11 @@ finish-requires-clause-instance g c =
     let s = c.self.inside.state in
     let s_is : c.args.self.now.state ≡ s = cc in
     let run = c.index-as_slice-place.result in
-    let r = reported s c.args.self.now.state c.as_slice.result.now c.args.place run c.args.told.now c.self.invariant.valid s_is c.as_slice.ensures c.index-as_slice-place.is c.requires in
-    let within : run.instance < length s.instances = subst (λ n. run.instance < n) (zero-add (length s.instances)) (instance-within 0 s.instances run c.self.invariant.valid.in_order r.valid.instance) in
+    let r =
+    reported s c.args.self.now.state c.as_slice.result.now c.args.place run c.args.told.now c.self.invariant.valid s_is c.as_slice.ensures
+    c.index-as_slice-place.is c.requires in
+    let within : run.instance < length s.instances =
+    subst (λ n. run.instance < n) (zero-add (length s.instances)) (instance-within 0 s.instances run c.self.invariant.valid.in_order r.valid.instance) in
     within
 
 pub invariant_of-self : goal.invariant_of-self
@@ -92,15 +107,24 @@ over g c =
     let run = c.index-as_slice-place.result in
     let work = c.index-works-index.result in
     let output = c.output_of-output.result.now in
-    let r = reported s c.args.self.now.state c.as_slice.result.now place run c.args.told.now valid s_is c.as_slice.ensures c.index-as_slice-place.is c.requires in
-    let w = work-read s run c.as_slice-works.result.now c.work_index.result c.in-Some.index work valid r.valid c.as_slice-works.ensures c.work_index.ensures c.in-Some.is c.index-works-index.is in
+    let r =
+    reported s c.args.self.now.state c.as_slice.result.now place run c.args.told.now valid s_is c.as_slice.ensures c.index-as_slice-place.is c.requires in
+    let w =
+    work-read s run c.as_slice-works.result.now c.work_index.result c.in-Some.index work valid r.valid c.as_slice-works.ensures c.work_index.ensures
+    c.in-Some.is c.index-works-index.is in
     let nothing = c.output_of-output.ensures.input ∙ r.counts.about.same_input ∙ r.valid.no_input in
     subst (λ (number : ℕ). IsOneStep g.K.Keeper.held (made g c number) (before g c) (now g c)) (sym r.counts.about.same_run)
-    (success-step g.K.Keeper.held (before g c) (now g c) valid c.self.invariant.rows refl c.in-Some.index place work run output w.0 w.1.seq r.at r.found r.valid.current
+    (success-step g.K.Keeper.held (before g c)
+    (now g c) valid c.self.invariant.rows refl c.in-Some.index place work run output w.0 w.1.seq r.at r.found r.valid.current
     (echo-gives run.kind run.input output run.attempt run.turn (run_kind s run valid r.valid) r.valid.no_input nothing)
-    (c.in_ok-finish.ensures.state ∙ ap (λ (changing : Changing). record s { works = set s.works changing.index changing.work; runs = remove s.runs place; instances = with_out false run.instance s.instances }) c.in_ok-changing.ensures)
+    (c.in_ok-finish.ensures.state ∙ ap (λ (changing : Changing). record s {
+      works = set s.works changing.index changing.work;
+      runs = remove s.runs place;
+      instances = with_out false run.instance s.instances;
+    }) c.in_ok-changing.ensures)
     (c.in_ok-finish.ensures.log ∙ ap (λ (changing : Changing). c.self.inside.log ++ changing.event ∷ []) c.in_ok-changing.ensures)
-    (c.in_ok-finish.ensures.rows ∙ ap (λ (changing : Changing). option_map (put_row changing.row) (g.K.Keeper.held c.self.inside.keeper)) c.in_ok-changing.ensures))
+    (c.in_ok-finish.ensures.rows ∙ ap
+    (λ (changing : Changing). option_map (put_row changing.row) (g.K.Keeper.held c.self.inside.keeper)) c.in_ok-changing.ensures))
 
 pub invariant_of-self-2 : goal.invariant_of-self-2
 invariant_of-self-2 g c = kept-step g.K.Keeper.held (before g c) (now g c) (made g c c.args.told.now.run) c.self.invariant (over g c)

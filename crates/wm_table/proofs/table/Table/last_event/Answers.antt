@@ -8,4 +8,5 @@ pub returns : goal.returns
 returns g c =
     let log : List Event = c.self.inside.log in
     let log_is : c.self.inside.log ≡ c.args.self.now.log = cc in
-    c.last.ensures.value ∙ ap (λ (log : List Event). slice_get log (length log - 1)) c.as_slice.ensures ∙ slice_get-last log ∙ ap (λ (log : List Event). last_of log) log_is
+    c.last.ensures.value ∙ ap (λ (log : List Event). slice_get log (length log - 1)) c.as_slice.ensures ∙ slice_get-last log ∙ ap
+    (λ (log : List Event). last_of log) log_is

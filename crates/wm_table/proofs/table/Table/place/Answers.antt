@@ -39,7 +39,8 @@ placed g c =
     refl
     (c.in_ok-place.ensures.state ∙ ap (with_work s) (c.in_ok-work.ensures.work ∙ ap (placed_record s None) work))
     (c.in_ok-place.ensures.log ∙ ap (λ (numbers : List ℕ). c.self.inside.log ++ made g c numbers ∷ []) c.in_ok-work.ensures.logged)
-    (c.in_ok-place.ensures.rows ∙ ap (λ (row : Row). option_map (put_row row) held) (c.in_ok-work.ensures.row ∙ ap (λ (w : Node). row_of (placed_record s None w)) work))
+    (c.in_ok-place.ensures.rows ∙ ap (λ (row : Row). option_map (put_row row) held)
+    (c.in_ok-work.ensures.row ∙ ap (λ (w : Node). row_of (placed_record s None w)) work))
 
 pub invariant_of-self-2 : goal.invariant_of-self-2
 invariant_of-self-2 g c =
@@ -47,4 +48,5 @@ invariant_of-self-2 g c =
 
 pub returns-clause-ok : goal.returns-clause-ok
 returns-clause-ok g c =
-    rw c.in_ok-work.ensures.told (subst (λ (t : TableState g.row.K.Denot). IsOneStep g.K.Keeper.held (made g c (c.self.inside.state.next ∷ [])) t (now g c)) c.self.view_is (placed g c))
+    rw c.in_ok-work.ensures.told
+    (subst (λ (t : TableState g.row.K.Denot). IsOneStep g.K.Keeper.held (made g c (c.self.inside.state.next ∷ [])) t (now g c)) c.self.view_is (placed g c))

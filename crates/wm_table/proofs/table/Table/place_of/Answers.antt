@@ -9,7 +9,9 @@ pub unreachable-requires : goal.unreachable-requires
 unreachable-requires g c =
     let ticket = c.args.ticket.now in
     let s_is = ap (λ (table : TableState g.row.K.Denot). table.state) c.self.view_is in
-    run-found (λ run. (run.instance ≡ ticket.instance) × (run.kind ≡ ticket.kind)) c.args.self.now.state.runs c.as_slice-runs.result.now ticket.task.run c.task.result.now.run c.run_index.result
+    run-found
+    (λ run. (run.instance ≡ ticket.instance) ×
+    (run.kind ≡ ticket.kind)) c.args.self.now.state.runs c.as_slice-runs.result.now ticket.task.run c.task.result.now.run c.run_index.result
     (c.as_slice-runs.ensures ∙ ap (λ (s : State). s.runs) s_is)
     (ap (λ (task : Task). task.run) c.task.ensures)
     c.run_index.ensures c.in_default.is c.requires
@@ -18,7 +20,9 @@ pub returns : goal.returns
 returns g c =
     let ticket = c.args.ticket.now in
     let s_is = ap (λ (table : TableState g.row.K.Denot). table.state) c.self.view_is in
-    run-at (λ run. (run.instance ≡ ticket.instance) × (run.kind ≡ ticket.kind)) c.args.self.now.state.runs c.as_slice-runs.result.now ticket.task.run c.task.result.now.run c.run_index.result c.in-Some.place
+    run-at
+    (λ run. (run.instance ≡ ticket.instance) ×
+    (run.kind ≡ ticket.kind)) c.args.self.now.state.runs c.as_slice-runs.result.now ticket.task.run c.task.result.now.run c.run_index.result c.in-Some.place
     (c.as_slice-runs.ensures ∙ ap (λ (s : State). s.runs) s_is)
     (ap (λ (task : Task). task.run) c.task.ensures)
     c.run_index.ensures c.in-Some.is c.requires

@@ -10,5 +10,7 @@ use Rattle.wm_table.proofs.table.Table.query.Goals as goal
 pub returns-clause-text : goal.returns-clause-text
 returns-clause-text g c =
     let works = c.in_ok-works.works in
-    let tell = subst (λ (infos : List WorkInfo). AllByRecursion TellsNoData infos) (sym c.in_ok-works.ensures) (infos-tell c.self.inside.state c.self.invariant.valid) in
+    let tell =
+    subst (λ (infos : List WorkInfo). AllByRecursion TellsNoData infos) (sym c.in_ok-works.ensures)
+    (infos-tell c.self.inside.state c.self.invariant.valid) in
     IfOk-weaker c.answer.result (λ answer. answer ≡ reply.Query works) IsWritten (λ answer is. subst IsWritten (sym is) tell) c.answer.ensures.reply

@@ -11,4 +11,5 @@ returns-then-is_empty g c =
     let s = c.self.inside.state in
     let s_is : s ≡ c.args.self.now.state = cc in
     let no_run = empty-from_length s.runs (eqb-true (length s.runs) 0 (sym c.if-is_empty.ensures)) in
-    subst (λ (t : State). IsTrue c.is_none.result ↔ IsQuiet t) s_is (quiet-told s c.first_index.result c.is_none.result c.first_index.ensures c.is_none.ensures no_run)
+    subst (λ (t : State). IsTrue c.is_none.result ↔ IsQuiet t) s_is
+    (quiet-told s c.first_index.result c.is_none.result c.first_index.ensures c.is_none.ensures no_run)

@@ -20,7 +20,10 @@ of-requires-clause-waiting g c =
     let s_is : c.args.self.now.state ≡ s = cc in
     let work = c.index-as_slice-index.result in
     let idle = c.index-as_slice-instance.result in
-    first-waits s work (chosen s c.args.self.now.state c.as_slice.result.now c.as_slice-2.result.now c.args.index c.args.instance work idle c.self.invariant.valid s_is c.as_slice.ensures c.as_slice-2.ensures c.requires.index c.requires.first c.requires.instance c.requires.idle c.index-as_slice-index.is c.index-as_slice-instance.is).is_first
+    first-waits s work
+    (chosen s c.args.self.now.state c.as_slice.result.now c.as_slice-2.result.now c.args.index c.args.instance work idle c.self.invariant.valid s_is
+    c.as_slice.ensures c.as_slice-2.ensures c.requires.index c.requires.first c.requires.instance c.requires.idle c.index-as_slice-index.is
+    c.index-as_slice-instance.is).is_first
 
 pub start-requires-clause-instance : goal.start-requires-clause-instance
 start-requires-clause-instance g c =
@@ -28,7 +31,10 @@ start-requires-clause-instance g c =
     let s_is : c.args.self.now.state ≡ s = cc in
     let work = c.index-as_slice-index.result in
     let idle = c.index-as_slice-instance.result in
-    let within = (chosen s c.args.self.now.state c.as_slice.result.now c.as_slice-2.result.now c.args.index c.args.instance work idle c.self.invariant.valid s_is c.as_slice.ensures c.as_slice-2.ensures c.requires.index c.requires.first c.requires.instance c.requires.idle c.index-as_slice-index.is c.index-as_slice-instance.is).within in
+    let within =
+    (chosen s c.args.self.now.state c.as_slice.result.now c.as_slice-2.result.now c.args.index c.args.instance work idle c.self.invariant.valid s_is
+    c.as_slice.ensures c.as_slice-2.ensures c.requires.index c.requires.first c.requires.instance c.requires.idle c.index-as_slice-index.is
+    c.index-as_slice-instance.is).within in
     subst (λ (run : Run). run.instance < length s.instances) (sym c.in_ok-changing.ensures.run) within
 
 pub invariant_of-self : goal.invariant_of-self
@@ -70,7 +76,10 @@ begins g c =
     let s_is : c.args.self.now.state ≡ s = cc in
     let work = c.index-as_slice-index.result in
     let idle = c.index-as_slice-instance.result in
-    let are = chosen s c.args.self.now.state c.as_slice.result.now c.as_slice-2.result.now c.args.index c.args.instance work idle c.self.invariant.valid s_is c.as_slice.ensures c.as_slice-2.ensures c.requires.index c.requires.first c.requires.instance c.requires.idle c.index-as_slice-index.is c.index-as_slice-instance.is in
+    let are =
+    chosen s c.args.self.now.state c.as_slice.result.now c.as_slice-2.result.now c.args.index c.args.instance work idle c.self.invariant.valid s_is
+    c.as_slice.ensures c.as_slice-2.ensures c.requires.index c.requires.first c.requires.instance c.requires.idle c.index-as_slice-index.is
+    c.index-as_slice-instance.is in
     start-step g.K.Keeper.held (before g c) (now g c) c.self.invariant.valid c.self.invariant.rows refl c.args.index work idle are.at are.is_first are.is_idle
     (reached g c)
     (c.in_ok-start.ensures.log ∙ ap (λ (e : Event). c.self.inside.log ++ e ∷ []) c.in_ok-changing.ensures.event)
@@ -88,7 +97,8 @@ IsBegun g c task run =
 pub returns-clause-ok : goal.returns-clause-ok
 returns-clause-ok g c =
     let s = c.self.inside.state in
-    let step = subst (λ (t : TableState g.row.K.Denot). IsOneStep g.K.Keeper.held (made (task_in (next g c)) (next g c)) t (now g c)) c.self.view_is (begins g c) in
+    let step =
+    subst (λ (t : TableState g.row.K.Denot). IsOneStep g.K.Keeper.held (made (task_in (next g c)) (next g c)) t (now g c)) c.self.view_is (begins g c) in
     let ticket = begun-ticket s c.start.new.state c.args.index (started c.index-as_slice-index.result) (next g c) c.self.invariant.valid refl (reached g c) in
     subst (λ (task : Task). IsBegun g c task c.in_ok-changing.field-0.run) (sym c.in_ok-changing.ensures.task)
     (subst (λ (run : Run). IsBegun g c (task_in (next g c)) run) (sym c.in_ok-changing.ensures.run) (step, ticket))

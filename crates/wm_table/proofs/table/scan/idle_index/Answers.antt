@@ -8,5 +8,6 @@ use Rattle.wm_table.proofs.table.scan.idle_index.Goals as goal
 pub returns : goal.returns
 returns c =
     let found : c.position.result ≡ position (is_idle c.args.class.now) c.args.instances.now =
-    position_from_yields_List (is_idle c.args.class.now) _ _ c.position.result c.position.ensures.ran (YieldsList-from_slice c.args.instances.now cc) (λ x b q k. search (rules, tests)) in
+    position_from_yields_List (is_idle c.args.class.now) _ _ c.position.result c.position.ensures.ran (YieldsList-from_slice c.args.instances.now cc)
+    (λ x b q k. search (rules, tests)) in
     idle_instance-at c.args.instances.now c.args.class.now c.position.result found
