@@ -4,12 +4,15 @@ use Rattle.std.specs.List.{AllByRecursion}
 use Rattle.wm_data.specs.declared.data.DataEntry.{DataEntry}
 use Rattle.wm_faults.specs.Faults as faults
 use Rattle.wm_keeper.specs.declared.row.Row.{Row}
+use Rattle.wm_machine.specs.Enqueued.{refusal_of}
 use Rattle.wm_machine.specs.First.{first_of}
 use Rattle.wm_machine.specs.Replay.{Replay}
 use Rattle.wm_machine.specs.Rows.{rows_of}
 use Rattle.wm_machine.specs.Runs.{run_numbered}
-use Rattle.wm_machine.specs.Step.{Legal, after}
+use Rattle.wm_machine.specs.Step.{Legal, after, after_command}
 use Rattle.wm_machine.specs.Valid.{Valid, AreNumberedInOrder}
+use Rattle.wm_machine.specs.declared.command.Command.{Command}
+use Rattle.wm_machine.specs.declared.command.Command.TheVariants as command
 use Rattle.wm_machine.specs.declared.event.End.TheVariants.{Success}
 use Rattle.wm_machine.specs.declared.event.Event.{Event}
 use Rattle.wm_machine.specs.declared.event.Event.TheVariants as event
@@ -71,6 +74,17 @@ abbrev pub BeginCause : List Row → BeginFault → Type 0
 BeginCause [] (begin.Bad seq bad_row) = ⊥
 BeginCause (row ∷ rows) (begin.Bad seq bad_row) = (seq ≡ row.seq) × (bad_row ≡ true)
 BeginCause rows begin.Memory = Unit {0}
+
+-- ---- command
+
+-- the rows after the command are those of before it: so a query, a faulty line or an enqueue that is refused
+abbrev pub ChangesNoRow : State → Command → Type 0
+ChangesNoRow s asked = rows_of (after_command s asked) ≡ rows_of s
+
+-- The command is an enqueue that isn't refused. Each further command that changes rows joins it.
+abbrev pub ChangesRows : State → Command → Type 0
+ChangesRows s (command.Enqueue named batch) = refusal_of s batch.works ≡ None
+ChangesRows s _ = ⊥
 
 -- ---- claim
 

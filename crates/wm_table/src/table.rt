@@ -1,5 +1,5 @@
 //! The table: the state, the log of the events that led to it, and the keeper of its rows.
-ghost use Rattle.std.specs.Prelude.{◌≡◌, ◌↔◌, ◌<◌, [], length, slice_get, None, Some, IsSomeAnd, IsTrue, IfOk, IfErr, IfSome, OnOk, OnErr};
+ghost use Rattle.std.specs.Prelude.{◌≡◌, ◌≢◌, ◌↔◌, ◌<◌, [], length, slice_get, None, Some, Err, IsSomeAnd, IsTrue, IfOk, IfErr, IfSome, OnOk, OnErr};
 ghost use Rattle.std.specs.Option.{option_copied};
 ghost use Rattle.wm_machine.specs.Built.{IsBuilt, IsPlain, IsWritten, NamesNothing};
 ghost use Rattle.wm_machine.specs.Enqueued.{refusal_of};
@@ -11,7 +11,7 @@ ghost use Rattle.wm_machine.specs.Runs.{run_numbered};
 ghost use Rattle.wm_machine.specs.Step.{Legal, after};
 ghost use Rattle.wm_machine.specs.Valid.{Valid};
 ghost use Rattle.wm_machine.specs.declared.event.Event.TheVariants as event;
-ghost use Rattle.wm_table.specs.Table.{last_of, AreFresh, BeginCause, Counts, HoldsRowsOf, IsClaimed, IsFinished, IsOneStep, IsTurned, IsUntouched, Stands, TroubleCause, TurnCause};
+ghost use Rattle.wm_table.specs.Table.{last_of, AreFresh, BeginCause, ChangesNoRow, ChangesRows, Counts, HoldsRowsOf, IsClaimed, IsFinished, IsOneStep, IsTurned, IsUntouched, Stands, TroubleCause, TurnCause};
 
 mod enqueue;
 mod events;
@@ -185,6 +185,10 @@ impl<K: Keeper> Table<K> {
         ensures text { IfOk result IsWritten }
         ensures err { OnErr result (IsUntouched K.held self.old self.new) }
         ensures cause { TroubleCause result (K.faults self.old.keeper) (K.faults self.new.keeper) }
+        ensures untouched_keeper { ChangesNoRow self.old.state command
+            → self.new.keeper ≡ self.old.keeper }
+        ensures keeper_fault { result ≡ Err Trouble.KeeperFault
+            → ChangesRows self.old.state command }
     {
         match command {
             Command::Enqueue { named: None, batch } => self.enqueue(line, batch),
@@ -304,6 +308,8 @@ impl<K: Keeper> Table<K> {
         ensures text { IfOk result IsWritten }
         ensures err { OnErr result (IsUntouched K.held self.old self.new) }
         ensures cause { TroubleCause result (K.faults self.old.keeper) (K.faults self.new.keeper) }
+        ensures untouched_keeper { self.new.keeper ≡ self.old.keeper }
+        ensures no_keeper_fault { result ≢ Err Trouble.KeeperFault }
     {
         let works = infos::infos_of(self.alloc, &self.state)?;
         self.answer(line, Command::Query(query), Reply::Query(works))
@@ -315,6 +321,8 @@ impl<K: Keeper> Table<K> {
         ensures text { IfOk result IsWritten }
         ensures err { OnErr result (IsUntouched K.held self.old self.new) }
         ensures cause { TroubleCause result (K.faults self.old.keeper) (K.faults self.new.keeper) }
+        ensures untouched_keeper { self.new.keeper ≡ self.old.keeper }
+        ensures no_keeper_fault { result ≢ Err Trouble.KeeperFault }
     {
         let (fault, found, _) = copied(self.alloc, fault, ())?;
         let reply = Reply::Refused(Refusal::Line(found));
@@ -329,6 +337,10 @@ impl<K: Keeper> Table<K> {
         ensures text { IfOk result IsWritten }
         ensures err { OnErr result (IsUntouched K.held self.old self.new) }
         ensures cause { TroubleCause result (K.faults self.old.keeper) (K.faults self.new.keeper) }
+        ensures untouched_keeper { IfSome (refusal_of self.old.state batch.works)
+            (λ _. self.new.keeper ≡ self.old.keeper) }
+        ensures keeper_fault { result ≡ Err Trouble.KeeperFault
+            → refusal_of self.old.state batch.works ≡ None }
     {
         match enqueue::refusal_of(&self.state, batch.works.as_slice()) {
             Some(refusal) => {
@@ -348,6 +360,8 @@ impl<K: Keeper> Table<K> {
             self.new) }
         ensures err { OnErr result (IsUntouched K.held self.old self.new) }
         ensures cause { TroubleCause result (K.faults self.old.keeper) (K.faults self.new.keeper) }
+        ensures untouched_keeper { self.new.keeper ≡ self.old.keeper }
+        ensures no_keeper_fault { result ≢ Err Trouble.KeeperFault }
     {
         let (reply, logged, command) = copied(self.alloc, reply, command)?;
         let event = Event::Command {
