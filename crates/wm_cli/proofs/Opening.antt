@@ -1,25 +1,17 @@
 -- A run that opens an empty store.
-use Rattle.std.proofs.Common.{◌≡◌, List, [], ◌∷◌, Option, Some, None, refl, sym, ◌∙◌, ap, subst, arith, IfSome}
+use Rattle.std.proofs.Common.{◌≡◌, List, [], ◌∷◌, refl, sym, ap, subst, arith}
 use Rattle.std.specs.List.{AllByRecursion}
-use Rattle.wm_keeper.specs.declared.row.Row.{Row}
 use Rattle.wm_machine.proofs.Serials.{BeginsSerial-goes-on}
 use Rattle.wm_machine.specs.Built.{IsBuilt}
 use Rattle.wm_machine.specs.Opened.{opening_state}
-use Rattle.wm_machine.specs.Rows.{rows_of}
 use Rattle.wm_machine.specs.Serial.{AreInOrder, BeginsSerial}
 use Rattle.wm_machine.specs.Valid.{Valid}
 use Rattle.wm_machine.specs.declared.command.Command.{Command}
 use Rattle.wm_machine.specs.declared.event.Event.{Event}
 use Rattle.wm_machine.specs.declared.state.State.{State}
-use Rattle.wm_keeper.specs.declared.keeper.KeepFault.{KeepFault}
-use Rattle.wm_keeper.specs.declared.keeper.KeepFault.TheVariants as keep
 use Rattle.wm_table.proofs.TableSteps.{Valid-opening}
-use Rattle.wm_session.specs.Causes.{status_by_begin, status_by_keeper}
 use Rattle.wm_session.specs.Ended.{IsSerialRun}
-use Rattle.wm_table.specs.Table.{HoldsRowsOf}
 use Rattle.wm_session.specs.declared.status.Status.{Status}
-use Rattle.wm_table.specs.declared.table.BeginFault.{BeginFault}
-use Rattle.wm_table.specs.declared.table.BeginFault.TheVariants as begin
 use Rattle.wm_session.specs.declared.status.Status.TheVariants as status
 
 no_order : (lines : List Command) (first : State) → AreInOrder lines first []
@@ -46,20 +38,3 @@ IsSerialRun-unopened lines ended first log last built early is none =
     IsSerialRun-early lines ended first log last early
     (BeginsSerial-nothing lines first log built (subst Valid (sym is) (Valid-opening [] (record { in_order = tt; all = tt })))
     (ap (λ (s : State). s.runs) is) none)
-
--- a fault of the keeper, or of opening the rows, ends the run early
-pub keeper_early : (fault : KeepFault) → status_by_keeper fault ≡ status.Done → ⊥
-keeper_early keep.Failed done = absurd (cc)
-keeper_early keep.Memory done = absurd (cc)
-
-pub begin_early : (fault : BeginFault) → status_by_begin fault ≡ status.Done → ⊥
-begin_early (begin.Bad seq bad_row) done = absurd (cc)
-begin_early begin.Memory done = absurd (cc)
-
--- where the keeper tells its rows, there is none, and a state without works has none
-pub HoldsRowsOf-empty : (rows : List Row) (held : Option (List Row)) (s : State) → IfSome held (λ kept. rows ≡ kept) → rows ≡ [] → s.works ≡ []
-    → HoldsRowsOf s held
-HoldsRowsOf-empty rows None s told empty none = refl
-HoldsRowsOf-empty rows (Some kept) s told empty none =
-    let nothing : kept ≡ [] = sym told ∙ empty in
-    let same : rows_of s ≡ [] = rw none in cc

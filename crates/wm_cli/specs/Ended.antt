@@ -1,20 +1,28 @@
 -- How a run ends: what its log, its last state, the rows kept, the bytes given and the workers handed back are. This project's own
 -- choice.
-use Rattle.std.specs.Prelude.{◌≡◌, ℕ, Bool, true, false, List, [], Option, IfSome, MatchBool, option_map}
+use Rattle.std.specs.Prelude.{◌≡◌, ℕ, Bool, true, false, List, [], ◌∷◌, Option, Some, IfSome, MatchBool, option_map, Vec}
+use Rattle.std.specs.declared.alloc.Global.{Global}
 use Rattle.wm_bench.specs.declared.hand.HandOf.{HandOf}
+use Rattle.wm_cli.specs.Causes.{IsOpeningStatus, IsUnlessMemory, StoreCause}
+use Rattle.wm_faults.specs.Faults.{Failed}
 use Rattle.wm_keeper.specs.declared.row.Row.{Row}
 use Rattle.wm_script.specs.Lines.{commands_in}
 use Rattle.wm_machine.specs.Opened.{opening_state, Opened}
 use Rattle.wm_machine.specs.Quiet.{IsQuiet}
 use Rattle.wm_machine.specs.Replay.{Replay}
 use Rattle.wm_machine.specs.Rows.{rows_of}
+use Rattle.wm_machine.specs.declared.command.Command.{Command}
 use Rattle.wm_machine.specs.declared.event.Event.{Event}
 use Rattle.wm_machine.specs.declared.state.Instance.{Instance}
 use Rattle.wm_machine.specs.declared.state.State.{State}
 use Rattle.wm_session.specs.Bench.{hand_diaries}
-use Rattle.wm_session.specs.Ended.{AreHandsBack, HasCommands, HaveTold, IsSerialRun}
+use Rattle.wm_session.specs.Ended.{AreHandsBack, HasCommands, HaveTold, IsSerialRun, IsTextGiven}
+use Rattle.wm_session.specs.Hands.{instances_from}
+use Rattle.wm_session.specs.Tells.{Tells}
+use Rattle.wm_session.specs.declared.ended.EndedOf.{EndedOf}
 use Rattle.wm_session.specs.declared.status.Status.{Status}
 use Rattle.wm_session.specs.declared.status.Status.TheVariants as status
+use Rattle.wm_table.specs.TableState.{TableState}
 use Rattle.wm_worker.specs.declared.answer.Entry.{Entry}
 use Rattle.wm_worker.specs.declared.kind.Kind.{Kind}
 
@@ -81,3 +89,36 @@ AreHandsOf kind_of began last hands back = MatchBool began (AreHandsBack kind_of
 -- on `Done` each worker that tells a diary has written down its part of the log, after what it had written down before
 abbrev pub HaveToldOnDone : {B : Type 0} → (B → Option (List Entry)) → Status → List (HandOf B) → State → List Event → List (HandOf B) → Type 0
 HaveToldOnDone diary_of ended hands first log back = ended ≡ status.Done → HaveTold diary_of (hand_diaries diary_of hands) first log back
+
+-- ---- what is handed back
+
+-- a run that ended for want of memory before its first event: it hands back what this table held, and these
+pub record IsEndedAtOnce {K W B : Type 0} (table : TableState K) (sink : W) (hands : Vec (HandOf B) Global) (ended : EndedOf K W B) : Type 0 where
+  pub status_is : ended.status ≡ status.Memory
+  pub began : ended.began ≡ true
+  pub first : ended.first ≡ table.first
+  pub log : ended.log ≡ table.log
+  pub last : ended.last ≡ table.state
+  pub keeper_is : ended.keeper ≡ table.keeper
+  pub sink_is : ended.sink ≡ sink
+  pub hands_are : ended.hands ≡ hands
+
+-- A run that is over whose commands, these, were read, and that was given these workers, this keeper and this sink. Each fact is the promise
+-- of `run` of that name.
+pub record IsRunEnd {K W B : Type 0} (tells : Tells K W B) (commands : List Command) (hands : List (HandOf B)) (keeper : K) (sink : W)
+    (ended : EndedOf K W B) : Type 0 where
+  pub replay : IsReplayed (tells.held keeper) (instances_from tells.kind_of 0 hands) ended.began ended.first ended.log ended.last
+  pub begun : IsBegunBy ended.status ended.began
+  pub rows : AreRowsKept ended.began ended.last (tells.held keeper) (tells.held ended.keeper)
+  pub has_commands : HasCommands commands ended.status ended.log
+  pub bytes : IsTextGiven (tells.given sink) (tells.given ended.sink) ended.status ended.first ended.log
+  pub end : IsQuietOnDone ended.status ended.last
+  pub hands_back : AreHandsOf tells.kind_of ended.began ended.last hands ended.hands.items
+  pub diaries : HaveToldOnDone tells.diary_of ended.status hands ended.first ended.log ended.hands.items
+  pub serial : IsSerialRun commands ended.status ended.first ended.log ended.last
+  pub opened : IsOpeningStatus ended.status
+  pub keeper_fault : ended.status ≡ status.KeeperFault → Failed (tells.keeper_faults keeper) (tells.keeper_faults ended.keeper)
+  pub sink_fault : ended.status ≡ status.SinkFault → Failed (tells.sink_faults sink) (tells.sink_faults ended.sink)
+  pub bad_store : StoreCause ended.status (tells.held keeper)
+  pub stored_row : (row : Row) (rest : List Row) → tells.held keeper ≡ Some (row ∷ rest)
+      → ¬ Failed (tells.keeper_faults keeper) (tells.keeper_faults ended.keeper) → IsUnlessMemory ended.status (status.BadStore row.seq true)

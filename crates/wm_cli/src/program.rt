@@ -1,9 +1,10 @@
-ghost use Rattle.std.specs.Prelude.{◌≡◌, ◌↔◌, ◌+◌, ◌≤◌, ◌<◌, ◌^◌, [], ◌∷◌, List, Option, length, map, option_map, vec_len, true, None, Some, IfOk, IfErr, IfSome, IsSome, OnOk, IsTrue, string_bytes};
+ghost use Rattle.std.specs.Prelude.{◌≡◌, ◌↔◌, ◌+◌, ◌≤◌, ◌<◌, ◌^◌, [], ◌∷◌, List, length, map, vec_len, true, None, Some, IfOk, IfErr, IsSome, OnOk, string_bytes};
 ghost use Rattle.std.specs.List.{AllByRecursion};
+ghost use Rattle.wm_bench.specs.Places.{place_of};
 ghost use Rattle.wm_bench.specs.declared.bench.TheConstants.{MAX_HANDS};
-ghost use Rattle.wm_cli.specs.Benched.{AreBenched};
-ghost use Rattle.wm_cli.specs.Causes.{IsOpeningStatus, IsToldTooLong, IsToldWithin, IsUnlessMemory, LimitCause, StoreCause};
-ghost use Rattle.wm_cli.specs.Ended.{AreHandsOf, AreRowsKept, HasCommandsOf, HaveToldOnDone, IsBegunBy, IsQuietOnDone, IsReplayed, IsSerialOver};
+ghost use Rattle.wm_cli.specs.Benched.{AreBenched, HasJustBegun};
+ghost use Rattle.wm_cli.specs.Causes.{IsToldTooLong, IsToldWithin, IsUnlessMemory, LimitCause, StoreCause};
+ghost use Rattle.wm_cli.specs.Ended.{AreHandsOf, AreRowsKept, HasCommandsOf, HaveToldOnDone, IsBegunBy, IsEndedAtOnce, IsQuietOnDone, IsReplayed, IsRunEnd, IsSerialOver};
 ghost use Rattle.wm_cli.specs.Reading.{AreCommandsOf, IsReadStatus};
 ghost use Rattle.wm_cli.specs.Script.{IsTakenWithin};
 ghost use Rattle.wm_cli.specs.Words.{store_named};
@@ -11,15 +12,12 @@ ghost use Rattle.wm_faults.specs.Faults.{Failed};
 ghost use Rattle.wm_keeper.specs.declared.row.Row.{Row};
 ghost use Rattle.wm_machine.specs.Built.{IsBuilt};
 ghost use Rattle.wm_machine.specs.Opened.{opening_state};
-ghost use Rattle.wm_machine.specs.Quiet.{IsQuiet};
-ghost use Rattle.wm_machine.specs.Replay.{Replay};
-ghost use Rattle.wm_machine.specs.Rows.{rows_of};
 ghost use Rattle.wm_script.specs.declared.lines.TheConstants.{MAX_SCRIPT_BYTES};
 ghost use Rattle.wm_session.specs.Bench.{place_diaries};
 ghost use Rattle.wm_session.specs.Given.{given_to};
-ghost use Rattle.wm_session.specs.Ended.{AreHandsBack, HasCommands, HaveTold, IsSerialRun, IsSessionStatus, IsTextGiven};
+ghost use Rattle.wm_session.specs.Ended.{IsSerialEnd, IsTextGiven};
 ghost use Rattle.wm_session.specs.Hands.{instances_from, AreEchoes};
-ghost use Rattle.wm_table.specs.Table.{HoldsRowsOf};
+ghost use Rattle.wm_session.specs.Tells.{tells_of};
 
 use crate::instances::instances_of;
 use crate::script::{ReadFault, read_script};
@@ -71,27 +69,8 @@ fn run_commands<W: Sink, K: Keeper, B: Worker>(
     requires echoes { AreEchoes B.kind_of hands.items }
     requires built { AllByRecursion IsBuilt commands }
     requires few { length commands < 2 ^ 32 }
-    ensures replay { IsReplayed (K.held keeper) (instances_from B.kind_of 0 hands.items)
-        result.began result.first result.log result.last }
-    ensures begun { IsBegunBy result.status result.began }
-    ensures rows { AreRowsKept result.began result.last (K.held keeper) (K.held result.keeper) }
-    ensures commands { HasCommands commands result.status result.log }
-    ensures bytes { IsTextGiven (W.given sink) (W.given result.sink)
-        result.status result.first result.log }
-    ensures serial { IsSerialRun commands result.status result.first result.log result.last }
-    ensures end { IsQuietOnDone result.status result.last }
-    ensures hands { AreHandsOf B.kind_of result.began result.last hands.items result.hands.items }
-    ensures diaries { HaveToldOnDone B.diary_of result.status hands.items
-        result.first result.log result.hands.items }
-    ensures opened { IsOpeningStatus result.status }
-    ensures keeper_fault { result.status ≡ Status.KeeperFault
-        → Failed (K.faults keeper) (K.faults result.keeper) }
-    ensures sink_fault { result.status ≡ Status.SinkFault
-        → Failed (W.faults sink) (W.faults result.sink) }
-    ensures bad_store { StoreCause result.status (K.held keeper) }
-    ensures stored_row { (row : Row) (rest : List Row) → K.held keeper ≡ Some (row ∷ rest)
-        → ¬ Failed (K.faults keeper) (K.faults result.keeper)
-        → IsUnlessMemory result.status (Status.BadStore row.seq true) }
+    ensures { IsRunEnd (tells_of K.held K.faults W.given W.faults B.kind_of B.diary_of)
+        commands hands.items keeper sink result }
 {
     let rows = match keeper.load(store) {
         Ok(rows) => rows,
@@ -124,27 +103,10 @@ fn run_begun<W: Sink, K: Keeper, B: Worker>(
     requires built { AllByRecursion IsBuilt commands }
     requires few { length commands < 2 ^ 32 }
     requires first { table.first ≡ opening_state [] (instances_from B.kind_of 0 hands.items) }
-    requires state { table.state ≡ table.first }
-    requires log { table.log ≡ [] }
-    requires rows { HoldsRowsOf table.state (K.held table.keeper) }
-    ensures began { result.began ≡ true }
-    ensures first { result.first ≡ table.first }
-    ensures replay { Replay result.first result.log result.last }
-    ensures status { IsSessionStatus result.status }
-    ensures rows { K.held result.keeper
-        ≡ option_map (λ _. rows_of result.last) (K.held table.keeper) }
-    ensures commands { HasCommands commands result.status result.log }
-    ensures bytes { IsTextGiven (W.given sink) (W.given result.sink)
-        result.status result.first result.log }
-    ensures serial { IsSerialRun commands result.status result.first result.log result.last }
-    ensures end { IsQuietOnDone result.status result.last }
-    ensures hands { AreHandsBack B.kind_of result.last result.hands.items }
-    ensures diaries { HaveToldOnDone B.diary_of result.status hands.items
-        result.first result.log result.hands.items }
-    ensures keeper_fault { result.status ≡ Status.KeeperFault
-        → Failed (K.faults table.keeper) (K.faults result.keeper) }
-    ensures sink_fault { result.status ≡ Status.SinkFault
-        → Failed (W.faults sink) (W.faults result.sink) }
+    requires begun { HasJustBegun K.held table }
+    ensures { let tells = tells_of K.held K.faults W.given W.faults B.kind_of B.diary_of in
+        IsSerialEnd tells (given_to tells table commands sink)
+        (place_diaries B.diary_of (map place_of hands.items)) result }
 {
     match BenchOf::new(alloc, hands) {
         Ok(bench) => run_marked::<W, K, B, Brand>(alloc, table, bench, commands, sink),
@@ -163,32 +125,14 @@ fn run_marked<W: Sink, K: Keeper, B: Worker, M: Mark>(
     commands: Items<Command>,
     sink: W,
 ) -> EndedOf<K, W, B>
-    requires given { M.given ≡ given_to table (K.held table.keeper) (K.faults table.keeper)
-        commands (W.given sink) (W.faults sink) }
+    requires given { M.given ≡ given_to (tells_of K.held K.faults W.given W.faults B.kind_of B.diary_of)
+        table commands sink }
     requires benched { AreBenched B.kind_of bench table.first }
     requires built { AllByRecursion IsBuilt commands }
     requires few { length commands < 2 ^ 32 }
-    requires state { table.state ≡ table.first }
-    requires log { table.log ≡ [] }
-    requires rows { HoldsRowsOf table.state (K.held table.keeper) }
-    ensures began { result.began ≡ true }
-    ensures first { result.first ≡ table.first }
-    ensures replay { Replay result.first result.log result.last }
-    ensures status { IsSessionStatus result.status }
-    ensures rows { K.held result.keeper
-        ≡ option_map (λ _. rows_of result.last) (K.held table.keeper) }
-    ensures commands { HasCommands commands result.status result.log }
-    ensures bytes { IsTextGiven (W.given sink) (W.given result.sink)
-        result.status result.first result.log }
-    ensures serial { IsSerialRun commands result.status result.first result.log result.last }
-    ensures end { IsQuietOnDone result.status result.last }
-    ensures hands { AreHandsBack B.kind_of result.last result.hands.items }
-    ensures diaries { result.status ≡ Status.Done → HaveTold B.diary_of
-        (place_diaries B.diary_of bench) result.first result.log result.hands.items }
-    ensures keeper_fault { result.status ≡ Status.KeeperFault
-        → Failed (K.faults table.keeper) (K.faults result.keeper) }
-    ensures sink_fault { result.status ≡ Status.SinkFault
-        → Failed (W.faults sink) (W.faults result.sink) }
+    requires begun { HasJustBegun K.held table }
+    ensures { IsSerialEnd (tells_of K.held K.faults W.given W.faults B.kind_of B.diary_of)
+        M.given (place_diaries B.diary_of bench) result }
 {
     match BookOf::<K, W, B, M>::new(alloc, table, bench, commands, sink) {
         Ok(book) => run_serial(alloc, book),
@@ -205,14 +149,7 @@ fn end_at_once<W: Sink, K: Keeper, B: Worker>(
     hands: Vec<HandOf<B>>,
     sink: W,
 ) -> EndedOf<K, W, B>
-    ensures status { result.status ≡ Status.Memory }
-    ensures began { result.began ≡ true }
-    ensures first { result.first ≡ table.first }
-    ensures log { result.log ≡ table.log }
-    ensures last { result.last ≡ table.state }
-    ensures keeper { result.keeper ≡ table.keeper }
-    ensures sink { result.sink ≡ sink }
-    ensures hands { result.hands ≡ hands }
+    ensures { IsEndedAtOnce table sink hands result }
 {
     let TableEnd {
         first,

@@ -1,26 +1,28 @@
 -- What a book that is over hands back.
-use Rattle.std.proofs.Common.{◌≡◌, ℕ, List, [], ◌++◌, Option, Some, None, IsNone, IfSome, Result, Ok, Err, OnOk, IfErr, refl, sym, ◌∙◌, ap, subst}
+use Rattle.std.proofs.Common.{◌≡◌, ℕ, ◌≤◌, List, [], ◌++◌, Option, Some, None, IsNone, IfSome, Result, Ok, Err, OnOk, IfErr, refl, sym, ◌∙◌, ap, subst, arith}
+use Rattle.std.proofs.Math.Nat.{le_trans}
 use Rattle.std.proofs.lemmas.List.{append-nil}
-use Rattle.wm_keeper.specs.declared.row.Row.{Row}
+use Rattle.wm_faults.specs.Faults.{Failed}
 use Rattle.wm_machine.specs.Log.{commands_of, AreNumberedFrom, BeginsWith}
 use Rattle.wm_script.specs.Texts.{log_text}
 use Rattle.wm_machine.specs.declared.command.Command.{Command}
 use Rattle.wm_machine.specs.declared.event.Event.{Event}
 use Rattle.wm_machine.specs.declared.state.State.{State}
-use Rattle.wm_session.proofs.BookParts.{AreLinesKept-front}
+use Rattle.wm_session.proofs.BookParts.{AreLinesKept-front, failed_since}
 use Rattle.wm_session.proofs.Pieces.{IsGiven-kept, IsPartGiven-kept}
 use Rattle.wm_session.specs.BookState.{BookState}
-use Rattle.wm_session.specs.Causes.{status_by_stop, stop_by_fault}
-use Rattle.wm_session.specs.Ended.{HasCommands, IsTextGiven}
+use Rattle.wm_session.specs.Causes.{status_by_stop, stop_by_fault, StopCause}
+use Rattle.wm_session.specs.Ended.{HasCommands, IsSessionStatus, IsTextGiven}
 use Rattle.wm_session.specs.Given.{Given}
 use Rattle.wm_session.specs.Kept.{AreLinesKept, AreTextsKept, IsBookKept}
+use Rattle.wm_session.specs.Tells.{Tells}
+use Rattle.wm_session.specs.Writing.{WriteCause}
 use Rattle.wm_session.specs.declared.book.Stop.TheVariants as why
 use Rattle.wm_session.specs.declared.book.Stop.{Stop}
 use Rattle.wm_session.specs.declared.status.Status.TheVariants as status
 use Rattle.wm_session.specs.declared.status.Status.{Status}
 use Rattle.wm_session.specs.declared.writing.WriteFault.TheVariants as fault
 use Rattle.wm_session.specs.declared.writing.WriteFault.{WriteFault}
-use Rattle.wm_worker.specs.declared.kind.Kind.{Kind}
 
 done_is : (stop : Option Stop) (ended : Status) → IfSome stop (λ why. ended ≡ status_by_stop why) → ended ≡ status.Done → stop ≡ None
 done_is None ended is done = refl
@@ -28,9 +30,8 @@ done_is (Some why.KeeperFault) ended is done = absurd cc
 done_is (Some why.SinkFault) ended is done = absurd cc
 done_is (Some why.Memory) ended is done = absurd cc
 
-pub HasCommands-kept : {K W B : Type 0} {run : Given} {kind_of : B → Kind} {held : K → Option (List Row)} {keeper_faults : K → ℕ} {given : W → Option (List ℕ)}
-    {sink_faults : W → ℕ} {book : BookState K W B} (ended : Status) (log : List Event)
-    → IsBookKept run kind_of held keeper_faults given sink_faults book → log ≡ book.table.log → IfSome book.status (λ why. ended ≡ status_by_stop why)
+pub HasCommands-kept : {K W B : Type 0} {run : Given} {tells : Tells K W B} {book : BookState K W B} (ended : Status) (log : List Event)
+    → IsBookKept run tells book → log ≡ book.table.log → IfSome book.status (λ why. ended ≡ status_by_stop why)
     → (book.status ≡ None → book.left ≡ []) → HasCommands run.lines ended log
 HasCommands-kept {run = run} {book = book} ended log kept same stopped none_left =
     let done = commands_of book.table.log in
@@ -52,21 +53,76 @@ all_written None (Ok value) ended refused going done ok = ok
 all_written None (Err fault.Failed) ended refused going done ok = let is : ended ≡ status.SinkFault = refused refl in absurd cc
 all_written None (Err fault.Memory) ended refused going done ok = let is : ended ≡ status.Memory = refused refl in absurd cc
 
-pub IsTextGiven-kept : {K W B : Type 0} {run : Given} {kind_of : B → Kind} {held : K → Option (List Row)} {keeper_faults : K → ℕ} {given : W → Option (List ℕ)}
-    {sink_faults : W → ℕ} {book : BookState K W B} (ended : Status) (first : State) (log : List Event) (now : Option (List ℕ)) (left : List ℕ)
-    (written : Result (Unit {0}) WriteFault)
-    → IsBookKept run kind_of held keeper_faults given sink_faults book → first ≡ book.table.first → log ≡ book.table.log
-    → AreTextsKept None (given book.sink) now book.pending left → OnOk written (left ≡ []) → IfSome book.status (λ why. ended ≡ status_by_stop why)
+pub IsTextGiven-kept : {K W B : Type 0} {run : Given} {tells : Tells K W B} {book : BookState K W B} (ended : Status) (first : State) (log : List Event)
+    (now : Option (List ℕ)) (left : List ℕ) (written : Result (Unit {0}) WriteFault)
+    → IsBookKept run tells book → first ≡ book.table.first → log ≡ book.table.log
+    → AreTextsKept None (tells.given book.sink) now book.pending left → OnOk written (left ≡ []) → IfSome book.status (λ why. ended ≡ status_by_stop why)
     → (IsNone book.status → IfErr written (λ fault. ended ≡ status_by_stop (stop_by_fault fault))) → IsTextGiven run.written now ended first log
-IsTextGiven-kept {run = run} {given = given} {book = book} ended first log now left written kept first_is log_is told all stopped refused =
+IsTextGiven-kept {run = run} {tells = tells} {book = book} ended first log now left written kept first_is log_is told all stopped refused =
     let text : log_text book.table.first book.table.log ≡ log_text first log =
     ap (log_text book.table.first) (sym log_is) ∙ ap (λ s. log_text s log) (sym first_is) in
-    let texts = subst (λ l. AreTextsKept book.status run.written (given book.sink) l book.pending) text kept.texts in
+    let texts = subst (λ l. AreTextsKept book.status run.written (tells.given book.sink) l book.pending) text kept.texts in
     record {
-      front = IsPartGiven-kept book.status run.written (given book.sink) now (log_text first log) book.pending left texts told;
+      front = IsPartGiven-kept book.status run.written (tells.given book.sink) now (log_text first log) book.pending left texts told;
       all = λ is.
           let going = done_is book.status ended stopped is in
-          IsGiven-kept run.written (given book.sink) now (log_text first log) book.pending left
-          (subst (λ status. AreTextsKept status run.written (given book.sink) (log_text first log) book.pending) going texts) told
+          IsGiven-kept run.written (tells.given book.sink) now (log_text first log) book.pending left
+          (subst (λ status. AreTextsKept status run.written (tells.given book.sink) (log_text first log) book.pending) going texts) told
           (all_written book.status written ended refused going is all);
     }
+
+-- ---- how it ends
+
+stop_status : (why : Stop) → IsSessionStatus (status_by_stop why)
+stop_status why.KeeperFault = tt
+stop_status why.SinkFault = tt
+stop_status why.Memory = tt
+
+-- how a book ends that stopped for this, or whose last write was answered so
+pub record EndsBy (stop : Option Stop) (written : Result (Unit {0}) WriteFault) (ended : Status) : Type 0 where
+  pub stopped : IfSome stop (λ why. ended ≡ status_by_stop why)
+  pub refused : IsNone stop → IfErr written (λ fault. ended ≡ status_by_stop (stop_by_fault fault))
+  pub done : IsNone stop → OnOk written (ended ≡ status.Done)
+
+pub IsSessionStatus-ends : (stop : Option Stop) (written : Result (Unit {0}) WriteFault) (ended : Status) → EndsBy stop written ended → IsSessionStatus ended
+IsSessionStatus-ends (Some why) written ended ends = subst IsSessionStatus (sym ends.stopped) (stop_status why)
+IsSessionStatus-ends None (Ok value) ended ends = subst IsSessionStatus (sym (ends.done refl)) tt
+IsSessionStatus-ends None (Err fault) ended ends = subst IsSessionStatus (sym (ends.refused refl)) (stop_status (stop_by_fault fault))
+
+-- a fault of the keeper is answered where it stopped the book
+pub keeper_fault-ends : (stop : Option Stop) (written : Result (Unit {0}) WriteFault) (ended : Status) (keeper keeper_now sink sink_now : ℕ)
+    → EndsBy stop written ended → StopCause stop keeper keeper_now sink sink_now → ended ≡ status.KeeperFault → Failed keeper keeper_now
+keeper_fault-ends (Some why.KeeperFault) written ended keeper keeper_now sink sink_now ends cause is = cause
+keeper_fault-ends (Some why.SinkFault) written ended keeper keeper_now sink sink_now ends cause is =
+    let clash : status.SinkFault ≡ status.KeeperFault = sym ends.stopped ∙ is in absurd (cc)
+keeper_fault-ends (Some why.Memory) written ended keeper keeper_now sink sink_now ends cause is =
+    let clash : status.Memory ≡ status.KeeperFault = sym ends.stopped ∙ is in absurd (cc)
+keeper_fault-ends None (Ok value) ended keeper keeper_now sink sink_now ends cause is =
+    let clash : status.Done ≡ status.KeeperFault = sym (ends.done refl) ∙ is in absurd (cc)
+keeper_fault-ends None (Err fault.Failed) ended keeper keeper_now sink sink_now ends cause is =
+    let clash : status.SinkFault ≡ status.KeeperFault = sym (ends.refused refl) ∙ is in absurd (cc)
+keeper_fault-ends None (Err fault.Memory) ended keeper keeper_now sink sink_now ends cause is =
+    let clash : status.Memory ≡ status.KeeperFault = sym (ends.refused refl) ∙ is in absurd (cc)
+
+-- a write leaves the count of faults, or raises it
+write_later : (written : Result (Unit {0}) WriteFault) (before now : ℕ) → WriteCause written before now → before ≤ now
+write_later (Ok value) before now same = omega arith
+write_later (Err fault.Failed) before now failed = failed.later
+write_later (Err fault.Memory) before now same = omega arith
+
+-- a fault of the sink is answered where it stopped the book, or where the last write met it
+pub sink_fault-ends : (stop : Option Stop) (written : Result (Unit {0}) WriteFault) (ended : Status) (keeper keeper_now start before now : ℕ)
+    → EndsBy stop written ended → StopCause stop keeper keeper_now start before → WriteCause written before now → start ≤ before
+    → ended ≡ status.SinkFault → Failed start now
+sink_fault-ends (Some why.SinkFault) written ended keeper keeper_now start before now ends cause wrote since is =
+    let more : before ≤ now = write_later written before now wrote in
+    record { later = omega arith; rose = le_trans cause.rose more }
+sink_fault-ends (Some why.KeeperFault) written ended keeper keeper_now start before now ends cause wrote since is =
+    let clash : status.KeeperFault ≡ status.SinkFault = sym ends.stopped ∙ is in absurd (cc)
+sink_fault-ends (Some why.Memory) written ended keeper keeper_now start before now ends cause wrote since is =
+    let clash : status.Memory ≡ status.SinkFault = sym ends.stopped ∙ is in absurd (cc)
+sink_fault-ends None (Ok value) ended keeper keeper_now start before now ends cause wrote since is =
+    let clash : status.Done ≡ status.SinkFault = sym (ends.done refl) ∙ is in absurd (cc)
+sink_fault-ends None (Err fault.Failed) ended keeper keeper_now start before now ends cause wrote since is = failed_since start before now wrote since
+sink_fault-ends None (Err fault.Memory) ended keeper keeper_now start before now ends cause wrote since is =
+    let clash : status.Memory ≡ status.SinkFault = sym (ends.refused refl) ∙ is in absurd (cc)

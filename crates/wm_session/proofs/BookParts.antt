@@ -60,7 +60,7 @@ AreAwayKept-from (Some why) book same = tt
 -- ---- why a session stops
 
 -- a fault since a moment is one since an earlier moment
-failed_since : (start before now : ℕ) → Failed before now → start ≤ before → Failed start now
+pub failed_since : (start before now : ℕ) → Failed before now → start ≤ before → Failed start now
 failed_since start before now failed later =
     let rose : min (before + 1) (2 ^ 64 - 1) ≤ now = failed.rose in
     let not_below : before ≤ now = failed.later in

@@ -6,7 +6,6 @@ use Rattle.wm_bench.specs.Places.{changed_at, made_away, made_idle, idle_at, IsA
 use Rattle.wm_bench.specs.Seat.{Seat}
 use Rattle.wm_bench.specs.declared.place.Place.{Place}
 use Rattle.wm_data.specs.declared.data.DataEntry.{DataEntry}
-use Rattle.wm_keeper.specs.declared.row.Row.{Row}
 use Rattle.wm_machine.proofs.Firsts.{idle_instance-idle, idle_instance-stored}
 use Rattle.wm_machine.proofs.Logs.{Replay-push, commands_of-push, AreNumberedFrom-push}
 use Rattle.wm_script.proofs.LogTexts.{log_text-push}
@@ -35,6 +34,7 @@ use Rattle.wm_session.specs.BookState.{BookState}
 use Rattle.wm_session.specs.Causes.{stop_by_fault, stop_by_trouble, StopCause}
 use Rattle.wm_session.specs.Given.{Given}
 use Rattle.wm_session.specs.Kept.{AreAwayKept, AreLinesKept, AreTextsKept, IsBookKept}
+use Rattle.wm_session.specs.Tells.{Tells}
 use Rattle.wm_table.specs.Table.{last_of, IsOneStep, IsTicketIn, IsUntouched, Stands, TurnCause}
 use Rattle.wm_table.specs.TableState.{TableState, TicketState}
 use Rattle.wm_session.specs.Writing.{WriteCause}
@@ -45,27 +45,24 @@ use Rattle.wm_table.specs.declared.table.TurnAnswer.TheVariants as turn
 use Rattle.wm_session.specs.declared.writing.WriteFault.{WriteFault}
 use Rattle.wm_worker.specs.Signal.{SignalState}
 use Rattle.wm_worker.specs.Told.{Report}
-use Rattle.wm_worker.specs.declared.kind.Kind.{Kind}
 
 -- what is the same in every step of the table
-record IsStep {K W B : Type 0} (kind_of : B → Kind) (held : K → Option (List Row)) (keeper_faults : K → ℕ) (e : Event)
-    (old new : BookState K W B) : Type 0 where
+record IsStep {K W B : Type 0} (tells : Tells K W B) (e : Event) (old new : BookState K W B) : Type 0 where
   going : old.status ≡ None
-  step : IsOneStep held e old.table new.table
+  step : IsOneStep tells.held e old.table new.table
   left : old.left ≡ command_in e ++ new.left
   built : AllByRecursion IsBuilt new.left
   line : new.line ≡ old.line + length (command_in e)
-  workers : map (place_traits kind_of) new.places ≡ map instance_traits new.table.state.instances
-  no_fault : keeper_faults new.table.keeper ≡ keeper_faults old.table.keeper
+  workers : map (place_traits tells.kind_of) new.places ≡ map instance_traits new.table.state.instances
+  no_fault : tells.keeper_faults new.table.keeper ≡ tells.keeper_faults old.table.keeper
 
 -- the workers that are away are those of the instances that are out
 away_now : {K W B : Type 0} (old : BookState K W B) → old.status ≡ None → AreAwayKept old.status old
     → map (λ place. is_away place.presence) old.places ≡ map (λ instance. instance.out) old.table.state.instances
 away_now old going kept = subst (λ status. AreAwayKept status old) going kept
 
-module _ {K W B : Type 0} {run : Given} {kind_of : B → Kind} {held : K → Option (List Row)} {keeper_faults : K → ℕ} {given : W → Option (List ℕ)}
-    {sink_faults : W → ℕ} where
-  replayed : (e : Event) (old new : BookState K W B) → IsBookKept run kind_of held keeper_faults given sink_faults old → IsOneStep held e old.table new.table
+module _ {K W B : Type 0} {run : Given} {tells : Tells K W B} where
+  replayed : (e : Event) (old new : BookState K W B) → IsBookKept run tells old → IsOneStep tells.held e old.table new.table
       → Replay new.table.first new.table.log new.table.state
   replayed e old new kept step =
       subst (λ first. Replay first new.table.log new.table.state) (sym step.first)
@@ -73,19 +70,20 @@ module _ {K W B : Type 0} {run : Given} {kind_of : B → Kind} {held : K → Opt
       (subst (λ s. Replay old.table.first (old.table.log ++ e ∷ []) s) (sym step.state)
       (Replay-push old.table.first old.table.log old.table.state e kept.replay step.legal)))
 
-  text_is : (e : Event) (old new : BookState K W B) → IsBookKept run kind_of held keeper_faults given sink_faults old → IsOneStep held e old.table new.table
+  text_is : (e : Event) (old new : BookState K W B) → IsBookKept run tells old → IsOneStep tells.held e old.table new.table
       → log_text new.table.first new.table.log ≡ log_text old.table.first old.table.log ++ event_text old.table.state e
   text_is e old new kept step =
       ap (λ first. log_text first new.table.log) step.first
       ∙ ap (log_text old.table.first) step.appended
       ∙ log_text-push old.table.first old.table.log old.table.state e kept.replay
 
-  IsBookKept-step : (e : Event) (old new : BookState K W B) → IsBookKept run kind_of held keeper_faults given sink_faults old
-      → IsStep kind_of held keeper_faults e old new → AreNumberedFrom 1 (old.table.log ++ e ∷ [])
-      → AreTextsKept new.status (given old.sink) (given new.sink) (old.pending ++ event_text old.table.state e) new.pending → AreAwayKept new.status new
-      → sink_faults old.sink ≤ sink_faults new.sink
-      → StopCause new.status run.keeper_faults (keeper_faults new.table.keeper) run.sink_faults (sink_faults new.sink)
-      → IsBookKept run kind_of held keeper_faults given sink_faults new
+  IsBookKept-step : (e : Event) (old new : BookState K W B) → IsBookKept run tells old
+      → IsStep tells e old new → AreNumberedFrom 1 (old.table.log ++ e ∷ [])
+      → AreTextsKept new.status (tells.given old.sink) (tells.given new.sink) (old.pending ++ event_text old.table.state e) new.pending
+      → AreAwayKept new.status new
+      → tells.sink_faults old.sink ≤ tells.sink_faults new.sink
+      → StopCause new.status run.keeper_faults (tells.keeper_faults new.table.keeper) run.sink_faults (tells.sink_faults new.sink)
+      → IsBookKept run tells new
   IsBookKept-step e old new kept more numbered texts away later cause =
       let step = more.step in
       let done = commands_of old.table.log in
@@ -94,10 +92,10 @@ module _ {K W B : Type 0} {run : Given} {kind_of : B → Kind} {held : K → Opt
       let few : old.line + length old.left < 2 ^ 32 = kept.few_lines in
       let left_is : length old.left ≡ length (command_in e) + length new.left = ap length more.left ∙ length-append (command_in e) new.left in
       let line_is : new.line ≡ old.line + length (command_in e) = more.line in
-      let sink_before : run.sink_faults ≤ sink_faults old.sink = kept.sink_later in
-      let keeper_before : run.keeper_faults ≤ keeper_faults old.table.keeper = kept.keeper_later in
-      let before : AreTextsKept None run.written (given old.sink) (log_text old.table.first old.table.log) old.pending =
-      subst (λ status. AreTextsKept status run.written (given old.sink) (log_text old.table.first old.table.log) old.pending) more.going kept.texts in
+      let sink_before : run.sink_faults ≤ tells.sink_faults old.sink = kept.sink_later in
+      let keeper_before : run.keeper_faults ≤ tells.keeper_faults old.table.keeper = kept.keeper_later in
+      let before : AreTextsKept None run.written (tells.given old.sink) (log_text old.table.first old.table.log) old.pending =
+      subst (λ status. AreTextsKept status run.written (tells.given old.sink) (log_text old.table.first old.table.log) old.pending) more.going kept.texts in
       record {
         first = step.first ∙ kept.first;
         replay = replayed e old new kept step;
@@ -109,10 +107,10 @@ module _ {K W B : Type 0} {run : Given} {kind_of : B → Kind} {held : K → Opt
         numbered = subst (AreNumberedFrom 1) (sym step.appended) numbered;
         line = more.line ∙ ap (λ n. n + length (command_in e)) kept.line ∙ sym (length-append done (command_in e)) ∙ ap length (sym commands);
         few_lines = omega arith;
-        texts = subst (λ text. AreTextsKept new.status run.written (given new.sink) text new.pending) (sym (text_is e old new kept step))
-            (AreTextsKept-more new.status run.written (given old.sink) (given new.sink) (log_text old.table.first old.table.log)
+        texts = subst (λ text. AreTextsKept new.status run.written (tells.given new.sink) text new.pending) (sym (text_is e old new kept step))
+            (AreTextsKept-more new.status run.written (tells.given old.sink) (tells.given new.sink) (log_text old.table.first old.table.log)
             (event_text old.table.state e) old.pending new.pending before texts);
-        rows = rows_then old.table.state new.table.state run.rows (held old.table.keeper) (held new.table.keeper) kept.rows step.rows;
+        rows = rows_then old.table.state new.table.state run.rows (tells.held old.table.keeper) (tells.held new.table.keeper) kept.rows step.rows;
         workers = more.workers;
         away = away;
         keeper_later = subst (λ n. run.keeper_faults ≤ n) (sym more.no_fault) keeper_before;
@@ -121,11 +119,11 @@ module _ {K W B : Type 0} {run : Given} {kind_of : B → Kind} {held : K → Opt
       }
 
   IsBookKept-silent : (e : Event) (old : BookState K W B) (table : TableState K) (places : List (Place B))
-      → IsBookKept run kind_of held keeper_faults given sink_faults old → old.status ≡ None → IsOneStep held e old.table table → IsSilent old.table.state e
-      → map (place_traits kind_of) places ≡ map instance_traits table.state.instances
+      → IsBookKept run tells old → old.status ≡ None → IsOneStep tells.held e old.table table → IsSilent old.table.state e
+      → map (place_traits tells.kind_of) places ≡ map instance_traits table.state.instances
       → map (λ place. is_away place.presence) places ≡ map (λ instance. instance.out) table.state.instances
-      → keeper_faults table.keeper ≡ keeper_faults old.table.keeper
-      → IsBookKept run kind_of held keeper_faults given sink_faults (record old { table = table; places = places })
+      → tells.keeper_faults table.keeper ≡ tells.keeper_faults old.table.keeper
+      → IsBookKept run tells (record old { table = table; places = places })
   IsBookKept-silent e old table places kept going step silent workers away no_fault =
       let new : BookState K W B = record old { table = table; places = places } in
       let text : old.pending ≡ old.pending ++ event_text old.table.state e =
@@ -140,18 +138,19 @@ module _ {K W B : Type 0} {run : Given} {kind_of : B → Kind} {held : K → Opt
         no_fault = no_fault;
       })
       (AreNumberedFrom-silent 1 old.table.log e silent.no_command kept.numbered)
-      (subst (λ status. AreTextsKept status (given old.sink) (given old.sink) (old.pending ++ event_text old.table.state e) old.pending) (sym going)
-      (subst (λ l. AreTextsKept None (given old.sink) (given old.sink) l old.pending) text (AreTextsKept-unwritten (given old.sink) old.pending)))
+      (subst (λ status. AreTextsKept status (tells.given old.sink) (tells.given old.sink) (old.pending ++ event_text old.table.state e) old.pending) (sym going)
+      (subst (λ l. AreTextsKept None (tells.given old.sink) (tells.given old.sink) l old.pending) text
+      (AreTextsKept-unwritten (tells.given old.sink) old.pending)))
       (subst (λ status. AreAwayKept status new) (sym going) away)
       (omega arith)
-      (subst (λ status. StopCause status run.keeper_faults (keeper_faults table.keeper) run.sink_faults (sink_faults old.sink)) (sym going) tt)
+      (subst (λ status. StopCause status run.keeper_faults (tells.keeper_faults table.keeper) run.sink_faults (tells.sink_faults old.sink)) (sym going) tt)
 
   -- ---- a start
 
   -- the worker of the instance that starts is at its place
   pub claimed_idle : {old : BookState K W B} (table : TableState K) (number seq instance place : ℕ) (input : List DataEntry)
-      → IsBookKept run kind_of held keeper_faults given sink_faults old → old.status ≡ None
-      → IsOneStep held (event.Start number seq instance input) old.table table → place ≡ instance
+      → IsBookKept run tells old → old.status ≡ None
+      → IsOneStep tells.held (event.Start number seq instance input) old.table table → place ≡ instance
       → None ≡ option_map (λ worker. let made : Seat B = record { number = place; worker = worker } in made) (idle_at place old.places) → ⊥
   claimed_idle {old = old} table number seq instance place input kept going step same none =
       let start = step.legal in
@@ -163,32 +162,34 @@ module _ {K W B : Type 0} {run : Given} {kind_of : B → Kind} {held : K → Opt
       (no_seat place (idle_at place old.places) none)
 
   pub IsBookKept-begun : {old : BookState K W B} (table : TableState K) (places : List (Place B)) (number seq instance place : ℕ) (input : List DataEntry)
-      → IsBookKept run kind_of held keeper_faults given sink_faults old → old.status ≡ None
-      → IsOneStep held (event.Start number seq instance input) old.table table → place ≡ instance → places ≡ changed_at (made_away kind_of) place old.places
-      → keeper_faults table.keeper ≡ keeper_faults old.table.keeper
-      → IsBookKept run kind_of held keeper_faults given sink_faults (record old { table = table; places = places })
+      → IsBookKept run tells old → old.status ≡ None
+      → IsOneStep tells.held (event.Start number seq instance input) old.table table → place ≡ instance
+      → places ≡ changed_at (made_away tells.kind_of) place old.places
+      → tells.keeper_faults table.keeper ≡ tells.keeper_faults old.table.keeper
+      → IsBookKept run tells (record old { table = table; places = places })
   IsBookKept-begun {old = old} table places number seq instance place input kept going step same there no_fault =
       let s = old.table.state in
       let instances : table.state.instances ≡ with_out true instance s.instances =
       ap (λ (t : State). t.instances) step.state ∙ instances-started s number seq instance input step.legal in
       let from_zero : 0 + instance ≡ instance = omega arith in
-      let are : places ≡ changed_at (made_away kind_of) instance old.places = there ∙ ap (λ n. changed_at (made_away kind_of) n old.places) same in
+      let are : places ≡ changed_at (made_away tells.kind_of) instance old.places = there ∙ ap (λ n. changed_at (made_away tells.kind_of) n old.places) same in
       IsBookKept-silent (event.Start number seq instance input) old table places kept going step (IsSilent-start s number seq instance input)
-      (ap (map (place_traits kind_of)) are ∙ traits-taken kind_of instance old.places ∙ kept.workers ∙ sym (traits-with_out true instance s.instances) ∙ ap
-      (map instance_traits) (sym instances))
+      (ap (map (place_traits tells.kind_of)) are ∙ traits-taken tells.kind_of instance old.places ∙ kept.workers
+      ∙ sym (traits-with_out true instance s.instances) ∙ ap (map instance_traits) (sym instances))
       (ap (map (λ place. is_away place.presence)) are
-      ∙ away-changed (made_away kind_of) true instance 0 old.places s.instances (away-taken kind_of) kept.valid.in_order (away_now old going kept.away)
+      ∙ away-changed (made_away tells.kind_of) true instance 0 old.places s.instances (away-taken tells.kind_of) kept.valid.in_order
+      (away_now old going kept.away)
       ∙ ap (λ n. map (λ instance. instance.out) (with_out true n s.instances)) from_zero
       ∙ ap (map (λ instance. instance.out)) (sym instances))
       no_fault
 
   pub IsBegun-taken : {old : BookState K W B} (table : TableState K) (places : List (Place B)) (ticket : TicketState) (place : ℕ) (seat : Seat B)
       (signal : SignalState)
-      → IsBookKept run kind_of held keeper_faults given sink_faults old → old.status ≡ None
-      → IsOneStep held (event.Start ticket.task.run ticket.seq ticket.instance ticket.task.input) old.table table → IsTicketIn table.state ticket
+      → IsBookKept run tells old → old.status ≡ None
+      → IsOneStep tells.held (event.Start ticket.task.run ticket.seq ticket.instance ticket.task.input) old.table table → IsTicketIn table.state ticket
       → place ≡ ticket.instance → Some seat ≡ option_map (λ worker. record { number = place; worker = worker }) (idle_at place old.places)
-      → places ≡ changed_at (made_away kind_of) place old.places → signal ≡ record { run = ticket.task.run; never = true }
-      → book.IsBegun held kind_of ticket seat signal old (record old { table = table; places = places })
+      → places ≡ changed_at (made_away tells.kind_of) place old.places → signal ≡ record { run = ticket.task.run; never = true }
+      → book.IsBegun tells.held tells.kind_of ticket seat signal old (record old { table = table; places = places })
   IsBegun-taken {old = old} table places ticket place seat signal kept going step ticket_in same taken are signal_is =
       let seated = seat_is place (idle_at place old.places) seat taken in
       let there : idle_at ticket.instance old.places ≡ Some seat.worker = ap (λ n. idle_at n old.places) (sym same) ∙ seated.0 in
@@ -200,10 +201,11 @@ module _ {K W B : Type 0} {run : Given} {kind_of : B → Kind} {held : K → Opt
         step = step;
         ticket_in = ticket_in;
         number = seated.1 ∙ same;
-        kind = kind-Echo kind_of old.table.state.runs seat.worker ticket.instance old.places old.table.state.instances kept.valid.instances kept.workers there
+        kind = kind-Echo tells.kind_of old.table.state.runs seat.worker ticket.instance old.places old.table.state.instances kept.valid.instances
+            kept.workers there
             ∙ sym (ticket_kind table.state ticket (run_numbered ticket.task.run table.state.runs) valid refl ticket_in);
         worker = there;
-        places = are ∙ ap (λ n. changed_at (made_away kind_of) n old.places) same;
+        places = are ∙ ap (λ n. changed_at (made_away tells.kind_of) n old.places) same;
         signal_is = signal_is;
         left = refl;
       }
@@ -211,8 +213,8 @@ module _ {K W B : Type 0} {run : Given} {kind_of : B → Kind} {held : K → Opt
   -- ---- a work that couldn't start
 
   pub IsBookKept-start_failed : {old : BookState K W B} (table : TableState K) (seq : ℕ) (cause : Cause)
-      → IsBookKept run kind_of held keeper_faults given sink_faults old → old.status ≡ None → IsOneStep held (event.StartFailed seq cause) old.table table
-      → keeper_faults table.keeper ≡ keeper_faults old.table.keeper → IsBookKept run kind_of held keeper_faults given sink_faults (record old { table = table })
+      → IsBookKept run tells old → old.status ≡ None → IsOneStep tells.held (event.StartFailed seq cause) old.table table
+      → tells.keeper_faults table.keeper ≡ tells.keeper_faults old.table.keeper → IsBookKept run tells (record old { table = table })
   IsBookKept-start_failed {old = old} table seq cause kept going step no_fault =
       let instances : table.state.instances ≡ old.table.state.instances = ap (λ (t : State). t.instances) step.state in
       IsBookKept-silent (event.StartFailed seq cause) old table old.places kept going step (IsSilent-start_failed old.table.state seq cause)
@@ -224,18 +226,18 @@ module _ {K W B : Type 0} {run : Given} {kind_of : B → Kind} {held : K → Opt
 
   pub IsBookKept-over : {old : BookState K W B} (table : TableState K) (places : List (Place B)) (ticket : TicketState) (place : ℕ) (output : List DataEntry)
       (worker : B)
-      → IsBookKept run kind_of held keeper_faults given sink_faults old → old.status ≡ None
-      → IsOneStep held (event.Finish ticket.task.run (Success output)) old.table table → Stands old.table.state ticket → place ≡ ticket.instance
-      → IsAwayAt place (kind_of worker) old.places → places ≡ changed_at (made_idle worker) place old.places
-      → keeper_faults table.keeper ≡ keeper_faults old.table.keeper
-      → IsBookKept run kind_of held keeper_faults given sink_faults (record old { table = table; places = places })
+      → IsBookKept run tells old → old.status ≡ None
+      → IsOneStep tells.held (event.Finish ticket.task.run (Success output)) old.table table → Stands old.table.state ticket → place ≡ ticket.instance
+      → IsAwayAt place (tells.kind_of worker) old.places → places ≡ changed_at (made_idle worker) place old.places
+      → tells.keeper_faults table.keeper ≡ tells.keeper_faults old.table.keeper
+      → IsBookKept run tells (record old { table = table; places = places })
   IsBookKept-over {old = old} table places ticket place output worker kept going step stands same away are no_fault =
       let s = old.table.state in
       let instances : table.state.instances ≡ with_out false ticket.instance s.instances =
       ap (λ (t : State). t.instances) step.state ∙ instances-finished s ticket output (run_numbered ticket.task.run s.runs) stands in
       let from_zero : 0 + place ≡ ticket.instance = omega arith ∙ same in
       IsBookKept-silent (event.Finish ticket.task.run (Success output)) old table places kept going step (IsSilent-finish s ticket.task.run (Success output))
-      (ap (map (place_traits kind_of)) are ∙ traits-given kind_of worker place old.places away ∙ kept.workers ∙ sym
+      (ap (map (place_traits tells.kind_of)) are ∙ traits-given tells.kind_of worker place old.places away ∙ kept.workers ∙ sym
       (traits-with_out false ticket.instance s.instances) ∙ ap (map instance_traits) (sym instances))
       (ap (map (λ place. is_away place.presence)) are
       ∙ away-changed (made_idle worker) false place 0 old.places s.instances (λ place. refl) kept.valid.in_order (away_now old going kept.away)
@@ -246,13 +248,13 @@ module _ {K W B : Type 0} {run : Given} {kind_of : B → Kind} {held : K → Opt
   -- ---- a session that stops
 
   pub IsBookKept-stopped : {old : BookState K W B} (table : TableState K) (places : List (Place B)) (left : List Command) (why : Stop)
-      → IsBookKept run kind_of held keeper_faults given sink_faults old → IsUntouched held old.table table
-      → map (place_traits kind_of) places ≡ map (place_traits kind_of) old.places → AllByRecursion IsBuilt left → length left ≤ length old.left
-      → keeper_faults old.table.keeper ≤ keeper_faults table.keeper
-      → StopCause (Some why) run.keeper_faults (keeper_faults table.keeper) run.sink_faults (sink_faults old.sink)
-      → IsBookKept run kind_of held keeper_faults given sink_faults (record old { table = table; places = places; left = left; status = Some why })
+      → IsBookKept run tells old → IsUntouched tells.held old.table table
+      → map (place_traits tells.kind_of) places ≡ map (place_traits tells.kind_of) old.places → AllByRecursion IsBuilt left → length left ≤ length old.left
+      → tells.keeper_faults old.table.keeper ≤ tells.keeper_faults table.keeper
+      → StopCause (Some why) run.keeper_faults (tells.keeper_faults table.keeper) run.sink_faults (tells.sink_faults old.sink)
+      → IsBookKept run tells (record old { table = table; places = places; left = left; status = Some why })
   IsBookKept-stopped {old = old} table places left why kept same workers built fewer later cause =
-      let keeper_before : run.keeper_faults ≤ keeper_faults old.table.keeper = kept.keeper_later in
+      let keeper_before : run.keeper_faults ≤ tells.keeper_faults old.table.keeper = kept.keeper_later in
       let few : old.line + length old.left < 2 ^ 32 = kept.few_lines in
       record {
         first = same.first ∙ kept.first;
@@ -266,9 +268,9 @@ module _ {K W B : Type 0} {run : Given} {kind_of : B → Kind} {held : K → Opt
         numbered = subst (AreNumberedFrom 1) (sym same.log) kept.numbered;
         line = kept.line ∙ ap (λ log. length (commands_of log)) (sym same.log);
         few_lines = omega arith;
-        texts = subst (λ first. AreTextsKept (Some why) run.written (given old.sink) (log_text first table.log) old.pending) (sym same.first)
-            (subst (λ log. AreTextsKept (Some why) run.written (given old.sink) (log_text old.table.first log) old.pending) (sym same.log)
-            (AreTextsKept-stopped old.status why run.written (given old.sink) (log_text old.table.first old.table.log) old.pending kept.texts));
+        texts = subst (λ first. AreTextsKept (Some why) run.written (tells.given old.sink) (log_text first table.log) old.pending) (sym same.first)
+            (subst (λ log. AreTextsKept (Some why) run.written (tells.given old.sink) (log_text old.table.first log) old.pending) (sym same.log)
+            (AreTextsKept-stopped old.status why run.written (tells.given old.sink) (log_text old.table.first old.table.log) old.pending kept.texts));
         rows = same.rows ∙ kept.rows ∙ ap (λ (s : State). option_map (λ _. rows_of s) run.rows) (sym same.state);
         workers = workers ∙ kept.workers ∙ ap (λ (s : State). map instance_traits s.instances) (sym same.state);
         away = tt;
@@ -279,38 +281,41 @@ module _ {K W B : Type 0} {run : Given} {kind_of : B → Kind} {held : K → Opt
 
   -- the session stops where the table is as it was
   pub IsBookKept-memory : {old : BookState K W B} (table : TableState K) (places : List (Place B))
-      → IsBookKept run kind_of held keeper_faults given sink_faults old → table ≡ old.table
-      → map (place_traits kind_of) places ≡ map (place_traits kind_of) old.places
-      → IsBookKept run kind_of held keeper_faults given sink_faults (record old { table = table; places = places; status = Some why.Memory })
+      → IsBookKept run tells old → table ≡ old.table
+      → map (place_traits tells.kind_of) places ≡ map (place_traits tells.kind_of) old.places
+      → IsBookKept run tells (record old { table = table; places = places; status = Some why.Memory })
   IsBookKept-memory {old = old} table places kept same workers =
-      IsBookKept-stopped table places old.left why.Memory kept (IsUntouched-same held old.table table same) workers kept.built (omega arith)
-      (let faults : keeper_faults table.keeper ≡ keeper_faults old.table.keeper = ap (λ (t : TableState K). keeper_faults t.keeper) same in omega arith) tt
+      IsBookKept-stopped table places old.left why.Memory kept (IsUntouched-same tells.held old.table table same) workers kept.built (omega arith)
+      (let faults : tells.keeper_faults table.keeper ≡ tells.keeper_faults old.table.keeper = ap (λ (t : TableState K). tells.keeper_faults t.keeper) same in
+      omega arith) tt
 
   -- the session stops where the table had trouble at the end of a turn
   pub IsBookKept-refused : {old : BookState K W B} (between table : TableState K) (places : List (Place B)) (ticket : TicketState) (told : Report)
       (why : Trouble) (stop : Stop)
-      → IsBookKept run kind_of held keeper_faults given sink_faults old → IsUntouched held old.table between → table ≡ between
-      → TurnCause (turn.Refused ticket told why) (keeper_faults old.table.keeper) (keeper_faults between.keeper) → stop ≡ stop_by_trouble why
-      → map (place_traits kind_of) places ≡ map (place_traits kind_of) old.places
-      → IsBookKept run kind_of held keeper_faults given sink_faults (record old { table = table; places = places; status = Some stop })
+      → IsBookKept run tells old → IsUntouched tells.held old.table between → table ≡ between
+      → TurnCause (turn.Refused ticket told why) (tells.keeper_faults old.table.keeper) (tells.keeper_faults between.keeper) → stop ≡ stop_by_trouble why
+      → map (place_traits tells.kind_of) places ≡ map (place_traits tells.kind_of) old.places
+      → IsBookKept run tells (record old { table = table; places = places; status = Some stop })
   IsBookKept-refused {old = old} between table places ticket told why stop kept untouched same trouble stop_is workers =
       let cause =
-      StopCause-turn ticket told why (keeper_faults old.table.keeper) (keeper_faults between.keeper) run.keeper_faults run.sink_faults
-      (sink_faults old.sink) trouble kept.keeper_later in
-      let later : keeper_faults old.table.keeper ≤ keeper_faults between.keeper = cause.0 in
-      let faults : keeper_faults between.keeper ≡ keeper_faults table.keeper = ap (λ (t : TableState K). keeper_faults t.keeper) (sym same) in
-      IsBookKept-stopped table places old.left stop kept (subst (IsUntouched held old.table) (sym same) untouched) workers kept.built (omega arith)
+      StopCause-turn ticket told why (tells.keeper_faults old.table.keeper) (tells.keeper_faults between.keeper) run.keeper_faults run.sink_faults
+      (tells.sink_faults old.sink) trouble kept.keeper_later in
+      let later : tells.keeper_faults old.table.keeper ≤ tells.keeper_faults between.keeper = cause.0 in
+      let faults : tells.keeper_faults between.keeper ≡ tells.keeper_faults table.keeper =
+      ap (λ (t : TableState K). tells.keeper_faults t.keeper) (sym same) in
+      IsBookKept-stopped table places old.left stop kept (subst (IsUntouched tells.held old.table) (sym same) untouched) workers kept.built (omega arith)
       (omega arith)
-      (subst (λ n. StopCause (Some stop) run.keeper_faults n run.sink_faults (sink_faults old.sink)) faults
-      (subst (λ s. StopCause (Some s) run.keeper_faults (keeper_faults between.keeper) run.sink_faults (sink_faults old.sink)) (sym stop_is) cause.1))
+      (subst (λ n. StopCause (Some stop) run.keeper_faults n run.sink_faults (tells.sink_faults old.sink)) faults
+      (subst (λ s. StopCause (Some s) run.keeper_faults (tells.keeper_faults between.keeper) run.sink_faults (tells.sink_faults old.sink))
+      (sym stop_is) cause.1))
 
   -- a worker comes back after the session has stopped
   pub IsBookKept-placed : {old : BookState K W B} (table : TableState K) (places : List (Place B))
-      → IsBookKept run kind_of held keeper_faults given sink_faults old → IsSome old.status → table ≡ old.table
-      → map (place_traits kind_of) places ≡ map (place_traits kind_of) old.places
-      → IsBookKept run kind_of held keeper_faults given sink_faults (record old { table = table; places = places })
+      → IsBookKept run tells old → IsSome old.status → table ≡ old.table
+      → map (place_traits tells.kind_of) places ≡ map (place_traits tells.kind_of) old.places
+      → IsBookKept run tells (record old { table = table; places = places })
   IsBookKept-placed {old = old} table places kept stopped same workers =
-      subst (λ t. IsBookKept run kind_of held keeper_faults given sink_faults (record old { table = t; places = places })) (sym same) (record {
+      subst (λ t. IsBookKept run tells (record old { table = t; places = places })) (sym same) (record {
         first = kept.first;
         replay = kept.replay;
         valid = kept.valid;
@@ -333,12 +338,14 @@ module _ {K W B : Type 0} {run : Given} {kind_of : B → Kind} {held : K → Opt
   -- a line was executed, and its text told or not
   pub IsBookKept-line : {old : BookState K W B} (table : TableState K) (left : List Command) (pending : List ℕ) (sink : W) (status : Option Stop)
       (command : Command) (reply : Reply)
-      → IsBookKept run kind_of held keeper_faults given sink_faults old → old.status ≡ None
-      → IsOneStep held (event.Command (old.line + 1) command reply) old.table table → old.left ≡ command ∷ left
-      → keeper_faults table.keeper ≡ keeper_faults old.table.keeper
-      → AreTextsKept status (given old.sink) (given sink) (old.pending ++ event_text old.table.state (event.Command (old.line + 1) command reply)) pending
-      → sink_faults old.sink ≤ sink_faults sink → StopCause status run.keeper_faults (keeper_faults table.keeper) run.sink_faults (sink_faults sink)
-      → IsBookKept run kind_of held keeper_faults given sink_faults
+      → IsBookKept run tells old → old.status ≡ None
+      → IsOneStep tells.held (event.Command (old.line + 1) command reply) old.table table → old.left ≡ command ∷ left
+      → tells.keeper_faults table.keeper ≡ tells.keeper_faults old.table.keeper
+      → AreTextsKept status (tells.given old.sink) (tells.given sink)
+      (old.pending ++ event_text old.table.state (event.Command (old.line + 1) command reply)) pending
+      → tells.sink_faults old.sink ≤ tells.sink_faults sink
+      → StopCause status run.keeper_faults (tells.keeper_faults table.keeper) run.sink_faults (tells.sink_faults sink)
+      → IsBookKept run tells
       (record old { table = table; left = left; line = old.line + 1; pending = pending; sink = sink; status = status })
   IsBookKept-line {old = old} table left pending sink status command reply kept going step next no_fault texts later cause =
       let new : BookState K W B = record old { table = table; left = left; line = old.line + 1; pending = pending; sink = sink; status = status } in
@@ -363,54 +370,56 @@ module _ {K W B : Type 0} {run : Given} {kind_of : B → Kind} {held : K → Opt
 
   -- a line was executed, and what is pending was written
   pub IsBookKept-told : {old : BookState K W B} (table : TableState K) (left : List Command) (pending : List ℕ) (sink : W) (command : Command) (reply : Reply)
-      → IsBookKept run kind_of held keeper_faults given sink_faults old → old.status ≡ None
-      → IsOneStep held (event.Command (old.line + 1) command reply) old.table table → old.left ≡ command ∷ left
-      → keeper_faults table.keeper ≡ keeper_faults old.table.keeper
-      → ((s : State) (e : Event) → last_of table.log ≡ Some e → AreTextsKept None (given old.sink) (given sink) (old.pending ++ event_text s e) pending)
-      → sink_faults sink ≡ sink_faults old.sink
-      → IsBookKept run kind_of held keeper_faults given sink_faults
+      → IsBookKept run tells old → old.status ≡ None
+      → IsOneStep tells.held (event.Command (old.line + 1) command reply) old.table table → old.left ≡ command ∷ left
+      → tells.keeper_faults table.keeper ≡ tells.keeper_faults old.table.keeper
+      → ((s : State) (e : Event) → last_of table.log ≡ Some e
+      → AreTextsKept None (tells.given old.sink) (tells.given sink) (old.pending ++ event_text s e) pending)
+      → tells.sink_faults sink ≡ tells.sink_faults old.sink
+      → IsBookKept run tells
       (record old { table = table; left = left; line = old.line + 1; pending = pending; sink = sink })
   IsBookKept-told {old = old} table left pending sink command reply kept going step next no_fault texts no_sink_fault =
       let e = event.Command (old.line + 1) command reply in
-      let told = texts old.table.state e (last_of-step held e old.table table step) in
+      let told = texts old.table.state e (last_of-step tells.held e old.table table step) in
       IsBookKept-line table left pending sink old.status command reply kept going step next no_fault
-      (subst (λ status. AreTextsKept status (given old.sink) (given sink) (old.pending ++ event_text old.table.state e) pending) (sym going) told)
+      (subst (λ status. AreTextsKept status (tells.given old.sink) (tells.given sink) (old.pending ++ event_text old.table.state e) pending) (sym going) told)
       (omega arith)
-      (subst (λ status. StopCause status run.keeper_faults (keeper_faults table.keeper) run.sink_faults (sink_faults sink)) (sym going) tt)
+      (subst (λ status. StopCause status run.keeper_faults (tells.keeper_faults table.keeper) run.sink_faults (tells.sink_faults sink)) (sym going) tt)
 
   -- a line was executed, and the session stopped while its text was told
   pub IsBookKept-cut : {old : BookState K W B} (table : TableState K) (left : List Command) (pending : List ℕ) (sink : W) (refused : WriteFault) (stop : Stop)
       (command : Command) (reply : Reply)
-      → IsBookKept run kind_of held keeper_faults given sink_faults old → old.status ≡ None
-      → IsOneStep held (event.Command (old.line + 1) command reply) old.table table → old.left ≡ command ∷ left
-      → keeper_faults table.keeper ≡ keeper_faults old.table.keeper
-      → ((s : State) (e : Event) → last_of table.log ≡ Some e → AreTextsKept (Some (stop_by_fault refused)) (given old.sink) (given sink)
+      → IsBookKept run tells old → old.status ≡ None
+      → IsOneStep tells.held (event.Command (old.line + 1) command reply) old.table table → old.left ≡ command ∷ left
+      → tells.keeper_faults table.keeper ≡ tells.keeper_faults old.table.keeper
+      → ((s : State) (e : Event) → last_of table.log ≡ Some e → AreTextsKept (Some (stop_by_fault refused)) (tells.given old.sink) (tells.given sink)
       (old.pending ++ event_text s e) pending)
-      → WriteCause {T = Unit {0}} (Err refused) (sink_faults old.sink) (sink_faults sink) → stop ≡ stop_by_fault refused
-      → IsBookKept run kind_of held keeper_faults given sink_faults
+      → WriteCause {T = Unit {0}} (Err refused) (tells.sink_faults old.sink) (tells.sink_faults sink) → stop ≡ stop_by_fault refused
+      → IsBookKept run tells
       (record old { table = table; left = left; line = old.line + 1; pending = pending; sink = sink; status = Some stop })
   IsBookKept-cut {old = old} table left pending sink refused stop command reply kept going step next no_fault texts trouble stop_is =
       let e = event.Command (old.line + 1) command reply in
-      let told = texts old.table.state e (last_of-step held e old.table table step) in
+      let told = texts old.table.state e (last_of-step tells.held e old.table table step) in
       let cause =
-      StopCause-write refused run.keeper_faults (keeper_faults table.keeper) (sink_faults old.sink)
-      (sink_faults sink) run.sink_faults trouble kept.sink_later in
+      StopCause-write refused run.keeper_faults (tells.keeper_faults table.keeper) (tells.sink_faults old.sink)
+      (tells.sink_faults sink) run.sink_faults trouble kept.sink_later in
       IsBookKept-line table left pending sink (Some stop) command reply kept going step next no_fault
-      (subst (λ s. AreTextsKept (Some s) (given old.sink) (given sink) (old.pending ++ event_text old.table.state e) pending) (sym stop_is) told)
+      (subst (λ s. AreTextsKept (Some s) (tells.given old.sink) (tells.given sink) (old.pending ++ event_text old.table.state e) pending) (sym stop_is) told)
       cause.0
-      (subst (λ s. StopCause (Some s) run.keeper_faults (keeper_faults table.keeper) run.sink_faults (sink_faults sink)) (sym stop_is) cause.1)
+      (subst (λ s. StopCause (Some s) run.keeper_faults (tells.keeper_faults table.keeper) run.sink_faults (tells.sink_faults sink)) (sym stop_is) cause.1)
 
 -- ---- the begin
 
-pub IsBookKept-new : {K W B : Type 0} (run : Given) (kind_of : B → Kind) (held : K → Option (List Row)) (keeper_faults : K → ℕ) (given : W → Option (List ℕ))
-    (sink_faults : W → ℕ) (table : TableState K) (places : List (Place B)) (left : List Command) (pending : List ℕ) (sink : W)
-    → table.log ≡ [] → left ≡ run.lines → pending ≡ [] → map (place_traits kind_of) places ≡ map instance_traits table.state.instances → AreIdle places
+pub IsBookKept-new : {K W B : Type 0} (run : Given) (tells : Tells K W B) (table : TableState K) (places : List (Place B)) (left : List Command)
+    (pending : List ℕ) (sink : W)
+    → table.log ≡ [] → left ≡ run.lines → pending ≡ [] → map (place_traits tells.kind_of) places ≡ map instance_traits table.state.instances → AreIdle places
     → AllByRecursion (λ instance. instance.out ≡ false) table.state.instances → Valid table.state → 0 + length left < 2 ^ 32 → AllByRecursion IsBuilt left
-    → table.state ≡ table.first → table.first ≡ run.first → held table.keeper ≡ option_map (λ _. rows_of table.state) run.rows → given sink ≡ run.written
-    → run.keeper_faults ≤ keeper_faults table.keeper → run.sink_faults ≤ sink_faults sink
-    → IsBookKept run kind_of held keeper_faults given sink_faults
+    → table.state ≡ table.first → table.first ≡ run.first → tells.held table.keeper ≡ option_map (λ _. rows_of table.state) run.rows
+    → tells.given sink ≡ run.written
+    → run.keeper_faults ≤ tells.keeper_faults table.keeper → run.sink_faults ≤ tells.sink_faults sink
+    → IsBookKept run tells
     (record { table = table; places = places; left = left; line = 0; pending = pending; sink = sink; status = None })
-IsBookKept-new run kind_of held keeper_faults given sink_faults table places left pending sink empty lines none workers idle all_in valid few built begun first
+IsBookKept-new run tells table places left pending sink empty lines none workers idle all_in valid few built begun first
     rows written keeper sink_later =
     record {
       first = first;
@@ -421,12 +430,12 @@ IsBookKept-new run kind_of held keeper_faults given sink_faults table places lef
       numbered = subst (AreNumberedFrom 1) (sym empty) tt;
       line = ap (λ log. length (commands_of log)) (sym empty);
       few_lines = few;
-      texts = subst (λ log. AreTextsKept None run.written (given sink) (log_text table.first log) pending) (sym empty)
-          (subst (λ l. AreTextsKept None run.written (given sink) [] l) (sym none)
+      texts = subst (λ log. AreTextsKept None run.written (tells.given sink) (log_text table.first log) pending) (sym empty)
+          (subst (λ l. AreTextsKept None run.written (tells.given sink) [] l) (sym none)
           (subst (λ now. AreTextsKept None run.written now [] []) (sym written) (AreTextsKept-unwritten run.written [])));
       rows = rows;
       workers = workers;
-      away = all_here kind_of places table.state.instances workers idle all_in;
+      away = all_here tells.kind_of places table.state.instances workers idle all_in;
       keeper_later = keeper;
       sink_later = sink_later;
       cause = tt;

@@ -37,7 +37,7 @@ use Rattle.wm_session.specs.Book.{GoesOn, IsBegun, IsFronted, IsLineDone, IsRepo
 use Rattle.wm_session.specs.BookState.{BookState}
 use Rattle.wm_session.specs.Drive.{HasWritten, IsDone, IsDriven, IsGivenUp}
 use Rattle.wm_session.specs.Ended.{HasCommands, HaveTold, IsSerialRun}
-use Rattle.wm_session.specs.Rest.{IsAtRest, IsReady, KeepDiaries, NoneRetired}
+use Rattle.wm_session.specs.Rest.{IsAtBegin, IsAtRest, IsReady, KeepDiaries}
 use Rattle.wm_table.specs.Table.{IsOneStep, IsUntouched}
 use Rattle.wm_table.specs.TableState.{TableState, TicketState}
 use Rattle.wm_session.specs.declared.book.Front.TheVariants as front
@@ -360,16 +360,15 @@ AreInOrder-nothing [] first = tt
 AreInOrder-nothing (asked ∷ lines) first = tt
 
 -- a session that begins is at rest
-pub IsAtRest-begin : {K W B : Type 0} (lines : List Command) (book : BookState K W B) → book.table.log ≡ [] → book.table.state.runs ≡ [] → AreIdle book.places
-    → NoneRetired book.places → book.table.state ≡ book.table.first → lines ≡ book.left → IsAtRest lines book
-IsAtRest-begin lines book empty none idle kept begun whole = record {
-  replay = rw empty begun;
-  lines_are = λ going. rw empty whole;
-  in_order = rw empty (AreInOrder-nothing lines book.table.first);
-  few_runs = rw none (omega arith);
-  no_run = λ going. none;
-  idle = idle;
-  not_retired = kept;
+pub IsAtRest-begin : {K W B : Type 0} (lines : List Command) (book : BookState K W B) → IsAtBegin lines book → IsAtRest lines book
+IsAtRest-begin lines book begins = record {
+  replay = rw begins.log begins.begun;
+  lines_are = λ going. rw begins.log begins.lines_are;
+  in_order = rw begins.log (AreInOrder-nothing lines book.table.first);
+  few_runs = rw begins.no_run (omega arith);
+  no_run = λ going. begins.no_run;
+  idle = begins.idle;
+  not_retired = begins.not_retired;
 }
 
 -- and keeps the diaries that its workers have

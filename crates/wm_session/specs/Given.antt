@@ -4,6 +4,7 @@ use Rattle.wm_keeper.specs.declared.row.Row.{Row}
 use Rattle.wm_machine.specs.Opened.{opening_state}
 use Rattle.wm_machine.specs.declared.command.Command.{Command}
 use Rattle.wm_machine.specs.declared.state.State.{State}
+use Rattle.wm_session.specs.Tells.{Tells}
 use Rattle.wm_table.specs.TableState.{TableState}
 
 -- the state that its store opened to, the rows that its keeper held and the bytes that its sink had been given, where they are told,
@@ -27,13 +28,13 @@ nothing_given = record {
   sink_faults = 0;
 }
 
--- what a run is given that begins with this table, these lines and this sink, of which keeper and sink tell this
-abbrev pub given_to : {K : Type 0} → TableState K → Option (List Row) → ℕ → List Command → Option (List ℕ) → ℕ → Given
-given_to table rows keeper_faults lines written sink_faults = record {
+-- what a run is given that begins with this table, these lines and this sink
+abbrev pub given_to : {K W B : Type 0} → Tells K W B → TableState K → List Command → W → Given
+given_to tells table lines sink = record {
   first = table.first;
-  rows = rows;
-  written = written;
+  rows = tells.held table.keeper;
+  written = tells.given sink;
   lines = lines;
-  keeper_faults = keeper_faults;
-  sink_faults = sink_faults;
+  keeper_faults = tells.keeper_faults table.keeper;
+  sink_faults = tells.sink_faults sink;
 }

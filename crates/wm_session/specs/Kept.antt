@@ -1,7 +1,6 @@
 -- What the type of a book keeps at every moment. This project's own choice.
 use Rattle.std.specs.Prelude.{◌≡◌, ℕ, ◌+◌, ◌^◌, ◌<◌, ◌≤◌, List, ◌++◌, length, map, Option, Some, None, option_map}
 use Rattle.std.specs.List.{AllByRecursion}
-use Rattle.wm_keeper.specs.declared.row.Row.{Row}
 use Rattle.wm_machine.specs.Built.{IsBuilt}
 use Rattle.wm_machine.specs.Log.{commands_of, AreNumberedFrom, BeginsWith}
 use Rattle.wm_machine.specs.Replay.{Replay}
@@ -13,9 +12,9 @@ use Rattle.wm_session.specs.Bench.{instance_traits, is_away, place_traits}
 use Rattle.wm_session.specs.BookState.{BookState}
 use Rattle.wm_session.specs.Causes.{StopCause}
 use Rattle.wm_session.specs.Given.{Given}
+use Rattle.wm_session.specs.Tells.{Tells}
 use Rattle.wm_session.specs.Writing.{IsGiven}
 use Rattle.wm_session.specs.declared.book.Stop.{Stop}
-use Rattle.wm_worker.specs.declared.kind.Kind.{Kind}
 
 -- while a session goes on, the lines are those that were executed and those that are left; after it has stopped early, those that were
 -- executed are a front of them
@@ -42,8 +41,7 @@ AreAwayKept (Some why) book = Unit {0}
 -- The facts of a book, of what its run was given: the log replays from the first state to the state now, which is valid; its commands are
 -- the lines up to the one that is next; the bytes written and pending are its text; the rows held are those of the state; the workers are
 -- the instances; and the counts of faults haven't fallen, and have risen where a fault stopped the session.
-pub record IsBookKept {K W B : Type 0} (run : Given) (kind_of : B → Kind) (held : K → Option (List Row)) (keeper_faults : K → ℕ) (given : W → Option (List ℕ))
-    (sink_faults : W → ℕ) (book : BookState K W B) : Type 0 where
+pub record IsBookKept {K W B : Type 0} (run : Given) (tells : Tells K W B) (book : BookState K W B) : Type 0 where
   pub first : book.table.first ≡ run.first
   pub replay : Replay book.table.first book.table.log book.table.state
   pub valid : Valid book.table.state
@@ -52,10 +50,10 @@ pub record IsBookKept {K W B : Type 0} (run : Given) (kind_of : B → Kind) (hel
   pub numbered : AreNumberedFrom 1 book.table.log
   pub line : book.line ≡ length (commands_of book.table.log)
   pub few_lines : book.line + length book.left < 2 ^ 32
-  pub texts : AreTextsKept book.status run.written (given book.sink) (log_text book.table.first book.table.log) book.pending
-  pub rows : held book.table.keeper ≡ option_map (λ _. rows_of book.table.state) run.rows
-  pub workers : map (place_traits kind_of) book.places ≡ map instance_traits book.table.state.instances
+  pub texts : AreTextsKept book.status run.written (tells.given book.sink) (log_text book.table.first book.table.log) book.pending
+  pub rows : tells.held book.table.keeper ≡ option_map (λ _. rows_of book.table.state) run.rows
+  pub workers : map (place_traits tells.kind_of) book.places ≡ map instance_traits book.table.state.instances
   pub away : AreAwayKept book.status book
-  pub keeper_later : run.keeper_faults ≤ keeper_faults book.table.keeper
-  pub sink_later : run.sink_faults ≤ sink_faults book.sink
-  pub cause : StopCause book.status run.keeper_faults (keeper_faults book.table.keeper) run.sink_faults (sink_faults book.sink)
+  pub keeper_later : run.keeper_faults ≤ tells.keeper_faults book.table.keeper
+  pub sink_later : run.sink_faults ≤ tells.sink_faults book.sink
+  pub cause : StopCause book.status run.keeper_faults (tells.keeper_faults book.table.keeper) run.sink_faults (tells.sink_faults book.sink)

@@ -9,4 +9,5 @@ pub mod Hands
 pub mod Kept
 pub mod Rest
 pub mod Status
+pub mod Tells
 pub mod Writing

@@ -16,6 +16,15 @@ use Rattle.wm_worker.specs.declared.answer.Entry.{Entry}
 abbrev pub NoneRetired : {B : Type 0} → List (Place B) → Type 0
 NoneRetired places = AllByRecursion (λ place. place.retired ≡ false) places
 
+-- a session that begins: nothing has happened, every worker is at its place, and all of these lines are left
+pub record IsAtBegin {K W B : Type 0} (lines : List Command) (book : BookState K W B) : Type 0 where
+  pub log : book.table.log ≡ []
+  pub no_run : book.table.state.runs ≡ []
+  pub idle : AreIdle book.places
+  pub not_retired : NoneRetired book.places
+  pub begun : book.table.state ≡ book.table.first
+  pub lines_are : lines ≡ book.left
+
 -- The log replays, is in serial order, and has the lines that were executed. Every worker is at its place, and while the session goes on
 -- no run is unreturned.
 pub record IsAtRest {K W B : Type 0} (lines : List Command) (book : BookState K W B) : Type 0 where

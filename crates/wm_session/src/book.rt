@@ -1,17 +1,16 @@
 //! The book of a session: the table with the bench, the lines that are left, and what is still to
 //! be written.
-ghost use Rattle.std.specs.Prelude.{◌≡◌, ◌↔◌, ◌^◌, ◌<◌, ◌≤◌, ◌+◌, [], None, Some, length, map, option_map, IsSome, IsNone, IsTrue, IfOk, IfErr, false};
+ghost use Rattle.std.specs.Prelude.{◌≡◌, ◌↔◌, ◌^◌, ◌<◌, ◌≤◌, ◌+◌, [], None, Some, length, map, option_map, IsSome, IsNone, IfOk, IfErr, false};
 ghost use Rattle.std.specs.List.{AllByRecursion};
-ghost use Rattle.wm_bench.specs.Places.{idle_hands, IsAwayAt};
-ghost use Rattle.wm_faults.specs.Faults.{Failed};
+ghost use Rattle.wm_bench.specs.Places.{IsAwayAt};
 ghost use Rattle.wm_machine.specs.Built.{IsBuilt};
 ghost use Rattle.wm_machine.specs.Quiet.{IsQuiet};
-ghost use Rattle.wm_machine.specs.Replay.{Replay};
 ghost use Rattle.wm_machine.specs.Rows.{rows_of};
 ghost use Rattle.wm_machine.specs.Valid.{Valid};
 ghost use Rattle.wm_session.specs.Bench.{instance_traits, place_traits, AreIdle};
 ghost use Rattle.wm_session.specs.Book.{IsClaimed, IsFronted, IsReported};
-ghost use Rattle.wm_session.specs.Ended.{HasCommands, IsSessionStatus, IsTextGiven};
+ghost use Rattle.wm_session.specs.Ended.{IsHandedBack, IsSessionEnd};
+ghost use Rattle.wm_session.specs.Tells.{tells_of};
 ghost use Rattle.wm_table.specs.Table.{IsTicketIn, Stands};
 
 use crate::ended::EndedOf;
@@ -138,10 +137,11 @@ impl<K: Keeper, W: Sink, B: Worker, M: Mark> Model for BookOf<K, W, B, M> {
     ghost Value = { BookState K W B };
 
     ghost use Rattle.wm_session.specs.Kept.{IsBookKept};
+    ghost use Rattle.wm_session.specs.Tells.{tells_of};
 
     ghost view = { λ b. record { table = b.table; places = b.bench; left = b.left.items; line = b.line; pending = b.pending.items; sink = b.sink; status = b.status } };
 
-    ghost invariant = { λ b. IsBookKept M.given B.kind_of K.held K.faults W.given W.faults (record { table = b.table; places = b.bench; left = b.left.items; line = b.line; pending = b.pending.items; sink = b.sink; status = b.status }) };
+    ghost invariant = { λ b. IsBookKept M.given (tells_of K.held K.faults W.given W.faults B.kind_of B.diary_of) (record { table = b.table; places = b.bench; left = b.left.items; line = b.line; pending = b.pending.items; sink = b.sink; status = b.status }) };
 }
 
 impl<K: Keeper, W: Sink, B: Worker, M: Mark> BookOf<K, W, B, M> {
@@ -307,26 +307,10 @@ impl<K: Keeper, W: Sink, B: Worker, M: Mark> BookOf<K, W, B, M> {
         requires idle { AreIdle self.places }
         requires lines { self.status ≡ None → self.left ≡ [] }
         requires quiet { self.status ≡ None → IsQuiet self.table.state }
-        ensures status { IsSessionStatus result.status }
+        ensures session { IsSessionEnd (tells_of K.held K.faults W.given W.faults B.kind_of B.diary_of)
+            M.given result }
+        ensures back { IsHandedBack B.kind_of self result }
         ensures done { result.status ≡ Status.Done → self.status ≡ None }
-        ensures began { IsTrue result.began }
-        ensures first { result.first ≡ M.given.first }
-        ensures first_is { result.first ≡ self.table.first }
-        ensures log { result.log ≡ self.table.log }
-        ensures last { result.last ≡ self.table.state }
-        ensures hands { result.hands.items ≡ idle_hands self.places }
-        ensures workers { map (place_traits B.kind_of) self.places
-            ≡ map instance_traits result.last.instances }
-        ensures replay { Replay result.first result.log result.last }
-        ensures valid { Valid result.last }
-        ensures commands { HasCommands M.given.lines result.status result.log }
-        ensures bytes { IsTextGiven M.given.written
-            (W.given result.sink) result.status result.first result.log }
-        ensures rows { K.held result.keeper ≡ option_map (λ _. rows_of result.last) M.given.rows }
-        ensures keeper_fault { result.status ≡ Status.KeeperFault → Failed M.given.keeper_faults
-            (K.faults result.keeper) }
-        ensures sink_fault { result.status ≡ Status.SinkFault → Failed M.given.sink_faults
-            (W.faults result.sink) }
     {
         let BookOf {
             alloc: _,

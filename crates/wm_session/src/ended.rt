@@ -1,5 +1,4 @@
-ghost use Rattle.std.specs.Prelude.{◌≡◌, [], false};
-ghost use Rattle.wm_machine.specs.Opened.{opening_state};
+ghost use Rattle.wm_session.specs.Ended.{IsUnbegun};
 
 use crate::status::Status;
 use std::alloc::Global;
@@ -41,14 +40,7 @@ impl<K, W, B> EndedOf<K, W, B> {
         sink: W,
         hands: Vec<HandOf<B>>,
     ) -> EndedOf<K, W, B>
-        ensures status { result.status ≡ status }
-        ensures began { result.began ≡ false }
-        ensures first { result.first ≡ opening_state [] [] }
-        ensures log { result.log ≡ [] }
-        ensures last { result.last ≡ opening_state [] [] }
-        ensures keeper { result.keeper ≡ keeper }
-        ensures sink { result.sink ≡ sink }
-        ensures hands { result.hands ≡ hands }
+        ensures { IsUnbegun status keeper sink hands result }
     {
         EndedOf {
             status,

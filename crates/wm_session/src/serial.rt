@@ -1,18 +1,16 @@
 //! The serial run: the lines one after another, and after each of them all that may start.
-ghost use Rattle.std.specs.Prelude.{◌≡◌, ◌<◌, [], List, Option, None, IsSome, IsTrue, true, IfOk, option_map};
+ghost use Rattle.std.specs.Prelude.{◌≡◌, ◌<◌, [], List, Option, None, IsSome, true, IfOk};
 ghost use Rattle.std.specs.List.{AllByRecursion};
 ghost use Rattle.wm_bench.specs.Places.{IsAwayAt};
-ghost use Rattle.wm_faults.specs.Faults.{Failed};
 ghost use Rattle.wm_machine.specs.Built.{IsBuilt};
 ghost use Rattle.wm_machine.specs.Quiet.{IsQuiet};
-ghost use Rattle.wm_machine.specs.Replay.{Replay};
-ghost use Rattle.wm_machine.specs.Rows.{rows_of};
 ghost use Rattle.wm_machine.specs.Serial.{MayGoOn};
 ghost use Rattle.wm_machine.specs.Waiting.{waiting_count};
-ghost use Rattle.wm_session.specs.Bench.{place_diaries, AreIdle};
+ghost use Rattle.wm_session.specs.Bench.{place_diaries};
 ghost use Rattle.wm_session.specs.Drive.{HasWritten, IsDriven};
-ghost use Rattle.wm_session.specs.Ended.{AreHandsBack, HasCommands, HaveTold, IsSerialRun, IsSessionStatus, IsTextGiven};
-ghost use Rattle.wm_session.specs.Rest.{IsAtRest, IsReady, KeepDiaries, NoneRetired};
+ghost use Rattle.wm_session.specs.Ended.{IsSerialEnd};
+ghost use Rattle.wm_session.specs.Rest.{IsAtBegin, IsAtRest, IsReady, KeepDiaries};
+ghost use Rattle.wm_session.specs.Tells.{tells_of};
 ghost use Rattle.wm_table.specs.Table.{IsTicketIn};
 ghost use Rattle.wm_worker.specs.Answers.{given_of};
 ghost use Rattle.wm_worker.specs.Told.{IsReportOf};
@@ -21,7 +19,6 @@ ghost use Rattle.wm_worker.specs.declared.answer.Entry.{Entry};
 use crate::book::{After, BookOf, Front, Job};
 use crate::ended::EndedOf;
 use crate::mark::Mark;
-use crate::status::Status;
 use std::alloc::{AllocError, Global};
 use wm_bench::SeatedOf;
 use wm_io::Sink;
@@ -47,31 +44,10 @@ pub fn run_serial<K: Keeper, W: Sink, B: Worker, M: Mark>(
     alloc: Global,
     mut book: BookOf<K, W, B, M>,
 ) -> EndedOf<K, W, B>
-    requires log { book.table.log ≡ [] }
-    requires no_run { book.table.state.runs ≡ [] }
-    requires idle { AreIdle book.places }
-    requires not_retired { NoneRetired book.places }
-    requires begun { book.table.state ≡ book.table.first }
-    requires lines { M.given.lines ≡ book.left }
+    requires begins { IsAtBegin M.given.lines book }
     requires built { AllByRecursion IsBuilt M.given.lines }
-    ensures status { IsSessionStatus result.status }
-    ensures began { IsTrue result.began }
-    ensures first { result.first ≡ M.given.first }
-    ensures replay { Replay result.first result.log result.last }
-    ensures commands { HasCommands M.given.lines result.status result.log }
-    ensures bytes { IsTextGiven M.given.written
-        (W.given result.sink) result.status result.first result.log }
-    ensures rows { K.held result.keeper ≡ option_map (λ _. rows_of result.last) M.given.rows }
-    ensures end { result.status ≡ Status.Done → IsQuiet result.last }
-    ensures hands { AreHandsBack B.kind_of result.last result.hands.items }
-    ensures diaries { result.status ≡ Status.Done
-        → HaveTold B.diary_of (place_diaries B.diary_of book.places)
-        result.first result.log result.hands.items }
-    ensures serial { IsSerialRun M.given.lines result.status result.first result.log result.last }
-    ensures keeper_fault { result.status ≡ Status.KeeperFault → Failed M.given.keeper_faults
-        (K.faults result.keeper) }
-    ensures sink_fault { result.status ≡ Status.SinkFault → Failed M.given.sink_faults
-        (W.faults result.sink) }
+    ensures { IsSerialEnd (tells_of K.held K.faults W.given W.faults B.kind_of B.diary_of)
+        M.given (place_diaries B.diary_of book.places) result }
 {
     if book.next_line().is_none() {
         drain(alloc, &mut book);

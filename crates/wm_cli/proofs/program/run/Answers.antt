@@ -13,7 +13,7 @@ returns-in_default-clause-serial g c =
     let ended = c.before_begin.result in
     ForScript-any (g.S.Source.left c.args.source.now) (λ bytes. IsSerialRun (commands_in bytes) ended.status ended.first ended.log ended.last)
     (λ bytes. IsSerialRun-unopened (commands_in bytes) ended.status ended.first ended.log ended.last (IsBuilt-commands_in bytes)
-    (λ done. let clash : Usage ≡ Done = sym c.before_begin.ensures.status ∙ done in absurd (cc)) c.before_begin.ensures.first c.before_begin.ensures.log)
+    (λ done. let clash : Usage ≡ Done = sym c.before_begin.ensures.status_is ∙ done in absurd (cc)) c.before_begin.ensures.first c.before_begin.ensures.log)
 
 pub returns-in-Err-clause-serial : goal.returns-in-Err-clause-serial
 returns-in-Err-clause-serial g c =
@@ -21,7 +21,7 @@ returns-in-Err-clause-serial g c =
     ForScript-any (g.S.Source.left c.args.source.now) (λ bytes. IsSerialRun (commands_in bytes) ended.status ended.first ended.log ended.last)
     (λ bytes. IsSerialRun-unopened (commands_in bytes) ended.status ended.first ended.log ended.last (IsBuilt-commands_in bytes)
     (λ done. not_done c.in-Err.status _ _ _ c.in-Err.ensures.status
-    (sym c.before_begin-in-Err.ensures.status ∙ done)) c.before_begin-in-Err.ensures.first c.before_begin-in-Err.ensures.log)
+    (sym c.before_begin-in-Err.ensures.status_is ∙ done)) c.before_begin-in-Err.ensures.first c.before_begin-in-Err.ensures.log)
 
 pub returns-in-Ok-clause-stored_row : goal.returns-in-Ok-clause-stored_row
 returns-in-Ok-clause-stored_row g c = λ row rest words within source held keeper. c.run_commands.ensures.stored_row row rest held keeper
@@ -31,23 +31,23 @@ returns-in_default-clause-commands g c =
     let ended = c.before_begin.result in
     ForScript-any (g.S.Source.left c.args.source.now) (λ bytes. HasCommands (commands_in bytes) ended.status ended.log)
     (λ bytes. HasCommands-nothing (commands_in bytes) ended.status ended.log c.before_begin.ensures.log
-    (λ done. let clash : Usage ≡ Done = sym c.before_begin.ensures.status ∙ done in absurd (cc)))
+    (λ done. let clash : Usage ≡ Done = sym c.before_begin.ensures.status_is ∙ done in absurd (cc)))
 
 pub returns-in_default-clause-bytes : goal.returns-in_default-clause-bytes
 returns-in_default-clause-bytes g c =
     let ended = c.before_begin.result in
     IsTextGiven-nothing (g.W.Sink.given c.args.sink) (g.W.Sink.given ended.sink) ended.status ended.first ended.log
-    (ap g.W.Sink.given c.before_begin.ensures.sink) c.before_begin.ensures.log
+    (ap g.W.Sink.given c.before_begin.ensures.sink_is) c.before_begin.ensures.log
 
 pub returns-in-Err-clause-commands : goal.returns-in-Err-clause-commands
 returns-in-Err-clause-commands g c =
     let ended = c.before_begin-in-Err.result in
     ForScript-any (g.S.Source.left c.args.source.now) (λ bytes. HasCommands (commands_in bytes) ended.status ended.log)
     (λ bytes. HasCommands-nothing (commands_in bytes) ended.status ended.log c.before_begin-in-Err.ensures.log
-    (λ done. absurd (not_done c.in-Err.status _ _ _ c.in-Err.ensures.status (sym c.before_begin-in-Err.ensures.status ∙ done))))
+    (λ done. absurd (not_done c.in-Err.status _ _ _ c.in-Err.ensures.status (sym c.before_begin-in-Err.ensures.status_is ∙ done))))
 
 pub returns-in-Err-clause-bytes : goal.returns-in-Err-clause-bytes
 returns-in-Err-clause-bytes g c =
     let ended = c.before_begin-in-Err.result in
     IsTextGiven-nothing (g.W.Sink.given c.args.sink) (g.W.Sink.given ended.sink) ended.status ended.first ended.log
-    (ap g.W.Sink.given c.before_begin-in-Err.ensures.sink) c.before_begin-in-Err.ensures.log
+    (ap g.W.Sink.given c.before_begin-in-Err.ensures.sink_is) c.before_begin-in-Err.ensures.log

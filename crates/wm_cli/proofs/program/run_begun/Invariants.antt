@@ -1,10 +1,11 @@
 use Rattle.wm_session.specs.Given.{given_to}
+use Rattle.wm_session.specs.Tells.{tells_of}
 use Rattle.wm_cli.proofs.program.run_begun.Given as goal
 
 -- the mark of the run is what it is given
 abbrev pub ghosts-run_marked : goal.ghosts-run_marked
 ghosts-run_marked g a =
     record {
-      given = given_to a.table (g.K.Keeper.held a.table.keeper) (g.K.Keeper.faults a.table.keeper) a.commands (g.W.Sink.given a.sink)
-          (g.W.Sink.faults a.sink);
+      given = given_to (tells_of g.K.Keeper.held g.K.Keeper.faults g.W.Sink.given g.W.Sink.faults g.B.Worker.kind_of g.B.Worker.diary_of) a.table a.commands
+          a.sink;
     }

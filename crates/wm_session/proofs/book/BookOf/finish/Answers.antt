@@ -1,15 +1,39 @@
-use Rattle.std.proofs.Common.{◌≡◌, [], None, subst, sym}
-use Rattle.wm_session.proofs.BookEnds.{HasCommands-kept, IsTextGiven-kept}
+use Rattle.std.proofs.Common.{◌≡◌, [], None, option_map, refl, sym, ◌∙◌, ap, subst}
+use Rattle.wm_machine.specs.Rows.{rows_of}
+use Rattle.wm_machine.specs.declared.state.State.{State}
+use Rattle.wm_session.proofs.BookEnds.{EndsBy, HasCommands-kept, IsSessionStatus-ends, IsTextGiven-kept, keeper_fault-ends, sink_fault-ends}
+use Rattle.wm_session.specs.Causes.{StopCause}
 use Rattle.wm_session.proofs.book.BookOf.finish.Goals as goal
 
-pub returns-clause-commands : goal.returns-clause-commands
-returns-clause-commands g c =
-    HasCommands-kept c.status_after-status.result c.end-first.result.log c.self.invariant c.end-first.ensures.log c.status_after-status.ensures.stopped
-    (subst (λ book. book.status ≡ None → book.left ≡ []) (sym c.self.view_is) c.requires.lines)
-
-pub returns-clause-bytes : goal.returns-clause-bytes
-returns-clause-bytes g c =
+pub returns-clause-session : goal.returns-clause-session
+returns-clause-session g c =
+    let run = g.M.Mark.given in
+    let stop = c.self.inside.status in
+    let kept = c.self.invariant in
+    let last = c.end-first in
     let ended = c.status_after-status in
-    IsTextGiven-kept ended.result c.end-first.result.first c.end-first.result.log
-    (g.W.Sink.given c.write_pending.new.sink) c.write_pending.new.pending.items c.write_pending.result c.self.invariant c.end-first.ensures.first
-    c.end-first.ensures.log c.write_pending.ensures.kept c.write_pending.ensures.all ended.ensures.stopped ended.ensures.refused
+    let wrote = c.write_pending in
+    let before = g.W.Sink.faults c.self.inside.sink in
+    let keeper_now = g.K.Keeper.faults last.result.keeper in
+    let ends : EndsBy stop wrote.result ended.result = record {
+      stopped = ended.ensures.stopped;
+      refused = ended.ensures.refused;
+      done = ended.ensures.done;
+    } in
+    let cause = subst (λ keeper. StopCause stop run.keeper_faults (g.K.Keeper.faults keeper) run.sink_faults before) (sym last.ensures.keeper) kept.cause in
+    record {
+      status_is = IsSessionStatus-ends stop wrote.result ended.result ends;
+      began = refl;
+      first = last.ensures.first ∙ kept.first;
+      replay = last.ensures.replay;
+      commands = HasCommands-kept ended.result last.result.log kept last.ensures.log ended.ensures.stopped
+          (subst (λ book. book.status ≡ None → book.left ≡ []) (sym c.self.view_is) c.requires.lines);
+      bytes = IsTextGiven-kept ended.result last.result.first last.result.log (g.W.Sink.given wrote.new.sink) wrote.new.pending.items wrote.result kept
+          last.ensures.first last.ensures.log wrote.ensures.kept wrote.ensures.all ended.ensures.stopped ended.ensures.refused;
+      rows = ap g.K.Keeper.held last.ensures.keeper
+          ∙ kept.rows
+          ∙ ap (λ (s : State). option_map (λ _. rows_of s) run.rows) (sym last.ensures.last);
+      keeper_fault = keeper_fault-ends stop wrote.result ended.result run.keeper_faults keeper_now run.sink_faults before ends cause;
+      sink_fault = sink_fault-ends stop wrote.result ended.result run.keeper_faults keeper_now run.sink_faults before (g.W.Sink.faults wrote.new.sink) ends
+          cause wrote.ensures.cause kept.sink_later;
+    }

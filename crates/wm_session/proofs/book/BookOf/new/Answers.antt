@@ -2,6 +2,7 @@ use Rattle.std.proofs.Common.{◌∙◌, ◌<◌, ◌+◌, ◌^◌, length, sym,
 use Rattle.std.specs.List.{AllByRecursion}
 use Rattle.wm_machine.specs.Built.{IsBuilt}
 use Rattle.wm_session.proofs.Books.{IsBookKept-new}
+use Rattle.wm_session.specs.Tells.{tells_of}
 use Rattle.wm_session.proofs.book.BookOf.new.Goals as goal
 
 pub invariant_of-result : goal.invariant_of-result
@@ -9,7 +10,8 @@ invariant_of-result g c =
     let asked = c.requires in
     let left = c.from_vec.ensures.items ∙ c.into_vec.ensures in
     let few : 0 + length c.from_vec.result.items < 2 ^ 32 = omega (arith, ap length left) in
-    IsBookKept-new g.M.Mark.given g.B.Worker.kind_of g.K.Keeper.held g.K.Keeper.faults g.W.Sink.given g.W.Sink.faults c.args.table c.args.bench
+    IsBookKept-new g.M.Mark.given
+    (tells_of g.K.Keeper.held g.K.Keeper.faults g.W.Sink.given g.W.Sink.faults g.B.Worker.kind_of g.B.Worker.diary_of) c.args.table c.args.bench
     c.from_vec.result.items c.in-Ok.pending.items c.args.sink asked.log
     (left ∙ asked.lines) c.in-Ok.ensures.items asked.workers asked.idle asked.all_in asked.valid few
     (subst (AllByRecursion IsBuilt) (sym left) asked.built) asked.begun asked.first asked.rows asked.written asked.keeper_faults asked.sink_faults

@@ -1,0 +1,27 @@
+-- What the keeper, the sink and the workers of a run tell. This project's own choice.
+use Rattle.std.specs.Prelude.{ℕ, List, Option}
+use Rattle.wm_keeper.specs.declared.row.Row.{Row}
+use Rattle.wm_worker.specs.declared.answer.Entry.{Entry}
+use Rattle.wm_worker.specs.declared.kind.Kind.{Kind}
+
+-- the rows that a keeper holds and the bytes that a sink was given, where they are told, how many faults each has met, and of which kind
+-- a worker is and what it has written down
+pub record Tells (K W B : Type 0) : Type 0 where
+  pub held : K → Option (List Row)
+  pub keeper_faults : K → ℕ
+  pub given : W → Option (List ℕ)
+  pub sink_faults : W → ℕ
+  pub kind_of : B → Kind
+  pub diary_of : B → Option (List Entry)
+
+-- the same of the ghost members of the three
+abbrev pub tells_of : {K W B : Type 0} → (K → Option (List Row)) → (K → ℕ) → (W → Option (List ℕ)) → (W → ℕ) → (B → Kind) → (B → Option (List Entry))
+    → Tells K W B
+tells_of held keeper_faults given sink_faults kind_of diary_of = record {
+  held = held;
+  keeper_faults = keeper_faults;
+  given = given;
+  sink_faults = sink_faults;
+  kind_of = kind_of;
+  diary_of = diary_of;
+}
