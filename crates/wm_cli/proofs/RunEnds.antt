@@ -113,11 +113,12 @@ session_store (status.BadStore seq bad_row) held session = absurd session
 pub IsRunEnd-begun : {K W B : Type 0} (tells : Tells K W B) (commands : List Command) (hands : List (HandOf B)) (keeper : K) (sink : W)
     (table : TableState K) (ended : EndedOf K W B)
     → IsSerialEnd tells (given_to tells table commands sink) (place_diaries tells.diary_of (map place_of hands)) ended
+    → table.first ≡ opening_state [] (instances_from tells.kind_of 0 hands)
     → IsOpenedFrom (tells.held keeper) (instances_from tells.kind_of 0 hands) table.first → tells.held table.keeper ≡ tells.held keeper
     → tells.keeper_faults table.keeper ≡ tells.keeper_faults keeper
     → ((row : Row) (rest : List Row) → tells.held keeper ≡ Some (row ∷ rest) → ⊥)
     → IsRunEnd tells commands hands keeper sink ended
-IsRunEnd-begun tells commands hands keeper sink table ended over opened held faults empty =
+IsRunEnd-begun tells commands hands keeper sink table ended over first opened held faults empty =
     let session = over.session in
     let instances = instances_from tells.kind_of 0 hands in
     let replayed : HasReplayed (tells.held keeper) instances ended.first ended.log ended.last = record {
@@ -127,6 +128,8 @@ IsRunEnd-begun tells commands hands keeper sink table ended over opened held fau
     record {
       replay = subst (λ began. IsReplayed (tells.held keeper) instances began ended.first ended.log ended.last) (sym session.began) replayed;
       begun = session_begun ended.status ended.began session.status_is session.began;
+      begins_empty = λ began. session.first ∙ first;
+      not_begun_keeps = λ unbegun. let clash : true ≡ false = sym session.began ∙ unbegun in absurd (cc);
       rows = subst (λ began. AreRowsKept began ended.last (tells.held keeper) (tells.held ended.keeper)) (sym session.began)
           (session.rows ∙ ap (option_map (λ _. rows_of ended.last)) held);
       has_commands = session.commands;
@@ -229,6 +232,8 @@ IsRunEnd-unbegun tells commands why hands keeper now sink ended unbegun built sa
     record {
       replay = subst (λ began. IsReplayed held (instances_from tells.kind_of 0 hands.items) began ended.first ended.log ended.last) (sym unbegun.began) nothing;
       begun = is.begun ended.began unbegun.began;
+      begins_empty = λ began. let clash : true ≡ false = sym began ∙ unbegun.began in absurd (cc);
+      not_begun_keeps = λ same. unbegun.sink_is;
       rows = subst (λ began. AreRowsKept began ended.last held (tells.held ended.keeper)) (sym unbegun.began) (ap tells.held unbegun.keeper_is ∙ same);
       has_commands = HasCommands-nothing commands ended.status ended.log unbegun.log (λ done. absurd (is.early done));
       bytes = IsTextGiven-nothing (tells.given sink) (tells.given ended.sink) ended.status ended.first ended.log (ap tells.given unbegun.sink_is) unbegun.log;

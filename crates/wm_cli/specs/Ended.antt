@@ -109,6 +109,8 @@ pub record IsRunEnd {K W B : Type 0} (tells : Tells K W B) (commands : List Comm
     (ended : EndedOf K W B) : Type 0 where
   pub replay : IsReplayed (tells.held keeper) (instances_from tells.kind_of 0 hands) ended.began ended.first ended.log ended.last
   pub begun : IsBegunBy ended.status ended.began
+  pub begins_empty : ended.began ≡ true → ended.first ≡ opening_state [] (instances_from tells.kind_of 0 hands)
+  pub not_begun_keeps : ended.began ≡ false → ended.sink ≡ sink
   pub rows : AreRowsKept ended.began ended.last (tells.held keeper) (tells.held ended.keeper)
   pub has_commands : HasCommands commands ended.status ended.log
   pub bytes : IsTextGiven (tells.given sink) (tells.given ended.sink) ended.status ended.first ended.log

@@ -1,4 +1,4 @@
-ghost use Rattle.std.specs.Prelude.{◌≡◌, ◌↔◌, ◌+◌, ◌≤◌, ◌<◌, ◌^◌, [], ◌∷◌, List, length, map, vec_len, true, None, Some, IfOk, IfErr, IsSome, OnOk, string_bytes};
+ghost use Rattle.std.specs.Prelude.{◌≡◌, ◌↔◌, ◌+◌, ◌≤◌, ◌<◌, ◌^◌, [], ◌∷◌, List, length, map, vec_len, true, false, None, Some, IfOk, IfErr, IsSome, OnOk, string_bytes};
 ghost use Rattle.std.specs.List.{AllByRecursion};
 ghost use Rattle.wm_bench.specs.Places.{place_of};
 ghost use Rattle.wm_bench.specs.declared.bench.TheConstants.{MAX_HANDS};
@@ -12,6 +12,7 @@ ghost use Rattle.wm_faults.specs.Faults.{Failed};
 ghost use Rattle.wm_keeper.specs.declared.row.Row.{Row};
 ghost use Rattle.wm_machine.specs.Built.{IsBuilt};
 ghost use Rattle.wm_machine.specs.Opened.{opening_state};
+ghost use Rattle.wm_script.specs.declared.lines.Limit.{Limit};
 ghost use Rattle.wm_script.specs.declared.lines.TheConstants.{MAX_SCRIPT_BYTES};
 ghost use Rattle.wm_session.specs.Bench.{place_diaries};
 ghost use Rattle.wm_session.specs.Given.{given_to};
@@ -192,6 +193,10 @@ pub fn run<S: Source, W: Sink + Send, K: Keeper + Send, B: Worker>(
     ensures replay { IsReplayed (K.held keeper) (instances_from B.kind_of 0 hands.items)
         result.began result.first result.log result.last }
     ensures begun { IsBegunBy result.status result.began }
+    // Nothing else than an empty store is begun, and where none is, the sink is as it was.
+    ensures begins_empty { result.began ≡ true
+        → result.first ≡ opening_state [] (instances_from B.kind_of 0 hands.items) }
+    ensures not_begun_keeps { result.began ≡ false → result.sink ≡ sink }
     // The rows kept are the last state's.
     ensures rows { AreRowsKept result.began result.last (K.held keeper) (K.held result.keeper) }
     // The log has the script's commands, a front of them, and on `Done` all.
@@ -225,6 +230,8 @@ pub fn run<S: Source, W: Sink + Send, K: Keeper + Send, B: Worker>(
         → (result.keeper ≡ keeper) × (result.sink ≡ sink) }
     ensures script_too_long { LimitCause result.status
         (S.faults source.old) (S.faults source.new) (S.left source.old) }
+    ensures script_too_long_keeps { (limit : Limit) → result.status ≡ Status.ScriptTooLong limit
+        → (result.keeper ≡ keeper) × (result.sink ≡ sink) }
     ensures long_script { IsSome (store_named (map string_bytes words.now))
         → IsToldTooLong (S.left source.old)
         → ¬ Failed (S.faults source.old) (S.faults source.new)

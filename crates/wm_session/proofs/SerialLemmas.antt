@@ -339,8 +339,8 @@ module _ {K W B : Type 0} (held : K → Option (List Row)) (lines : List Command
   -- the session has stopped early, with or without a line
   pub IsAtRest-front : (old new : BookState K W B) → IsAtRest lines old → (old.status ≡ None → IsReady old.left old) → IsFronted held front.Stopped old new
       → IsAtRest lines new
-  IsAtRest-front old new rest ready (stopped, inl same, places) = IsAtRest-stopped held lines old new rest stopped same places
-  IsAtRest-front old new rest ready (stopped, inr done, places) = IsAtRest-line old new rest ready done.1 done.0 places
+  IsAtRest-front old new rest ready (stopped, inl same, places, stays) = IsAtRest-stopped held lines old new rest stopped same places
+  IsAtRest-front old new rest ready (stopped, inr done, places, stays) = IsAtRest-line old new rest ready done.1 done.0 places
 
   -- once a line is executed runs may start
   pub MayGoOn-line : (old new : BookState K W B) → IsLineDone held old new → MayGoOn lines new.table.log

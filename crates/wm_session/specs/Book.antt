@@ -27,6 +27,12 @@ pub record GoesOn {K W B : Type 0} (old new : BookState K W B) : Type 0 where
   pub before : old.status ≡ None
   pub now : new.status ≡ None
 
+-- a session that had stopped before stays so: its status, its sink and what is pending are as they were
+pub record StaysStopped {K W B : Type 0} (old new : BookState K W B) : Type 0 where
+  pub status : new.status ≡ old.status
+  pub sink : new.sink ≡ old.sink
+  pub pending : new.pending ≡ old.pending
+
 -- ---- a line
 
 -- the next line was executed, in one step
@@ -37,12 +43,13 @@ pub record IsLineDone {K W B : Type 0} (held : K → Option (List Row)) (old new
   pub step : IsOneStep held (event.Command (old.line + 1) command reply) old.table new.table
 
 -- Moved where a line was executed; Ended where none is left; Stopped where the session has stopped early, with or without that line's
--- event. The bench is as it was.
+-- event, and stays so where it had before. The bench is as it was.
 abbrev pub IsFronted : {K W B : Type 0} → (K → Option (List Row)) → Front → BookState K W B → BookState K W B → Type 0
 IsFronted held front.Moved old new = GoesOn old new × IsLineDone held old new × (new.places ≡ old.places)
 IsFronted held front.Ended old new = (old.status ≡ None) × (old.left ≡ []) × (new ≡ old)
 IsFronted held front.Stopped old new =
     IsSome new.status × (IsUntouched held old.table new.table ⊎ (IsLineDone held old new × (old.status ≡ None))) × (new.places ≡ old.places)
+    × (IsSome old.status → StaysStopped old new)
 
 -- ---- a start
 
@@ -71,6 +78,7 @@ pub record IsStartFailed {K W B : Type 0} (held : K → Option (List Row)) (old 
 -- the session has stopped early; nothing else is different
 pub record HasStopped {K W B : Type 0} (held : K → Option (List Row)) (old new : BookState K W B) : Type 0 where
   pub status : IsSome new.status
+  pub stays : IsSome old.status → StaysStopped old new
   pub table : IsUntouched held old.table new.table
   pub left : new.left ≡ old.left
 

@@ -1,6 +1,6 @@
 //! The book of a session: the table with the bench, the lines that are left, and what is still to
 //! be written.
-ghost use Rattle.std.specs.Prelude.{◌≡◌, ◌↔◌, ◌^◌, ◌<◌, ◌≤◌, ◌+◌, [], None, Some, length, map, option_map, IsSome, IsNone, IfOk, IfErr, false};
+ghost use Rattle.std.specs.Prelude.{◌≡◌, ◌↔◌, ◌^◌, ◌<◌, ◌≤◌, ◌+◌, [], None, Some, length, map, option_map, IsSome, IsNone, IfSome, IfOk, IfErr, false};
 ghost use Rattle.std.specs.List.{AllByRecursion};
 ghost use Rattle.wm_bench.specs.Places.{IsAwayAt};
 ghost use Rattle.wm_machine.specs.Built.{IsBuilt};
@@ -9,6 +9,7 @@ ghost use Rattle.wm_machine.specs.Rows.{rows_of};
 ghost use Rattle.wm_machine.specs.Valid.{Valid};
 ghost use Rattle.wm_session.specs.Bench.{instance_traits, place_traits, AreIdle};
 ghost use Rattle.wm_session.specs.Book.{IsClaimed, IsFronted, IsReported};
+ghost use Rattle.wm_session.specs.Causes.{status_by_stop};
 ghost use Rattle.wm_session.specs.Ended.{IsHandedBack, IsSessionEnd};
 ghost use Rattle.wm_session.specs.Tells.{tells_of};
 ghost use Rattle.wm_table.specs.Table.{IsTicketIn, Stands};
@@ -311,6 +312,7 @@ impl<K: Keeper, W: Sink, B: Worker, M: Mark> BookOf<K, W, B, M> {
             M.given result }
         ensures back { IsHandedBack B.kind_of self result }
         ensures done { result.status ≡ Status.Done → self.status ≡ None }
+        ensures stopped { IfSome self.status (λ why. result.status ≡ status_by_stop why) }
     {
         let BookOf {
             alloc: _,

@@ -2,7 +2,7 @@ use Rattle.std.proofs.Common.{◌≡◌, [], ◌∷◌, IfSome, Vec, Global, sym
 use Rattle.wm_cli.proofs.Hands.{AreFresh-instances_from}
 use Rattle.wm_cli.proofs.RunEnds.{EarlyCause, EarlyCause-begin, EarlyCause-keeper, IsRunEnd-begun, IsRunEnd-unbegun}
 use Rattle.wm_keeper.specs.declared.row.Row.{Row}
-use Rattle.wm_machine.specs.Opened.{Opened}
+use Rattle.wm_machine.specs.Opened.{opening_state, Opened}
 use Rattle.wm_session.specs.Hands.{instances_from}
 use Rattle.wm_session.specs.Tells.{tells_of}
 use Rattle.wm_session.specs.declared.status.Status.TheVariants as status
@@ -61,6 +61,7 @@ returns-in-Ok-begin g c =
     subst (λ instances. Opened rows instances table.first) are
     (subst (λ all. Opened all c.in-Ok-instances_of.instances table.first) stored begun.opened) in
     IsRunEnd-begun tells c.args.commands hands c.args.keeper c.args.sink table c.run_begun.result c.run_begun.ensures
+    (begun.first ∙ ap (opening_state []) are)
     (record { rows = rows; told = c.in-Ok.ensures.rows; opened = opened })
     (ap tells.held begun.keeper ∙ c.load.ensures.kept)
     (ap tells.keeper_faults begun.keeper ∙ c.in-Ok.ensures.cause)
