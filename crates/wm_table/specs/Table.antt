@@ -77,7 +77,7 @@ BeginCause rows begin.Memory = Unit {0}
 
 -- ---- command
 
--- the rows after the command are those of before it: so a query, a faulty line or an enqueue that is refused
+-- the rows after the command are those before it, as with a query, a faulty line or an enqueue that is refused
 abbrev pub ChangesNoRow : State → Command → Type 0
 ChangesNoRow s asked = rows_of (after_command s asked) ≡ rows_of s
 

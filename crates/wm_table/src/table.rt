@@ -176,7 +176,8 @@ impl<K: Keeper> Table<K> {
         }
     }
 
-    /// Executes the command of a line, in one event, and answers its reply.
+    /// Executes the command of a line, in one event, and answers its reply. A command that changes
+    /// no row leaves the keeper as it was.
     pub fn command(&mut self, line: u32, command: Command) -> Result<Reply, Trouble>
         requires built { IsBuilt command }
         requires no_run { self.old.state.runs ≡ [] }
