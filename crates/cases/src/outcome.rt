@@ -1,13 +1,13 @@
 //! Runs the cases, and tells what came of them.
-ghost use Rattle.std.specs.Prelude.{◌≡◌, ◌+◌, vec_len, IfOk, OnOk};
-ghost use Rattle.wm_keeper.specs.Keeper.{Ascends};
+ghost use Rattle.std.specs.Prelude.{◌≡◌, ◌+◌, ◌≤◌, vec_len, OnOk};
+ghost use Rattle.wm_bench.specs.declared.bench.TheConstants.{MAX_HANDS};
 ghost use Rattle.wm_session.specs.Hands.{AreEchoes};
 
 use crate::event::event_words;
 use crate::part::{Failing, Part};
 use crate::row::row_text;
 use std::alloc::{AllocError, Global};
-use wm_bench::Hand;
+use wm_bench::{Hand, HandOf};
 use wm_cli::{EndedOf, Status};
 use wm_collections::{Replica, Text};
 use wm_io::{MemorySink, MemorySource};
@@ -73,8 +73,7 @@ fn add_echo(
     Ok(())
 }
 
-/// Runs a part on these rows with these calls failing and the workers of the program, tells what
-/// came of it, and answers the rows that it kept.
+/// Runs a part with these calls failing and the workers of the program: see [`tell_run_of`].
 fn tell_run(
     alloc: Global,
     told: &mut String,
@@ -82,12 +81,28 @@ fn tell_run(
     failing: &Failing,
     store: &mut SureKeeper,
 ) -> Result<SureKeeper, AllocError> {
-    told.push_str(heading(alloc, part, failing)?.as_str())?;
     let mut hands = Vec::new(alloc);
     add_echo(alloc, &mut hands, Box::new(alloc, Echo::new())?)?;
     add_echo(alloc, &mut hands, Box::new(alloc, Echo::new())?)?;
     add_echo(alloc, &mut hands, Box::new(alloc, Echo::new())?)?;
     add_echo(alloc, &mut hands, Box::new(alloc, Echo::new())?)?;
+    tell_run_of(alloc, told, part, failing, store, hands)
+}
+
+/// Runs a part on these rows with these calls failing and these workers, tells what came of it, and
+/// answers the rows that it kept.
+fn tell_run_of<B: Worker>(
+    alloc: Global,
+    told: &mut String,
+    part: &Part,
+    failing: &Failing,
+    store: &mut SureKeeper,
+    hands: Vec<HandOf<B>>,
+) -> Result<SureKeeper, AllocError>
+    requires few_hands { vec_len hands ≤ MAX_HANDS }
+    requires echoes { AreEchoes B.kind_of hands.items }
+{
+    told.push_str(heading(alloc, part, failing)?.as_str())?;
     let mut source = source_of(alloc, part, failing)?;
     let sink = MemorySink::new(part.moves, Vec::from_slice(alloc, &failing.sink)?);
     let keeper = keeper_of(alloc, store, failing)?;

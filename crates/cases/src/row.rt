@@ -6,112 +6,146 @@ use std::alloc::{AllocError, Global};
 use wm_collections::{Items, Text};
 use wm_keeper::Row;
 
-/// The row of a one-time work with the defaults of a request, without number, id and class.
-fn plain_row(alloc: Global) -> Result<Row, AllocError> {
+/// The names of a row's fields.
+const FIELDS: [&str; 24] = [
+    "version",
+    "seq",
+    "id",
+    "name",
+    "class",
+    "kind",
+    "period",
+    "flex",
+    "delay",
+    "policy",
+    "wait",
+    "merger",
+    "network",
+    "flags",
+    "phase",
+    "attempt",
+    "backoff_n",
+    "runs",
+    "generation",
+    "enqueued_at",
+    "input",
+    "output",
+    "prior",
+    "tags",
+];
+
+/// The form of a row that isn't told.
+const VERSION: i64 = 1;
+
+/// The backoff policy of a request that names none.
+const POLICY: i64 = 1;
+
+/// The backoff delay of a request that names none, in milliseconds.
+const WAIT: i64 = 30_000;
+
+/// Data without entries.
+const NO_DATA: &str = "{}";
+
+/// The row of a text. A field that isn't there is that of one-time work with the defaults of a
+/// request.
+pub fn read_row(alloc: Global, text: &str) -> Result<Row, LineFault> {
+    let value = Value::from_str(alloc, text).map_err(|_| LineFault::Row)?;
+    let members = value.as_object().ok_or(LineFault::Row)?;
+    if !members.keys().all(|key| FIELDS.contains(&key.as_str())) {
+        return Err(LineFault::Row);
+    }
     Ok(Row {
-        version: 1,
-        seq: 0,
-        id: Items::new(alloc),
-        name: None,
-        class: Text::from_str(alloc, "")?,
-        kind: 0,
-        period: 0,
-        flex: 0,
-        delay: 0,
-        policy: 1,
-        wait: 30_000,
-        merger: 0,
-        network: 0,
-        flags: 0,
-        phase: 0,
-        attempt: 0,
-        backoff_n: 0,
-        runs: 0,
-        generation: 0,
-        enqueued_at: 0,
-        input: Text::from_str(alloc, "{}")?,
-        output: Text::from_str(alloc, "{}")?,
-        prior: Items::new(alloc),
-        tags: Items::new(alloc),
+        version: number_of(members, "version", VERSION)?,
+        seq: number_of(members, "seq", 0)?,
+        kind: number_of(members, "kind", 0)?,
+        period: number_of(members, "period", 0)?,
+        flex: number_of(members, "flex", 0)?,
+        delay: number_of(members, "delay", 0)?,
+        policy: number_of(members, "policy", POLICY)?,
+        wait: number_of(members, "wait", WAIT)?,
+        merger: number_of(members, "merger", 0)?,
+        network: number_of(members, "network", 0)?,
+        flags: number_of(members, "flags", 0)?,
+        phase: number_of(members, "phase", 0)?,
+        attempt: number_of(members, "attempt", 0)?,
+        backoff_n: number_of(members, "backoff_n", 0)?,
+        runs: number_of(members, "runs", 0)?,
+        generation: number_of(members, "generation", 0)?,
+        enqueued_at: number_of(members, "enqueued_at", 0)?,
+        id: id_of(alloc, members)?,
+        name: name_of(alloc, members)?,
+        class: text_of(alloc, members, "class", "")?,
+        input: text_of(alloc, members, "input", NO_DATA)?,
+        output: text_of(alloc, members, "output", NO_DATA)?,
+        prior: prior_of(alloc, members)?,
+        tags: tags_of(alloc, members)?,
     })
 }
 
-/// The row of a text.
-pub fn read_row(alloc: Global, text: &str) -> Result<Row, LineFault> {
-    let value = Value::from_str(alloc, text).map_err(|_| LineFault::Row)?;
-    let mut row = plain_row(alloc)?;
-    for (key, value) in value.as_object().ok_or(LineFault::Row)? {
-        set_field(alloc, &mut row, key.as_str(), value)?;
+/// The number under a key, or this one where there is none.
+fn number_of(members: &Map<String, Value>, key: &str, usual: i64) -> Result<i64, LineFault> {
+    match members.get(key) {
+        Some(value) => value.as_i64().ok_or(LineFault::Row),
+        None => Ok(usual),
     }
-    Ok(row)
 }
 
-/// Sets one field of a row.
-fn set_field(alloc: Global, row: &mut Row, key: &str, value: &Value) -> Result<(), LineFault> {
-    match key {
-        "id" => row.id = bytes_of(alloc, value)?,
-        "name" => row.name = Some(text_of(alloc, value)?),
-        "class" => row.class = text_of(alloc, value)?,
-        "input" => row.input = text_of(alloc, value)?,
-        "output" => row.output = text_of(alloc, value)?,
-        "prior" => row.prior = numbers_of(alloc, value)?,
-        "tags" => row.tags = texts_of(alloc, value)?,
-        _ => set_number(row, key, value.as_i64().ok_or(LineFault::Row)?)?,
+/// The text under a key, or this one where there is none.
+fn text_of(
+    alloc: Global,
+    members: &Map<String, Value>,
+    key: &str,
+    usual: &str,
+) -> Result<Text, LineFault> {
+    match members.get(key) {
+        Some(value) => copy_of(alloc, value),
+        None => Ok(Text::from_str(alloc, usual)?),
     }
-    Ok(())
 }
 
-fn set_number(row: &mut Row, key: &str, number: i64) -> Result<(), LineFault> {
-    match key {
-        "version" => row.version = number,
-        "seq" => row.seq = number,
-        "kind" => row.kind = number,
-        "period" => row.period = number,
-        "flex" => row.flex = number,
-        "delay" => row.delay = number,
-        "policy" => row.policy = number,
-        "wait" => row.wait = number,
-        "merger" => row.merger = number,
-        "network" => row.network = number,
-        "flags" => row.flags = number,
-        "phase" => row.phase = number,
-        "attempt" => row.attempt = number,
-        "backoff_n" => row.backoff_n = number,
-        "runs" => row.runs = number,
-        "generation" => row.generation = number,
-        "enqueued_at" => row.enqueued_at = number,
-        _ => return Err(LineFault::Row),
-    }
-    Ok(())
-}
-
-fn text_of(alloc: Global, value: &Value) -> Result<Text, LineFault> {
+/// A copy of the text that a value is.
+fn copy_of(alloc: Global, value: &Value) -> Result<Text, LineFault> {
     Ok(Text::from_str(alloc, value.as_str().ok_or(LineFault::Row)?)?)
 }
 
-/// The bytes that a text of hexadecimal digits stands for.
-fn bytes_of(alloc: Global, value: &Value) -> Result<Items<u8>, LineFault> {
-    let digits = value.as_str().ok_or(LineFault::Row)?;
-    match hex::decode(alloc, digits) {
+/// The bytes that the digits of the id stand for; none where it isn't there.
+fn id_of(alloc: Global, members: &Map<String, Value>) -> Result<Items<u8>, LineFault> {
+    let Some(value) = members.get("id") else {
+        return Ok(Items::new(alloc));
+    };
+    match hex::decode(alloc, value.as_str().ok_or(LineFault::Row)?) {
         Ok(bytes) => Ok(Items::from_vec(bytes)),
         Err(_) => Err(LineFault::Row),
     }
 }
 
-fn numbers_of(alloc: Global, value: &Value) -> Result<Items<i64>, LineFault> {
+fn name_of(alloc: Global, members: &Map<String, Value>) -> Result<Option<Text>, LineFault> {
+    match members.get("name") {
+        Some(value) => Ok(Some(copy_of(alloc, value)?)),
+        None => Ok(None),
+    }
+}
+
+/// The items of the list under a key; none where it isn't there.
+fn items_of<'a>(members: &'a Map<String, Value>, key: &str) -> Result<&'a [Value], LineFault> {
+    match members.get(key) {
+        Some(value) => Ok(value.as_array().ok_or(LineFault::Row)?.as_slice()),
+        None => Ok(&[]),
+    }
+}
+
+fn prior_of(alloc: Global, members: &Map<String, Value>) -> Result<Items<i64>, LineFault> {
     let mut numbers = Items::new(alloc);
-    for item in value.as_array().ok_or(LineFault::Row)? {
-        let number = item.as_i64().ok_or(LineFault::Row)?;
-        numbers.push(number)?;
+    for item in items_of(members, "prior")? {
+        numbers.push(item.as_i64().ok_or(LineFault::Row)?)?;
     }
     Ok(numbers)
 }
 
-fn texts_of(alloc: Global, value: &Value) -> Result<Items<Text>, LineFault> {
+fn tags_of(alloc: Global, members: &Map<String, Value>) -> Result<Items<Text>, LineFault> {
     let mut texts = Items::new(alloc);
-    for item in value.as_array().ok_or(LineFault::Row)? {
-        let text = text_of(alloc, item)?;
-        texts.push(text)?;
+    for item in items_of(members, "tags")? {
+        texts.push(copy_of(alloc, item)?)?;
     }
     Ok(texts)
 }
@@ -119,8 +153,7 @@ fn texts_of(alloc: Global, value: &Value) -> Result<Items<Text>, LineFault> {
 /// The text of a row.
 pub fn row_text(alloc: Global, row: &Row) -> Result<String, AllocError> {
     let mut members = Map::new(alloc);
-    let plain = plain_row(alloc)?;
-    for ((key, number), (_, usual)) in numbers(row).into_iter().zip(numbers(&plain)) {
+    for (key, number, usual) in numbers(row) {
         if number != usual {
             put(&mut members, alloc, key, Value::from(number))?;
         }
@@ -136,7 +169,7 @@ pub fn row_text(alloc: Global, row: &Row) -> Result<String, AllocError> {
         put(&mut members, alloc, "name", string(alloc, name)?)?;
     }
     for (key, data) in [("input", &row.input), ("output", &row.output)] {
-        if data.as_str() != "{}" {
+        if data.as_str() != NO_DATA {
             put(&mut members, alloc, key, string(alloc, data)?)?;
         }
     }
@@ -163,26 +196,26 @@ fn put_lists(alloc: Global, members: &mut Map<String, Value>, row: &Row) -> Resu
     Ok(())
 }
 
-/// The numbers of a row, by their names.
-fn numbers(row: &Row) -> [(&'static str, i64); 17] {
+/// The numbers of a row with their names, and what each usually is.
+fn numbers(row: &Row) -> [(&'static str, i64, i64); 17] {
     [
-        ("version", row.version),
-        ("seq", row.seq),
-        ("kind", row.kind),
-        ("period", row.period),
-        ("flex", row.flex),
-        ("delay", row.delay),
-        ("policy", row.policy),
-        ("wait", row.wait),
-        ("merger", row.merger),
-        ("network", row.network),
-        ("flags", row.flags),
-        ("phase", row.phase),
-        ("attempt", row.attempt),
-        ("backoff_n", row.backoff_n),
-        ("runs", row.runs),
-        ("generation", row.generation),
-        ("enqueued_at", row.enqueued_at),
+        ("version", row.version, VERSION),
+        ("seq", row.seq, 0),
+        ("kind", row.kind, 0),
+        ("period", row.period, 0),
+        ("flex", row.flex, 0),
+        ("delay", row.delay, 0),
+        ("policy", row.policy, POLICY),
+        ("wait", row.wait, WAIT),
+        ("merger", row.merger, 0),
+        ("network", row.network, 0),
+        ("flags", row.flags, 0),
+        ("phase", row.phase, 0),
+        ("attempt", row.attempt, 0),
+        ("backoff_n", row.backoff_n, 0),
+        ("runs", row.runs, 0),
+        ("generation", row.generation, 0),
+        ("enqueued_at", row.enqueued_at, 0),
     ]
 }
 
