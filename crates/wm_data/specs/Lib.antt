@@ -1,1 +1,2 @@
 pub mod DataJson
+pub mod Size

@@ -1,11 +1,15 @@
 -- Which work is first, and which instance is idle.
-use Rattle.std.proofs.Common.{◌≡◌, ℕ, true, false, List, [], ◌∷◌, filter, Option, Some, None, Contains, bytes_eq, refl, subst}
+use Rattle.std.proofs.Common.{◌≡◌, ℕ, true, false, cond, List, [], ◌∷◌, filter, Option, Some, None, Contains, bytes_eq, refl, ap, subst}
 use Rattle.std.specs.List.{AllByRecursion}
+use Rattle.std.specs.Prelude.{nat_le}
 use Rattle.std.proofs.lemmas.Bool.{cond_both, and_parts, not-true}
 use Rattle.wm_machine.proofs.Lists.{All-filter, All-stored, All-weaker, Contains-from_one, find-passes, find-stored}
+use Rattle.wm_machine.specs.Due.{due_of}
 use Rattle.wm_machine.specs.First.{all_met, comes_before, earlier_of, first_of, has_room, idle_instance, is_idle, is_live, is_startable, is_waiting, least}
 use Rattle.wm_machine.specs.Met.{met}
+use Rattle.wm_machine.specs.Runs.{cause_in, input_of, start_refusal}
 use Rattle.wm_machine.specs.Valid.{HasOne}
+use Rattle.wm_machine.specs.declared.event.Cause.TheVariants.{NoWorker}
 use Rattle.wm_machine.specs.declared.record.Record.{Record}
 use Rattle.wm_machine.specs.declared.state.Instance.{Instance}
 use Rattle.wm_machine.specs.declared.state.State.{State}
@@ -52,6 +56,7 @@ first_of-startable s work is =
 pub record IsStartable (s : State) (work : Record) : Type 0 where
   pub waiting : is_waiting work.phase ≡ true
   pub prerequisites : all_met s.works work ≡ true
+  pub due : nat_le (due_of work) s.now ≡ true
   pub constraints : met work.request.constraints s.conditions ≡ true
   pub room : has_room s.instances work.request.class ≡ true
 
@@ -64,6 +69,7 @@ IsStartable-from s work is =
     let fourth = and_parts _ _ third.1 in record {
       waiting = first.0;
       prerequisites = second.0;
+      due = third.0;
       constraints = fourth.0;
       room = fourth.1;
     }
@@ -81,6 +87,10 @@ pub first_of-no_worker : (s : State) (work : Record) → first_of s ≡ Some wor
     → is_live s.instances work.request.class ≡ false
 first_of-no_worker s work is none =
     not-true (is_live s.instances work.request.class) (rw none at (first_of-room s work is))
+
+-- work that has no worker can't start for this cause
+pub start_refusal-no_worker : (s : State) (work : Record) → is_live s.instances work.request.class ≡ false → start_refusal s work ≡ Some NoWorker
+start_refusal-no_worker s work none = ap (λ live. cond live (cause_in (input_of s work)) (Some NoWorker)) none
 
 -- ---- the idle instance
 

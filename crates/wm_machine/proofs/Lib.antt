@@ -1,8 +1,12 @@
 pub mod DiaryLogs
 pub mod Drains
 pub mod Firsts
+pub mod Frames
 pub mod Lists
 pub mod Logs
+pub mod Narrows
+pub mod Queries
+pub mod Records
 pub mod Runnings
 pub mod Serials
 pub mod States

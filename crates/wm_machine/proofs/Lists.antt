@@ -1,7 +1,9 @@
 -- What holds of each element of a list, or of one of them.
-use Rattle.std.proofs.Common.{◌≡◌, Bool, true, false, ◌||◌, List, [], ◌∷◌, ◌++◌, map, filter, find, Option, Some, Contains, refl, sym, ◌∙◌, ap, subst, inl, inr, arith, suc}
-use Rattle.std.specs.List.{AllByRecursion, list_any}
-use Rattle.std.proofs.lemmas.Bool.{cond_both, false≢true, or_parts}
+use Rattle.std.proofs.Common.{◌≡◌, ◌⊎◌, Bool, true, false, ◌||◌, List, [], ◌∷◌, ◌++◌, map, filter, find, Option, Some, Contains, refl, sym, ◌∙◌, ap, subst, inl, inr, arith, suc}
+use mathlib.Core.List.{reverse, reverse_aux}
+use Rattle.std.specs.List.{AllByRecursion, list_all, list_any}
+use Rattle.std.proofs.lemmas.Bool.{and_from, and_parts, cond_both, false≢true, or_cases, or_left, or_parts, or_right}
+use Rattle.wm_collections.specs.Lists.{AllLater}
 use Rattle.wm_machine.specs.Valid.{HasOne}
 
 -- ---- each
@@ -35,6 +37,18 @@ All-find {T} P test (y ∷ xs) x found all =
     cond_both (test y) (Some y) (find test xs) (λ (o : Option T). o ≡ Some x → P x) (λ e is. let same : y ≡ x = cc in subst P same all.0)
     (λ e is. All-find P test xs x is all.1) found
 
+All-reverse_aux : {T : Type 0} (P : T → Type 0) (xs front : List T) → AllByRecursion P xs → AllByRecursion P front → AllByRecursion P (reverse_aux xs front)
+All-reverse_aux P [] front all rest = rest
+All-reverse_aux P (x ∷ xs) front all rest = All-reverse_aux P xs (x ∷ front) all.1 (all.0, rest)
+
+pub All-reverse : {T : Type 0} (P : T → Type 0) (xs : List T) → AllByRecursion P xs → AllByRecursion P (reverse xs)
+All-reverse P xs all = All-reverse_aux P xs [] all tt
+
+-- two functions that agree on each element
+pub map-same : {T U : Type 0} (f g : T → U) (xs : List T) → AllByRecursion (λ x. f x ≡ g x) xs → map f xs ≡ map g xs
+map-same f g [] same = refl
+map-same f g (x ∷ xs) same = rw (same.0, map-same f g xs same.1) refl
+
 pub All-any : {T : Type 0} (P : T → Type 0) (xs : List T) → ((x : T) → P x) → AllByRecursion P xs
 All-any P [] each = tt
 All-any P (x ∷ xs) each = (each x, All-any P xs each)
@@ -43,6 +57,28 @@ All-any P (x ∷ xs) each = (each x, All-any P xs each)
 pub All-stored : {T : Type 0} (xs : List T) → AllByRecursion (λ x. HasOne (λ y. y ≡ x) xs) xs
 All-stored [] = tt
 All-stored (x ∷ xs) = (inl refl, All-weaker (λ z. HasOne (λ y. y ≡ z) xs) (λ z. HasOne (λ y. y ≡ z) (x ∷ xs)) xs (λ z h. inr h) (All-stored xs))
+
+-- ---- each and each later one
+
+pub AllLater-push : {T : Type 0} (R : T → T → Type 0) (xs : List T) (x : T) → AllLater R xs → AllByRecursion (λ y. R y x) xs → AllLater R (xs ++ x ∷ [])
+AllLater-push R [] x later new = (tt, tt)
+AllLater-push R (y ∷ xs) x later new = (All-push (R y) xs x later.0 new.0, AllLater-push R xs x later.1 new.1)
+
+pub AllLater-weaker : {T : Type 0} (R Q : T → T → Type 0) (xs : List T) → ((x y : T) → R x y → Q x y) → AllLater R xs → AllLater Q xs
+AllLater-weaker R Q [] weaker later = tt
+AllLater-weaker R Q (x ∷ xs) weaker later = (All-weaker (R x) (Q x) xs (weaker x) later.0, AllLater-weaker R Q xs weaker later.1)
+
+pub AllLater-map : {T U : Type 0} (R : T → T → Type 0) (Q : U → U → Type 0) (f : T → U) (xs : List T) → ((x y : T) → R x y → Q (f x) (f y)) → AllLater R xs
+    → AllLater Q (map f xs)
+AllLater-map R Q f [] step later = tt
+AllLater-map R Q f (x ∷ xs) step later = (All-map (R x) (Q (f x)) f xs (λ y r. step x y r) later.0, AllLater-map R Q f xs step later.1)
+
+pub AllLater-filter : {T : Type 0} (R : T → T → Type 0) (keep : T → Bool) (xs : List T) → AllLater R xs → AllLater R (filter keep xs)
+AllLater-filter R keep [] later = tt
+AllLater-filter R keep (x ∷ xs) later =
+    let rest = AllLater-filter R keep xs later.1 in
+    cond_both (keep x) (x ∷ filter keep xs) (filter keep xs) (AllLater R)
+    (λ e. (All-filter (R x) keep xs (All-weaker (R x) (λ y. keep y ≡ true → R x y) xs (λ y r k. r) later.0), rest)) (λ e. rest)
 
 -- ---- one
 
@@ -62,6 +98,16 @@ pub HasOne-weaker : {T : Type 0} (A P Q : T → Type 0) (xs : List T) → ((x : 
 HasOne-weaker A P Q [] step all one = one
 HasOne-weaker A P Q (x ∷ xs) step all (inl p) = inl (step x all.0 p)
 HasOne-weaker A P Q (x ∷ xs) step all (inr one) = inr (HasOne-weaker A P Q xs step all.1 one)
+
+HasOne-reverse_aux : {T : Type 0} (P : T → Type 0) (xs front : List T) → HasOne P xs ⊎ HasOne P front → HasOne P (reverse_aux xs front)
+HasOne-reverse_aux P [] front (inl one) = absurd one
+HasOne-reverse_aux P [] front (inr one) = one
+HasOne-reverse_aux P (x ∷ xs) front (inl (inl p)) = HasOne-reverse_aux P xs (x ∷ front) (inr (inl p))
+HasOne-reverse_aux P (x ∷ xs) front (inl (inr one)) = HasOne-reverse_aux P xs (x ∷ front) (inl one)
+HasOne-reverse_aux P (x ∷ xs) front (inr one) = HasOne-reverse_aux P xs (x ∷ front) (inr (inr one))
+
+pub HasOne-reverse : {T : Type 0} (P : T → Type 0) (xs : List T) → HasOne P xs → HasOne P (reverse xs)
+HasOne-reverse P xs one = HasOne-reverse_aux P xs [] (inl one)
 
 -- one of the front is one of the whole
 pub HasOne-front : {T : Type 0} (P : T → Type 0) (xs ys : List T) → HasOne P xs → HasOne P (xs ++ ys)
@@ -108,6 +154,29 @@ list_any-false test (x ∷ xs) all = rw (all.0) (list_any-false test xs all.1)
 pub none_pass : {T : Type 0} (test : T → Bool) (xs : List T) → list_any test xs ≡ false → AllByRecursion (λ x. test x ≡ false) xs
 none_pass test [] none = tt
 none_pass test (x ∷ xs) none = let parts = or_parts (test x) (list_any test xs) none in (parts.0, none_pass test xs parts.1)
+
+-- what passes still passes where each element that passes does after a change
+pub list_any-map : {T U : Type 0} (test : T → Bool) (then : U → Bool) (f : T → U) (xs : List T) → AllByRecursion (λ x. test x ≡ true → then (f x) ≡ true) xs
+    → list_any test xs ≡ true → list_any then (map f xs) ≡ true
+list_any-map test then f [] keeps any = absurd (false≢true any)
+list_any-map {T} test then f (x ∷ xs) keeps any =
+    elim (or_cases (test x) (list_any test xs) any) [
+      | inl here ↦ or_left _ _ (keeps.0 here)
+      | inr there ↦ or_right _ _ (list_any-map test then f xs keeps.1 there)
+    ]
+
+-- what all pass they still pass
+pub list_all-weaker : {T : Type 0} (test then : T → Bool) (xs : List T) → ((x : T) → test x ≡ true → then x ≡ true) → list_all test xs ≡ true
+    → list_all then xs ≡ true
+list_all-weaker test then [] weaker all = refl
+list_all-weaker test then (x ∷ xs) weaker all =
+    let parts = and_parts (test x) (list_all test xs) all in
+    and_from _ _ (weaker x parts.0) (list_all-weaker test then xs weaker parts.1)
+
+-- a filter that all pass drops none
+pub filter-all : {T : Type 0} (keep : T → Bool) (xs : List T) → ((x : T) → keep x ≡ true) → filter keep xs ≡ xs
+filter-all keep [] all = refl
+filter-all keep (x ∷ xs) all = rw (all x) (ap (λ rest. x ∷ rest) (filter-all keep xs all))
 
 -- a filter that drops none that pass
 pub list_any-filter : {T : Type 0} (test keep : T → Bool) (xs : List T) → AllByRecursion (λ x. keep x ≡ false → test x ≡ false) xs

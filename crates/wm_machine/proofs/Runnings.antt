@@ -1,11 +1,12 @@
 -- Records, runs and instances of which one is changed.
-use Rattle.std.proofs.Common.{◌≡◌, ◌⊎◌, ℕ, ◌+◌, ◌<◌, Bool, true, false, cond, eqb, List, [], ◌∷◌, ◌++◌, filter, find, Option, Some, refl, sym, ◌∙◌, ap, subst, inl, inr, arith}
+use Rattle.std.proofs.Common.{◌≡◌, ◌⊎◌, ℕ, ◌+◌, ◌<◌, Bool, true, false, cond, eqb, List, [], ◌∷◌, find, Option, Some, refl, sym, ◌∙◌, ap, subst, inl, inr, arith}
 use Rattle.std.specs.List.{AllByRecursion}
 use Rattle.std.proofs.lemmas.Bool.{cond_both, eqb-true, eqb-false, ne_eqb, true≢false}
-use Rattle.wm_machine.proofs.Lists.{All-any, All-filter, All-find, All-map, All-push, All-weaker, HasOne-map, one_gives}
+use Rattle.wm_collections.specs.Lists.{AllLater}
+use Rattle.wm_machine.proofs.Lists.{All-any, All-find, All-map, All-weaker, AllLater-map, AllLater-weaker, HasOne-map, HasOne-weaker, one_gives}
 use Rattle.wm_machine.specs.First.{is_waiting}
 use Rattle.wm_machine.specs.Runs.{changed_work, made_out, run_numbered, with_out}
-use Rattle.wm_machine.specs.Valid.{AllAreApart, AreApart, AreNumberedInOrder, HasOne, IsInstanceOf, IsValidRecord, IsWorkOf, WorksAscend}
+use Rattle.wm_machine.specs.Valid.{AreApart, AreNumberedInOrder, HasOne, IsBefore, IsInstanceOf, IsWorkOf}
 use Rattle.wm_machine.specs.declared.record.Phase.TheVariants as phase
 use Rattle.wm_machine.specs.declared.record.Record.{Record}
 use Rattle.wm_machine.specs.declared.state.Instance.{Instance}
@@ -35,42 +36,76 @@ numbers-changed next change seq works keeps all =
     All-map (λ work. work.seq < next) (λ work. work.seq < next) (changed change seq) works
     (λ work below. subst (λ n. n < next) (sym (seq-changed change seq work keeps)) below) all
 
-pub WorksAscend-changed : (change : Record → Record) (seq : ℕ) (works : List Record) → KeepsSeq change → WorksAscend works
-    → WorksAscend (changed_work change seq works)
-WorksAscend-changed change seq [] keeps ascend = tt
-WorksAscend-changed change seq (work ∷ works) keeps ascend = (
-  All-map (λ later. work.seq < later.seq) (λ later. (changed change seq work).seq < later.seq) (changed change seq) works (λ later above.
-      let here = seq-changed change seq work keeps in
-      let there = seq-changed change seq later keeps in
-      subst (λ n. n < (changed change seq later).seq) (sym here) (subst (λ n. work.seq < n) (sym there) above)) ascend.0,
-  WorksAscend-changed change seq works keeps ascend.1,
-)
+-- records in strictly ascending number
+abbrev pub WorksAscend : List Record → Type 0
+WorksAscend works = AllLater (λ one other. one.seq < other.seq) works
 
-pub records-changed : (change : Record → Record) (seq : ℕ) (works : List Record) → ((work : Record) → IsValidRecord work → IsValidRecord (change work))
-    → AllByRecursion IsValidRecord works → AllByRecursion IsValidRecord (changed_work change seq works)
-records-changed change seq works keeps all =
-    All-map IsValidRecord IsValidRecord (changed change seq) works
-    (λ work valid. changed_both IsValidRecord change seq work (λ e. keeps work valid) (λ e. valid)) all
+pub WorksAscend-in_order : (works : List Record) → AllLater IsBefore works → WorksAscend works
+WorksAscend-in_order works in_order = AllLater-weaker IsBefore (λ one other. one.seq < other.seq) works (λ one other before. before.number) in_order
+
+-- two records are of one work: number, id, name and period are the same
+pub record IsSameWork (one other : Record) : Type 0 where
+  pub seq : other.seq ≡ one.seq
+  pub id : other.request.id ≡ one.request.id
+  pub name : other.name ≡ one.name
+  pub period : other.request.period ≡ one.request.period
+
+abbrev pub KeepsWork : (Record → Record) → Type 0
+KeepsWork change = (work : Record) → IsSameWork work (change work)
+
+IsBefore-same : (one now other then : Record) → IsSameWork one now → IsSameWork other then → IsBefore one other → IsBefore now then
+IsBefore-same one now other then same also before = record {
+  number = let here = same.seq in let there = also.seq in let below = before.number in omega arith;
+  id = λ e. before.id (sym same.id ∙ e ∙ also.id);
+  name = λ name is has. let kinds = before.name name (sym same.name ∙ is) (sym also.name ∙ has) in (same.period ∙ kinds.0, also.period ∙ kinds.1);
+}
+
+same-changed : (change : Record → Record) (seq : ℕ) (work : Record) → KeepsWork change → IsSameWork work (changed change seq work)
+same-changed change seq work keeps =
+    changed_both (IsSameWork work) change seq work (λ e. keeps work) (λ e. record { seq = refl; id = refl; name = refl; period = refl })
+
+pub in_order-changed : (change : Record → Record) (seq : ℕ) (works : List Record) → KeepsWork change → AllLater IsBefore works
+    → AllLater IsBefore (changed_work change seq works)
+in_order-changed change seq works keeps in_order =
+    AllLater-map IsBefore IsBefore (changed change seq) works (λ one other before.
+    IsBefore-same one (changed change seq one) other (changed change seq other) (same-changed change seq one keeps) (same-changed change seq other keeps) before)
+    in_order
+
+-- what holds of each record still does, where the change keeps it of the one that it is made to
+pub records-changed : (A P : Record → Type 0) (change : Record → Record) (seq : ℕ) (works : List Record)
+    → ((work : Record) → work.seq ≡ seq → A work → P (change work)) → ((work : Record) → A work → P work)
+    → AllByRecursion A works → AllByRecursion P (changed_work change seq works)
+records-changed A P change seq works hit miss all =
+    All-map A P (changed change seq) works (λ work a. changed_both P change seq work (λ e. hit work e a) (λ e. miss work a)) all
+
+-- no two records share a number: what holds of one of this number holds of each
+pub all_of_number : (P : Record → Type 0) (seq : ℕ) (works : List Record) → AllLater IsBefore works → HasOne (λ work. (work.seq ≡ seq) × P work) works
+    → AllByRecursion (λ work. work.seq ≡ seq → P work) works
+all_of_number P seq [] in_order one = tt
+all_of_number P seq (work ∷ works) in_order (inl is) = (
+  λ e. is.1,
+  All-weaker (IsBefore work) (λ later. later.seq ≡ seq → P later) works (λ later before e.
+      let here = is.0 in
+      let below = before.number in
+      absurd (omega arith)) in_order.0,
+)
+all_of_number P seq (work ∷ works) in_order (inr one) = (
+  λ e. absurd
+      (one_gives (IsBefore work) (λ later. (later.seq ≡ seq) × P later) ⊥ works
+      (λ later before is. let there = is.0 in let below = before.number in absurd (omega arith)) in_order.0 one),
+  all_of_number P seq works in_order.1 one,
+)
 
 -- a record of this record's number is this record
 abbrev pub IsAlone : Record → Record → Type 0
 IsAlone work other = other.seq ≡ work.seq → other ≡ work
 
--- no two records share a number
-pub IsAlone-stored : (work : Record) (works : List Record) → WorksAscend works → HasOne (λ other. other ≡ work) works → AllByRecursion (IsAlone work) works
-IsAlone-stored work [] ascend one = tt
-IsAlone-stored work (first ∷ works) ascend (inl is) = (
-  λ e. is,
-  All-weaker (λ later. first.seq < later.seq) (IsAlone work) works (λ later above e. let same = ap (λ (w : Record). w.seq) is in absurd (omega arith)) ascend.0,
-)
-IsAlone-stored work (first ∷ works) ascend (inr one) = (
-  λ e.
-      let above : first.seq < work.seq =
-      one_gives (λ later. first.seq < later.seq) (λ other. other ≡ work) (first.seq < work.seq) works
-      (λ later above is. subst (λ (w : Record). first.seq < w.seq) is above) ascend.0 one in
-      absurd (omega arith),
-  IsAlone-stored work works ascend.1 one,
-)
+pub IsAlone-stored : (work : Record) (works : List Record) → AllLater IsBefore works → HasOne (λ other. other ≡ work) works
+    → AllByRecursion (IsAlone work) works
+IsAlone-stored work works in_order one =
+    all_of_number (λ other. other ≡ work) work.seq works in_order
+    (HasOne-weaker (λ other. Unit {0}) (λ other. other ≡ work) (λ other. (other.seq ≡ work.seq) × (other ≡ work)) works
+    (λ other u is. (ap (λ (w : Record). w.seq) is, is)) (All-any (λ other. Unit {0}) works (λ other. tt)) one)
 
 -- waiting work isn't running
 pub not_running : (work : Record) → is_waiting work.phase ≡ true → work.phase ≡ phase.Running → ⊥
@@ -144,19 +179,6 @@ made_there P out idle instances p one =
 
 -- ---- runs
 
-pub AllAreApart-push : (runs : List Run) (run : Run) → AllAreApart runs → AllByRecursion (λ other. AreApart other run) runs → AllAreApart (runs ++ run ∷ [])
-AllAreApart-push [] run apart new = (tt, tt)
-AllAreApart-push (first ∷ runs) run apart new = (All-push (AreApart first) runs run apart.0 new.0, AllAreApart-push runs run apart.1 new.1)
-
-pub AllAreApart-filter : (keep : Run → Bool) (runs : List Run) → AllAreApart runs → AllAreApart (filter keep runs)
-AllAreApart-filter keep [] apart = tt
-AllAreApart-filter keep (run ∷ runs) apart =
-    let rest = AllAreApart-filter keep runs apart.1 in
-    cond_both (keep run) (run ∷ filter keep runs) (filter keep runs) AllAreApart
-    (λ e.
-    (All-filter (AreApart run) keep runs (All-weaker (AreApart run) (λ other. keep other ≡ true → AreApart run other) runs (λ other is k. is) apart.0), rest))
-    (λ e. rest)
-
 -- a run is the one that was found by its number, or apart from it
 abbrev pub IsFoundOrApart : ℕ → Run → Run → Type 0
 IsFoundOrApart number run other = ((eqb other.run number ≡ true) × (other ≡ run)) ⊎ ((eqb other.run number ≡ false) × AreApart run other)
@@ -164,11 +186,11 @@ IsFoundOrApart number run other = ((eqb other.run number ≡ true) × (other ≡
 apart_sym : (one other : Run) → AreApart one other → AreApart other one
 apart_sym one other apart = record {
   runs = λ e. apart.runs (sym e);
-  works = λ e. apart.works (sym e);
+  works = λ now then e. apart.works then now (sym e);
   instances = λ e. apart.instances (sym e);
 }
 
-pub found_or_apart : (number : ℕ) (run : Run) (runs : List Run) → run_numbered number runs ≡ Some run → AllAreApart runs
+pub found_or_apart : (number : ℕ) (run : Run) (runs : List Run) → run_numbered number runs ≡ Some run → AllLater AreApart runs
     → AllByRecursion (IsFoundOrApart number run) runs
 found_or_apart number run [] found apart = tt
 found_or_apart number run (first ∷ runs) found apart =

@@ -1,10 +1,13 @@
 -- A log in serial order, with more events.
 use Rattle.std.proofs.Common.{◌≡◌, ℕ, ◌≤◌, List, [], ◌∷◌, ◌++◌, length, sym, ◌∙◌, ap, subst}
 use Rattle.std.specs.List.{AllByRecursion}
-use Rattle.wm_machine.proofs.Drains.{answered, AreInTurn-append, commands_of-append, goes_on, Replay-append, runs-after_command}
-use Rattle.wm_machine.proofs.States.{Valid-after}
+use Rattle.wm_machine.proofs.Drains.{answered, AreInTurn-append, commands_of-append, goes_on, Replay-append}
+use Rattle.wm_machine.proofs.Frames.{frame-command}
+use Rattle.wm_machine.proofs.States.{IsReached, IsReached-after}
 use Rattle.wm_machine.specs.Built.{IsBuilt}
+use Rattle.wm_machine.specs.Frame.{Frame}
 use Rattle.wm_machine.specs.Log.{commands_of}
+use Rattle.wm_machine.specs.Narrow.{IsNarrow}
 use Rattle.wm_machine.specs.Replay.{Replay}
 use Rattle.wm_machine.specs.Serial.{AreInOrder, AreInTurn, BeginsSerial, IsInTurn, MayGoOn}
 use Rattle.wm_machine.specs.Step.{after, Legal}
@@ -36,9 +39,9 @@ AreInOrder-first asked lines first number reply = tt
 
 -- a log that has begun goes on
 begun : (lines left : List Command) (first now : State) (log : List Event) → AllByRecursion IsBuilt left → lines ≡ commands_of log ++ left
-    → Replay first log now → Valid now → length now.runs ≤ 1 → AreInOrder lines first log → MayGoOn lines log → BeginsSerial lines first log
-begun lines left first now log built whole replays valid few order may =
-    let rest = goes_on left now built valid few in record {
+    → Replay first log now → IsReached now → length now.runs ≤ 1 → AreInOrder lines first log → MayGoOn lines log → BeginsSerial lines first log
+begun lines left first now log built whole replays reached few order may =
+    let rest = goes_on left now built reached few in record {
       rest = rest.log;
       last = rest.last;
       whole = record {
@@ -50,15 +53,15 @@ begun lines left first now log built whole replays valid few order may =
     }
 
 -- no event yet: the first line comes at once
-unbegun : (asked : Command) (lines : List Command) (first : State) → AllByRecursion IsBuilt (asked ∷ lines) → Valid first → length first.runs ≤ 1
+unbegun : (asked : Command) (lines : List Command) (first : State) → AllByRecursion IsBuilt (asked ∷ lines) → IsReached first → length first.runs ≤ 1
     → BeginsSerial (asked ∷ lines) first []
-unbegun asked lines first built valid few =
+unbegun asked lines first built reached few =
     let answer = answered first asked built.0 in
     let e = event.Command 0 asked answer.0 in
     let legal : Legal first e = (built.0, answer.1) in
     let rest =
-    goes_on lines (after first e) built.1 (Valid-after first e valid legal)
-    (subst (λ (runs : List Run). length runs ≤ 1) (sym (runs-after_command first asked)) few) in
+    goes_on lines (after first e) built.1 (IsReached-after first e reached legal)
+    (subst (λ (runs : List Run). length runs ≤ 1) (sym (ap (λ (f : Frame). f.runs) (frame-command first 0 asked answer.0))) few) in
     record {
       rest = e ∷ rest.log;
       last = rest.last;
@@ -71,10 +74,15 @@ unbegun asked lines first built valid few =
     }
 
 -- a log in serial order with at most one unreturned run goes on to the log of a whole serial run
+goes-on : (lines left : List Command) (first now : State) (log : List Event) → AllByRecursion IsBuilt left → lines ≡ commands_of log ++ left
+    → Replay first log now → IsReached now → length now.runs ≤ 1 → AreInOrder lines first log → BeginsSerial lines first log
+goes-on [] left first now log built whole replays reached few order = begun [] left first now log built whole replays reached few order tt
+goes-on (asked ∷ lines) left first now [] built whole replays reached few order =
+    unbegun asked lines first (subst (AllByRecursion IsBuilt) (sym whole) built) (subst IsReached replays reached) (subst (λ s. length s.runs ≤ 1) replays few)
+goes-on (asked ∷ lines) left first now (e ∷ log) built whole replays reached few order =
+    begun (asked ∷ lines) left first now (e ∷ log) built whole replays reached few order tt
+
 pub BeginsSerial-goes-on : (lines left : List Command) (first now : State) (log : List Event) → AllByRecursion IsBuilt left → lines ≡ commands_of log ++ left
-    → Replay first log now → Valid now → length now.runs ≤ 1 → AreInOrder lines first log → BeginsSerial lines first log
-BeginsSerial-goes-on [] left first now log built whole replays valid few order = begun [] left first now log built whole replays valid few order tt
-BeginsSerial-goes-on (asked ∷ lines) left first now [] built whole replays valid few order =
-    unbegun asked lines first (subst (AllByRecursion IsBuilt) (sym whole) built) (subst Valid replays valid) (subst (λ s. length s.runs ≤ 1) replays few)
-BeginsSerial-goes-on (asked ∷ lines) left first now (e ∷ log) built whole replays valid few order =
-    begun (asked ∷ lines) left first now (e ∷ log) built whole replays valid few order tt
+    → Replay first log now → Valid now → IsNarrow now → length now.runs ≤ 1 → AreInOrder lines first log → BeginsSerial lines first log
+BeginsSerial-goes-on lines left first now log built whole replays valid narrow few order =
+    goes-on lines left first now log built whole replays (record { valid = valid; narrow = narrow }) few order

@@ -1,38 +1,46 @@
 -- Every step keeps what holds of the states, and adds the rows that it places.
-use Rattle.std.proofs.Common.{◌≡◌, ℕ, ◌+◌, ◌^◌, ◌<◌, ◌≤◌, Bool, true, false, cond, not, eqb, ltb, ◌||◌, pos, List, [], ◌∷◌, ◌++◌, length, map, Option, Some, None, refl, sym, ◌∙◌, ap, subst, inl, inr, arith, rules, length-append}
+use Rattle.std.proofs.Common.{◌≡◌, ℕ, ◌+◌, ◌^◌, ◌<◌, ◌≤◌, Bool, true, false, cond, not, eqb, ltb, ◌||◌, pos, List, [], ◌∷◌, ◌++◌, length, map, Option, Some, None, Ok, refl, sym, ◌∙◌, ap, subst, inl, inr, arith, rules, length-append}
 use Rattle.std.specs.List.{AllByRecursion, list_any}
-use Rattle.std.proofs.lemmas.Bool.{eq-eqb, ne_eqb, eqb-true, eqb-false, ltb-false, not-true, or_left, or_right, true≢false}
+use Rattle.std.specs.Str.{bytes_eq}
+use Rattle.std.proofs.lemmas.Bool.{and_from, eq-eqb, ne_eqb, eqb-true, eqb-false, ltb-false, not-true, or_left, or_right, true≢false}
 use Rattle.std.proofs.lemmas.List.{length-map}
 use Rattle.std.proofs.lemmas.List.Folds.{list_any-append}
 use Rattle.std.specs.Prelude.{◌<ℤ◌}
+use Rattle.wm_collections.specs.Lists.{AllLater}
 use Rattle.wm_data.specs.declared.data.DataEntry.{DataEntry}
 use Rattle.wm_keeper.specs.declared.row.Row.{Row}
 use Rattle.wm_machine.proofs.Firsts.{first_of-stored, first_of-waiting, idle_instance-idle, idle_instance-stored}
-use Rattle.wm_machine.proofs.Lists.{All-both, All-filter, All-find, All-map, All-push, All-weaker, find-passes, HasOne-filter, HasOne-front, HasOne-last, list_any-false, list_any-filter, none_pass, one_gives}
-use Rattle.wm_machine.proofs.Runnings.{AllAreApart-filter, AllAreApart-push, AreNumberedInOrder-made, changed, changed_both, changed_there, found_or_apart, IsAlone-stored, IsFoundOrApart, made, made_both, made_there, numbers-changed, old_work, other_number, other_work, records-changed, same_instance, WorksAscend-changed}
-use Rattle.wm_machine.specs.Enqueued.{placed_record, placed, with_work, first_of, refusal_of, state_by, too_many_works, numbers_spent, id_in_use}
+use Rattle.wm_machine.proofs.Frames.{after_start}
+use Rattle.wm_machine.proofs.Lists.{All-both, All-filter, All-map, All-push, All-weaker, AllLater-filter, AllLater-push, find-passes, HasOne-filter, HasOne-front, HasOne-last, HasOne-weaker, All-any, list_any-false, list_any-filter, none_pass, one_gives}
+use Rattle.wm_machine.proofs.Narrows.{found_valid, IsPlainEnd, plain_end, with_failure, with_start_failed-alone, with_success}
+use Rattle.wm_machine.proofs.Records.{ArePriorSound-none, IsNarrowRecord-placed, IsRecord-failed, IsRecord-placed, IsRecord-started, IsRecord-succeeded, plain_node}
+use Rattle.wm_machine.proofs.Runnings.{all_of_number, AreNumberedInOrder-made, changed, changed_both, changed_there, found_or_apart, in_order-changed, IsAlone-stored, IsFoundOrApart, IsSameWork, KeepsWork, made, made_both, made_there, numbers-changed, old_work, other_number, other_work, records-changed, same_instance}
+use Rattle.wm_machine.specs.Built.{IsPlain}
+use Rattle.wm_machine.specs.Closed.{closed}
+use Rattle.wm_machine.specs.Ends.{succeeded, with_start_failed}
+use Rattle.wm_machine.specs.Enqueued.{enqueued, first_of, id_in_use, is_stored, numbers_spent, outcome_by, placed, placed_record, refusal_of, too_many_works, with_work}
 use Rattle.wm_machine.specs.First.{first_of as first_work, idle_instance}
-use Rattle.wm_machine.specs.Requests.{plain_request}
+use Rattle.wm_machine.specs.Limits.{IsShortText}
+use Rattle.wm_machine.specs.Narrow.{IsNarrow, IsNarrowRecord, IsNarrowRun}
 use Rattle.wm_machine.specs.Rows.{row_of}
-use Rattle.wm_machine.specs.Runs.{closed, other_runs, run_numbered, run_on, start_on, started, succeeded, success_of, with_failure, with_start, with_success}
-use Rattle.wm_machine.specs.Step.{after, after_command, Legal, start_of}
-use Rattle.wm_machine.specs.Valid.{AreApart, HasOne, IsInstanceOf, IsValidInstance, IsValidRecord, IsValidRun, IsWorkOf, Valid, WorksAscend}
+use Rattle.wm_machine.specs.Runs.{changed_work, other_runs, run_numbered, run_on, start_on, started, with_start}
+use Rattle.wm_machine.specs.Step.{after, after_command, IsEnd, IsStart, IsStartFailure, Legal, start_of}
+use Rattle.wm_machine.specs.Valid.{AreApart, AreOfOneKind, ArePriorSound, HasOne, IsBefore, IsCurrentOf, IsInstanceOf, IsOutForRun, IsRecord, IsValidRun, IsWorkOf, Valid}
 use Rattle.wm_machine.specs.declared.command.Command.TheVariants as command
-use Rattle.wm_machine.specs.declared.event.End.TheVariants as end
+use Rattle.wm_machine.specs.declared.event.Cause.{Cause}
+use Rattle.wm_machine.specs.declared.event.End.{End}
 use Rattle.wm_machine.specs.declared.event.Event.{Event}
 use Rattle.wm_machine.specs.declared.event.Event.TheVariants as event
 use Rattle.wm_machine.specs.declared.record.How.TheVariants as how
 use Rattle.wm_machine.specs.declared.record.Phase.TheVariants as phase
 use Rattle.wm_machine.specs.declared.record.Record.{Record}
 use Rattle.wm_machine.specs.declared.reply.Refusal.{Refusal}
-use Rattle.wm_machine.specs.declared.reply.Refusal.TheVariants.{TooManyWorks, NumbersSpent}
+use Rattle.wm_machine.specs.declared.reply.Refusal.TheVariants.{IdInUse, NumbersSpent, TooManyWorks}
+use Rattle.wm_machine.specs.declared.reply.Reply.{Reply}
 use Rattle.wm_machine.specs.declared.request.Node.{Node}
 use Rattle.wm_machine.specs.declared.state.Instance.{Instance}
 use Rattle.wm_machine.specs.declared.state.Run.{Run}
 use Rattle.wm_machine.specs.declared.state.State.{State}
-use Rattle.wm_worker.specs.Answers.{MayGive}
-use Rattle.wm_worker.specs.declared.answer.Given.TheVariants as given
-use Rattle.wm_worker.specs.declared.kind.Kind.{Kind}
 use Rattle.wm_worker.specs.declared.kind.Kind.TheVariants.{Echo}
 
 -- the number of each row is below the next one
@@ -45,120 +53,62 @@ pub map-push : {A B : Type 0} (f : A → B) (xs : List A) (x : A) → map f (xs 
 map-push f [] x = refl
 map-push f (y ∷ xs) x = ap (λ rest. f y ∷ rest) (map-push f xs x)
 
--- ---- what the changes keep of a record
-
-IsValidRecord-started : (work : Record) → IsValidRecord work → IsValidRecord (started work)
-IsValidRecord-started work valid = record {
-  fits = record {
-    seq = valid.fits.seq;
-    prior = valid.fits.prior;
-    generation = valid.fits.generation;
-    enqueued_at = valid.fits.enqueued_at;
-    delay = valid.fits.delay;
-    wait = valid.fits.wait;
-    period = valid.fits.period;
-  };
-  attempt = omega arith;
-  no_data = record { input = valid.no_data.input; output = valid.no_data.output };
-  no_progress = refl;
-  one_time = valid.one_time;
-  no_prerequisite = valid.no_prerequisite;
-  no_retry = valid.no_retry;
-}
-
-IsValidRecord-closed : (work : Record) → IsValidRecord work → IsValidRecord (closed how.Failed work)
-IsValidRecord-closed work valid = record {
-  fits = record {
-    seq = valid.fits.seq;
-    prior = valid.fits.prior;
-    generation = valid.fits.generation;
-    enqueued_at = valid.fits.enqueued_at;
-    delay = valid.fits.delay;
-    wait = valid.fits.wait;
-    period = valid.fits.period;
-  };
-  attempt = valid.attempt;
-  no_data = record { input = valid.no_data.input; output = valid.no_data.output };
-  no_progress = refl;
-  one_time = valid.one_time;
-  no_prerequisite = valid.no_prerequisite;
-  no_retry = valid.no_retry;
-}
-
-IsValidRecord-succeeded : (output : List DataEntry) (work : Record) → output ≡ [] → IsValidRecord work → IsValidRecord (succeeded output work)
-IsValidRecord-succeeded output work none valid = record {
-  fits = record {
-    seq = valid.fits.seq;
-    prior = valid.fits.prior;
-    generation = valid.fits.generation;
-    enqueued_at = valid.fits.enqueued_at;
-    delay = valid.fits.delay;
-    wait = valid.fits.wait;
-    period = valid.fits.period;
-  };
-  attempt = valid.attempt;
-  no_data = record { input = valid.no_data.input; output = none };
-  no_progress = refl;
-  one_time = valid.one_time;
-  no_prerequisite = valid.no_prerequisite;
-  no_retry = valid.no_retry;
-}
+-- what is sound among these records, where none names a prerequisite
+sound-narrow : (works among : List Record) → AllByRecursion IsNarrowRecord works → AllByRecursion (λ work. ArePriorSound among work.phase work.prior) works
+sound-narrow works among narrow =
+    All-weaker IsNarrowRecord (λ work. ArePriorSound among work.phase work.prior) works
+    (λ work is. ArePriorSound-none among work.phase work.prior is.no_prerequisite) narrow
 
 -- ---- an enqueue
 
-WorksAscend-push : (works : List Record) (work : Record) → AllByRecursion (λ other. other.seq < work.seq) works → WorksAscend works
-    → WorksAscend (works ++ work ∷ [])
-WorksAscend-push [] work below ascend = (tt, tt)
-WorksAscend-push (first ∷ works) work below ascend =
-    (All-push (λ later. first.seq < later.seq) works work ascend.0 below.0, WorksAscend-push works work below.1 ascend.1)
+bytes_eq-refl : (text : List ℕ) → bytes_eq text text ≡ true
+bytes_eq-refl [] = refl
+bytes_eq-refl (byte ∷ text) = and_from _ _ (eq-eqb byte byte refl) (bytes_eq-refl text)
 
--- a record under the next number, which isn't running, keeps what is valid, where there is room
-Valid-with_work : (s : State) (work : Record) → Valid s → work.seq ≡ s.next → IsValidRecord work → (work.phase ≡ phase.Running → ⊥)
+-- a record under the next number and with a new id, without a unique name, which isn't running, keeps what is valid, where there is room
+Valid-with_work : (s : State) (work : Record) → Valid s → IsNarrow (with_work s work) → work.seq ≡ s.next → work.name ≡ None
+    → is_stored s.works work.request.id ≡ false → IsRecord work → (work.phase ≡ phase.Running → ⊥)
     → length s.works + 1 ≤ 100000 → s.next + 1 ≤ 2 ^ 53 → Valid (with_work s work)
-Valid-with_work s work valid numbered fine idle room numbers = record {
-  numbers =
-      All-push (λ w. w.seq < s.next + 1) s.works work
-      (All-weaker (λ w. w.seq < s.next) (λ w. w.seq < s.next + 1) s.works (λ w below. omega arith) valid.numbers) (omega arith);
-  ascending = WorksAscend-push s.works work (subst (λ n. AllByRecursion (λ w. w.seq < n) s.works) (sym numbered) valid.numbers) valid.ascending;
-  records = All-push IsValidRecord s.works work valid.records fine;
-  running = All-push (λ w. w.phase ≡ phase.Running → HasOne (λ run. run.seq ≡ w.seq) s.runs) s.works work valid.running (λ e. absurd (idle e));
-  runs = All-weaker (IsValidRun s) (IsValidRun (with_work s work)) s.runs (λ run is. record {
-    number = is.number;
-    current = is.current;
-    turn = is.turn;
-    no_input = is.no_input;
-    work = HasOne-front (IsWorkOf run) s.works (work ∷ []) is.work;
-    instance = is.instance;
-  }) valid.runs;
-  apart = valid.apart;
-  instances = valid.instances;
-  in_order = valid.in_order;
-  next = numbers;
-  now = valid.now;
-  works = omega (arith, length-append s.works (work ∷ []));
-}
+Valid-with_work s work valid narrow numbered unnamed new fine idle room numbers =
+    let others =
+    All-both (λ other. other.seq < s.next) (λ other. bytes_eq other.request.id work.request.id ≡ false) s.works valid.numbers
+    (none_pass (λ other. bytes_eq other.request.id work.request.id) s.works new) in
+    record {
+      numbers =
+          All-push (λ w. w.seq < s.next + 1) s.works work
+          (All-weaker (λ w. w.seq < s.next) (λ w. w.seq < s.next + 1) s.works (λ w below. omega arith) valid.numbers) (omega arith);
+      first = let first = valid.first in omega arith;
+      next = numbers;
+      few_works = omega (arith, length-append s.works (work ∷ []));
+      records = All-push IsRecord s.works work valid.records fine;
+      in_order = AllLater-push IsBefore s.works work valid.in_order
+          (All-weaker (λ other. (other.seq < s.next) × (bytes_eq other.request.id work.request.id ≡ false)) (λ other. IsBefore other work) s.works
+          (λ other is. record {
+            number = let below = is.0 in omega arith;
+            id = λ e. true≢false (sym (ap (λ id. bytes_eq id work.request.id) e ∙ bytes_eq-refl work.request.id) ∙ is.1);
+            name = λ name has named. let clash : None ≡ Some name = sym unnamed ∙ named in absurd (cc);
+          }) others);
+      sound = sound-narrow (s.works ++ work ∷ []) (s.works ++ work ∷ []) narrow.records;
+      running = All-push (λ w. w.phase ≡ phase.Running → HasOne (IsCurrentOf w.seq) s.runs) s.works work valid.running (λ e. absurd (idle e));
+      runs = All-weaker (IsValidRun s) (IsValidRun (with_work s work)) s.runs (λ run is. record {
+        number = is.number;
+        turn = is.turn;
+        work = λ current. HasOne-front (IsWorkOf run) s.works (work ∷ []) (is.work current);
+        instance = is.instance;
+      }) valid.runs;
+      apart = valid.apart;
+      instances = valid.instances;
+      numbered = valid.numbered;
+      few_observers = valid.few_observers;
+      now = valid.now;
+    }
 
--- a plain work is placed
-Valid-plain : (s : State) (id class : List ℕ) → Valid s → length s.works + 1 ≤ 100000 → s.next + 1 ≤ 2 ^ 53
-    → Valid (placed s None (record { request = plain_request id class; after = [] } ∷ []))
-Valid-plain s id class valid room numbers =
-    Valid-with_work s (placed_record s None (record { request = plain_request id class; after = [] })) valid refl (record {
-      fits = record {
-        seq = omega arith;
-        prior = λ k d below. absurd (omega arith);
-        generation = omega arith;
-        enqueued_at = valid.now;
-        delay = omega arith;
-        wait = omega arith;
-        period = tt;
-      };
-      attempt = omega arith;
-      no_data = record { input = refl; output = refl };
-      no_progress = refl;
-      one_time = refl;
-      no_prerequisite = refl;
-      no_retry = refl;
-    }) (λ e. cc) room numbers
+IsNarrow-with_work : (s : State) (work : Record) → IsNarrow s → IsNarrowRecord work → IsNarrow (with_work s work)
+IsNarrow-with_work s work narrow is = record {
+  records = All-push IsNarrowRecord s.works work narrow.records is;
+  runs = narrow.runs;
+  echoes = narrow.echoes;
+}
 
 first_of-none : (check : Option Refusal) (checks : List (Option Refusal)) → first_of (check ∷ checks) ≡ None → (check ≡ None) × (first_of checks ≡ None)
 first_of-none (Some found) checks none = absurd (cc)
@@ -169,7 +119,7 @@ not_found true found none = absurd (cc)
 not_found false found none = refl
 
 -- where no check refuses a batch, there is room for it
-pub room : (s : State) (works : List Node) → refusal_of s works ≡ None → (length s.works + length works ≤ 100000) × (s.next + length works ≤ 2 ^ 53)
+pub room : (s : State) (works : List Node) → refusal_of s None works ≡ None → (length s.works + length works ≤ 100000) × (s.next + length works ≤ 2 ^ 53)
 room s works none =
     let first = first_of-none (too_many_works s works) (numbers_spent s works ∷ id_in_use s works ∷ []) none in
     let second = first_of-none (numbers_spent s works) (id_in_use s works ∷ []) first.1 in (
@@ -177,11 +127,29 @@ room s works none =
       ltb-false (2 ^ 53) (s.next + length works) (not_found (ltb (2 ^ 53) (s.next + length works)) (NumbersSpent s.next) second.0),
     )
 
-enqueued : (s : State) (id class : List ℕ) (found : Option Refusal) → refusal_of s (record { request = plain_request id class; after = [] } ∷ []) ≡ found
-    → Valid s → Valid (state_by found s (placed s None (record { request = plain_request id class; after = [] } ∷ [])))
-enqueued s id class (Some found) is valid = valid
-enqueued s id class None is valid =
-    let fits = room s (record { request = plain_request id class; after = [] } ∷ []) is in Valid-plain s id class valid fits.0 fits.1
+-- and no record has the id of its work
+new_id : (s : State) (work : Node) → refusal_of s None (work ∷ []) ≡ None → is_stored s.works work.request.id ≡ false
+new_id s work none =
+    let works = work ∷ [] in
+    let first = first_of-none (too_many_works s works) (numbers_spent s works ∷ id_in_use s works ∷ []) none in
+    let second = first_of-none (numbers_spent s works) (id_in_use s works ∷ []) first.1 in
+    let third = first_of-none (id_in_use s works) [] second.1 in
+    not_found (is_stored s.works work.request.id) (IdInUse work.request.id) third.0
+
+Valid-outcome : (s : State) (id class : List ℕ) (found : Option Refusal) → refusal_of s None (plain_node id class ∷ []) ≡ found
+    → length id ≡ 16 → IsShortText class → Valid s → IsNarrow s → Valid (outcome_by found s None (plain_node id class ∷ [])).state
+Valid-outcome s id class (Some found) is sixteen short valid narrow = valid
+Valid-outcome s id class None is sixteen short valid narrow =
+    let fits = room s (plain_node id class ∷ []) is in
+    let work = placed_record s None (plain_node id class) in
+    Valid-with_work s work valid (IsNarrow-with_work s work narrow (IsNarrowRecord-placed s id class)) refl refl (new_id s (plain_node id class) is)
+    (IsRecord-placed s id class sixteen short valid.first fits.1 valid.now) (λ e. cc) fits.0 fits.1
+
+IsNarrow-outcome : (s : State) (id class : List ℕ) (found : Option Refusal) → IsNarrow s
+    → IsNarrow (outcome_by found s None (plain_node id class ∷ [])).state
+IsNarrow-outcome s id class (Some found) narrow = narrow
+IsNarrow-outcome s id class None narrow =
+    IsNarrow-with_work s (placed_record s None (plain_node id class)) narrow (IsNarrowRecord-placed s id class)
 
 -- ---- a start
 
@@ -190,8 +158,8 @@ free_instance : (s : State) (idle : Instance) → Valid s → idle.out ≡ false
     → AllByRecursion (λ run. eqb run.instance idle.number ≡ false) s.runs
 free_instance s idle valid is_in stored =
     none_pass (λ run. eqb run.instance idle.number) s.runs
-    (one_gives (IsValidInstance s.runs) (λ other. other ≡ idle) (list_any (λ run. eqb run.instance idle.number) s.runs ≡ false) s.instances (λ other is same.
-    sym (subst (λ (i : Instance). i.out ≡ list_any (λ run. eqb run.instance i.number) s.runs) same is.out) ∙ is_in) valid.instances stored)
+    (one_gives (IsOutForRun s.runs) (λ other. other ≡ idle) (list_any (λ run. eqb run.instance idle.number) s.runs ≡ false) s.instances
+    (λ other is same. sym (subst (IsOutForRun s.runs) same is) ∙ is_in) valid.instances stored)
 
 -- what doesn't pass makes no difference
 or_neither : (x b : Bool) → b ≡ false → (x || (b || false)) ≡ x
@@ -200,117 +168,161 @@ or_neither false true e = e
 or_neither false false e = refl
 
 -- an instance is out exactly where a run is on it, after a start on this one
-IsValidInstance-made : (runs : List Run) (run : Run) (other : Instance) → IsValidInstance runs other
-    → IsValidInstance (runs ++ run ∷ []) (made true run.instance other)
-IsValidInstance-made runs run other valid =
-    made_both (IsValidInstance (runs ++ run ∷ [])) true run.instance other (λ e. record {
-      out = sym (list_any-append (λ r. eqb r.instance other.number) runs (run ∷ []) ∙ or_right _ _ (or_left _ _ (eq-eqb run.instance other.number (sym e))));
-      kind = valid.kind;
-    }) (λ e. record {
-      out = valid.out ∙ sym
-          (list_any-append (λ r. eqb r.instance other.number) runs (run ∷ []) ∙ or_neither _ _ (ne_eqb run.instance other.number (λ same. e (sym same))));
-      kind = valid.kind;
-    })
+IsOutForRun-made : (runs : List Run) (run : Run) (other : Instance) → IsOutForRun runs other → IsOutForRun (runs ++ run ∷ []) (made true run.instance other)
+IsOutForRun-made runs run other out =
+    made_both (IsOutForRun (runs ++ run ∷ [])) true run.instance other
+    (λ e. sym (list_any-append (λ r. eqb r.instance other.number) runs (run ∷ []) ∙ or_right _ _ (or_left _ _ (eq-eqb run.instance other.number (sym e)))))
+    (λ e. out ∙ sym
+    (list_any-append (λ r. eqb r.instance other.number) runs (run ∷ []) ∙ or_neither _ _ (ne_eqb run.instance other.number (λ same. e (sym same)))))
 
-Valid-start : (s : State) (work : Record) (idle : Instance) → Valid s → first_work s ≡ Some work → idle_instance s.instances work.request.class ≡ Some idle
-    → Valid (with_start s work idle)
-Valid-start s work idle valid first found =
+-- the records are within their limits and narrow after such a change
+records-kept : (s : State) (change : Record → Record) (seq : ℕ) → Valid s → IsNarrow s
+    → ((work : Record) → work.seq ≡ seq → IsNarrowRecord work → IsRecord work → IsRecord (change work)) → AllByRecursion IsRecord (changed_work change seq s.works)
+records-kept s change seq valid narrow fine =
+    records-changed (λ w. IsNarrowRecord w × IsRecord w) IsRecord change seq s.works (λ w e both. fine w e both.0 both.1) (λ w both. both.1)
+    (All-both IsNarrowRecord IsRecord s.works narrow.records valid.records)
+
+narrow-kept : (s : State) (change : Record → Record) (seq : ℕ) → IsNarrow s → ((work : Record) → IsNarrowRecord work → IsNarrowRecord (change work))
+    → AllByRecursion IsNarrowRecord (changed_work change seq s.works)
+narrow-kept s change seq narrow plain =
+    records-changed IsNarrowRecord IsNarrowRecord change seq s.works (λ w e is. plain w is) (λ w is. is) narrow.records
+
+keeps-started : KeepsWork started
+keeps-started work = record { seq = refl; id = refl; name = refl; period = refl }
+
+keeps-failed : KeepsWork (closed how.Failed)
+keeps-failed work = record { seq = refl; id = refl; name = refl; period = refl }
+
+keeps-succeeded : (output : List DataEntry) → KeepsWork (succeeded output)
+keeps-succeeded output work = record { seq = refl; id = refl; name = refl; period = refl }
+
+plain-started : (work : Record) → IsNarrowRecord work → IsNarrowRecord (started work)
+plain-started work is = record {
+  no_input = is.no_input;
+  no_output = is.no_output;
+  no_progress = refl;
+  one_time = is.one_time;
+  no_prerequisite = is.no_prerequisite;
+  no_retry = is.no_retry;
+}
+
+plain-failed : (work : Record) → IsNarrowRecord work → IsNarrowRecord (closed how.Failed work)
+plain-failed work is = record {
+  no_input = is.no_input;
+  no_output = is.no_output;
+  no_progress = refl;
+  one_time = is.one_time;
+  no_prerequisite = is.no_prerequisite;
+  no_retry = is.no_retry;
+}
+
+plain-succeeded : (work : Record) → IsNarrowRecord work → IsNarrowRecord (succeeded [] work)
+plain-succeeded work is = record {
+  no_input = is.no_input;
+  no_output = refl;
+  no_progress = refl;
+  one_time = is.one_time;
+  no_prerequisite = is.no_prerequisite;
+  no_retry = is.no_retry;
+}
+
+IsNarrow-start : (s : State) (work : Record) (idle : Instance) → IsNarrow s → idle_instance s.instances work.request.class ≡ Some idle
+    → IsNarrow (with_start s work idle [])
+IsNarrow-start s work idle narrow found = record {
+  records = narrow-kept s started work.seq narrow plain-started;
+  runs = All-push IsNarrowRun s.runs (run_on s work idle []) narrow.runs (record { current = refl; turn = refl; no_input = refl });
+  echoes = All-map (λ i. i.kind ≡ Echo) (λ i. i.kind ≡ Echo) (made true idle.number) s.instances
+      (λ i echo. made_both (λ i. i.kind ≡ Echo) true idle.number i (λ e. echo) (λ e. echo)) narrow.echoes;
+}
+
+Valid-start : (s : State) (work : Record) (idle : Instance) (input : List DataEntry) → Valid s → IsNarrow s → first_work s ≡ Some work
+    → idle_instance s.instances work.request.class ≡ Some idle → Valid (with_start s work idle input)
+Valid-start s work idle input valid narrow first found =
     let stored = first_of-stored s work first in
     let waiting = first_of-waiting s work first in
-    let alone = IsAlone-stored work s.works valid.ascending stored in
+    let alone = IsAlone-stored work s.works valid.in_order stored in
     let there = idle_instance-stored s.instances work.request.class idle found in
     let free = free_instance s idle valid (idle_instance-idle s.instances work.request.class idle found).is_in there in
-    let run = run_on s work idle in
-    let fine : IsValidRecord work =
-    one_gives IsValidRecord (λ other. other ≡ work) (IsValidRecord work) s.works (λ other is same. subst IsValidRecord same is) valid.records stored in
-    let kind : idle.kind ≡ Echo =
-    one_gives (IsValidInstance s.runs) (λ other. other ≡ idle) (idle.kind ≡ Echo) s.instances
-    (λ other is same. subst (λ (i : Instance). i.kind ≡ Echo) same is.kind) valid.instances there in
+    let run = run_on s work idle input in
+    let works = changed_work started work.seq s.works in
     record {
       numbers = numbers-changed s.next started work.seq s.works (λ w. refl) valid.numbers;
-      ascending = WorksAscend-changed started work.seq s.works (λ w. refl) valid.ascending;
-      records = records-changed started work.seq s.works IsValidRecord-started valid.records;
-      running = All-map (λ w. w.phase ≡ phase.Running → HasOne (λ r. r.seq ≡ w.seq) s.runs)
-          (λ w. w.phase ≡ phase.Running → HasOne (λ r. r.seq ≡ w.seq) (s.runs ++ run ∷ [])) (changed started work.seq) s.works (λ w has.
-          changed_both (λ c. c.phase ≡ phase.Running → HasOne (λ r. r.seq ≡ c.seq) (s.runs ++ run ∷ [])) started work.seq w
-          (λ e running. HasOne-last (λ r. r.seq ≡ w.seq) s.runs run (sym e))
-          (λ e running. HasOne-front (λ r. r.seq ≡ w.seq) s.runs (run ∷ []) (has running))) valid.running;
-      runs = All-push (IsValidRun (with_start s work idle)) s.runs run
-          (All-weaker (IsValidRun s) (IsValidRun (with_start s work idle)) s.runs (λ r is. let below = is.number in record {
+      first = valid.first;
+      next = valid.next;
+      few_works = subst (λ n. n ≤ 100000) (sym (length-map s.works (changed started work.seq))) valid.few_works;
+      records = records-kept s started work.seq valid narrow (λ w e. IsRecord-started w);
+      in_order = in_order-changed started work.seq s.works keeps-started valid.in_order;
+      sound = sound-narrow works works (narrow-kept s started work.seq narrow plain-started);
+      running = All-map (λ w. w.phase ≡ phase.Running → HasOne (IsCurrentOf w.seq) s.runs)
+          (λ w. w.phase ≡ phase.Running → HasOne (IsCurrentOf w.seq) (s.runs ++ run ∷ [])) (changed started work.seq) s.works (λ w has.
+          changed_both (λ c. c.phase ≡ phase.Running → HasOne (IsCurrentOf c.seq) (s.runs ++ run ∷ [])) started work.seq w
+          (λ e running. HasOne-last (IsCurrentOf w.seq) s.runs run (record { of = sym e; current = refl }))
+          (λ e running. HasOne-front (IsCurrentOf w.seq) s.runs (run ∷ []) (has running))) valid.running;
+      runs = All-push (IsValidRun (with_start s work idle input)) s.runs run
+          (All-weaker (IsValidRun s) (IsValidRun (with_start s work idle input)) s.runs (λ r is. let below = is.number in record {
             number = omega arith;
-            current = is.current;
             turn = is.turn;
-            no_input = is.no_input;
-            work = old_work started work s.works r waiting alone is.work;
+            work = λ current. old_work started work s.works r waiting alone (is.work current);
             instance = same_instance true idle.number s.instances r is.instance;
           }) valid.runs) (record {
             number = omega arith;
-            current = refl;
-            turn = refl;
-            no_input = fine.no_data.input;
-            work = changed_there (IsWorkOf run) started work s.works (record { seq = refl; running = refl; attempt = refl }) stored;
+            turn = omega arith;
+            work = λ current. changed_there (IsWorkOf run) started work s.works (record { seq = refl; running = refl; attempt = refl }) stored;
             instance = made_there (IsInstanceOf run) true idle s.instances (record { number = refl; kind = refl }) there;
           });
-      apart = AllAreApart-push s.runs run valid.apart
+      apart = AllLater-push AreApart s.runs run valid.apart
           (All-weaker (λ r. IsValidRun s r × (eqb r.instance idle.number ≡ false)) (λ r. AreApart r run) s.runs (λ r both. let below = both.0.number in record {
             runs = λ e. absurd (omega arith);
-            works = other_number work s.works r waiting alone both.0.work;
+            works = λ current also. other_number work s.works r waiting alone (both.0.work current);
             instances = eqb-false r.instance idle.number both.1;
           }) (All-both (IsValidRun s) (λ r. eqb r.instance idle.number ≡ false) s.runs valid.runs free));
-      instances = All-map (IsValidInstance s.runs) (IsValidInstance (s.runs ++ run ∷ [])) (made true idle.number) s.instances
-          (IsValidInstance-made s.runs run) valid.instances;
-      in_order = AreNumberedInOrder-made true idle.number 0 s.instances valid.in_order;
-      next = valid.next;
+      instances = All-map (IsOutForRun s.runs) (IsOutForRun (s.runs ++ run ∷ [])) (made true idle.number) s.instances
+          (IsOutForRun-made s.runs run) valid.instances;
+      numbered = AreNumberedInOrder-made true idle.number 0 s.instances valid.numbered;
+      few_observers = valid.few_observers;
       now = valid.now;
-      works = subst (λ n. n ≤ 100000) (sym (length-map s.works (changed started work.seq))) valid.works;
     }
 
 -- ---- a failed start
 
-Valid-failure : (s : State) (work : Record) → Valid s → first_work s ≡ Some work → Valid (with_failure s work.seq)
-Valid-failure s work valid first =
+IsNarrow-failure : (s : State) (seq : ℕ) → IsNarrow s → IsNarrow (with_failure s seq)
+IsNarrow-failure s seq narrow = record {
+  records = narrow-kept s (closed how.Failed) seq narrow plain-failed;
+  runs = narrow.runs;
+  echoes = narrow.echoes;
+}
+
+Valid-failure : (s : State) (work : Record) → Valid s → IsNarrow s → first_work s ≡ Some work → Valid (with_failure s work.seq)
+Valid-failure s work valid narrow first =
     let stored = first_of-stored s work first in
     let waiting = first_of-waiting s work first in
-    let alone = IsAlone-stored work s.works valid.ascending stored in record {
-      numbers = numbers-changed s.next (closed how.Failed) work.seq s.works (λ w. refl) valid.numbers;
-      ascending = WorksAscend-changed (closed how.Failed) work.seq s.works (λ w. refl) valid.ascending;
-      records = records-changed (closed how.Failed) work.seq s.works IsValidRecord-closed valid.records;
-      running = All-map (λ w. w.phase ≡ phase.Running → HasOne (λ r. r.seq ≡ w.seq) s.runs) (λ w. w.phase ≡ phase.Running → HasOne (λ r. r.seq ≡ w.seq) s.runs)
-          (changed (closed how.Failed) work.seq) s.works (λ w has.
-          changed_both (λ c. c.phase ≡ phase.Running → HasOne (λ r. r.seq ≡ c.seq) s.runs) (closed how.Failed) work.seq w (λ e running. absurd (cc))
-          (λ e. has)) valid.running;
+    let alone = IsAlone-stored work s.works valid.in_order stored in
+    let change = closed how.Failed in
+    let works = changed_work change work.seq s.works in record {
+      numbers = numbers-changed s.next change work.seq s.works (λ w. refl) valid.numbers;
+      first = valid.first;
+      next = valid.next;
+      few_works = subst (λ n. n ≤ 100000) (sym (length-map s.works (changed change work.seq))) valid.few_works;
+      records = records-kept s change work.seq valid narrow (λ w e. IsRecord-failed w);
+      in_order = in_order-changed change work.seq s.works keeps-failed valid.in_order;
+      sound = sound-narrow works works (narrow-kept s change work.seq narrow plain-failed);
+      running = All-map (λ w. w.phase ≡ phase.Running → HasOne (IsCurrentOf w.seq) s.runs) (λ w. w.phase ≡ phase.Running → HasOne (IsCurrentOf w.seq) s.runs)
+          (changed change work.seq) s.works (λ w has.
+          changed_both (λ c. c.phase ≡ phase.Running → HasOne (IsCurrentOf c.seq) s.runs) change work.seq w (λ e running. absurd (cc)) (λ e. has)) valid.running;
       runs = All-weaker (IsValidRun s) (IsValidRun (with_failure s work.seq)) s.runs (λ r is. record {
         number = is.number;
-        current = is.current;
         turn = is.turn;
-        no_input = is.no_input;
-        work = old_work (closed how.Failed) work s.works r waiting alone is.work;
+        work = λ current. old_work change work s.works r waiting alone (is.work current);
         instance = is.instance;
       }) valid.runs;
       apart = valid.apart;
       instances = valid.instances;
-      in_order = valid.in_order;
-      next = valid.next;
+      numbered = valid.numbered;
+      few_observers = valid.few_observers;
       now = valid.now;
-      works = subst (λ n. n ≤ 100000) (sym (length-map s.works (changed (closed how.Failed) work.seq))) valid.works;
     }
 
 -- ---- a finish
-
--- an Echo gives its input
-echoed : (kind : Kind) (input output : List DataEntry) (attempt turn : ℕ) → kind ≡ Echo → MayGive kind input attempt turn (given.Success output)
-    → output ≡ input
-echoed kind input output attempt turn echo gives =
-    let same : given.Success output ≡ given.Success input = subst (λ k. MayGive k input attempt turn (given.Success output)) echo gives in cc
-
--- a run is on an Echo
-pub run_kind : (s : State) (run : Run) → Valid s → IsValidRun s run → run.kind ≡ Echo
-run_kind s run valid is =
-    one_gives (IsValidInstance s.runs) (IsInstanceOf run) (run.kind ≡ Echo) s.instances (λ i fine of. sym of.kind ∙ fine.kind) valid.instances is.instance
-
--- a run that was found is valid
-pub found_valid : (s : State) (number : ℕ) (run : Run) → Valid s → run_numbered number s.runs ≡ Some run → IsValidRun s run
-found_valid s number run valid found = All-find (IsValidRun s) (λ r. eqb r.run number) s.runs run found valid.runs
 
 -- a valid run, which is this one or apart from it
 abbrev IsTold : State → Run → Run → Type 0
@@ -328,81 +340,147 @@ others s run P told each =
     elim is.0 [ inl found ↦ absurd (true≢false (sym found.0 ∙ not-true (eqb other.run run.run) kept)) | inr apart ↦ each other apart.1 is.1 ]) told)
 
 -- a running work other than this run's keeps its run
-running_stays : (s : State) (run : Run) (seq : ℕ) → AllByRecursion (IsTold s run) s.runs → (seq ≡ run.seq → ⊥) → HasOne (λ r. r.seq ≡ seq) s.runs
-    → HasOne (λ r. r.seq ≡ seq) (other_runs run.run s.runs)
+running_stays : (s : State) (run : Run) (seq : ℕ) → AllByRecursion (IsTold s run) s.runs → (seq ≡ run.seq → ⊥) → HasOne (IsCurrentOf seq) s.runs
+    → HasOne (IsCurrentOf seq) (other_runs run.run s.runs)
 running_stays s run seq told differs one =
-    HasOne-filter (IsTold s run) (λ r. r.seq ≡ seq) (stays run) s.runs (λ r is same.
-    elim is.0 [ inl found ↦ absurd (differs (sym same ∙ ap (λ (x : Run). x.seq) found.1)) | inr apart ↦ ap not apart.0 ]) told one
+    HasOne-filter (IsTold s run) (IsCurrentOf seq) (stays run) s.runs (λ r is same.
+    elim is.0 [ inl found ↦ absurd (differs (sym same.of ∙ ap (λ (x : Run). x.seq) found.1)) | inr apart ↦ ap not apart.0 ]) told one
 
 -- an instance is out exactly where a run is on it, after this run is over
-IsValidInstance-freed : (s : State) (run : Run) (i : Instance) → AllByRecursion (IsTold s run) s.runs → IsValidInstance s.runs i
-    → IsValidInstance (other_runs run.run s.runs) (made false run.instance i)
-IsValidInstance-freed s run i told valid =
+IsOutForRun-freed : (s : State) (run : Run) (i : Instance) → AllByRecursion (IsTold s run) s.runs → IsOutForRun s.runs i
+    → IsOutForRun (other_runs run.run s.runs) (made false run.instance i)
+IsOutForRun-freed s run i told out =
     let on : Run → Bool = λ r. eqb r.instance i.number in
-    made_both (IsValidInstance (other_runs run.run s.runs)) false run.instance i (λ e. record {
-      out = sym
-          (list_any-false on (other_runs run.run s.runs)
-          (others s run (λ r. on r ≡ false) told (λ other apart is. ne_eqb other.instance i.number (λ same. apart.instances (sym (same ∙ e))))));
-      kind = valid.kind;
-    }) (λ differs. record {
-      out = valid.out ∙ sym (list_any-filter on (stays run) s.runs (All-weaker (IsTold s run) (λ r. stays run r ≡ false → on r ≡ false) s.runs (λ r is dropped.
-          elim is.0 [
-            | inl found ↦ ne_eqb r.instance i.number (λ same. differs (sym same ∙ ap (λ (x : Run). x.instance) found.1))
-            | inr apart ↦ absurd
-                (true≢false (sym (ap not apart.0) ∙ dropped))
-          ]) told));
-      kind = valid.kind;
-    })
+    made_both (IsOutForRun (other_runs run.run s.runs)) false run.instance i (λ e. sym
+    (list_any-false on (other_runs run.run s.runs)
+    (others s run (λ r. on r ≡ false) told (λ other apart is. ne_eqb other.instance i.number (λ same. apart.instances (sym (same ∙ e))))))) (λ differs. out ∙ sym
+    (list_any-filter on (stays run) s.runs (All-weaker (IsTold s run) (λ r. stays run r ≡ false → on r ≡ false) s.runs (λ r is dropped.
+    elim is.0 [
+      | inl found ↦ ne_eqb r.instance i.number (λ same. differs (sym same ∙ ap (λ (x : Run). x.instance) found.1))
+      | inr apart ↦ absurd
+          (true≢false (sym (ap not apart.0) ∙ dropped))
+    ]) told)))
 
-Valid-success : (s : State) (number : ℕ) (run : Run) (output : List DataEntry) → Valid s → run_numbered number s.runs ≡ Some run → output ≡ []
-    → Valid (with_success s run output)
-Valid-success s number run output valid found none =
+IsNarrow-success : (s : State) (run : Run) → IsNarrow s → IsNarrow (with_success s run [])
+IsNarrow-success s run narrow = record {
+  records = narrow-kept s (succeeded []) run.seq narrow plain-succeeded;
+  runs = All-filter IsNarrowRun (stays run) s.runs (All-weaker IsNarrowRun (λ r. stays run r ≡ true → IsNarrowRun r) s.runs (λ r is stay. is) narrow.runs);
+  echoes = All-map (λ i. i.kind ≡ Echo) (λ i. i.kind ≡ Echo) (made false run.instance) s.instances
+      (λ i echo. made_both (λ i. i.kind ≡ Echo) false run.instance i (λ e. echo) (λ e. echo)) narrow.echoes;
+}
+
+Valid-success : (s : State) (number : ℕ) (run : Run) → Valid s → IsNarrow s → run_numbered number s.runs ≡ Some run → run.current ≡ true
+    → Valid (with_success s run [])
+Valid-success s number run valid narrow found current =
     let same : run.run ≡ number = eqb-true run.run number (find-passes (λ r. eqb r.run number) s.runs run found) in
     let told =
     All-both (IsFoundOrApart run.run run) (IsValidRun s) s.runs
     (found_or_apart run.run run s.runs (subst (λ n. run_numbered n s.runs ≡ Some run) (sym same) found) valid.apart) valid.runs in
-    let change = succeeded output in record {
+    let its = found_valid s number run valid found in
+    let running =
+    all_of_number (λ w. w.phase ≡ phase.Running) run.seq s.works valid.in_order
+    (HasOne-weaker (λ w. Unit {0}) (IsWorkOf run) (λ w. (w.seq ≡ run.seq) × (w.phase ≡ phase.Running)) s.works (λ w u of. (of.seq, of.running))
+    (All-any (λ w. Unit {0}) s.works (λ w. tt)) (its.work current)) in
+    let change = succeeded [] in
+    let works = changed_work change run.seq s.works in record {
       numbers = numbers-changed s.next change run.seq s.works (λ w. refl) valid.numbers;
-      ascending = WorksAscend-changed change run.seq s.works (λ w. refl) valid.ascending;
-      records = records-changed change run.seq s.works (λ w fine. IsValidRecord-succeeded output w none fine) valid.records;
-      running = All-map (λ w. w.phase ≡ phase.Running → HasOne (λ r. r.seq ≡ w.seq) s.runs)
-          (λ w. w.phase ≡ phase.Running → HasOne (λ r. r.seq ≡ w.seq) (other_runs run.run s.runs)) (changed change run.seq) s.works (λ w has.
-          changed_both (λ c. c.phase ≡ phase.Running → HasOne (λ r. r.seq ≡ c.seq) (other_runs run.run s.runs)) change run.seq w (λ e running. absurd (cc))
+      first = valid.first;
+      next = valid.next;
+      few_works = subst (λ n. n ≤ 100000) (sym (length-map s.works (changed change run.seq))) valid.few_works;
+      records =
+          records-changed (λ w. (w.seq ≡ run.seq → w.phase ≡ phase.Running) × (IsNarrowRecord w × IsRecord w)) IsRecord change run.seq s.works
+          (λ w e is. IsRecord-succeeded w (is.0 e) is.1.0 is.1.1) (λ w is. is.1.1)
+          (All-both (λ w. w.seq ≡ run.seq → w.phase ≡ phase.Running) (λ w. IsNarrowRecord w × IsRecord w) s.works running
+          (All-both IsNarrowRecord IsRecord s.works narrow.records valid.records));
+      in_order = in_order-changed change run.seq s.works (keeps-succeeded []) valid.in_order;
+      sound = sound-narrow works works (narrow-kept s change run.seq narrow plain-succeeded);
+      running = All-map (λ w. w.phase ≡ phase.Running → HasOne (IsCurrentOf w.seq) s.runs)
+          (λ w. w.phase ≡ phase.Running → HasOne (IsCurrentOf w.seq) (other_runs run.run s.runs)) (changed change run.seq) s.works (λ w has.
+          changed_both (λ c. c.phase ≡ phase.Running → HasOne (IsCurrentOf c.seq) (other_runs run.run s.runs)) change run.seq w (λ e running. absurd (cc))
           (λ differs running. running_stays s run w.seq told differs (has running))) valid.running;
-      runs = others s run (IsValidRun (with_success s run output)) told (λ other apart is. record {
+      runs = others s run (IsValidRun (with_success s run [])) told (λ other apart is. record {
         number = is.number;
-        current = is.current;
         turn = is.turn;
-        no_input = is.no_input;
-        work = other_work change run.seq s.works other (λ e. apart.works (sym e)) is.work;
+        work = λ also. other_work change run.seq s.works other (λ e. apart.works current also (sym e)) (is.work also);
         instance = same_instance false run.instance s.instances other is.instance;
       });
-      apart = AllAreApart-filter (stays run) s.runs valid.apart;
-      instances = All-map (IsValidInstance s.runs) (IsValidInstance (other_runs run.run s.runs)) (made false run.instance) s.instances
-          (λ i is. IsValidInstance-freed s run i told is) valid.instances;
-      in_order = AreNumberedInOrder-made false run.instance 0 s.instances valid.in_order;
-      next = valid.next;
+      apart = AllLater-filter AreApart (stays run) s.runs valid.apart;
+      instances = All-map (IsOutForRun s.runs) (IsOutForRun (other_runs run.run s.runs)) (made false run.instance) s.instances
+          (λ i is. IsOutForRun-freed s run i told is) valid.instances;
+      numbered = AreNumberedInOrder-made false run.instance 0 s.instances valid.numbered;
+      few_observers = valid.few_observers;
       now = valid.now;
-      works = subst (λ n. n ≤ 100000) (sym (length-map s.works (changed change run.seq))) valid.works;
     }
 
 -- ---- every step
 
--- every step keeps what is valid
-pub Valid-after : (s : State) (e : Event) → Valid s → Legal s e → Valid (after s e)
-Valid-after s (event.Command line (command.Enqueue None batch) reply) valid legal =
-    subst (λ works. Valid (after_command s (command.Enqueue None (record { works = works })))) (sym legal.0.one)
-    (enqueued s legal.0.id legal.0.class (refusal_of s (record { request = plain_request legal.0.id legal.0.class; after = [] } ∷ [])) refl valid)
-Valid-after s (event.Start run seq instance input) valid legal =
-    subst (λ o. Valid (start_of s o)) (sym legal.is_first)
-    (subst (λ o. Valid (start_on s legal.work o)) (sym legal.is_idle) (Valid-start s legal.work legal.idle valid legal.is_first legal.is_idle))
-Valid-after s (event.StartFailed seq cause) valid legal =
-    subst (λ n. Valid (with_failure s n)) (sym legal.seq_is) (Valid-failure s legal.work valid legal.is_first)
-Valid-after s (event.Finish number (end.Success output)) valid legal =
-    let is = found_valid s number legal.run valid legal.is_running in
-    let none = echoed legal.run.kind legal.run.input output legal.run.attempt legal.run.turn (run_kind s legal.run valid is) legal.may_give ∙ is.no_input in
-    subst (λ o. Valid (success_of s o output)) (sym legal.is_running) (Valid-success s number legal.run output valid legal.is_running none)
-Valid-after s (event.Command line (command.Query query) reply) valid legal = valid
-Valid-after s (event.Command line (command.Faulty fault) reply) valid legal = valid
-Valid-after s (event.Command line _ reply) valid legal = absurd legal.0
-Valid-after s _ valid legal = absurd legal
+-- a state is valid, and narrow for now
+pub record IsReached (s : State) : Type 0 where
+  pub valid : Valid s
+  pub narrow : IsNarrow s
+
+reached-enqueue : (s : State) (works : List Node) → IsReached s → IsPlain works → IsReached (enqueued s None works).state
+reached-enqueue s works reached plain =
+    subst (λ (works : List Node). IsReached (enqueued s None works).state) (sym plain.one) (record {
+      valid = Valid-outcome s plain.id plain.class (refusal_of s None (plain_node plain.id plain.class ∷ [])) refl plain.id_is plain.class_is
+          reached.valid reached.narrow;
+      narrow = IsNarrow-outcome s plain.id plain.class (refusal_of s None (plain_node plain.id plain.class ∷ [])) reached.narrow;
+    })
+
+-- the input of a work is none
+start_nothing : (s : State) (run seq instance : ℕ) (input : List DataEntry) → IsNarrow s → (legal : IsStart s run seq instance input) → input ≡ []
+start_nothing s run seq instance input narrow legal =
+    let own : legal.work.request.input ≡ [] =
+    one_gives IsNarrowRecord (λ other. other ≡ legal.work) (legal.work.request.input ≡ []) s.works
+    (λ other is same. ap (λ (w : Record). w.request.input) (sym same) ∙ is.no_input) narrow.records (first_of-stored s legal.work legal.is_first) in
+    let same : legal.work.request.input ≡ input = let taken = legal.input_is in cc in
+    sym same ∙ own
+
+-- a failed start leads to the state with its failure
+pub after_start_failed : (s : State) (seq : ℕ) (cause : Cause) → IsReached s → (legal : IsStartFailure s seq cause)
+    → after s (event.StartFailed seq cause) ≡ with_failure s legal.work.seq
+after_start_failed s seq cause reached legal =
+    let stored = first_of-stored s legal.work legal.is_first in
+    let alone = IsAlone-stored legal.work s.works reached.valid.in_order stored in
+    ap (with_start_failed s) legal.seq_is
+    ∙ with_start_failed-alone s legal.work reached.narrow.records alone (first_of-waiting s legal.work legal.is_first)
+
+reached-start : (s : State) (run seq instance : ℕ) (input : List DataEntry) → IsReached s → (legal : IsStart s run seq instance input)
+    → IsReached (with_start s legal.work legal.idle input)
+reached-start s run seq instance input reached legal =
+    subst (λ (input : List DataEntry). IsReached (with_start s legal.work legal.idle input)) (sym (start_nothing s run seq instance input reached.narrow legal))
+    (record {
+      valid = Valid-start s legal.work legal.idle [] reached.valid reached.narrow legal.is_first legal.is_idle;
+      narrow = IsNarrow-start s legal.work legal.idle reached.narrow legal.is_idle;
+    })
+
+-- the end of a run leads to the state with its success, which gives nothing
+pub after_finish : (s : State) (number : ℕ) (end : End) → IsReached s → (legal : IsEnd s number end)
+    → after s (event.Finish number end) ≡ with_success s legal.run []
+after_finish s number end reached legal = (plain_end s number end reached.valid reached.narrow legal).state
+
+-- every step keeps what holds of the states that are reached
+pub IsReached-after : (s : State) (e : Event) → IsReached s → Legal s e → IsReached (after s e)
+IsReached-after s (event.Command line (command.Enqueue None batch) reply) reached legal = reached-enqueue s batch.works reached legal.0
+IsReached-after s (event.Start run seq instance input) reached legal =
+    subst IsReached (sym (after_start s run seq instance input legal)) (reached-start s run seq instance input reached legal)
+IsReached-after s (event.StartFailed seq cause) reached legal =
+    subst IsReached (sym (after_start_failed s seq cause reached legal)) (record {
+      valid = Valid-failure s legal.work reached.valid reached.narrow legal.is_first;
+      narrow = IsNarrow-failure s legal.work.seq reached.narrow;
+    })
+IsReached-after s (event.Finish number end) reached legal =
+    subst IsReached (sym (plain_end s number end reached.valid reached.narrow legal).state) (record {
+      valid = Valid-success s number legal.run reached.valid reached.narrow legal.is_running legal.is_current;
+      narrow = IsNarrow-success s legal.run reached.narrow;
+    })
+IsReached-after s (event.Command line (command.Query query) reply) reached legal = reached
+IsReached-after s (event.Command line (command.Faulty fault) reply) reached legal = reached
+IsReached-after s (event.Command line _ reply) reached legal = absurd legal.0
+IsReached-after s _ reached legal = absurd legal
+
+pub Valid-after : (s : State) (e : Event) → Valid s → IsNarrow s → Legal s e → Valid (after s e)
+Valid-after s e valid narrow legal = (IsReached-after s e (record { valid = valid; narrow = narrow }) legal).valid
+
+pub IsNarrow-after : (s : State) (e : Event) → Valid s → IsNarrow s → Legal s e → IsNarrow (after s e)
+IsNarrow-after s e valid narrow legal = (IsReached-after s e (record { valid = valid; narrow = narrow }) legal).narrow

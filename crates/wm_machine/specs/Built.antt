@@ -1,6 +1,7 @@
 -- Which commands, and which replies to them, are built. Each command that joins the grammar joins them.
-use Rattle.std.specs.Prelude.{◌≡◌, ℕ, List, [], ◌∷◌, None}
+use Rattle.std.specs.Prelude.{◌≡◌, ℕ, List, [], ◌∷◌, length, None}
 use Rattle.std.specs.List.{AllByRecursion}
+use Rattle.wm_machine.specs.Limits.{IsShortText}
 use Rattle.wm_machine.specs.Requests.{plain_request}
 use Rattle.wm_machine.specs.declared.command.Command.{Command}
 use Rattle.wm_machine.specs.declared.command.Command.TheVariants as command
@@ -12,10 +13,12 @@ use Rattle.wm_machine.specs.declared.reply.WorkInfo.{WorkInfo}
 use Rattle.wm_machine.specs.declared.request.Node.{Node}
 use Rattle.wm_machine.specs.declared.state.WorkQuery.{WorkQuery}
 
--- one work, with every default and no prerequisite
+-- one work, with every default and no prerequisite, whose id and class are within their limits
 pub record IsPlain (works : List Node) : Type 0 where
   pub id : List ℕ
   pub class : List ℕ
+  pub id_is : length id ≡ 16
+  pub class_is : IsShortText class
   pub one : works ≡ (record { request = plain_request id class; after = [] }) ∷ []
 
 -- a query that names nothing, which matches all

@@ -1,9 +1,9 @@
 -- What the workers of a run write down. This project's own choice.
 use Rattle.std.specs.Prelude.{ℕ, ◌+◌, ◌==◌, List, [], ◌∷◌, ◌++◌, if◌then◌else◌, Option, Some, None}
+use Rattle.wm_machine.specs.Ends.{given_by}
 use Rattle.wm_machine.specs.Step.{after}
 use Rattle.wm_machine.specs.Runs.{run_numbered}
 use Rattle.wm_machine.specs.declared.event.End.{End}
-use Rattle.wm_machine.specs.declared.event.End.TheVariants as end
 use Rattle.wm_machine.specs.declared.event.Event.{Event}
 use Rattle.wm_machine.specs.declared.event.Event.TheVariants as event
 use Rattle.wm_machine.specs.declared.state.Run.{Run}
@@ -11,14 +11,6 @@ use Rattle.wm_machine.specs.declared.state.State.{State}
 use Rattle.wm_worker.specs.Diary.{diary_with}
 use Rattle.wm_worker.specs.declared.answer.Entry.{Entry}
 use Rattle.wm_worker.specs.declared.answer.Entry.TheVariants.{Begun, Gave}
-use Rattle.wm_worker.specs.declared.answer.Given.{Given}
-use Rattle.wm_worker.specs.declared.answer.Given.TheVariants as given
-
--- what a worker gave whose run ended so
-abbrev pub given_by : End → Given
-given_by (end.Success output) = given.Success output
-given_by (end.Failure output) = given.Failure output
-given_by end.Retry = given.Retry
 
 -- what the worker of this instance writes down where a run ends so
 abbrev pub end_entries : ℕ → Option Run → End → List Entry

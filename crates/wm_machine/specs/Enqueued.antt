@@ -1,16 +1,17 @@
--- Enqueueing a batch of works without a unique name: the reply, and the state after it.
+-- Enqueueing a batch of works: the reply, and the state after it. What a unique name's policy does isn't built yet.
 -- After the guide's pages "Define work requests" and "Chaining work", where a definition says so; all else, as numbers, limits and
 -- the order of the checks, is this project's own choice.
-use Rattle.std.specs.Prelude.{ℕ, ◌+◌, ◌^◌, ◌==◌, ◌&&◌, Bool, true, false, List, [], ◌∷◌, ◌++◌, length, map, filter, flat_map, nat_lt, if◌then◌else◌, Option, Some, None}
+use Rattle.std.specs.Prelude.{ℕ, ◌+◌, ◌^◌, ◌==◌, ◌&&◌, Bool, true, false, List, [], ◌∷◌, ◌++◌, length, map, filter, flat_map, nat_lt, if◌then◌else◌, Option, Some, None, option_map}
 use Rattle.std.specs.List.{list_any}
 use Rattle.std.specs.Str.{bytes_eq}
+use Rattle.wm_machine.specs.Replied.{Outcome, unchanged}
+use Rattle.wm_machine.specs.declared.command.UniqueName.{UniqueName}
 use Rattle.wm_machine.specs.declared.record.How.TheVariants as how
 use Rattle.wm_machine.specs.declared.record.Phase.{Phase}
 use Rattle.wm_machine.specs.declared.record.Phase.TheVariants as phase
 use Rattle.wm_machine.specs.declared.record.Record.{Record}
 use Rattle.wm_machine.specs.declared.reply.Refusal.{Refusal}
 use Rattle.wm_machine.specs.declared.reply.Refusal.TheVariants as refusal
-use Rattle.wm_machine.specs.declared.reply.Reply.{Reply}
 use Rattle.wm_machine.specs.declared.reply.Reply.TheVariants as reply
 use Rattle.wm_machine.specs.declared.request.Node.{Node}
 use Rattle.wm_machine.specs.declared.state.State.{State}
@@ -40,8 +41,8 @@ first_of (Some found ∷ checks) = Some found
 first_of (None ∷ checks) = first_of checks
 
 -- the first check that refuses the batch
-abbrev pub refusal_of : State → List Node → Option Refusal
-refusal_of s works = first_of
+abbrev pub refusal_of : State → Option UniqueName → List Node → Option Refusal
+refusal_of s named works = first_of
     (too_many_works s works
     ∷ numbers_spent s works
     ∷ id_in_use s works
@@ -104,18 +105,15 @@ abbrev pub new_numbers : ℕ → List Node → List ℕ
 new_numbers next [] = []
 new_numbers next (node ∷ nodes) = next ∷ new_numbers (next + 1) nodes
 
--- ---- the reply and the state
+-- ---- the outcome
 
-abbrev pub reply_by : Option Refusal → List ℕ → Reply
-reply_by (Some found) numbers = reply.Refused found
-reply_by None numbers = reply.Enqueued numbers
+abbrev pub outcome_by : Option Refusal → State → Option UniqueName → List Node → Outcome
+outcome_by (Some found) s named works = unchanged s (reply.Refused found)
+outcome_by None s named works = record {
+  reply = reply.Enqueued (new_numbers s.next works);
+  state = placed s (option_map (λ unique. unique.name) named) works;
+}
 
-abbrev pub state_by : Option Refusal → State → State → State
-state_by (Some found) refused enqueued = refused
-state_by None refused enqueued = enqueued
-
-abbrev pub enqueue_reply : State → List Node → Reply
-enqueue_reply s works = reply_by (refusal_of s works) (new_numbers s.next works)
-
-abbrev pub enqueue_state : State → List Node → State
-enqueue_state s works = state_by (refusal_of s works) s (placed s None works)
+-- the first check that holds gives the reply; where none does the works are placed
+abbrev pub enqueued : State → Option UniqueName → List Node → Outcome
+enqueued s named works = outcome_by (refusal_of s named works) s named works

@@ -1,9 +1,10 @@
--- How a run begins and how it ends. After the guide's pages "Work states" and "Chaining work"; attempts that stand still, runs and
--- instances are this project's own choice.
-use Rattle.std.specs.Prelude.{ℕ, ◌+◌, ◌==◌, Bool, true, false, not, List, [], ◌∷◌, ◌++◌, map, filter, find, min, if◌then◌else◌, Option, Some, None}
+-- How a run begins, and which works can't start. After the guide's pages "Work states" and "Chaining work"; attempts that stand still, runs
+-- and instances are this project's own choice.
+use Rattle.std.specs.Prelude.{ℕ, ◌+◌, ◌==◌, Bool, true, not, List, [], ◌∷◌, ◌++◌, map, filter, find, min, if◌then◌else◌, Option, Some, None, Result, Ok, Err}
 use Rattle.wm_data.specs.declared.data.DataEntry.{DataEntry}
-use Rattle.wm_machine.specs.declared.record.How.{How}
-use Rattle.wm_machine.specs.declared.record.How.TheVariants as how
+use Rattle.wm_machine.specs.First.{is_live}
+use Rattle.wm_machine.specs.declared.event.Cause.{Cause}
+use Rattle.wm_machine.specs.declared.event.Cause.TheVariants.{NoWorker}
 use Rattle.wm_machine.specs.declared.record.Phase.TheVariants as phase
 use Rattle.wm_machine.specs.declared.record.Record.{Record}
 use Rattle.wm_machine.specs.declared.state.Instance.{Instance}
@@ -11,6 +12,10 @@ use Rattle.wm_machine.specs.declared.state.Run.{Run}
 use Rattle.wm_machine.specs.declared.state.State.{State}
 
 -- ---- records
+
+-- the record of this number
+abbrev pub work_numbered : ℕ → List Record → Option Record
+work_numbered seq works = find (λ work. work.seq == seq) works
 
 -- the records, with the one of this number changed
 abbrev pub changed_work : (Record → Record) → ℕ → List Record → List Record
@@ -24,17 +29,19 @@ one_attempt_more attempt = min (attempt + 1) 1000000
 abbrev pub started : Record → Record
 started work = record work { phase = phase.Running; attempt = one_attempt_more work.attempt; progress = [] }
 
--- a work that is finished without having given anything
-abbrev pub closed : How → Record → Record
-closed how work = record work { phase = phase.Done how; progress = [] }
+-- ---- what a run takes
 
--- a work that gave this in the end
-abbrev pub succeeded : List DataEntry → Record → Record
-succeeded output work = record work { phase = phase.Done how.Succeeded; output = output; progress = [] }
+-- what a run of a work takes, or why it has no input: no work names a prerequisite yet, so it is the work's own input
+abbrev pub input_of : State → Record → Result (List DataEntry) Cause
+input_of s work = Ok work.request.input
 
--- what a run of a work takes: no work names a prerequisite yet, so it is the work's own input
-abbrev pub input_of : Record → List DataEntry
-input_of work = work.request.input
+abbrev pub cause_in : Result (List DataEntry) Cause → Option Cause
+cause_in (Ok input) = None
+cause_in (Err cause) = Some cause
+
+-- why a work that is first can't start, where it can't: its class has no worker, or it has no input
+abbrev pub start_refusal : State → Record → Option Cause
+start_refusal s work = if is_live s.instances work.request.class then cause_in (input_of s work) else Some NoWorker
 
 -- ---- instances and runs
 
@@ -46,13 +53,13 @@ made_out out instance = record instance { out = out }
 abbrev pub with_out : Bool → ℕ → List Instance → List Instance
 with_out out number instances = map (λ instance. if instance.number == number then made_out out instance else instance) instances
 
--- the next run, of this work on this instance
-abbrev pub run_on : State → Record → Instance → Run
-run_on s work instance = record {
+-- the next run, of this work on this instance, with this input
+abbrev pub run_on : State → Record → Instance → List DataEntry → Run
+run_on s work instance input = record {
   run = s.next_run;
   seq = work.seq;
   attempt = one_attempt_more work.attempt;
-  input = input_of work;
+  input = input;
   kind = instance.kind;
   instance = instance.number;
   constraints = work.request.constraints;
@@ -70,33 +77,15 @@ other_runs number runs = filter (λ run. not (run.run == number)) runs
 
 -- ---- states
 
--- a run of this work begins on this instance
-abbrev pub with_start : State → Record → Instance → State
-with_start s work instance = record s {
+-- a run of this work begins on this instance, with this input
+abbrev pub with_start : State → Record → Instance → List DataEntry → State
+with_start s work instance input = record s {
   works = changed_work started work.seq s.works;
-  runs = s.runs ++ run_on s work instance ∷ [];
+  runs = s.runs ++ run_on s work instance input ∷ [];
   instances = with_out true instance.number s.instances;
   next_run = s.next_run + 1;
 }
 
--- a work fails: no work names a prerequisite yet, so none other fails with it
-abbrev pub with_failure : State → ℕ → State
-with_failure s seq = record s { works = changed_work (closed how.Failed) seq s.works }
-
--- a run is over and its work has succeeded: no work names a prerequisite yet, so none is freed
-abbrev pub with_success : State → Run → List DataEntry → State
-with_success s run output = record s {
-  works = changed_work (succeeded output) run.seq s.works;
-  runs = other_runs run.run s.runs;
-  instances = with_out false run.instance s.instances;
-}
-
--- ---- the same, where the work, the instance or the run is looked up
-
-abbrev pub start_on : State → Record → Option Instance → State
-start_on s work None = s
-start_on s work (Some instance) = with_start s work instance
-
-abbrev pub success_of : State → Option Run → List DataEntry → State
-success_of s None output = s
-success_of s (Some run) output = with_success s run output
+abbrev pub start_on : State → Record → Option Instance → List DataEntry → State
+start_on s work None input = s
+start_on s work (Some instance) input = with_start s work instance input

@@ -1,45 +1,132 @@
 -- What holds of every state that the machine reaches. This project's own choice.
-use Rattle.std.specs.Prelude.{◌≡◌, ◌≢◌, ◌⊎◌, ℕ, ◌+◌, ◌^◌, ◌==◌, ◌<◌, ◌≤◌, true, List, [], ◌∷◌, length, None}
+use Rattle.std.specs.Prelude.{◌≡◌, ◌≢◌, ◌⊎◌, ℕ, ◌+◌, ◌^◌, ◌==◌, ◌<◌, ◌≤◌, true, List, [], ◌∷◌, length, Option, Some, None, IfSome}
 use Rattle.std.specs.List.{AllByRecursion, list_any}
-use Rattle.wm_machine.specs.Limits.{FitsRow}
-use Rattle.wm_machine.specs.Rows.{HasNoData}
+use Rattle.wm_collections.specs.Lists.{AllLater}
+use Rattle.wm_data.specs.Size.{IsData}
+use Rattle.wm_data.specs.declared.data.DataEntry.{DataEntry}
+use Rattle.wm_machine.specs.Limits.{FitsRow, IsShortText}
+use Rattle.wm_machine.specs.Requests.{IsRequest}
+use Rattle.wm_machine.specs.declared.record.How.TheVariants as how
+use Rattle.wm_machine.specs.declared.record.Phase.{Phase}
 use Rattle.wm_machine.specs.declared.record.Phase.TheVariants as phase
 use Rattle.wm_machine.specs.declared.record.Record.{Record}
+use Rattle.wm_machine.specs.declared.schedule.Period.{Period}
 use Rattle.wm_machine.specs.declared.state.Instance.{Instance}
 use Rattle.wm_machine.specs.declared.state.Run.{Run}
 use Rattle.wm_machine.specs.declared.state.State.{State}
-use Rattle.wm_worker.specs.declared.kind.Kind.TheVariants.{Echo}
 
--- the records stand in strictly ascending number
-abbrev pub WorksAscend : List Record → Type 0
-WorksAscend [] = Unit {0}
-WorksAscend (work ∷ works) = AllByRecursion (λ later. work.seq < later.seq) works × WorksAscend works
+-- ---- a record by itself
 
--- a record is within its limits, and is as the commands and workers that are built leave it: one-time, without data, prerequisites
--- and retries
-pub record IsValidRecord (work : Record) : Type 0 where
-  pub fits : FitsRow work
-  pub attempt : work.attempt ≤ 1000000
-  pub no_data : HasNoData work
-  pub no_progress : work.progress ≡ []
-  pub one_time : work.request.period ≡ None
+-- running and succeeded work was started
+abbrev pub IsAttemptIn : Phase → ℕ → Type 0
+IsAttemptIn phase.Running attempt = 1 ≤ attempt
+IsAttemptIn (phase.Done how.Succeeded) attempt = 1 ≤ attempt
+IsAttemptIn _ attempt = Unit {0}
+
+-- only work that succeeded or failed has given something
+abbrev pub IsOutputIn : Phase → List DataEntry → Type 0
+IsOutputIn (phase.Done how.Succeeded) output = IsData output
+IsOutputIn (phase.Done how.Failed) output = IsData output
+IsOutputIn _ output = output ≡ []
+
+-- only running work tells something
+abbrev pub IsProgressIn : Phase → List DataEntry → Type 0
+IsProgressIn phase.Running progress = IsData progress
+IsProgressIn _ progress = progress ≡ []
+
+-- periodic work never succeeds or fails for good
+abbrev pub IsPeriodicPhase : Phase → Type 0
+IsPeriodicPhase (phase.Done how.Succeeded) = ⊥
+IsPeriodicPhase (phase.Done how.Failed) = ⊥
+IsPeriodicPhase _ = Unit {0}
+
+pub record IsPeriodic (work : Record) : Type 0 where
+  pub phase_is : IsPeriodicPhase work.phase
+  pub no_output : work.output ≡ []
   pub no_prerequisite : work.prior ≡ []
-  pub no_retry : work.backoff_n ≡ 0
+
+-- a one-time work has run no period
+abbrev pub IsOfKind : Option Period → Record → Type 0
+IsOfKind None work = work.runs ≡ 0
+IsOfKind (Some period) work = IsPeriodic work
+
+-- at most 100 prerequisites, different, each of a smaller number
+pub record ArePrior (seq : ℕ) (prior : List ℕ) : Type 0 where
+  pub few : length prior ≤ 100
+  pub different : AllLater (λ number later. number ≢ later) prior
+  pub earlier : AllByRecursion (λ number. (1 ≤ number) × (number < seq)) prior
+
+-- a record is within its limits
+pub record IsRecord (work : Record) : Type 0 where
+  pub number : 1 ≤ work.seq
+  pub fits : FitsRow work
+  pub name : IfSome work.name IsShortText
+  pub request : IsRequest work.request
+  pub prior : ArePrior work.seq work.prior
+  pub attempt : work.attempt ≤ 1000000
+  pub started : IsAttemptIn work.phase work.attempt
+  pub backoff_n : work.backoff_n ≤ work.attempt
+  pub runs : work.runs ≤ 1000000
+  pub kind : IsOfKind work.request.period work
+  pub output : IsOutputIn work.phase work.output
+  pub progress : IsProgressIn work.phase work.progress
+
+-- ---- a record among the others
+
+-- one of these has this fact
+abbrev pub HasOne : {T : Type 0} → (T → Type 0) → List T → Type 0
+HasOne P [] = ⊥
+HasOne P (x ∷ xs) = P x ⊎ HasOne P xs
+
+-- works of one unique name are all one-time, or there is one alone
+abbrev pub AreOfOneKind : Record → Record → Type 0
+AreOfOneKind one other =
+    (name : List ℕ) → one.name ≡ Some name → other.name ≡ Some name → (one.request.period ≡ None) × (other.request.period ≡ None)
+
+-- a record stands before another: its number is smaller, and they differ in their ids
+pub record IsBefore (one other : Record) : Type 0 where
+  pub number : one.seq < other.seq
+  pub id : one.request.id ≢ other.request.id
+  pub name : AreOfOneKind one other
+
+-- unfinished work still waits for a prerequisite, or can use its output
+abbrev pub IsOpenPhase : Phase → Type 0
+IsOpenPhase (phase.Done how.Failed) = ⊥
+IsOpenPhase (phase.Done how.Cancelled) = ⊥
+IsOpenPhase _ = Unit {0}
+
+-- the record of this number can still succeed, or has, and is one-time
+pub record IsPrerequisite (number : ℕ) (work : Record) : Type 0 where
+  pub seq : work.seq ≡ number
+  pub open_is : IsOpenPhase work.phase
+  pub one_time : work.request.period ≡ None
+
+-- the record of this number has succeeded
+pub record HasSucceeded (number : ℕ) (work : Record) : Type 0 where
+  pub seq : work.seq ≡ number
+  pub succeeded : work.phase ≡ phase.Done how.Succeeded
+
+-- each prerequisite of waiting work is there, and of running work it has succeeded; of work that succeeded each that is there has
+abbrev pub ArePriorSound : List Record → Phase → List ℕ → Type 0
+ArePriorSound works phase.Waiting prior = AllByRecursion (λ number. HasOne (IsPrerequisite number) works) prior
+ArePriorSound works phase.Running prior =
+    AllByRecursion (λ number. HasOne (IsPrerequisite number) works × HasOne (HasSucceeded number) works) prior
+ArePriorSound works (phase.Done how.Succeeded) prior =
+    AllByRecursion (λ number. AllByRecursion (λ work. work.seq ≡ number → work.phase ≡ phase.Done how.Succeeded) works) prior
+ArePriorSound works (phase.Done _) prior = Unit {0}
+
+-- ---- instances and runs
 
 -- the instances are numbered in order, from this number on
 abbrev pub AreNumberedInOrder : ℕ → List Instance → Type 0
 AreNumberedInOrder number [] = Unit {0}
 AreNumberedInOrder number (instance ∷ instances) = (instance.number ≡ number) × AreNumberedInOrder (number + 1) instances
 
--- two runs differ in their number, their work and their instance
+-- two runs differ in their number and their instance, and where both are current in their work
 pub record AreApart (one other : Run) : Type 0 where
   pub runs : one.run ≢ other.run
-  pub works : one.seq ≢ other.seq
+  pub works : one.current ≡ true → other.current ≡ true → one.seq ≢ other.seq
   pub instances : one.instance ≢ other.instance
-
-abbrev pub AllAreApart : List Run → Type 0
-AllAreApart [] = Unit {0}
-AllAreApart (run ∷ runs) = AllByRecursion (AreApart run) runs × AllAreApart runs
 
 -- a record is the one that a run is of: it is running, in the run's attempt
 pub record IsWorkOf (run : Run) (work : Record) : Type 0 where
@@ -47,41 +134,43 @@ pub record IsWorkOf (run : Run) (work : Record) : Type 0 where
   pub running : work.phase ≡ phase.Running
   pub attempt : work.attempt ≡ run.attempt
 
+-- a run is a current one of the work of this number
+pub record IsCurrentOf (seq : ℕ) (run : Run) : Type 0 where
+  pub of : run.seq ≡ seq
+  pub current : run.current ≡ true
+
 -- an instance is the one that a run is on: it is of its kind
 pub record IsInstanceOf (run : Run) (instance : Instance) : Type 0 where
   pub number : instance.number ≡ run.instance
   pub kind : instance.kind ≡ run.kind
 
--- one of these has this fact
-abbrev pub HasOne : {T : Type 0} → (T → Type 0) → List T → Type 0
-HasOne P [] = ⊥
-HasOne P (x ∷ xs) = P x ⊎ HasOne P xs
-
--- a run is one that is built: numbered, current, in its first turn, without input, of a running work and on an instance of its kind
+-- a run is numbered, in one of its 1,000 turns, on an instance of its kind, and where it is current of a running work
 pub record IsValidRun (s : State) (run : Run) : Type 0 where
   pub number : run.run < s.next_run
-  pub current : run.current ≡ true
-  pub turn : run.turn ≡ 0
-  pub no_input : run.input ≡ []
-  pub work : HasOne (IsWorkOf run) s.works
+  pub turn : run.turn ≤ 999
+  pub work : run.current ≡ true → HasOne (IsWorkOf run) s.works
   pub instance : HasOne (IsInstanceOf run) s.instances
 
--- an instance is out exactly where a run is on it, and every worker is an Echo
-pub record IsValidInstance (runs : List Run) (instance : Instance) : Type 0 where
-  pub out : instance.out ≡ list_any (λ run. run.instance == instance.number) runs
-  pub kind : instance.kind ≡ Echo
+-- an instance is out exactly where a run is on it
+abbrev pub IsOutForRun : List Run → Instance → Type 0
+IsOutForRun runs instance = instance.out ≡ list_any (λ run. run.instance == instance.number) runs
+
+-- ---- a state
 
 pub record Valid (s : State) : Type 0 where
   -- every number is below the next one
   pub numbers : AllByRecursion (λ work. work.seq < s.next) s.works
-  pub ascending : WorksAscend s.works
-  pub records : AllByRecursion IsValidRecord s.works
-  -- a running work has its run
-  pub running : AllByRecursion (λ work. work.phase ≡ phase.Running → HasOne (λ run. run.seq ≡ work.seq) s.runs) s.works
-  pub runs : AllByRecursion (IsValidRun s) s.runs
-  pub apart : AllAreApart s.runs
-  pub instances : AllByRecursion (IsValidInstance s.runs) s.instances
-  pub in_order : AreNumberedInOrder 0 s.instances
+  pub first : 1 ≤ s.next
   pub next : s.next ≤ 2 ^ 53
+  pub few_works : length s.works ≤ 100000
+  pub records : AllByRecursion IsRecord s.works
+  pub in_order : AllLater IsBefore s.works
+  pub sound : AllByRecursion (λ work. ArePriorSound s.works work.phase work.prior) s.works
+  -- a running work has its run
+  pub running : AllByRecursion (λ work. work.phase ≡ phase.Running → HasOne (IsCurrentOf work.seq) s.runs) s.works
+  pub runs : AllByRecursion (IsValidRun s) s.runs
+  pub apart : AllLater AreApart s.runs
+  pub instances : AllByRecursion (IsOutForRun s.runs) s.instances
+  pub numbered : AreNumberedInOrder 0 s.instances
+  pub few_observers : length s.observers ≤ 100
   pub now : s.now < 2 ^ 53
-  pub works : length s.works ≤ 100000

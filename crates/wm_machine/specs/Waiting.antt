@@ -1,7 +1,17 @@
--- How many works wait, by which a drain ends: each start of one leaves one fewer. This project's own choice.
-use Rattle.std.specs.Prelude.{ℕ, List, count_by}
-use Rattle.wm_machine.specs.First.{is_waiting}
+-- How many works a drain may still start, by which it ends: each start leaves one fewer, and no end of a run leaves one more, since a work
+-- that is put back is due later, and one that is freed was blocked. This project's own choice.
+use Rattle.std.specs.Prelude.{ℕ, ◌&&◌, ◌||◌, Bool, not, List, count_by, nat_le}
+use Rattle.wm_machine.specs.Due.{due_of}
+use Rattle.wm_machine.specs.First.{all_met, is_waiting}
 use Rattle.wm_machine.specs.declared.record.Record.{Record}
+use Rattle.wm_machine.specs.declared.state.State.{State}
 
-abbrev pub waiting_count : List Record → ℕ
-waiting_count works = count_by (λ work. is_waiting work.phase) works
+-- at this moment and among these records a work waits, and is due or blocked
+abbrev pub is_left : ℕ → List Record → Record → Bool
+is_left now works work = is_waiting work.phase && (nat_le (due_of work) now || not (all_met works work))
+
+abbrev pub left_among : ℕ → List Record → ℕ
+left_among now works = count_by (is_left now works) works
+
+abbrev pub left_to_drain : State → ℕ
+left_to_drain s = left_among s.now s.works

@@ -4,6 +4,7 @@ ghost use Rattle.std.specs.Prelude.{◌≡◌, ◌≤◌, ◌+◌, List, [], ◌
 ghost use Rattle.std.specs.List.{AllByRecursion};
 ghost use Rattle.wm_machine.specs.Built.{IsBuilt};
 ghost use Rattle.wm_machine.specs.Log.{commands_of};
+ghost use Rattle.wm_machine.specs.Narrow.{IsNarrow};
 ghost use Rattle.wm_machine.specs.Replay.{Replay};
 ghost use Rattle.wm_machine.specs.Serial.{AreInOrder, BeginsSerial};
 ghost use Rattle.wm_machine.specs.Step.{Legal, after};
@@ -12,9 +13,12 @@ ghost use Rattle.wm_machine.specs.declared.command.Command.{Command};
 ghost use Rattle.wm_machine.specs.declared.event.Event.{Event};
 ghost use Rattle.wm_machine.specs.declared.state.State.{State};
 
-/// Every step keeps what holds of every state that the machine reaches.
+/// Every step keeps what holds of every state that the machine reaches, and what is narrower for now.
 pub fn every_step_keeps_valid()
-    ensures { (s : State) (e : Event) → Valid s → Legal s e → Valid (after s e) }
+    ensures valid { (s : State) (e : Event) → Valid s → IsNarrow s → Legal s e
+        → Valid (after s e) }
+    ensures narrow { (s : State) (e : Event) → Valid s → IsNarrow s → Legal s e
+        → IsNarrow (after s e) }
 {}
 
 /// A log in serial order, with at most one run unreturned at its end, goes on to the log of a whole
@@ -23,6 +27,6 @@ pub fn every_step_keeps_valid()
 pub fn serial_order_goes_on()
     ensures { (lines left : List Command) (first now : State) (log : List Event)
         → AllByRecursion IsBuilt left → lines ≡ commands_of log ++ left
-        → Replay first log now → Valid now → length now.runs ≤ 1
+        → Replay first log now → Valid now → IsNarrow now → length now.runs ≤ 1
         → AreInOrder lines first log → BeginsSerial lines first log }
 {}

@@ -1,9 +1,10 @@
 -- Lemmas on the lines of a script and their commands.
-use Rattle.std.proofs.Common.{◌≡◌, ℕ, ◌+◌, ◌<◌, ◌≤◌, List, [], ◌∷◌, length, take, drop, map, Option, Some, None, String, Global, refl, ap, ◌∙◌, arith, rules, one-add, add-one, suc, eqb, cond, not, true, false, Bool, IfSome, option_map, option_and_then, unwrap_or, position, Result, Ok, Err, IsOk, IfOk, ◌↔◌, IsUtf8, true≢false, sym}
-use Rattle.std.specs.Prelude.{codes}
+use Rattle.std.proofs.Common.{◌≡◌, ℕ, ◌+◌, ◌<◌, ◌≤◌, zero, List, [], ◌∷◌, ◌++◌, length, take, drop, map, Option, Some, None, String, Global, refl, ap, ◌∙◌, arith, rules, one-add, add-one, suc, eqb, cond, not, true, false, Bool, IfSome, option_map, option_and_then, unwrap_or, position, Result, Ok, Err, IsOk, IfOk, ◌↔◌, IsUtf8, true≢false, sym}
+use Rattle.std.specs.Prelude.{◌&&◌, codes, nat_le, nat_lt}
 use Rattle.std.specs.List.{AllByRecursion, before_first, after_first, position_or_len}
+use Rattle.std.proofs.lemmas.Bool.{and_parts, leb-true, ltb-true}
 use Rattle.std.proofs.lemmas.Bool.Decides.{nat_tests}
-use Rattle.std.proofs.lemmas.List.{drop_all, length-map, take_all, take_rest}
+use Rattle.std.proofs.lemmas.List.{drop_all, length-append, length-map, take_all, take_rest}
 use Rattle.std.proofs.lemmas.Option.{cond_some}
 use Rattle.std.proofs.lemmas.Str.{IsUtf8-from_is_utf8, is_utf8-from_IsUtf8}
 use Rattle.std.specs.Option.{option_or}
@@ -15,7 +16,8 @@ use Rattle.serde_json.specs.Read.{read}
 use Rattle.serde_json.specs.View.{items_view, members_view}
 use Rattle.serde_json.specs.declared.value.Value.{Value}
 use Rattle.wm_machine.specs.Built.{IsBuilt, NamesNothing}
-use Rattle.uuid.specs.Text.{parsed}
+use Rattle.uuid.specs.Text.{by_index, byte_of_digits, digits_of, parsed, parsed_braced, parsed_hyphenated, parsed_simple, parsed_urn}
+use Rattle.wm_machine.specs.Limits.{IsShortText}
 use Rattle.wm_machine.specs.Requests.{plain_request}
 use Rattle.wm_script.specs.Lines.{asked_by, both, class_of, command_of, commands_in, cut, enqueue_command, enqueue_of, member_count, only, onto_first, query_of, query_of_all, single, value_of, work_of}
 use Rattle.wm_machine.specs.declared.command.Command.{Command}
@@ -172,6 +174,15 @@ IfSome-and_then : {A B : Type 0} (f : A → Option B) (P : B → Type 0) (o : Op
 IfSome-and_then f P None h = tt
 IfSome-and_then f P (Some x) h = h x
 
+IfSome-and_then_of : {A B : Type 0} (f : A → Option B) (Q : A → Type 0) (P : B → Type 0) (o : Option A) → ((x : A) → Q x → IfSome (f x) P) → IfSome o Q
+    → IfSome (option_and_then f o) P
+IfSome-and_then_of f Q P None h q = tt
+IfSome-and_then_of f Q P (Some x) h q = h x q
+
+IfSome-either : {A : Type 0} (P : A → Type 0) (b : Bool) (o other : Option A) → IfSome o P → IfSome other P → IfSome (cond b o other) P
+IfSome-either P true o other h k = h
+IfSome-either P false o other h k = k
+
 IfSome-cond : {A : Type 0} (P : A → Type 0) (b : Bool) (o : Option A) → IfSome o P → IfSome (cond b o None) P
 IfSome-cond P true o h = h
 IfSome-cond P false o h = tt
@@ -184,27 +195,66 @@ IfSome-or : {A : Type 0} (P : A → Type 0) (first second : Option A) → IfSome
 IfSome-or P None second h k = k
 IfSome-or P (Some x) second h k = h
 
--- a request has every default
+-- an id has 16 bytes
+HasSixteen : List ℕ → Type 0
+HasSixteen id = length id ≡ 16
+
+length-by_index : {X : Type 0} (n : ℕ) (f : ℕ → X) → length (by_index n f) ≡ n
+unfolding by_index
+length-by_index zero f = refl
+length-by_index (suc n) f = length-append (by_index n f) (f n ∷ []) ∙ ap (λ m. m + 1) (length-by_index n f) ∙ add-one n
+
+HasSixteen-simple : (hex : List ℕ) → IfSome (parsed_simple hex) HasSixteen
+unfolding HasSixteen
+HasSixteen-simple hex = IfSome-cond HasSixteen _ (Some (by_index 16 (byte_of_digits hex))) (length-by_index 16 (byte_of_digits hex))
+
+HasSixteen-hyphenated : (text : List ℕ) → IfSome (parsed_hyphenated text) HasSixteen
+HasSixteen-hyphenated text = IfSome-cond HasSixteen _ (parsed_simple (digits_of text)) (HasSixteen-simple (digits_of text))
+
+HasSixteen-parsed : (text : List ℕ) → IfSome (parsed text) HasSixteen
+HasSixteen-parsed text =
+    IfSome-either HasSixteen _ (parsed_simple text) _ (HasSixteen-simple text)
+    (IfSome-either HasSixteen _ (parsed_hyphenated text) _ (HasSixteen-hyphenated text)
+    (IfSome-either HasSixteen _ (parsed_braced text) _
+    (IfSome-cond HasSixteen _ (parsed_hyphenated (take 36 (drop 1 text))) (HasSixteen-hyphenated (take 36 (drop 1 text))))
+    (IfSome-cond HasSixteen _ (parsed_urn text) (IfSome-cond HasSixteen _ (parsed_hyphenated (drop 9 text)) (HasSixteen-hyphenated (drop 9 text))))))
+
+short_if : (text : List ℕ) (b : Bool) → (nat_lt 0 (length text) && nat_le (length text) 200) ≡ b → IfSome (cond b (Some text) None) IsShortText
+short_if text true is =
+    let parts = and_parts (nat_lt 0 (length text)) (nat_le (length text) 200) is in
+    let more = ltb-true 0 (length text) parts.0 in
+    record { not_empty = omega arith; short = leb-true (length text) 200 parts.1 }
+short_if text false is = tt
+
+-- a class has 1 to 200 bytes
+IsShortText-class_of : (d : json.Data) → IfSome (class_of d) IsShortText
+unfolding class_of
+IsShortText-class_of d = IfSome-and_then _ IsShortText (as_str d) (λ text. short_if text (nat_lt 0 (length text) && nat_le (length text) 200) refl)
+
+-- a request has every default, and its id and class are within their limits
 IsPlainRequest : Request → Type 0
-IsPlainRequest request = (id : List ℕ) × (class : List ℕ) × (request ≡ plain_request id class)
+IsPlainRequest request = (id : List ℕ) × (class : List ℕ) × (request ≡ plain_request id class) × HasSixteen id × IsShortText class
 
 IsPlainRequest-work_of : (d : json.Data) → IfSome (work_of d) IsPlainRequest
 unfolding work_of IsPlainRequest
 IsPlainRequest-work_of d =
     IfSome-and_then _ IsPlainRequest (both (codes "id") (codes "class") d) (λ fields.
     IfSome-and_then _ IsPlainRequest (as_str fields.0) (λ text.
-    IfSome-and_then _ IsPlainRequest (parsed text) (λ id.
-    IfSome-and_then _ IsPlainRequest (class_of fields.1) (λ class. (id, class, refl)))))
+    IfSome-and_then_of _ HasSixteen IsPlainRequest (parsed text) (λ id sixteen.
+    IfSome-and_then_of _ IsShortText IsPlainRequest (class_of fields.1) (λ class is. (id, class, refl, sixteen, is))
+    (IsShortText-class_of fields.1)) (HasSixteen-parsed text)))
 
 IsPlainRequest-enqueue_of : (d : json.Data) → IfSome (enqueue_of d) IsPlainRequest
 unfolding enqueue_of
 IsPlainRequest-enqueue_of d = search (rules, IfSome-and_then, IfSome-cond, IsPlainRequest-work_of)
 
 IsBuilt-enqueue_command : (request : Request) → IsPlainRequest request → IsBuilt (enqueue_command request)
-unfolding IsPlainRequest
+unfolding IsPlainRequest HasSixteen
 IsBuilt-enqueue_command request h = record {
   id = h.0;
   class = h.1;
+  id_is = h.3;
+  class_is = h.4;
   one = ap (λ (r : Request). (record { request = r; after = [] }) ∷ []) h.2;
 }
 

@@ -10,11 +10,12 @@ use Rattle.std.proofs.lemmas.Option.{cond_some, none-some, same_Some, slice_get_
 use Rattle.wm_keeper.proofs.Ascending.{int_lt-true, int_lt-false}
 use Rattle.wm_keeper.specs.Keeper.{put_row}
 use Rattle.wm_keeper.specs.declared.row.Row.{Row}
+use Rattle.wm_collections.specs.Lists.{AllLater}
 use Rattle.wm_machine.proofs.Lists.{All-weaker, find-passes, one_gives}
-use Rattle.wm_machine.proofs.Runnings.{KeepsSeq}
+use Rattle.wm_machine.proofs.Runnings.{KeepsSeq, WorksAscend, WorksAscend-in_order}
 use Rattle.wm_machine.specs.Rows.{row_of}
 use Rattle.wm_machine.specs.Runs.{changed_work, made_out, other_runs, run_numbered, with_out}
-use Rattle.wm_machine.specs.Valid.{AllAreApart, AreApart, AreNumberedInOrder, HasOne, IsInstanceOf, IsValidRun, IsWorkOf, Valid, WorksAscend}
+use Rattle.wm_machine.specs.Valid.{AreApart, AreNumberedInOrder, HasOne, IsInstanceOf, IsValidRun, IsWorkOf, Valid}
 use Rattle.wm_machine.specs.declared.record.Record.{Record}
 use Rattle.wm_machine.specs.declared.state.Instance.{Instance}
 use Rattle.wm_machine.specs.declared.state.Run.{Run}
@@ -118,22 +119,23 @@ find-work run (first ∷ works) ascend (inr one) =
     rw miss (find-work run works ascend.1 one)
 
 -- what was read at the index that a search by a run's work number gave is the run's work
-pub work-read : (s : State) (run : Run) (read : List Record) (found : Option ℕ) (i : ℕ) (work : Record) → Valid s → IsValidRun s run → read ≡ s.works
+pub work-read : (s : State) (run : Run) (read : List Record) (found : Option ℕ) (i : ℕ) (work : Record) → Valid s → IsValidRun s run → run.current ≡ true
+    → read ≡ s.works
     → found ≡ position (λ w. eqb w.seq run.seq) read → found ≡ Some i → work ≡ get_or read i work → (slice_get s.works i ≡ Some work) × IsWorkOf run work
-work-read s run read found i work valid is same searched at read_is =
+work-read s run read found i work valid is current same searched at read_is =
     let test : Record → Bool = λ w. eqb w.seq run.seq in
     let there : find test s.works ≡ slice_get s.works i =
     find-position test s.works i (sym (searched ∙ ap (λ (works : List Record). position test works) same) ∙ at) in
     at-some (IsWorkOf run) s.works read i work same read_is
-    (subst (λ (o : Option Record). IsSomeAnd o (IsWorkOf run)) there (find-work run s.works valid.ascending is.work))
+    (subst (λ (o : Option Record). IsSomeAnd o (IsWorkOf run)) there (find-work run s.works (WorksAscend-in_order s.works valid.in_order) (is.work current)))
 
 -- such a search gives an index
-pub work-found : (s : State) (run : Run) (read : List Record) (found : Option ℕ) → Valid s → IsValidRun s run → read ≡ s.works
+pub work-found : (s : State) (run : Run) (read : List Record) (found : Option ℕ) → Valid s → IsValidRun s run → run.current ≡ true → read ≡ s.works
     → found ≡ position (λ w. eqb w.seq run.seq) read → found ≡ None → ⊥
-work-found s run read found valid is same searched none =
+work-found s run read found valid is current same searched none =
     let test : Record → Bool = λ w. eqb w.seq run.seq in
     subst (λ (o : Option Record). IsSomeAnd o (IsWorkOf run))
-    (find-none test s.works (sym (searched ∙ ap (λ (works : List Record). position test works) same) ∙ none)) (find-work run s.works valid.ascending is.work)
+    (find-none test s.works (sym (searched ∙ ap (λ (works : List Record). position test works) same) ∙ none)) (find-work run s.works (WorksAscend-in_order s.works valid.in_order) (is.work current))
 
 -- ---- instances
 
@@ -207,7 +209,7 @@ other_runs-apart number [] apart = refl
 other_runs-apart number (run ∷ runs) apart = rw apart.0 (ap (λ rest. run ∷ rest) (other_runs-apart number runs apart.1))
 
 -- the runs but for the one at an index are the others
-pub remove-run : (runs : List Run) (i : ℕ) (run : Run) → AllAreApart runs → slice_get runs i ≡ Some run → remove runs i ≡ other_runs run.run runs
+pub remove-run : (runs : List Run) (i : ℕ) (run : Run) → AllLater AreApart runs → slice_get runs i ≡ Some run → remove runs i ≡ other_runs run.run runs
 remove-run [] i run apart is = absurd (none-some run is)
 remove-run (first ∷ runs) zero run apart is =
     let same : first ≡ run = same_Some first run is in

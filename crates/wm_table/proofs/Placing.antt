@@ -1,13 +1,15 @@
 -- The step that places a plain work.
-use Rattle.std.proofs.Common.{◌≡◌, ℕ, List, [], ◌∷◌, ◌++◌, Option, None, option_map, refl, sym, ◌∙◌, ap, arith}
+use Rattle.std.proofs.Common.{◌≡◌, ℕ, List, [], ◌∷◌, ◌++◌, length, Option, None, option_map, refl, sym, ◌∙◌, ap, arith}
 use Rattle.wm_keeper.proofs.Ascending.{put_row-above}
 use Rattle.wm_keeper.specs.Keeper.{put_row}
 use Rattle.wm_keeper.specs.declared.row.Row.{Row}
+use Rattle.wm_machine.proofs.Records.{IsRecord-placed}
 use Rattle.wm_machine.proofs.States.{room, rows_below, map-push}
 use Rattle.wm_machine.specs.Built.{IsPlain}
-use Rattle.wm_machine.specs.Enqueued.{enqueue_reply, enqueue_state, new_numbers, placed, placed_record, refusal_of, reply_by, state_by, with_work}
+use Rattle.wm_machine.specs.Enqueued.{enqueued, outcome_by, placed_record, refusal_of, with_work}
 use Rattle.wm_machine.specs.Requests.{plain_request}
-use Rattle.wm_machine.specs.Limits.{FitsRow}
+use Rattle.wm_machine.specs.Limits.{FitsRow, IsShortText}
+use Rattle.wm_machine.specs.Replied.{Outcome}
 use Rattle.wm_machine.specs.Rows.{row_of, rows_of, HasNoData}
 use Rattle.wm_machine.specs.Valid.{Valid}
 use Rattle.wm_machine.specs.declared.command.Command.TheVariants as command
@@ -26,19 +28,11 @@ abbrev pub plain_work : List ℕ → List ℕ → Node
 plain_work id class = record { request = plain_request id class; after = [] }
 
 -- where a plain work isn't refused, its record is within the limits of a row
-pub FitsRow-placed : (s : State) (id class : List ℕ) → Valid s → refusal_of s (plain_work id class ∷ []) ≡ None
+pub FitsRow-placed : (s : State) (id class : List ℕ) → length id ≡ 16 → IsShortText class → Valid s → refusal_of s None (plain_work id class ∷ []) ≡ None
     → FitsRow (placed_record s None (plain_work id class))
-FitsRow-placed s id class valid accepted =
+FitsRow-placed s id class sixteen short valid accepted =
     let fits = room s (plain_work id class ∷ []) accepted in
-    record {
-      seq = omega (arith, fits.1);
-      prior = λ k d below. absurd (omega arith);
-      generation = omega arith;
-      enqueued_at = valid.now;
-      delay = omega arith;
-      wait = omega arith;
-      period = tt;
-    }
+    (IsRecord-placed s id class sixteen short valid.first fits.1 valid.now).fits
 
 pub HasNoData-placed : (s : State) (id class : List ℕ) → HasNoData (placed_record s None (plain_work id class))
 HasNoData-placed s id class = record { input = refl; output = refl }
@@ -51,7 +45,7 @@ rows-placed s work valid next =
 
 -- a plain work is placed
 pub placing-step : {K : Type 0} (held : K → Option (List Row)) (old new : TableState K) (line : ℕ) (batch : Batch) (plain : IsPlain batch.works)
-    → Valid old.state → HoldsRowsOf old.state (held old.keeper) → refusal_of old.state batch.works ≡ None → new.first ≡ old.first
+    → Valid old.state → HoldsRowsOf old.state (held old.keeper) → refusal_of old.state None batch.works ≡ None → new.first ≡ old.first
     → new.state ≡ with_work old.state (placed_record old.state None (plain_work plain.id plain.class))
     → new.log ≡ old.log ++ event.Command line (command.Enqueue None batch) (reply.Enqueued (old.state.next ∷ [])) ∷ []
     → held new.keeper ≡ option_map (put_row (row_of (placed_record old.state None (plain_work plain.id plain.class)))) (held old.keeper)
@@ -59,14 +53,12 @@ pub placing-step : {K : Type 0} (held : K → Option (List Row)) (old new : Tabl
 placing-step held old new line batch plain valid holds accepted first state appended rows =
     let s = old.state in
     let work = plain_work plain.id plain.class in
-    let given : enqueue_reply s batch.works ≡ reply.Enqueued (s.next ∷ []) =
-    ap (λ found. reply_by found (new_numbers s.next batch.works)) accepted ∙ ap (λ (works : List Node). reply.Enqueued (new_numbers s.next works)) plain.one in
-    let reached : enqueue_state s batch.works ≡ with_work s (placed_record s None work) =
-    ap (λ found. state_by found s (placed s None batch.works)) accepted ∙ ap (λ (works : List Node). placed s None works) plain.one in
+    let done : enqueued s None batch.works ≡ outcome_by None s None (work ∷ []) =
+    ap (λ found. outcome_by found s None batch.works) accepted ∙ ap (outcome_by None s None) plain.one in
     record {
       first = first;
-      legal = (plain, sym given);
-      state = state ∙ sym reached;
+      legal = (plain, sym (ap (λ (o : Outcome). o.reply) done));
+      state = state ∙ sym (ap (λ (o : Outcome). o.state) done);
       appended = appended;
       rows =
           rows

@@ -8,15 +8,15 @@ use Rattle.std.proofs.lemmas.List.Folds.{find_at}
 use Rattle.std.proofs.lemmas.Option.{slice_get_past}
 use Rattle.wm_machine.specs.Due.{due_of}
 use Rattle.wm_machine.specs.First.{earlier_of, first_of, idle_instance, is_idle, is_startable, least}
-use Rattle.wm_machine.specs.Valid.{IsValidRecord}
+use Rattle.wm_machine.specs.Narrow.{IsNarrowRecord}
 use Rattle.wm_machine.specs.declared.record.Record.{Record}
 use Rattle.wm_machine.specs.declared.state.Instance.{Instance}
 use Rattle.wm_machine.specs.declared.state.State.{State}
 
--- a valid work is due after its initial delay
-pub due_of-valid : (work : Record) → IsValidRecord work → due_of work ≡ work.enqueued_at + work.request.initial_delay
+-- a one-time work that isn't retried is due after its initial delay
+pub due_of-narrow : (work : Record) → IsNarrowRecord work → due_of work ≡ work.enqueued_at + work.request.initial_delay
 unfolding due_of
-due_of-valid work valid = rw (valid.no_retry) (rw (valid.one_time) refl)
+due_of-narrow work narrow = rw (narrow.no_retry) (rw (narrow.one_time) refl)
 
 -- the idle instance is the one at the place of the first that is idle
 pub idle_instance-at : (instances : List Instance) (class : List ℕ) (index : Option ℕ) → index ≡ position (is_idle class) instances

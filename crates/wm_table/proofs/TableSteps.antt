@@ -7,24 +7,26 @@ use Rattle.std.proofs.lemmas.Option.{none-some}
 use Rattle.wm_data.specs.declared.data.DataEntry.{DataEntry}
 use Rattle.wm_keeper.specs.Keeper.{put_row}
 use Rattle.wm_keeper.specs.declared.row.Row.{Row}
-use Rattle.wm_machine.proofs.Firsts.{first_of-no_worker, first_of-waiting}
+use Rattle.wm_machine.proofs.Firsts.{first_of-no_worker, first_of-waiting, start_refusal-no_worker}
+use Rattle.wm_machine.proofs.Frames.{next_run-after}
 use Rattle.wm_machine.proofs.Lists.{All-map, All-weaker}
 use Rattle.wm_machine.proofs.Logs.{Replay-push}
-use Rattle.wm_machine.proofs.Runnings.{KeepsSeq}
-use Rattle.wm_machine.proofs.States.{Valid-after}
-use Rattle.wm_machine.specs.Enqueued.{placed, placed_record, refusal_of, state_by, with_work}
+use Rattle.wm_machine.proofs.Narrows.{with_success}
+use Rattle.wm_machine.proofs.Runnings.{KeepsSeq, WorksAscend-in_order}
+use Rattle.wm_machine.proofs.States.{after_finish, after_start_failed, IsNarrow-after, Valid-after}
+use Rattle.wm_machine.specs.Closed.{closed}
+use Rattle.wm_machine.specs.Ends.{succeeded}
 use Rattle.wm_machine.specs.First.{first_of, idle_instance, is_waiting}
+use Rattle.wm_machine.specs.Narrow.{IsNarrow, IsNarrowRecord, IsNarrowRun}
 use Rattle.wm_machine.specs.Opened.{opening_state}
 use Rattle.wm_machine.specs.Quiet.{IsQuiet}
 use Rattle.wm_machine.specs.Replay.{Replay}
 use Rattle.wm_machine.specs.Rows.{row_of, rows_of}
-use Rattle.wm_machine.specs.Runs.{changed_work, closed, other_runs, run_numbered, run_on, start_on, started, succeeded, success_of, with_out}
+use Rattle.wm_machine.specs.Runs.{changed_work, other_runs, run_numbered, run_on, start_on, started, with_out}
 use Rattle.wm_machine.specs.Shown.{info_of, infos_of}
 use Rattle.wm_machine.specs.Built.{TellsNoData}
-use Rattle.wm_machine.specs.Step.{after, after_command, Legal, start_of}
-use Rattle.wm_machine.specs.Valid.{IsValidInstance, IsValidRecord, IsValidRun, Valid}
-use Rattle.wm_machine.specs.declared.command.Command.{Command}
-use Rattle.wm_machine.specs.declared.command.Command.TheVariants as command
+use Rattle.wm_machine.specs.Step.{after, IsEnd, IsStartFailure, Legal, start_of}
+use Rattle.wm_machine.specs.Valid.{IsOutForRun, IsValidRun, Valid}
 use Rattle.wm_machine.specs.declared.event.Cause.TheVariants.{NoWorker}
 use Rattle.wm_machine.specs.declared.event.End.TheVariants as end
 use Rattle.wm_machine.specs.declared.event.Event.{Event}
@@ -33,8 +35,6 @@ use Rattle.wm_machine.specs.declared.record.How.TheVariants as how
 use Rattle.wm_machine.specs.declared.record.Phase.{Phase}
 use Rattle.wm_machine.specs.declared.record.Phase.TheVariants as phase
 use Rattle.wm_machine.specs.declared.record.Record.{Record}
-use Rattle.wm_machine.specs.declared.reply.Refusal.{Refusal}
-use Rattle.wm_machine.specs.declared.request.Node.{Node}
 use Rattle.wm_machine.specs.declared.state.Instance.{Instance}
 use Rattle.wm_machine.specs.declared.state.Run.{Run}
 use Rattle.wm_machine.specs.declared.state.State.{State}
@@ -79,23 +79,30 @@ pub empty-from_first : {T : Type 0} (xs : List T) → None ≡ slice_get xs 0 �
 empty-from_first [] none = refl
 empty-from_first (x ∷ xs) none = absurd (none-some x none)
 
--- fresh instances are those of a valid state without runs
-fresh_instances : (instances : List Instance) → AllByRecursion IsFresh instances → AllByRecursion (IsValidInstance []) instances
-fresh_instances instances fresh = All-weaker IsFresh (IsValidInstance []) instances (λ instance is. record { out = is.out; kind = is.kind }) fresh
-
+-- the state that an empty store opens to, with fresh instances
 pub Valid-opening : (instances : List Instance) → AreFresh instances → Valid (opening_state [] instances)
 Valid-opening instances fresh = record {
   numbers = tt;
-  ascending = tt;
+  first = omega arith;
+  next = omega arith;
+  few_works = omega arith;
   records = tt;
+  in_order = tt;
+  sound = tt;
   running = tt;
   runs = tt;
   apart = tt;
-  instances = fresh_instances instances fresh.all;
-  in_order = fresh.in_order;
-  next = omega arith;
+  instances = All-weaker IsFresh (IsOutForRun []) instances (λ instance is. is.out) fresh.all;
+  numbered = fresh.in_order;
+  few_observers = omega arith;
   now = omega arith;
-  works = omega arith;
+}
+
+pub IsNarrow-opening : (instances : List Instance) → AreFresh instances → IsNarrow (opening_state [] instances)
+IsNarrow-opening instances fresh = record {
+  records = tt;
+  runs = tt;
+  echoes = All-weaker IsFresh (λ instance. instance.kind ≡ Echo) instances (λ instance is. is.kind) fresh.all;
 }
 
 holds_none : (held : Option (List Row)) → IfSome held (λ rows. [] ≡ rows) → held ≡ option_map (λ _. []) held
@@ -111,44 +118,10 @@ kept-opening instances rows held first s log fresh told none first_is s_is log_i
     rw (first_is, s_is, log_is) (record {
       replay = refl;
       valid = Valid-opening instances fresh;
+      narrow = IsNarrow-opening instances fresh;
       rows = holds_none held stored;
       few_runs = omega arith;
     })
-
--- ---- the numbers of runs
-
-next_run-placed : (s : State) (name : Option (List ℕ)) (nodes : List Node) → (placed s name nodes).next_run ≡ s.next_run
-next_run-placed s name [] = refl
-next_run-placed s name (node ∷ nodes) = next_run-placed (with_work s (placed_record s name node)) name nodes
-
-next_run-state_by : (s t : State) (found : Option Refusal) → t.next_run ≡ s.next_run → (state_by found s t).next_run ≡ s.next_run
-next_run-state_by s t None same = same
-next_run-state_by s t (Some found) same = refl
-
-next_run-command : (s : State) (asked : Command) → (after_command s asked).next_run ≡ s.next_run
-next_run-command s (command.Enqueue None batch) =
-    next_run-state_by s (placed s None batch.works) (refusal_of s batch.works) (next_run-placed s None batch.works)
-next_run-command s _ = refl
-
-next_run-start_on : (s : State) (work : Record) (idle : Option Instance) → (start_on s work idle).next_run ≤ s.next_run + 1
-next_run-start_on s work None = omega arith
-next_run-start_on s work (Some idle) = omega arith
-
-next_run-start : (s : State) (work : Option Record) → (start_of s work).next_run ≤ s.next_run + 1
-next_run-start s None = omega arith
-next_run-start s (Some work) = next_run-start_on s work (idle_instance s.instances work.request.class)
-
-next_run-success : (s : State) (run : Option Run) (output : List DataEntry) → (success_of s run output).next_run ≡ s.next_run
-next_run-success s None output = refl
-next_run-success s (Some run) output = refl
-
--- each step begins one run at most
-next_run-after : (s : State) (e : Event) → (after s e).next_run ≤ s.next_run + 1
-next_run-after s (event.Command line asked reply) = omega (arith, next_run-command s asked)
-next_run-after s (event.Start run seq instance input) = next_run-start s (first_of s)
-next_run-after s (event.StartFailed seq cause) = omega arith
-next_run-after s (event.Finish run (end.Success output)) = omega (arith, next_run-success s (run_numbered run s.runs) output)
-next_run-after s _ = omega arith
 
 -- ---- what a table keeps
 
@@ -161,7 +134,8 @@ module _ {K : Type 0} (held : K → Option (List Row)) (old new : TableState K) 
         replay = subst (λ (first : State). Replay first new.log new.state) (sym step.first)
             (subst (λ (log : List Event). Replay old.first log new.state) (sym step.appended)
             (subst (λ (s : State). Replay old.first (old.log ++ e ∷ []) s) (sym step.state) reached));
-        valid = subst Valid (sym step.state) (Valid-after old.state e kept.valid step.legal);
+        valid = subst Valid (sym step.state) (Valid-after old.state e kept.valid kept.narrow step.legal);
+        narrow = subst IsNarrow (sym step.state) (IsNarrow-after old.state e kept.valid kept.narrow step.legal);
         rows = HoldsRowsOf-told new.state (held old.keeper) (held new.keeper) step.rows;
         few_runs =
             let longer : length new.log ≡ length old.log + 1 = ap length step.appended ∙ length-append old.log (e ∷ []) in
@@ -177,6 +151,7 @@ module _ {K : Type 0} (held : K → Option (List Row)) (old new : TableState K) 
         (subst (λ (log : List Event). Replay old.first log new.state) (sym same.log)
         (subst (λ (s : State). Replay old.first old.log s) (sym same.state) kept.replay));
     valid = subst Valid (sym same.state) kept.valid;
+    narrow = subst IsNarrow (sym same.state) kept.narrow;
     rows = subst (λ (rows : Option (List Row)). HoldsRowsOf new.state rows) (sym same.rows)
         (subst (λ (s : State). HoldsRowsOf s (held old.keeper)) (sym same.state) kept.rows);
     few_runs = omega (arith, kept.few_runs, ap (λ (s : State). s.next_run) same.state, ap length same.log);
@@ -193,10 +168,10 @@ kept-same first s log longer held e kept legal same appended =
 -- ---- replies and rest
 
 -- nothing is told of data, since no record has any
-pub infos-tell : (s : State) → Valid s → AllByRecursion TellsNoData (infos_of s)
+pub infos-tell : (s : State) → IsNarrow s → AllByRecursion TellsNoData (infos_of s)
 unfolding infos_of
-infos-tell s valid =
-    All-map IsValidRecord TellsNoData (info_of s.works) s.works (λ work is. record { output = is.no_data.output; progress = is.no_progress }) valid.records
+infos-tell s narrow =
+    All-map IsNarrowRecord TellsNoData (info_of s.works) s.works (λ work is. record { output = is.no_output; progress = is.no_progress }) narrow.records
 
 -- something stands at each index
 none-within : {T : Type 0} (xs : List T) (i : ℕ) → i < length xs → slice_get xs i ≡ None → ⊥
@@ -244,7 +219,7 @@ chosen s t works instances i j work idle valid same works_is instances_is i_belo
       at = at;
       is_first = subst (λ (u : State). first_of u ≡ slice_get u.works i) same first ∙ at;
       is_idle = idle_there ∙ there;
-      within = let number = number-at 0 s.instances j idle valid.in_order there in omega arith;
+      within = let number = number-at 0 s.instances j idle valid.numbered there in omega arith;
     }
 
 -- the state in which a run has begun
@@ -266,15 +241,22 @@ pub record Reported (s : State) (place : ℕ) (run : Run) (told : Report) : Type
   pub counts : Counts run told
   pub found : run_numbered run.run s.runs ≡ Some run
   pub valid : IsValidRun s run
+  pub narrow : IsNarrowRun run
 
 -- what was read at a place where such a run stands is that run
-pub reported : (s t : State) (read : List Run) (place : ℕ) (run : Run) (told : Report) → Valid s → t ≡ s → read ≡ s.runs → run ≡ get_or read place run
+pub reported : (s t : State) (read : List Run) (place : ℕ) (run : Run) (told : Report) → Valid s → IsNarrow s → t ≡ s → read ≡ s.runs → run ≡ get_or read place run
     → IsSomeAnd (slice_get t.runs place) (λ r. Counts r told × (run_numbered r.run t.runs ≡ Some r)) → Reported s place run told
-reported s t read place run told valid same read_is is some =
+reported s t read place run told valid narrow same read_is is some =
     let there =
     at-some (λ r. Counts r told × (run_numbered r.run s.runs ≡ Some r)) s.runs read place run read_is is
     (subst (λ (u : State). IsSomeAnd (slice_get u.runs place) (λ r. Counts r told × (run_numbered r.run u.runs ≡ Some r))) same some) in
-    record { at = there.0; counts = there.1.0; found = there.1.1; valid = All-at (IsValidRun s) s.runs place run valid.runs there.0 }
+    record {
+      at = there.0;
+      counts = there.1.0;
+      found = there.1.1;
+      valid = All-at (IsValidRun s) s.runs place run valid.runs there.0;
+      narrow = All-at IsNarrowRun s.runs place run narrow.runs there.0;
+    }
 
 waits : (p : Phase) → is_waiting p ≡ true → p ≡ phase.Waiting
 waits phase.Waiting is = refl
@@ -292,22 +274,22 @@ pub first-waits : (s : State) (work : Record) → first_of s ≡ Some work → w
 first-waits s work is_first = waits work.phase (first_of-waiting s work is_first)
 
 module _ {K : Type 0} (held : K → Option (List Row)) (old new : TableState K) where
-  module _ (valid : Valid old.state) (holds : HoldsRowsOf old.state (held old.keeper)) (first : new.first ≡ old.first) where
+  module _ (valid : Valid old.state) (narrow : IsNarrow old.state) (holds : HoldsRowsOf old.state (held old.keeper)) (first : new.first ≡ old.first) where
     -- an event that changes the record at an index
     row-step : (change : Record → Record) (i : ℕ) (work : Record) → KeepsSeq change → slice_get old.state.works i ≡ Some work
         → new.state.works ≡ set old.state.works i (change work) → held new.keeper ≡ option_map (put_row (row_of (change work))) (held old.keeper)
         → held new.keeper ≡ option_map (λ _. rows_of new.state) (held old.keeper)
     row-step change i work keeps at works rows =
         rows ∙ rows-put old.state new.state (row_of (change work)) (held old.keeper) holds
-        (rows-changed change old.state.works i work keeps valid.ascending at ∙ ap (map row_of)
-        (changed_work-at change old.state.works i work valid.ascending at ∙ sym works))
+        (rows-changed change old.state.works i work keeps (WorksAscend-in_order old.state.works valid.in_order) at ∙ ap (map row_of)
+        (changed_work-at change old.state.works i work (WorksAscend-in_order old.state.works valid.in_order) at ∙ sym works))
 
     -- a run begins
     pub start-step : (i : ℕ) (work : Record) (idle : Instance) → slice_get old.state.works i ≡ Some work → first_of old.state ≡ Some work
         → idle_instance old.state.instances work.request.class ≡ Some idle
         → new.state ≡ record old.state {
           works = set old.state.works i (started work);
-          runs = old.state.runs ++ run_on old.state work idle ∷
+          runs = old.state.runs ++ run_on old.state work idle work.request.input ∷
               [];
           instances = with_out true idle.number old.state.instances;
           next_run = old.state.next_run + 1;
@@ -323,13 +305,13 @@ module _ {K : Type 0} (held : K → Option (List Row)) (old new : TableState K) 
           ∙ ap
           (λ (works : List Record). record old.state {
             works = works;
-            runs = old.state.runs ++ run_on old.state work idle ∷
+            runs = old.state.runs ++ run_on old.state work idle work.request.input ∷
                 [];
             instances = with_out true idle.number old.state.instances;
             next_run = old.state.next_run + 1;
           })
-          (sym (changed_work-at started old.state.works i work valid.ascending at))
-          ∙ sym (ap (start_of old.state) is_first ∙ ap (start_on old.state work) is_idle);
+          (sym (changed_work-at started old.state.works i work (WorksAscend-in_order old.state.works valid.in_order) at))
+          ∙ sym (ap (λ found. start_of old.state found work.request.input) is_first ∙ ap (λ found. start_on old.state work found work.request.input) is_idle);
       appended = appended;
       rows = row-step started i work (λ w. refl) at (ap (λ (s : State). s.works) state) rows;
     }
@@ -340,19 +322,27 @@ module _ {K : Type 0} (held : K → Option (List Row)) (old new : TableState K) 
         → new.log ≡ old.log ++ event.StartFailed work.seq NoWorker ∷ []
         → held new.keeper ≡ option_map (put_row (row_of (closed how.Failed work))) (held old.keeper)
         → IsOneStep held (event.StartFailed work.seq NoWorker) old new
-    failure-step i work at is_first none state appended rows = record {
-      first = first;
-      legal = record { work = work; is_first = is_first; has_no_worker = first_of-no_worker old.state work is_first none; seq_is = refl; cause_is = refl };
-      state =
-          state
-          ∙ ap (λ (works : List Record). record old.state { works = works })
-          (sym (changed_work-at (closed how.Failed) old.state.works i work valid.ascending at));
-      appended = appended;
-      rows = row-step (closed how.Failed) i work (λ w. refl) at (ap (λ (s : State). s.works) state) rows;
-    }
+    failure-step i work at is_first none state appended rows =
+        let legal : IsStartFailure old.state work.seq NoWorker = record {
+          work = work;
+          is_first = is_first;
+          refused = start_refusal-no_worker old.state work (first_of-no_worker old.state work is_first none);
+          seq_is = refl;
+        } in
+        record {
+          first = first;
+          legal = legal;
+          state =
+              state
+              ∙ ap (λ (works : List Record). record old.state { works = works })
+              (sym (changed_work-at (closed how.Failed) old.state.works i work (WorksAscend-in_order old.state.works valid.in_order) at))
+              ∙ sym (after_start_failed old.state work.seq NoWorker (record { valid = valid; narrow = narrow }) legal);
+          appended = appended;
+          rows = row-step (closed how.Failed) i work (λ w. refl) at (ap (λ (s : State). s.works) state) rows;
+        }
 
     -- a run is over, and its work has succeeded
-    pub success-step : (i place : ℕ) (work : Record) (run : Run) (output : List DataEntry) → slice_get old.state.works i ≡ Some work → work.seq ≡ run.seq
+    pub success-step : (i place : ℕ) (work : Record) (run : Run) (output : List DataEntry) → output ≡ [] → slice_get old.state.works i ≡ Some work → work.seq ≡ run.seq
         → slice_get old.state.runs place ≡ Some run → run_numbered run.run old.state.runs ≡ Some run → run.current ≡ true
         → MayGive run.kind run.input run.attempt run.turn (given.Success output)
         → new.state ≡ record old.state {
@@ -364,22 +354,25 @@ module _ {K : Type 0} (held : K → Option (List Row)) (old new : TableState K) 
         → new.log ≡ old.log ++ event.Finish run.run (end.Success output) ∷ []
         → held new.keeper ≡ option_map (put_row (row_of (succeeded output work))) (held old.keeper)
         → IsOneStep held (event.Finish run.run (end.Success output)) old new
-    success-step i place work run output at seq there found current may_give state appended rows = record {
-      first = first;
-      legal = record { run = run; is_running = found; is_current = current; may_give = may_give };
-      state =
-          let works : set old.state.works i (succeeded output work) ≡ changed_work (succeeded output) run.seq old.state.works =
-          sym (changed_work-at (succeeded output) old.state.works i work valid.ascending at) ∙ ap
-          (λ n. changed_work (succeeded output) n old.state.works) seq in
-          let runs : remove old.state.runs place ≡ other_runs run.run old.state.runs = remove-run old.state.runs place run valid.apart there in
-          state
-          ∙ ap
-          (λ (works : List Record). record old.state
-          { works = works; runs = remove old.state.runs place; instances = with_out false run.instance old.state.instances }) works
-          ∙ ap
-          (λ (runs : List Run). record old.state
-          { works = changed_work (succeeded output) run.seq old.state.works; runs = runs; instances = with_out false run.instance old.state.instances }) runs
-          ∙ sym (ap (λ (found : Option Run). success_of old.state found output) found);
-      appended = appended;
-      rows = row-step (succeeded output) i work (λ w. refl) at (ap (λ (s : State). s.works) state) rows;
-    }
+    success-step i place work run output nothing at seq there found current may_give state appended rows =
+        let legal : IsEnd old.state run.run (end.Success output) = record { run = run; is_running = found; is_current = current; may_give = may_give } in
+        let works : set old.state.works i (succeeded output work) ≡ changed_work (succeeded output) run.seq old.state.works =
+        sym (changed_work-at (succeeded output) old.state.works i work (WorksAscend-in_order old.state.works valid.in_order) at) ∙ ap
+        (λ n. changed_work (succeeded output) n old.state.works) seq in
+        let runs : remove old.state.runs place ≡ other_runs run.run old.state.runs = remove-run old.state.runs place run valid.apart there in
+        record {
+          first = first;
+          legal = legal;
+          state =
+              state
+              ∙ ap
+              (λ (works : List Record). record old.state
+              { works = works; runs = remove old.state.runs place; instances = with_out false run.instance old.state.instances }) works
+              ∙ ap
+              (λ (runs : List Run). record old.state
+              { works = changed_work (succeeded output) run.seq old.state.works; runs = runs; instances = with_out false run.instance old.state.instances }) runs
+              ∙ ap (with_success old.state run) nothing
+              ∙ sym (after_finish old.state run.run (end.Success output) (record { valid = valid; narrow = narrow }) legal);
+          appended = appended;
+          rows = row-step (succeeded output) i work (λ w. refl) at (ap (λ (s : State). s.works) state) rows;
+        }

@@ -6,6 +6,7 @@ use Rattle.wm_faults.specs.Faults as faults
 use Rattle.wm_keeper.specs.declared.row.Row.{Row}
 use Rattle.wm_machine.specs.Enqueued.{refusal_of}
 use Rattle.wm_machine.specs.First.{first_of}
+use Rattle.wm_machine.specs.Narrow.{IsNarrow}
 use Rattle.wm_machine.specs.Replay.{Replay}
 use Rattle.wm_machine.specs.Rows.{rows_of}
 use Rattle.wm_machine.specs.Runs.{run_numbered}
@@ -83,7 +84,7 @@ ChangesNoRow s asked = rows_of (after_command s asked) ≡ rows_of s
 
 -- The command is an enqueue that isn't refused. Each further command that changes rows joins it.
 abbrev pub ChangesRows : State → Command → Type 0
-ChangesRows s (command.Enqueue named batch) = refusal_of s batch.works ≡ None
+ChangesRows s (command.Enqueue named batch) = refusal_of s named batch.works ≡ None
 ChangesRows s _ = ⊥
 
 -- ---- claim
@@ -143,10 +144,11 @@ TurnCause (turn.Refused same report trouble.Memory) before now = now ≡ before
 abbrev pub HoldsRowsOf : State → Option (List Row) → Type 0
 HoldsRowsOf s held = held ≡ option_map (λ _. rows_of s) held
 
--- the log replays from the first state to the state now, which is valid, and whose rows are held
+-- the log replays from the first state to the state now, which is valid, and whose rows are held; it is narrow for now
 pub record IsTableKept (first state : State) (log : List Event) (held : Option (List Row)) : Type 0 where
   pub replay : Replay first log state
   pub valid : Valid state
+  pub narrow : IsNarrow state
   pub rows : HoldsRowsOf state held
   pub few_runs : state.next_run ≤ length log + 1
 

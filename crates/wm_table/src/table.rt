@@ -4,6 +4,7 @@ ghost use Rattle.std.specs.Option.{option_copied};
 ghost use Rattle.wm_machine.specs.Built.{IsBuilt, IsPlain, IsWritten, NamesNothing};
 ghost use Rattle.wm_machine.specs.Enqueued.{refusal_of};
 ghost use Rattle.wm_machine.specs.First.{first_of, idle_instance};
+ghost use Rattle.wm_machine.specs.Narrow.{IsNarrow};
 ghost use Rattle.wm_machine.specs.Opened.{opening_state, Opened};
 ghost use Rattle.wm_machine.specs.Quiet.{IsQuiet};
 ghost use Rattle.wm_machine.specs.Replay.{Replay};
@@ -283,6 +284,7 @@ impl<K: Keeper> Table<K> {
         ensures keeper { result.keeper ≡ self.keeper }
         ensures replay { Replay result.first result.log result.last }
         ensures valid { Valid result.last }
+        ensures narrow { IsNarrow result.last }
         ensures rows { HoldsRowsOf result.last (K.held result.keeper) }
     {
         let Table {
@@ -338,10 +340,10 @@ impl<K: Keeper> Table<K> {
         ensures text { IfOk result IsWritten }
         ensures err { OnErr result (IsUntouched K.held self.old self.new) }
         ensures cause { TroubleCause result (K.faults self.old.keeper) (K.faults self.new.keeper) }
-        ensures untouched_keeper { IfSome (refusal_of self.old.state batch.works)
+        ensures untouched_keeper { IfSome (refusal_of self.old.state None batch.works)
             (λ _. self.new.keeper ≡ self.old.keeper) }
         ensures keeper_fault { result ≡ Err Trouble.KeeperFault
-            → refusal_of self.old.state batch.works ≡ None }
+            → refusal_of self.old.state None batch.works ≡ None }
     {
         match enqueue::refusal_of(&self.state, batch.works.as_slice()) {
             Some(refusal) => {
@@ -375,7 +377,7 @@ impl<K: Keeper> Table<K> {
 
     fn place(&mut self, line: u32, batch: Batch) -> Result<Reply, Trouble>
         requires plain { IsPlain batch.works }
-        requires accepted { refusal_of self.old.state batch.works ≡ None }
+        requires accepted { refusal_of self.old.state None batch.works ≡ None }
         ensures reply { IfOk result IsWritten }
         ensures ok { IfOk result (λ reply.
             IsOneStep K.held (event.Command line (Command.Enqueue None batch) reply) self.old

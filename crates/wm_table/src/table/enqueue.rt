@@ -40,7 +40,7 @@ fn id_in_use(state: &State, works: &[Node]) -> Option<Refusal>
 /// Why a batch is refused, by the first check that refuses it. It takes no memory.
 pub fn refusal_of(state: &State, works: &[Node]) -> Option<Refusal>
     requires { Valid state.now }
-    ensures { result ≡ refusal_of state.entry.now works.now }
+    ensures { result ≡ refusal_of state.entry.now None works.now }
 {
     let count = state.works.len();
     if works.len() > MAX_WORKS - count {

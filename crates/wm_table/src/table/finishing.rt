@@ -2,9 +2,11 @@
 ghost use Rattle.std.specs.Prelude.{◌≡◌, ◌↔◌, ◌==◌, ◌<◌, ◌∷◌, ◌++◌, [], false, length, remove, slice_set, IfOk, IsSome, IsTrue, OnOk, OnErr, option_map};
 ghost use Rattle.std.specs.List.{position};
 ghost use Rattle.wm_keeper.specs.Keeper.{put_row};
+ghost use Rattle.wm_machine.specs.Ends.{succeeded};
+ghost use Rattle.wm_machine.specs.Narrow.{IsNarrowRecord};
 ghost use Rattle.wm_machine.specs.Rows.{row_of};
-ghost use Rattle.wm_machine.specs.Runs.{succeeded, with_out};
-ghost use Rattle.wm_machine.specs.Valid.{AreNumberedInOrder, IsValidRecord};
+ghost use Rattle.wm_machine.specs.Runs.{with_out};
+ghost use Rattle.wm_machine.specs.Valid.{AreNumberedInOrder, IsRecord};
 ghost use Rattle.wm_table.specs.Table.{Counts, TroubleCause};
 ghost use Rattle.wm_worker.specs.Answers.{given_of};
 
@@ -74,7 +76,8 @@ pub fn finishing(
     output: &Data,
 ) -> Result<Changing, AllocError>
     requires running { work.now.phase ≡ Phase.Running }
-    requires valid { IsValidRecord work.now }
+    requires record { IsRecord work.now }
+    requires narrow { IsNarrowRecord work.now }
     requires empty { output.now ≡ [] }
     ensures { IfOk result (λ changing. changing ≡ record {
       index = index;

@@ -1,7 +1,8 @@
 //! What is told of the works of a state.
 ghost use Rattle.std.specs.Prelude.{◌≡◌, IfOk};
+ghost use Rattle.wm_machine.specs.Narrow.{IsNarrow, IsNarrowRecord};
 ghost use Rattle.wm_machine.specs.Shown.{due_shown, info_in, info_of, infos_of, shown_in};
-ghost use Rattle.wm_machine.specs.Valid.{Valid, IsValidRecord};
+ghost use Rattle.wm_machine.specs.Valid.{Valid, IsRecord};
 
 use crate::table::scan::{all_met, due};
 use std::alloc::{AllocError, Global};
@@ -24,7 +25,8 @@ fn shown_in(phase: Phase, all_met: bool) -> Shown
 
 /// When a work in this shown state is due, where that is told.
 fn due_shown(state: Shown, work: &Record) -> Option<u64>
-    requires { IsValidRecord work.now }
+    requires record { IsRecord work.now }
+    requires narrow { IsNarrowRecord work.now }
     ensures { result ≡ due_shown state work.now }
 {
     match state {
@@ -35,7 +37,8 @@ fn due_shown(state: Shown, work: &Record) -> Option<u64>
 
 /// What is told of a work in this shown state.
 fn info(alloc: Global, work: &Record, state: Shown) -> Result<WorkInfo, AllocError>
-    requires { IsValidRecord work.now }
+    requires record { IsRecord work.now }
+    requires narrow { IsNarrowRecord work.now }
     ensures { IfOk result (λ info. info ≡ info_in work.entry.now state) }
 {
     Ok(WorkInfo {
@@ -55,7 +58,8 @@ fn info(alloc: Global, work: &Record, state: Shown) -> Result<WorkInfo, AllocErr
 /// What is told of each work, in ascending number.
 #[tactic(auto, unfolding(wm_machine::specs::Shown::infos_of))]
 pub fn infos_of(alloc: Global, state: &State) -> Result<Items<WorkInfo>, AllocError>
-    requires { Valid state.now }
+    requires valid { Valid state.now }
+    requires narrow { IsNarrow state.now }
     ensures { IfOk result (λ infos. infos ≡ infos_of state.entry.now) }
 {
     let works = state.works.as_slice();

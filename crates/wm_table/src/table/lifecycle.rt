@@ -1,6 +1,8 @@
 //! How a record changes where a run of its work begins and ends.
 ghost use Rattle.std.specs.Prelude.{◌≡◌, IfOk};
-ghost use Rattle.wm_machine.specs.Runs.{closed, started, succeeded};
+ghost use Rattle.wm_machine.specs.Closed.{closed};
+ghost use Rattle.wm_machine.specs.Ends.{succeeded};
+ghost use Rattle.wm_machine.specs.Runs.{started};
 
 use std::alloc::{AllocError, Global};
 use wm_collections::Replica;

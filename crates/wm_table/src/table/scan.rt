@@ -5,7 +5,8 @@ ghost use Rattle.std.specs.Prelude.{◌≡◌, ◌<◌, length, Some, None, slic
 ghost use Rattle.wm_machine.specs.Due.{due_of};
 ghost use Rattle.wm_machine.specs.First.{all_met, comes_before, earlier_of, first_of, has_room, has_succeeded, idle_instance, is_idle, is_live, is_startable, is_succeeded, is_waiting};
 ghost use Rattle.wm_machine.specs.Met.{met, network_met};
-ghost use Rattle.wm_machine.specs.Valid.{Valid, IsValidRecord};
+ghost use Rattle.wm_machine.specs.Narrow.{IsNarrow, IsNarrowRecord};
+ghost use Rattle.wm_machine.specs.Valid.{Valid, IsRecord};
 ghost use Rattle.wm_machine.specs.declared.record.Record.{Record};
 
 use wm_machine::{Conditions, Constraints, How, Instance, Network, Phase, Record, State};
@@ -37,7 +38,8 @@ fn met(constraints: &Constraints, conditions: &Conditions) -> bool
 
 /// The moment from which on a work may start. Every work is one-time and none is retried yet.
 pub fn due(work: &Record) -> u64
-    requires { IsValidRecord work.now }
+    requires record { IsRecord work.now }
+    requires narrow { IsNarrowRecord work.now }
     ensures { result ≡ due_of work.now }
 {
     work.enqueued_at + work.request.initial_delay
@@ -110,7 +112,8 @@ fn has_room(instances: &[Instance], class: &str) -> bool
 /// Whether a work may start now.
 #[tactic(auto, unfolding(wm_machine::specs::First::is_startable))]
 fn is_startable(state: &State, work: &Record) -> bool
-    requires { IsValidRecord work.now }
+    requires record { IsRecord work.now }
+    requires narrow { IsNarrowRecord work.now }
     ensures { result ≡ is_startable state.entry.now work.now }
 {
     is_waiting(work.phase)
@@ -122,8 +125,10 @@ fn is_startable(state: &State, work: &Record) -> bool
 
 /// Whether the one work starts before the other.
 fn comes_before(one: &Record, other: &Record) -> bool
-    requires one { IsValidRecord one.now }
-    requires other { IsValidRecord other.now }
+    requires one { IsRecord one.now }
+    requires other { IsRecord other.now }
+    requires narrow { IsNarrowRecord one.now }
+    requires narrow_other { IsNarrowRecord other.now }
     ensures { result ≡ comes_before one.now other.now }
 {
     due(one) < due(other) || due(one) == due(other) && one.seq < other.seq
@@ -131,7 +136,8 @@ fn comes_before(one: &Record, other: &Record) -> bool
 
 /// The index of the work that starts next. The records are looked at from the last to the first.
 pub fn first_index(state: &State) -> Option<usize>
-    requires { Valid state.now }
+    requires valid { Valid state.now }
+    requires narrow { IsNarrow state.now }
     ensures { MatchOption result (first_of state.entry.now ≡ None)
         (λ index. (index < length state.entry.now.works)
         × (first_of state.entry.now ≡ slice_get state.entry.now.works index)) }
@@ -150,7 +156,8 @@ pub fn first_index(state: &State) -> Option<usize>
 
 /// Of the work at an index and another, the index of the one that starts first.
 fn earlier(works: &[Record], index: usize, other: Option<usize>) -> usize
-    requires records { AllByRecursion IsValidRecord works.now }
+    requires records { AllByRecursion IsRecord works.now }
+    requires narrow { AllByRecursion IsNarrowRecord works.now }
     requires index { index < length works.now }
     requires other { IfSome other (λ other. other < length works.now) }
     ensures in_range { result < length works.now }

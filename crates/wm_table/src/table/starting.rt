@@ -1,9 +1,11 @@
 //! How a run begins, and how a work can't start.
 ghost use Rattle.std.specs.Prelude.{◌≡◌, ◌+◌, ◌≤◌, ◌<◌, ◌∷◌, ◌++◌, [], true, length, slice_set, IfOk, OnOk, OnErr, option_map};
 ghost use Rattle.wm_keeper.specs.Keeper.{put_row};
+ghost use Rattle.wm_machine.specs.Closed.{closed};
+ghost use Rattle.wm_machine.specs.Narrow.{IsNarrowRecord};
 ghost use Rattle.wm_machine.specs.Rows.{row_of};
-ghost use Rattle.wm_machine.specs.Runs.{closed, one_attempt_more, run_on, started, with_out};
-ghost use Rattle.wm_machine.specs.Valid.{AreNumberedInOrder, IsValidRecord};
+ghost use Rattle.wm_machine.specs.Runs.{one_attempt_more, run_on, started, with_out};
+ghost use Rattle.wm_machine.specs.Valid.{AreNumberedInOrder, IsRecord};
 ghost use Rattle.wm_table.specs.Table.{TroubleCause};
 ghost use Rattle.wm_table.specs.TableState.{task_in};
 
@@ -34,7 +36,8 @@ impl Starting {
         instance: &Instance,
     ) -> Result<Starting, AllocError>
         requires waiting { work.now.phase ≡ Phase.Waiting }
-        requires valid { IsValidRecord work.now }
+        requires record { IsRecord work.now }
+    requires narrow { IsNarrowRecord work.now }
         ensures index { IfOk result (λ starting. starting.changing.index ≡ index) }
         ensures work { IfOk result (λ starting. starting.changing.work ≡ started work.entry.now) }
         ensures row { IfOk result
@@ -42,9 +45,9 @@ impl Starting {
         ensures event { IfOk result (λ starting. starting.changing.event
             ≡ Event.Start state.entry.now.next_run work.entry.now.seq instance.entry.now.number work.entry.now.request.input) }
         ensures run { IfOk result
-            (λ starting. starting.run ≡ run_on state.entry.now work.entry.now instance.entry.now) }
+            (λ starting. starting.run ≡ run_on state.entry.now work.entry.now instance.entry.now work.entry.now.request.input) }
         ensures task { IfOk result
-            (λ starting. starting.task ≡ task_in (run_on state.entry.now work.entry.now instance.entry.now)) }
+            (λ starting. starting.task ≡ task_in (run_on state.entry.now work.entry.now instance.entry.now work.entry.now.request.input)) }
     {
         let changing = beginning(alloc, state, index, work, instance)?;
         let run = run_on(alloc, state, work, changing.work.attempt, instance);
@@ -68,7 +71,8 @@ fn beginning(
     instance: &Instance,
 ) -> Result<Changing, AllocError>
     requires waiting { work.now.phase ≡ Phase.Waiting }
-    requires valid { IsValidRecord work.now }
+    requires record { IsRecord work.now }
+    requires narrow { IsNarrowRecord work.now }
     ensures { IfOk result (λ changing. changing ≡ record {
       index = index;
       work = started work.entry.now;
@@ -109,7 +113,7 @@ fn run_on(
     instance: &Instance,
 ) -> Result<Run, AllocError>
     requires { attempt ≡ one_attempt_more work.now.attempt }
-    ensures { IfOk result (λ run. run ≡ run_on state.entry.now work.entry.now instance.entry.now) }
+    ensures { IfOk result (λ run. run ≡ run_on state.entry.now work.entry.now instance.entry.now work.entry.now.request.input) }
 {
     Ok(Run {
         run: state.next_run,
@@ -203,7 +207,8 @@ pub fn set_out(alloc: Global, instances: &mut Items<Instance>, number: usize, ou
 /// What takes memory where the work at an index can't start, since its class has no worker.
 pub fn failing(alloc: Global, index: usize, work: &Record) -> Result<Changing, AllocError>
     requires waiting { work.now.phase ≡ Phase.Waiting }
-    requires valid { IsValidRecord work.now }
+    requires record { IsRecord work.now }
+    requires narrow { IsNarrowRecord work.now }
     ensures { IfOk result (λ changing. changing ≡ record {
       index = index;
       work = closed How.Failed work.entry.now;

@@ -59,7 +59,7 @@ failed g c =
     let none =
     subst (λ (o : Option Record). IfSome o (λ w. idle_instance s.instances w.request.class ≡ None)) at
     (subst (λ (t : State). IfSome (slice_get t.works c.args.index) (λ w. idle_instance t.instances w.request.class ≡ None)) s_is c.requires.no_worker) in
-    failure-step g.K.Keeper.held (before g c) (now g c) c.self.invariant.valid c.self.invariant.rows refl c.args.index work at is_first none
+    failure-step g.K.Keeper.held (before g c) (now g c) c.self.invariant.valid c.self.invariant.narrow c.self.invariant.rows refl c.args.index work at is_first none
     (ap (λ (works : List Record). record s { works = works })
     (c.in_ok-change.ensures.works ∙ ap (λ (changing : Changing). set s.works changing.index changing.work) c.in_ok-changing.ensures))
     (c.in_ok-change.ensures.log ∙ ap (λ (changing : Changing). c.self.inside.log ++ changing.event ∷ []) c.in_ok-changing.ensures)

@@ -2,7 +2,7 @@ use Rattle.std.proofs.Common.{◌≡◌, false, [], ◌∷◌, ◌++◌, option_
 use Rattle.std.specs.Prelude.{◌<◌, remove}
 use Rattle.std.proofs.lemmas.Option.{slice_get_within}
 use Rattle.wm_keeper.specs.Keeper.{put_row}
-use Rattle.wm_machine.proofs.States.{run_kind}
+use Rattle.wm_machine.proofs.Narrows.{run_kind}
 use Rattle.wm_machine.specs.Runs.{with_out}
 use Rattle.wm_machine.specs.declared.event.End.TheVariants as end
 use Rattle.wm_machine.specs.declared.event.Event.{Event}
@@ -21,9 +21,9 @@ unreachable-requires g c =
     let s_is : c.args.self.now.state ≡ s = cc in
     let run = c.index-as_slice-place.result in
     let r =
-    reported s c.args.self.now.state c.as_slice.result.now c.args.place run c.args.told.now c.self.invariant.valid s_is c.as_slice.ensures
+    reported s c.args.self.now.state c.as_slice.result.now c.args.place run c.args.told.now c.self.invariant.valid c.self.invariant.narrow s_is c.as_slice.ensures
     c.index-as_slice-place.is c.requires in
-    work-found s run c.as_slice-works.result.now c.work_index.result c.self.invariant.valid r.valid c.as_slice-works.ensures c.work_index.ensures
+    work-found s run c.as_slice-works.result.now c.work_index.result c.self.invariant.valid r.valid r.narrow.current c.as_slice-works.ensures c.work_index.ensures
     c.in_default.is
 
 pub output_of-output-requires-clause-echo : goal.output_of-output-requires-clause-echo
@@ -32,9 +32,9 @@ output_of-output-requires-clause-echo g c =
     let s_is : c.args.self.now.state ≡ s = cc in
     let run = c.index-as_slice-place.result in
     let r =
-    reported s c.args.self.now.state c.as_slice.result.now c.args.place run c.args.told.now c.self.invariant.valid s_is c.as_slice.ensures
+    reported s c.args.self.now.state c.as_slice.result.now c.args.place run c.args.told.now c.self.invariant.valid c.self.invariant.narrow s_is c.as_slice.ensures
     c.index-as_slice-place.is c.requires in
-    r.counts.about.same_kind ∙ run_kind s run c.self.invariant.valid r.valid
+    r.counts.about.same_kind ∙ run_kind s run c.self.invariant.narrow r.valid
 
 pub finishing-requires-clause-running : goal.finishing-requires-clause-running
 finishing-requires-clause-running g c =
@@ -42,9 +42,9 @@ finishing-requires-clause-running g c =
     let s_is : c.args.self.now.state ≡ s = cc in
     let run = c.index-as_slice-place.result in
     let r =
-    reported s c.args.self.now.state c.as_slice.result.now c.args.place run c.args.told.now c.self.invariant.valid s_is c.as_slice.ensures
+    reported s c.args.self.now.state c.as_slice.result.now c.args.place run c.args.told.now c.self.invariant.valid c.self.invariant.narrow s_is c.as_slice.ensures
     c.index-as_slice-place.is c.requires in
-    (work-read s run c.as_slice-works.result.now c.work_index.result c.in-Some.index c.index-works-index.result c.self.invariant.valid r.valid
+    (work-read s run c.as_slice-works.result.now c.work_index.result c.in-Some.index c.index-works-index.result c.self.invariant.valid r.valid r.narrow.current
     c.as_slice-works.ensures c.work_index.ensures c.in-Some.is c.index-works-index.is).1.running
 
 pub finishing-requires-clause-empty : goal.finishing-requires-clause-empty
@@ -53,9 +53,9 @@ finishing-requires-clause-empty g c =
     let s_is : c.args.self.now.state ≡ s = cc in
     let run = c.index-as_slice-place.result in
     let r =
-    reported s c.args.self.now.state c.as_slice.result.now c.args.place run c.args.told.now c.self.invariant.valid s_is c.as_slice.ensures
+    reported s c.args.self.now.state c.as_slice.result.now c.args.place run c.args.told.now c.self.invariant.valid c.self.invariant.narrow s_is c.as_slice.ensures
     c.index-as_slice-place.is c.requires in
-    c.output_of-output.ensures.input ∙ r.counts.about.same_input ∙ r.valid.no_input
+    c.output_of-output.ensures.input ∙ r.counts.about.same_input ∙ r.narrow.no_input
 
 pub finish-requires-clause-place : goal.finish-requires-clause-place
 finish-requires-clause-place g c =
@@ -63,7 +63,7 @@ finish-requires-clause-place g c =
     let s_is : c.args.self.now.state ≡ s = cc in
     let run = c.index-as_slice-place.result in
     let r =
-    reported s c.args.self.now.state c.as_slice.result.now c.args.place run c.args.told.now c.self.invariant.valid s_is c.as_slice.ensures
+    reported s c.args.self.now.state c.as_slice.result.now c.args.place run c.args.told.now c.self.invariant.valid c.self.invariant.narrow s_is c.as_slice.ensures
     c.index-as_slice-place.is c.requires in
     slice_get_within s.runs c.args.place run r.at
 
@@ -73,10 +73,10 @@ finish-requires-clause-instance g c =
     let s_is : c.args.self.now.state ≡ s = cc in
     let run = c.index-as_slice-place.result in
     let r =
-    reported s c.args.self.now.state c.as_slice.result.now c.args.place run c.args.told.now c.self.invariant.valid s_is c.as_slice.ensures
+    reported s c.args.self.now.state c.as_slice.result.now c.args.place run c.args.told.now c.self.invariant.valid c.self.invariant.narrow s_is c.as_slice.ensures
     c.index-as_slice-place.is c.requires in
     let within : run.instance < length s.instances =
-    subst (λ n. run.instance < n) (zero-add (length s.instances)) (instance-within 0 s.instances run c.self.invariant.valid.in_order r.valid.instance) in
+    subst (λ n. run.instance < n) (zero-add (length s.instances)) (instance-within 0 s.instances run c.self.invariant.valid.numbered r.valid.instance) in
     within
 
 pub invariant_of-self : goal.invariant_of-self
@@ -103,20 +103,21 @@ over g c =
     let s = c.self.inside.state in
     let s_is : c.args.self.now.state ≡ s = cc in
     let valid = c.self.invariant.valid in
+    let narrow = c.self.invariant.narrow in
     let place = c.args.place in
     let run = c.index-as_slice-place.result in
     let work = c.index-works-index.result in
     let output = c.output_of-output.result.now in
     let r =
-    reported s c.args.self.now.state c.as_slice.result.now place run c.args.told.now valid s_is c.as_slice.ensures c.index-as_slice-place.is c.requires in
+    reported s c.args.self.now.state c.as_slice.result.now place run c.args.told.now valid narrow s_is c.as_slice.ensures c.index-as_slice-place.is c.requires in
     let w =
-    work-read s run c.as_slice-works.result.now c.work_index.result c.in-Some.index work valid r.valid c.as_slice-works.ensures c.work_index.ensures
+    work-read s run c.as_slice-works.result.now c.work_index.result c.in-Some.index work valid r.valid r.narrow.current c.as_slice-works.ensures c.work_index.ensures
     c.in-Some.is c.index-works-index.is in
-    let nothing = c.output_of-output.ensures.input ∙ r.counts.about.same_input ∙ r.valid.no_input in
+    let nothing = c.output_of-output.ensures.input ∙ r.counts.about.same_input ∙ r.narrow.no_input in
     subst (λ (number : ℕ). IsOneStep g.K.Keeper.held (made g c number) (before g c) (now g c)) (sym r.counts.about.same_run)
     (success-step g.K.Keeper.held (before g c)
-    (now g c) valid c.self.invariant.rows refl c.in-Some.index place work run output w.0 w.1.seq r.at r.found r.valid.current
-    (echo-gives run.kind run.input output run.attempt run.turn (run_kind s run valid r.valid) r.valid.no_input nothing)
+    (now g c) valid narrow c.self.invariant.rows refl c.in-Some.index place work run output nothing w.0 w.1.seq r.at r.found r.narrow.current
+    (echo-gives run.kind run.input output run.attempt run.turn (run_kind s run narrow r.valid) r.narrow.no_input nothing)
     (c.in_ok-finish.ensures.state ∙ ap (λ (changing : Changing). record s {
       works = set s.works changing.index changing.work;
       runs = remove s.runs place;

@@ -35,7 +35,7 @@ placed g c =
     let work : c.work-item.result ≡ plain_work plain.id plain.class =
     c.work-item.is ∙ ap (λ (works : List Node). get_or works 0 c.work-item.result) (c.as_slice.ensures ∙ plain.one) in
     placing-step g.K.Keeper.held (before g c) (now g c) c.args.line c.args.batch plain c.self.invariant.valid c.self.invariant.rows
-    (subst (λ (t : State). refusal_of t c.args.batch.works ≡ None) state_is c.requires.accepted)
+    (subst (λ (t : State). refusal_of t None c.args.batch.works ≡ None) state_is c.requires.accepted)
     refl
     (c.in_ok-place.ensures.state ∙ ap (with_work s) (c.in_ok-work.ensures.work ∙ ap (placed_record s None) work))
     (c.in_ok-place.ensures.log ∙ ap (λ (numbers : List ℕ). c.self.inside.log ++ made g c numbers ∷ []) c.in_ok-work.ensures.logged)

@@ -12,5 +12,5 @@ returns-clause-text g c =
     let works = c.in_ok-works.works in
     let tell =
     subst (λ (infos : List WorkInfo). AllByRecursion TellsNoData infos) (sym c.in_ok-works.ensures)
-    (infos-tell c.self.inside.state c.self.invariant.valid) in
+    (infos-tell c.self.inside.state c.self.invariant.narrow) in
     IfOk-weaker c.answer.result (λ answer. answer ≡ reply.Query works) IsWritten (λ answer is. subst IsWritten (sym is) tell) c.answer.ensures.reply

@@ -54,7 +54,8 @@ now g c = record { first = c.self.inside.first; state = c.start.new.state; log =
 
 -- the run that begins
 abbrev next : (g : Over) (c : goal.In_ok-start g) → Run
-next g c = run_on c.self.inside.state c.index-as_slice-index.result c.index-as_slice-instance.result
+next g c =
+    run_on c.self.inside.state c.index-as_slice-index.result c.index-as_slice-instance.result c.index-as_slice-index.result.request.input
 
 abbrev made : Task → Run → Event
 made task run = event.Start task.run run.seq run.instance task.input
@@ -80,7 +81,7 @@ begins g c =
     chosen s c.args.self.now.state c.as_slice.result.now c.as_slice-2.result.now c.args.index c.args.instance work idle c.self.invariant.valid s_is
     c.as_slice.ensures c.as_slice-2.ensures c.requires.index c.requires.first c.requires.instance c.requires.idle c.index-as_slice-index.is
     c.index-as_slice-instance.is in
-    start-step g.K.Keeper.held (before g c) (now g c) c.self.invariant.valid c.self.invariant.rows refl c.args.index work idle are.at are.is_first are.is_idle
+    start-step g.K.Keeper.held (before g c) (now g c) c.self.invariant.valid c.self.invariant.narrow c.self.invariant.rows refl c.args.index work idle are.at are.is_first are.is_idle
     (reached g c)
     (c.in_ok-start.ensures.log ∙ ap (λ (e : Event). c.self.inside.log ++ e ∷ []) c.in_ok-changing.ensures.event)
     (c.in_ok-start.ensures.rows ∙ ap (λ (row : Row). option_map (put_row row) (g.K.Keeper.held c.self.inside.keeper)) c.in_ok-changing.ensures.row)

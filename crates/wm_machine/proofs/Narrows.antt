@@ -1,0 +1,215 @@
+-- What the rules come to where no work names a prerequisite or is periodic, and every worker is an Echo.
+use Rattle.std.proofs.Common.{◌≡◌, ℕ, Bool, true, false, cond, eqb, ◌||◌, ◌&&◌, List, [], ◌∷◌, map, Option, Some, None, refl, sym, ◌∙◌, ap, subst, inl, inr}
+use mathlib.Core.List.{map-id, reverse}
+use Rattle.std.specs.List.{AllByRecursion, list_any}
+use Rattle.std.specs.Option.{option_and_then}
+use Rattle.std.proofs.lemmas.Bool.{and_from, and_right, cases_Bool, cond_both, eq-eqb, eqb-true, false≢true, ne_eqb, or_cases, or_left, or_right}
+use Rattle.wm_data.specs.declared.data.DataEntry.{DataEntry}
+use Rattle.wm_machine.proofs.Lists.{All-any, All-both, All-find, All-map, All-reverse, All-stored, All-weaker, HasOne-reverse, HasOne-weaker, list_any-false, map-same, one_gives}
+use Rattle.wm_machine.proofs.Runnings.{changed, changed_both, IsAlone}
+use Rattle.wm_machine.specs.Closed.{closed, descendants, is_among, is_open, is_reached, with_closed}
+use Rattle.wm_machine.specs.Ends.{end_of, given_by, is_freed, period_of, succeeded, with_end, with_freed, with_start_failed, works_after_end, works_not_started}
+use Rattle.wm_machine.specs.First.{all_met, is_waiting}
+use Rattle.wm_machine.specs.Narrow.{IsNarrow, IsNarrowRecord, IsNarrowRun}
+use Rattle.wm_machine.specs.Runs.{changed_work, other_runs, run_numbered, with_out, work_numbered}
+use Rattle.wm_machine.specs.Step.{after, IsEnd}
+use Rattle.wm_machine.specs.Valid.{HasOne, IsInstanceOf, IsValidRun, Valid}
+use Rattle.wm_machine.specs.declared.event.End.{End}
+use Rattle.wm_machine.specs.declared.event.End.TheVariants.{Success, Failure, Retry}
+use Rattle.wm_machine.specs.declared.event.Event.TheVariants as event
+use Rattle.wm_machine.specs.declared.record.How.{How}
+use Rattle.wm_machine.specs.declared.record.How.TheVariants as how
+use Rattle.wm_machine.specs.declared.record.Phase.{Phase}
+use Rattle.wm_machine.specs.declared.record.Phase.TheVariants as phase
+use Rattle.wm_machine.specs.declared.record.Record.{Record}
+use Rattle.wm_machine.specs.declared.schedule.Period.{Period}
+use Rattle.wm_machine.specs.declared.state.Run.{Run}
+use Rattle.wm_machine.specs.declared.state.State.{State}
+use Rattle.wm_worker.specs.Answers.{MayGive}
+use Rattle.wm_worker.specs.declared.answer.Given.TheVariants as given
+use Rattle.wm_worker.specs.declared.kind.Kind.{Kind}
+use Rattle.wm_worker.specs.declared.kind.Kind.TheVariants.{Echo}
+
+-- ---- descendants
+
+-- a record names no prerequisite
+abbrev pub NamesNone : Record → Type 0
+NamesNone work = work.prior ≡ []
+
+-- the only descendant is the work itself
+descendants-self : (seq : ℕ) (works : List Record) → AllByRecursion NamesNone works → AllByRecursion (λ number. number ≡ seq) (descendants seq works)
+descendants-self seq [] none = tt
+descendants-self seq (work ∷ earlier) none =
+    let rest = descendants-self seq earlier none.1 in
+    cond_both (eqb work.seq seq || list_any (is_among (descendants seq earlier)) work.prior) (work.seq ∷ descendants seq earlier) (descendants seq earlier)
+    (AllByRecursion (λ number. number ≡ seq)) (λ e.
+    elim (or_cases (eqb work.seq seq) (list_any (is_among (descendants seq earlier)) work.prior) e) [
+      | inl is ↦ (eqb-true work.seq seq is, rest)
+      | inr reached ↦ absurd
+          (false≢true (sym (ap (list_any (is_among (descendants seq earlier))) none.0) ∙ reached))
+    ]) (λ e. rest)
+
+-- and it is one, where it is there
+descendants-there : (seq : ℕ) (works : List Record) → HasOne (λ work. work.seq ≡ seq) works → is_among (descendants seq works) seq ≡ true
+descendants-there seq [] one = absurd one
+descendants-there seq (work ∷ earlier) (inl is) =
+    let same = eq-eqb work.seq seq is in
+    rw (same) (or_left _ _ same)
+descendants-there seq (work ∷ earlier) (inr one) =
+    let rest = descendants-there seq earlier one in
+    cond_both (eqb work.seq seq || list_any (is_among (descendants seq earlier)) work.prior) (work.seq ∷ descendants seq earlier) (descendants seq earlier)
+    (λ (numbers : List ℕ). is_among numbers seq ≡ true) (λ e. or_right _ _ rest) (λ e. rest)
+
+not_among : (numbers : List ℕ) (seq number : ℕ) → AllByRecursion (λ one. one ≡ seq) numbers → eqb number seq ≡ false → is_among numbers number ≡ false
+not_among numbers seq number all differs =
+    list_any-false (λ one. eqb one number) numbers (All-weaker (λ one. one ≡ seq) (λ one. eqb one number ≡ false) numbers
+    (λ one is. ne_eqb one number (λ same. absurd (false≢true (sym differs ∙ eq-eqb number seq (sym same ∙ is))))) all)
+
+-- which record is reached
+is_reached-stored : (seq : ℕ) (works : List Record) (work : Record) → AllByRecursion NamesNone works → HasOne (λ other. other ≡ work) works
+    → (work.seq ≡ seq → is_open work.phase ≡ true) → is_reached seq works work ≡ eqb work.seq seq
+unfolding is_reached
+is_reached-stored seq works work none stored opens =
+    elim (cases_Bool (eqb work.seq seq)) [
+      | inl e ↦
+          let is = eqb-true work.seq seq e in
+          let one : HasOne (λ other. other.seq ≡ seq) works =
+          HasOne-weaker (λ other. Unit {0}) (λ other. other ≡ work) (λ other. other.seq ≡ seq) works
+          (λ other u same. ap (λ (w : Record). w.seq) same ∙ is) (All-any (λ other. Unit {0}) works (λ other. tt)) stored in
+          let there : is_among (descendants seq (reverse works)) work.seq ≡ true =
+          subst (λ n. is_among (descendants seq (reverse works)) n ≡ true) (sym is)
+          (descendants-there seq (reverse works) (HasOne-reverse (λ other. other.seq ≡ seq) works one)) in
+          and_from _ _ (opens is) there ∙ sym e
+      | inr e ↦
+          and_right _ _ (not_among (descendants seq (reverse works)) seq work.seq
+          (descendants-self seq (reverse works) (All-reverse NamesNone works none)) e) ∙ sym e
+    ]
+
+-- a failure reaches the work alone
+pub with_closed-alone : (how : How) (seq : ℕ) (works : List Record) → AllByRecursion NamesNone works
+    → AllByRecursion (λ work. work.seq ≡ seq → is_open work.phase ≡ true) works → with_closed how seq works ≡ changed_work (closed how) seq works
+with_closed-alone how seq works none opens =
+    map-same (λ work. cond (is_reached seq works work) (closed how work) work) (changed (closed how) seq) works
+    (All-weaker (λ work. HasOne (λ other. other ≡ work) works × (work.seq ≡ seq → is_open work.phase ≡ true))
+    (λ work. cond (is_reached seq works work) (closed how work) work ≡ changed (closed how) seq work) works
+    (λ work both. ap (λ b. cond b (closed how work) work) (is_reached-stored seq works work none both.0 both.1))
+    (All-both (λ work. HasOne (λ other. other ≡ work) works) (λ work. work.seq ≡ seq → is_open work.phase ≡ true) works (All-stored works) opens))
+
+-- ---- freed records
+
+and_none : (b c : Bool) → (b && (false && c)) ≡ false
+and_none true c = refl
+and_none false c = refl
+
+-- no record is freed
+with_freed-none : (now seq : ℕ) (works : List Record) → AllByRecursion NamesNone works → with_freed now seq works ≡ works
+with_freed-none now seq works none =
+    map-same (λ work. cond (is_freed seq works work) (record work { enqueued_at = now }) work) (λ work. work) works
+    (All-weaker NamesNone (λ work. cond (is_freed seq works work) (record work { enqueued_at = now }) work ≡ work) works
+    (λ work is. ap (λ b. cond b (record work { enqueued_at = now }) work)
+    (ap (λ (prior : List ℕ). is_waiting work.phase && (is_among prior seq && all_met works work)) is
+    ∙ and_none (is_waiting work.phase) (all_met works work))) none)
+    ∙ map-id works
+
+-- ---- periods
+
+-- no record is periodic
+pub period_of-none : (seq : ℕ) (works : List Record) → AllByRecursion (λ work. work.request.period ≡ None) works → period_of seq works ≡ None
+period_of-none seq [] none = refl
+period_of-none seq (work ∷ works) none =
+    cond_both (eqb work.seq seq) (Some work) (work_numbered seq works)
+    (λ (found : Option Record). option_and_then (λ (w : Record). w.request.period) found ≡ None) (λ e. none.0) (λ e. period_of-none seq works none.1)
+
+-- ---- states
+
+-- a run is over and its work has succeeded
+abbrev pub with_success : State → Run → List DataEntry → State
+with_success s run output = record s {
+  works = changed_work (succeeded output) run.seq s.works;
+  runs = other_runs run.run s.runs;
+  instances = with_out false run.instance s.instances;
+}
+
+-- a work fails
+abbrev pub with_failure : State → ℕ → State
+with_failure s seq = record s { works = changed_work (closed how.Failed) seq s.works }
+
+NamesNone-changed : (change : Record → Record) (seq : ℕ) (works : List Record) → ((work : Record) → (change work).prior ≡ work.prior)
+    → AllByRecursion NamesNone works → AllByRecursion NamesNone (changed_work change seq works)
+NamesNone-changed change seq works keeps all =
+    All-map NamesNone NamesNone (changed change seq) works
+    (λ work none. changed_both NamesNone change seq work (λ e. keeps work ∙ none) (λ e. none)) all
+
+-- a success changes the work alone
+pub with_end-success : (s : State) (run : Run) (output : List DataEntry) → AllByRecursion IsNarrowRecord s.works
+    → with_end s run (Success output) ≡ with_success s run output
+with_end-success s run output narrow =
+    let none = All-weaker IsNarrowRecord NamesNone s.works (λ work is. is.no_prerequisite) narrow in
+    let one_time = All-weaker IsNarrowRecord (λ work. work.request.period ≡ None) s.works (λ work is. is.one_time) narrow in
+    let changes = changed_work (succeeded output) run.seq s.works in
+    ap (λ (works : List Record). record s {
+      works = works;
+      runs = other_runs run.run s.runs;
+      instances = with_out false run.instance s.instances;
+    })
+    (ap (λ (period : Option Period). works_after_end s.now run.seq period (Success output) s.works) (period_of-none run.seq s.works one_time)
+    ∙ with_freed-none s.now run.seq changes (NamesNone-changed (succeeded output) run.seq s.works (λ work. refl) none))
+
+open-waiting : (p : Phase) → is_waiting p ≡ true → is_open p ≡ true
+open-waiting phase.Waiting is = refl
+open-waiting phase.Running is = refl
+open-waiting (phase.Done how) is = absurd (false≢true is)
+
+-- a failed start changes the work alone
+pub with_start_failed-alone : (s : State) (work : Record) → AllByRecursion IsNarrowRecord s.works → AllByRecursion (IsAlone work) s.works
+    → is_waiting work.phase ≡ true → with_start_failed s work.seq ≡ with_failure s work.seq
+with_start_failed-alone s work narrow alone waits =
+    let none = All-weaker IsNarrowRecord NamesNone s.works (λ work is. is.no_prerequisite) narrow in
+    let one_time = All-weaker IsNarrowRecord (λ work. work.request.period ≡ None) s.works (λ work is. is.one_time) narrow in
+    let opens =
+    All-weaker (IsAlone work) (λ other. other.seq ≡ work.seq → is_open other.phase ≡ true) s.works
+    (λ other same e. subst (λ (w : Record). is_open w.phase ≡ true) (sym (same e)) (open-waiting work.phase waits)) alone in
+    ap (λ (works : List Record). record s { works = works })
+    (ap (λ (period : Option Period). works_not_started s.now work.seq period s.works) (period_of-none work.seq s.works one_time)
+    ∙ with_closed-alone how.Failed work.seq s.works none opens)
+
+-- ---- the end of a run
+
+-- an Echo ends its run by giving its input
+pub echo_end : (kind : Kind) (input : List DataEntry) (attempt turn : ℕ) (end : End) → kind ≡ Echo → MayGive kind input attempt turn (given_by end)
+    → end ≡ Success input
+echo_end kind input attempt turn (Success output) echo gives =
+    let same : given.Success output ≡ given.Success input = subst (λ k. MayGive k input attempt turn (given.Success output)) echo gives in cc
+echo_end kind input attempt turn (Failure output) echo gives =
+    let same : given.Failure output ≡ given.Success input = subst (λ k. MayGive k input attempt turn (given.Failure output)) echo gives in absurd (cc)
+echo_end kind input attempt turn Retry echo gives =
+    let same : given.Retry ≡ given.Success input = subst (λ k. MayGive k input attempt turn given.Retry) echo gives in absurd (cc)
+
+-- a run is on an Echo
+pub run_kind : (s : State) (run : Run) → IsNarrow s → IsValidRun s run → run.kind ≡ Echo
+run_kind s run narrow is =
+    one_gives (λ instance. instance.kind ≡ Echo) (IsInstanceOf run) (run.kind ≡ Echo) s.instances
+    (λ i echo of. sym of.kind ∙ echo) narrow.echoes is.instance
+
+-- a run that was found is valid
+pub found_valid : (s : State) (number : ℕ) (run : Run) → Valid s → run_numbered number s.runs ≡ Some run → IsValidRun s run
+found_valid s number run valid found = All-find (IsValidRun s) (λ r. eqb r.run number) s.runs run found valid.runs
+
+pub found_narrow : (s : State) (number : ℕ) (run : Run) → IsNarrow s → run_numbered number s.runs ≡ Some run → IsNarrowRun run
+found_narrow s number run narrow found = All-find IsNarrowRun (λ r. eqb r.run number) s.runs run found narrow.runs
+
+-- the end of a run is a success that gives nothing, and changes its work alone
+pub record IsPlainEnd (s : State) (number : ℕ) (end : End) (run : Run) : Type 0 where
+  pub gives_nothing : end ≡ Success []
+  pub state : after s (event.Finish number end) ≡ with_success s run []
+
+pub plain_end : (s : State) (number : ℕ) (end : End) → Valid s → IsNarrow s → (legal : IsEnd s number end) → IsPlainEnd s number end legal.run
+plain_end s number end valid narrow legal =
+    let run = legal.run in
+    let kind = run_kind s run narrow (found_valid s number run valid legal.is_running) in
+    let nothing : run.input ≡ [] = (found_narrow s number run narrow legal.is_running).no_input in
+    let is : end ≡ Success [] = echo_end run.kind run.input run.attempt run.turn end kind legal.may_give ∙ ap (λ (input : List DataEntry). Success input) nothing in
+    record {
+      gives_nothing = is;
+      state = ap (λ e. after s (event.Finish number e)) is ∙ ap (λ found. end_of s found (Success [])) legal.is_running ∙ with_end-success s run [] narrow.records;
+    }

@@ -1,0 +1,148 @@
+-- What a change keeps of a record.
+use Rattle.std.proofs.Common.{◌≡◌, ℕ, ◌+◌, ◌^◌, ◌<◌, ◌≤◌, List, [], length, None, refl, sym, ◌∙◌, ap, subst, arith}
+use Rattle.wm_data.specs.Size.{IsData}
+use Rattle.wm_machine.specs.Closed.{closed}
+use Rattle.wm_machine.specs.Ends.{succeeded}
+use Rattle.wm_machine.specs.Enqueued.{placed_record}
+use Rattle.wm_machine.specs.Limits.{FitsRow, IsShortText}
+use Rattle.wm_machine.specs.Narrow.{IsNarrowRecord}
+use Rattle.wm_machine.specs.Requests.{IsRequest, plain_request}
+use Rattle.wm_machine.specs.Runs.{started}
+use Rattle.wm_machine.specs.Valid.{ArePriorSound, IsAttemptIn, IsOfKind, IsRecord}
+use Rattle.wm_machine.specs.declared.record.How.TheVariants as how
+use Rattle.wm_machine.specs.declared.record.Phase.{Phase}
+use Rattle.wm_machine.specs.declared.record.Phase.TheVariants as phase
+use Rattle.wm_machine.specs.declared.record.Record.{Record}
+use Rattle.wm_machine.specs.declared.request.Node.{Node}
+use Rattle.wm_machine.specs.declared.state.State.{State}
+
+-- no entry is Data
+IsData-empty : IsData []
+IsData-empty = record { ascending = tt; named = tt; size = omega arith }
+
+-- a change that keeps the numbers of a record keeps them within the limits of a row
+FitsRow-kept : (work changed : Record) → changed.seq ≡ work.seq → changed.prior ≡ work.prior → changed.generation ≡ work.generation
+    → changed.enqueued_at ≡ work.enqueued_at → changed.request ≡ work.request → FitsRow work → FitsRow changed
+FitsRow-kept work changed seq prior generation enqueued_at request fits = record {
+  seq = rw seq fits.seq;
+  prior = rw prior fits.prior;
+  generation = rw generation fits.generation;
+  enqueued_at = rw enqueued_at fits.enqueued_at;
+  delay = rw request fits.delay;
+  wait = rw request fits.wait;
+  period = rw request fits.period;
+}
+
+-- one-time work that has run no period has run none after a change either
+IsOfKind-one_time : (work changed : Record) → work.request.period ≡ None → changed.runs ≡ work.runs → IsOfKind work.request.period work
+    → IsOfKind work.request.period changed
+IsOfKind-one_time work changed one_time same kind =
+    subst (λ period. IsOfKind period changed) (sym one_time) (same ∙ subst (λ period. IsOfKind period work) one_time kind)
+
+pub IsRecord-started : (work : Record) → IsNarrowRecord work → IsRecord work → IsRecord (started work)
+IsRecord-started work narrow is = record {
+  number = is.number;
+  fits = FitsRow-kept work (started work) refl refl refl refl refl is.fits;
+  name = is.name;
+  request = is.request;
+  prior = is.prior;
+  attempt = omega arith;
+  started = omega arith;
+  backoff_n = let few = is.backoff_n in let most = is.attempt in omega arith;
+  runs = is.runs;
+  kind = IsOfKind-one_time work (started work) narrow.one_time refl is.kind;
+  output = narrow.no_output;
+  progress = IsData-empty;
+}
+
+pub IsRecord-failed : (work : Record) → IsNarrowRecord work → IsRecord work → IsRecord (closed how.Failed work)
+IsRecord-failed work narrow is = record {
+  number = is.number;
+  fits = FitsRow-kept work (closed how.Failed work) refl refl refl refl refl is.fits;
+  name = is.name;
+  request = is.request;
+  prior = is.prior;
+  attempt = is.attempt;
+  started = tt;
+  backoff_n = is.backoff_n;
+  runs = is.runs;
+  kind = IsOfKind-one_time work (closed how.Failed work) narrow.one_time refl is.kind;
+  output = subst IsData (sym narrow.no_output) IsData-empty;
+  progress = refl;
+}
+
+pub IsRecord-succeeded : (work : Record) → work.phase ≡ phase.Running → IsNarrowRecord work → IsRecord work → IsRecord (succeeded [] work)
+IsRecord-succeeded work running narrow is = record {
+  number = is.number;
+  fits = FitsRow-kept work (succeeded [] work) refl refl refl refl refl is.fits;
+  name = is.name;
+  request = is.request;
+  prior = is.prior;
+  attempt = is.attempt;
+  started = subst (λ phase. IsAttemptIn phase work.attempt) running is.started;
+  backoff_n = is.backoff_n;
+  runs = is.runs;
+  kind = IsOfKind-one_time work (succeeded [] work) narrow.one_time refl is.kind;
+  output = IsData-empty;
+  progress = refl;
+}
+
+IsRequest-plain : (id class : List ℕ) → length id ≡ 16 → IsShortText class → IsRequest (plain_request id class)
+IsRequest-plain id class sixteen short = record {
+  id = sixteen;
+  class = short;
+  input = IsData-empty;
+  tags = record { few = omega arith; short = tt; ascending = tt };
+  least_wait = omega arith;
+  most_wait = omega arith;
+  delay = omega arith;
+  period = tt;
+}
+
+-- the work of a plain batch
+abbrev pub plain_node : List ℕ → List ℕ → Node
+plain_node id class = record { request = plain_request id class; after = [] }
+
+pub IsRecord-placed : (s : State) (id class : List ℕ) → length id ≡ 16 → IsShortText class → 1 ≤ s.next → s.next + 1 ≤ 2 ^ 53 → s.now < 2 ^ 53
+    → IsRecord (placed_record s None (plain_node id class))
+IsRecord-placed s id class sixteen short first next now = record {
+  number = first;
+  fits = record {
+    seq = omega arith;
+    prior = λ k d below. absurd (omega arith);
+    generation = omega arith;
+    enqueued_at = now;
+    delay = omega arith;
+    wait = omega arith;
+    period = tt;
+  };
+  name = tt;
+  request = IsRequest-plain id class sixteen short;
+  prior = record { few = omega arith; different = tt; earlier = tt };
+  attempt = omega arith;
+  started = tt;
+  backoff_n = omega arith;
+  runs = omega arith;
+  kind = refl;
+  output = refl;
+  progress = refl;
+}
+
+pub IsNarrowRecord-placed : (s : State) (id class : List ℕ) → IsNarrowRecord (placed_record s None (plain_node id class))
+IsNarrowRecord-placed s id class = record {
+  no_input = refl;
+  no_output = refl;
+  no_progress = refl;
+  one_time = refl;
+  no_prerequisite = refl;
+  no_retry = refl;
+}
+
+-- where no record names a prerequisite, each is sound among the others
+pub ArePriorSound-none : (works : List Record) (phase : Phase) (prior : List ℕ) → prior ≡ [] → ArePriorSound works phase prior
+ArePriorSound-none works phase.Waiting prior none = subst (λ prior. ArePriorSound works phase.Waiting prior) (sym none) tt
+ArePriorSound-none works phase.Running prior none = subst (λ prior. ArePriorSound works phase.Running prior) (sym none) tt
+ArePriorSound-none works (phase.Done how.Succeeded) prior none =
+    subst (λ prior. ArePriorSound works (phase.Done how.Succeeded) prior) (sym none) tt
+ArePriorSound-none works (phase.Done how.Failed) prior none = tt
+ArePriorSound-none works (phase.Done how.Cancelled) prior none = tt

@@ -1,0 +1,34 @@
+-- What the failure or the cancelling of a work reaches. After the guide's page "Chaining work".
+use Rattle.std.specs.Prelude.{ℕ, ◌==◌, ◌&&◌, ◌||◌, Bool, true, false, List, [], ◌∷◌, map, reverse, if◌then◌else◌}
+use Rattle.std.specs.List.{list_any}
+use Rattle.wm_machine.specs.declared.record.How.{How}
+use Rattle.wm_machine.specs.declared.record.Phase.{Phase}
+use Rattle.wm_machine.specs.declared.record.Phase.TheVariants as phase
+use Rattle.wm_machine.specs.declared.record.Record.{Record}
+
+abbrev pub is_among : List ℕ → ℕ → Bool
+is_among numbers number = list_any (λ one. one == number) numbers
+
+-- The numbers of the descendants of a work among these records, which stand in descending number: the work itself, and each record that
+-- has a descendant as a prerequisite. Prerequisites have smaller numbers.
+abbrev pub descendants : ℕ → List Record → List ℕ
+descendants seq [] = []
+descendants seq (work ∷ earlier) =
+    if work.seq == seq || list_any (is_among (descendants seq earlier)) work.prior then work.seq ∷ descendants seq earlier
+    else descendants seq earlier
+
+abbrev pub is_open : Phase → Bool
+is_open (phase.Done how) = false
+is_open _ = true
+
+-- whether a record is an unfinished descendant of a work
+unfoldable pub is_reached : ℕ → List Record → Record → Bool
+is_reached seq works work = is_open work.phase && is_among (descendants seq (reverse works)) work.seq
+
+-- a work that is finished without having given anything
+abbrev pub closed : How → Record → Record
+closed how work = record work { phase = phase.Done how; progress = [] }
+
+-- the records, with each unfinished descendant of a work finished in this way
+abbrev pub with_closed : How → ℕ → List Record → List Record
+with_closed how seq works = map (λ work. if is_reached seq works work then closed how work else work) works

@@ -1,0 +1,92 @@
+-- How a run ends, and what becomes of a work that can't start. After the guide's pages "Work states", "Define work requests" (retry and
+-- backoff, periodic work) and "Chaining work"; the moments, and counts that stand still, are this project's own choice.
+use Rattle.std.specs.Prelude.{ℕ, ◌+◌, ◌&&◌, Bool, false, List, [], map, min, if◌then◌else◌, Option, Some, None}
+use Rattle.std.specs.Option.{option_and_then}
+use Rattle.wm_data.specs.declared.data.DataEntry.{DataEntry}
+use Rattle.wm_machine.specs.Closed.{is_among, with_closed}
+use Rattle.wm_machine.specs.First.{all_met, is_waiting}
+use Rattle.wm_machine.specs.Runs.{changed_work, other_runs, with_out, work_numbered}
+use Rattle.wm_machine.specs.declared.event.End.{End}
+use Rattle.wm_machine.specs.declared.event.End.TheVariants.{Success, Failure, Retry}
+use Rattle.wm_machine.specs.declared.record.How.TheVariants as how
+use Rattle.wm_machine.specs.declared.record.Phase.TheVariants as phase
+use Rattle.wm_machine.specs.declared.record.Record.{Record}
+use Rattle.wm_machine.specs.declared.schedule.Period.{Period}
+use Rattle.wm_machine.specs.declared.state.Run.{Run}
+use Rattle.wm_machine.specs.declared.state.State.{State}
+use Rattle.wm_worker.specs.declared.answer.Given.{Given}
+use Rattle.wm_worker.specs.declared.answer.Given.TheVariants as given
+
+-- what a worker gave whose run ended so
+abbrev pub given_by : End → Given
+given_by (Success output) = given.Success output
+given_by (Failure output) = given.Failure output
+given_by Retry = given.Retry
+
+-- ---- records
+
+-- a work that gave this in the end
+abbrev pub succeeded : List DataEntry → Record → Record
+succeeded output work = record work { phase = phase.Done how.Succeeded; output = output; progress = [] }
+
+abbrev pub with_output : List DataEntry → Record → Record
+with_output output work = record work { output = output }
+
+-- a work whose attempt is to be retried
+abbrev pub retried : ℕ → Record → Record
+retried now work = record work { phase = phase.Waiting; backoff_n = work.attempt; enqueued_at = now; progress = [] }
+
+-- a periodic work that is enqueued again, for its next period
+abbrev pub enqueued_again : ℕ → Record → Record
+enqueued_again now work = record work {
+  phase = phase.Waiting;
+  attempt = 0;
+  backoff_n = 0;
+  runs = min (work.runs + 1) 1000000;
+  enqueued_at = now;
+  output = [];
+  progress = [];
+}
+
+-- ---- the records of a state
+
+-- a waiting work whose last missing prerequisite has succeeded, among these records
+abbrev pub is_freed : ℕ → List Record → Record → Bool
+is_freed seq works work = is_waiting work.phase && (is_among work.prior seq && all_met works work)
+
+abbrev pub with_freed : ℕ → ℕ → List Record → List Record
+with_freed now seq works = map (λ work. if is_freed seq works work then record work { enqueued_at = now } else work) works
+
+-- the period of the work of this number, where it is periodic
+abbrev pub period_of : ℕ → List Record → Option Period
+period_of seq works = option_and_then (λ work. work.request.period) (work_numbered seq works)
+
+-- the records after the end of a run: of one-time work and of periodic work
+abbrev pub works_after_end : ℕ → ℕ → Option Period → End → List Record → List Record
+works_after_end now seq period Retry works = changed_work (retried now) seq works
+works_after_end now seq (Some period) _ works = changed_work (enqueued_again now) seq works
+works_after_end now seq None (Success output) works = with_freed now seq (changed_work (succeeded output) seq works)
+works_after_end now seq None (Failure output) works = changed_work (with_output output) seq (with_closed how.Failed seq works)
+
+-- the records after a work couldn't start
+abbrev pub works_not_started : ℕ → ℕ → Option Period → List Record → List Record
+works_not_started now seq None works = with_closed how.Failed seq works
+works_not_started now seq (Some period) works = changed_work (enqueued_again now) seq works
+
+-- ---- states
+
+-- a run is over, and its worker is at its place again
+abbrev pub with_end : State → Run → End → State
+with_end s run end = record s {
+  works = works_after_end s.now run.seq (period_of run.seq s.works) end s.works;
+  runs = other_runs run.run s.runs;
+  instances = with_out false run.instance s.instances;
+}
+
+abbrev pub end_of : State → Option Run → End → State
+end_of s None end = s
+end_of s (Some run) end = with_end s run end
+
+-- the work of this number couldn't start
+abbrev pub with_start_failed : State → ℕ → State
+with_start_failed s seq = record s { works = works_not_started s.now seq (period_of seq s.works) s.works }

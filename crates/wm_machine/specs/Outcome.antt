@@ -1,0 +1,17 @@
+-- What a command does: the one reply to it in a state, and the state after it. Each command has its rule in a file of its own.
+use Rattle.std.specs.Prelude.{Option, Some, None}
+use Rattle.wm_machine.specs.Enqueued.{enqueued}
+use Rattle.wm_machine.specs.Queried.{answer_to}
+use Rattle.wm_machine.specs.Replied.{Outcome, unchanged}
+use Rattle.wm_machine.specs.declared.command.Command.{Command}
+use Rattle.wm_machine.specs.declared.command.Command.TheVariants as command
+use Rattle.wm_machine.specs.declared.reply.Refusal.TheVariants.{Line}
+use Rattle.wm_machine.specs.declared.reply.Reply.TheVariants as reply
+use Rattle.wm_machine.specs.declared.state.State.{State}
+
+-- none where the command isn't legal in the state
+abbrev pub outcome : State → Command → Option Outcome
+outcome s (command.Enqueue None batch) = Some (enqueued s None batch.works)
+outcome s (command.Query query) = Some (unchanged s (reply.Query (answer_to s query)))
+outcome s (command.Faulty fault) = Some (unchanged s (reply.Refused (Line fault)))
+outcome s _ = None
