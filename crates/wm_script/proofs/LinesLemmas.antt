@@ -1,6 +1,6 @@
 -- Lemmas on the lines of a script and their commands.
 use Rattle.std.proofs.Common.{◌≡◌, ℕ, ◌+◌, ◌<◌, ◌≤◌, zero, List, [], ◌∷◌, ◌++◌, length, take, drop, map, Option, Some, None, String, Global, refl, ap, ◌∙◌, arith, rules, one-add, add-one, suc, eqb, cond, not, true, false, Bool, IfSome, option_map, option_and_then, unwrap_or, position, Result, Ok, Err, IsOk, IfOk, ◌↔◌, IsUtf8, true≢false, sym}
-use Rattle.std.specs.Prelude.{◌&&◌, codes, nat_le, nat_lt}
+use Rattle.std.specs.Prelude.{◌&&◌, codes, nat_le, nat_lt, slice_index}
 use Rattle.std.specs.List.{AllByRecursion, before_first, after_first, position_or_len}
 use Rattle.std.proofs.lemmas.Bool.{and_parts, leb-true, ltb-true}
 use Rattle.std.proofs.lemmas.Bool.Decides.{nat_tests}
@@ -16,7 +16,7 @@ use Rattle.serde_json.specs.Read.{read}
 use Rattle.serde_json.specs.View.{items_view, members_view}
 use Rattle.serde_json.specs.declared.value.Value.{Value}
 use Rattle.wm_machine.specs.Built.{IsBuilt, NamesNothing}
-use Rattle.uuid.specs.Text.{by_index, byte_of_digits, digits_of, parsed, parsed_braced, parsed_hyphenated, parsed_simple, parsed_urn}
+use Rattle.uuid.specs.Text.{by_index, byte_of_digits, close_brace, digits_of, has_urn_prefix, open_brace, parsed, parsed_braced, parsed_hyphenated, parsed_simple, parsed_urn}
 use Rattle.wm_machine.specs.Limits.{IsShortText}
 use Rattle.wm_machine.specs.Requests.{plain_request}
 use Rattle.wm_script.specs.Lines.{asked_by, both, class_of, command_of, commands_in, cut, enqueue_command, enqueue_of, member_count, only, onto_first, query_of, query_of_all, single, value_of, work_of}
@@ -211,13 +211,31 @@ HasSixteen-simple hex = IfSome-cond HasSixteen _ (Some (by_index 16 (byte_of_dig
 HasSixteen-hyphenated : (text : List ℕ) → IfSome (parsed_hyphenated text) HasSixteen
 HasSixteen-hyphenated text = IfSome-cond HasSixteen _ (parsed_simple (digits_of text)) (HasSixteen-simple (digits_of text))
 
+-- the forms that are tried from the third and from the fourth on
+abbrev parsed_last : List ℕ → Option (List ℕ)
+parsed_last text = cond (eqb (length text) 45) (parsed_urn text) None
+
+abbrev parsed_long : List ℕ → Option (List ℕ)
+parsed_long text = cond (eqb (length text) 38) (parsed_braced text) (parsed_last text)
+
+HasSixteen-last : (text : List ℕ) → IfSome (parsed_last text) HasSixteen
+HasSixteen-last text =
+    IfSome-cond HasSixteen (eqb (length text) 45) (parsed_urn text)
+    (IfSome-cond HasSixteen (eqb (length text) 45 && has_urn_prefix text) (parsed_hyphenated (drop 9 text)) (HasSixteen-hyphenated (drop 9 text)))
+
+HasSixteen-long : (text : List ℕ) → IfSome (parsed_long text) HasSixteen
+HasSixteen-long text =
+    let inner = take 36 (drop 1 text) in
+    IfSome-either HasSixteen (eqb (length text) 38) (parsed_braced text) (parsed_last text)
+    (IfSome-cond HasSixteen ((eqb (length text) 38 && eqb (slice_index text 0) open_brace) && eqb (slice_index text 37) close_brace) (parsed_hyphenated inner)
+    (HasSixteen-hyphenated inner))
+    (HasSixteen-last text)
+
 HasSixteen-parsed : (text : List ℕ) → IfSome (parsed text) HasSixteen
 HasSixteen-parsed text =
-    IfSome-either HasSixteen _ (parsed_simple text) _ (HasSixteen-simple text)
-    (IfSome-either HasSixteen _ (parsed_hyphenated text) _ (HasSixteen-hyphenated text)
-    (IfSome-either HasSixteen _ (parsed_braced text) _
-    (IfSome-cond HasSixteen _ (parsed_hyphenated (take 36 (drop 1 text))) (HasSixteen-hyphenated (take 36 (drop 1 text))))
-    (IfSome-cond HasSixteen _ (parsed_urn text) (IfSome-cond HasSixteen _ (parsed_hyphenated (drop 9 text)) (HasSixteen-hyphenated (drop 9 text))))))
+    IfSome-either HasSixteen (eqb (length text) 32) (parsed_simple text) (cond (eqb (length text) 36) (parsed_hyphenated text) (parsed_long text))
+    (HasSixteen-simple text)
+    (IfSome-either HasSixteen (eqb (length text) 36) (parsed_hyphenated text) (parsed_long text) (HasSixteen-hyphenated text) (HasSixteen-long text))
 
 short_if : (text : List ℕ) (b : Bool) → (nat_lt 0 (length text) && nat_le (length text) 200) ≡ b → IfSome (cond b (Some text) None) IsShortText
 short_if text true is =
