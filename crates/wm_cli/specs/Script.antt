@@ -2,7 +2,7 @@
 use Rattle.std.specs.Prelude.{◌≡◌, ℕ, ◌<◌, ◌≤◌, Bool, true, false, List, [], ◌++◌, length, Option, option_map, IfSome, Result, Ok, Err}
 use Rattle.wm_faults.specs.Faults as faults
 use Rattle.wm_cli.specs.declared.script.ReadFault.{ReadFault}
-use Rattle.wm_cli.specs.declared.script.ReadFault.TheVariants.{Failed, Memory}
+use Rattle.wm_cli.specs.declared.script.ReadFault.TheVariants.{Failed}
 use Rattle.wm_script.specs.declared.lines.TheConstants.{MAX_SCRIPT_BYTES}
 
 -- where the source tells what it has left, this was taken from its front
@@ -32,8 +32,10 @@ IsPieceOf (Ok false) before now script longer room =
     (piece : List ℕ) × IsTakenFrom before now piece × (longer ≡ script ++ piece) × (0 < length piece) × (length piece ≤ room)
 IsPieceOf (Err fault) before now script longer room = IsTakenWithin room before now
 
+abbrev pub is_failed : {T : Type 0} → Result T ReadFault → Bool
+is_failed (Err Failed) = true
+is_failed _ = false
+
 -- `Failed` comes only where the count rose, and any other answer leaves it
 abbrev pub ReadCause : {T : Type 0} → Result T ReadFault → ℕ → ℕ → Type 0
-ReadCause (Ok value) before now = now ≡ before
-ReadCause (Err Failed) before now = faults.Failed before now
-ReadCause (Err Memory) before now = now ≡ before
+ReadCause result before now = faults.HasCause (is_failed result) before now

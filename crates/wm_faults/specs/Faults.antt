@@ -1,5 +1,5 @@
 -- What a count of faults says about the calls between two moments. This project's own choice.
-use Rattle.std.specs.Prelude.{ℕ, ◌+◌, ◌-◌, ◌^◌, ◌≤◌, min}
+use Rattle.std.specs.Prelude.{◌≡◌, ℕ, ◌+◌, ◌-◌, ◌^◌, ◌≤◌, Bool, true, false, min}
 
 -- the count is higher, or stands at the end of its type
 abbrev pub Rose : ℕ → ℕ → Type 0
@@ -9,3 +9,8 @@ Rose before now = min (before + 1) (2 ^ 64 - 1) ≤ now
 pub record Failed (before now : ℕ) : Type 0 where
   pub later : before ≤ now
   pub rose : Rose before now
+
+-- the cause of an answer that is a fault or isn't: a fault was counted, and any other answer leaves the count
+abbrev pub HasCause : Bool → ℕ → ℕ → Type 0
+HasCause true before now = Failed before now
+HasCause false before now = now ≡ before

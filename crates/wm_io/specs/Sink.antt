@@ -1,7 +1,7 @@
 -- What a write does to the bytes that a sink was given and to its count of faults. This project's
 -- own choice.
-use Rattle.std.specs.Prelude.{◌≡◌, ℕ, ◌<◌, ◌≤◌, List, ◌++◌, take, Option, option_map}
-use Rattle.wm_faults.specs.Faults.{Failed}
+use Rattle.std.specs.Prelude.{◌≡◌, ℕ, ◌<◌, ◌≤◌, Bool, true, false, List, ◌++◌, take, Option, option_map}
+use Rattle.wm_faults.specs.Faults.{HasCause}
 use Rattle.wm_io.specs.declared.sink.Put.{Put}
 use Rattle.wm_io.specs.declared.sink.Put.TheVariants as put
 
@@ -18,8 +18,10 @@ Writes (put.Took count) before now piece = now ≡ option_map (λ given. given +
 Writes put.Failed before now piece = now ≡ before
 Writes put.Memory before now piece = now ≡ before
 
+abbrev pub is_failed : Put → Bool
+is_failed put.Failed = true
+is_failed _ = false
+
 -- a failed write raised the count, and any other left it
 abbrev pub WriteCause : Put → ℕ → ℕ → Type 0
-WriteCause (put.Took count) before now = now ≡ before
-WriteCause put.Failed before now = Failed before now
-WriteCause put.Memory before now = now ≡ before
+WriteCause answer before now = HasCause (is_failed answer) before now

@@ -1,7 +1,7 @@
 -- What a read does to the bytes that a source has left and to its count of faults. This project's
 -- own choice.
-use Rattle.std.specs.Prelude.{◌≡◌, ℕ, ◌<◌, ◌≤◌, List, [], ◌++◌, take, Option, option_map, IfSome}
-use Rattle.wm_faults.specs.Faults.{Failed}
+use Rattle.std.specs.Prelude.{◌≡◌, ℕ, ◌<◌, ◌≤◌, Bool, true, false, List, [], ◌++◌, take, Option, option_map, IfSome}
+use Rattle.wm_faults.specs.Faults.{HasCause}
 use Rattle.wm_io.specs.declared.source.Got.{Got}
 use Rattle.wm_io.specs.declared.source.Got.TheVariants as got
 
@@ -18,8 +18,10 @@ Reads (got.Some count) before now slice = before ≡ option_map (λ rest. take c
 Reads got.End before now slice = IfSome before (λ rest. rest ≡ []) × (now ≡ before)
 Reads got.Failed before now slice = now ≡ before
 
+abbrev pub is_failed : Got → Bool
+is_failed got.Failed = true
+is_failed _ = false
+
 -- a failed read raised the count, and any other left it
 abbrev pub ReadCause : Got → ℕ → ℕ → Type 0
-ReadCause (got.Some count) before now = now ≡ before
-ReadCause got.End before now = now ≡ before
-ReadCause got.Failed before now = Failed before now
+ReadCause answer before now = HasCause (is_failed answer) before now

@@ -1,10 +1,10 @@
 -- What the changes of a commit do to the rows held, and what a keeper's answer says of its count of
 -- faults. This project's own choice.
-use Rattle.std.specs.Prelude.{◌≡◌, ◌≢◌, ℕ, ℤ, List, [], ◌∷◌, Result, Ok, Err, if◌then◌else◌, int_lt, ◌<ℤ◌}
+use Rattle.std.specs.Prelude.{◌≡◌, ◌≢◌, ℕ, ℤ, Bool, true, false, List, [], ◌∷◌, Result, Ok, Err, if◌then◌else◌, int_lt, ◌<ℤ◌}
 use Rattle.std.specs.List.{AllByRecursion}
 use Rattle.wm_faults.specs.Faults as faults
 use Rattle.wm_keeper.specs.declared.keeper.KeepFault.{KeepFault}
-use Rattle.wm_keeper.specs.declared.keeper.KeepFault.TheVariants.{Failed, Memory}
+use Rattle.wm_keeper.specs.declared.keeper.KeepFault.TheVariants.{Failed}
 use Rattle.wm_keeper.specs.declared.row.Row.{Row}
 use Rattle.wm_keeper.specs.declared.row.Change.{Change}
 use Rattle.wm_keeper.specs.declared.row.Change.TheVariants.{Put, Remove}
@@ -50,8 +50,10 @@ abbrev pub AreOfDifferentNumbers : List Change → Type 0
 AreOfDifferentNumbers [] = Unit {0}
 AreOfDifferentNumbers (change ∷ changes) = AllByRecursion (λ later. number_of change ≢ number_of later) changes × AreOfDifferentNumbers changes
 
+abbrev pub is_failed : {T : Type 0} → Result T KeepFault → Bool
+is_failed (Err Failed) = true
+is_failed _ = false
+
 -- `Failed` comes only where the count rose, and any other answer leaves it
 abbrev pub KeepCause : {T : Type 0} → Result T KeepFault → ℕ → ℕ → Type 0
-KeepCause (Ok value) before now = now ≡ before
-KeepCause (Err Failed) before now = faults.Failed before now
-KeepCause (Err Memory) before now = now ≡ before
+KeepCause result before now = faults.HasCause (is_failed result) before now

@@ -1,7 +1,7 @@
 -- What writing a text gives to its sink. This project's own choice.
-use Rattle.std.specs.Prelude.{◌≡◌, ℕ, List, ◌++◌, Option, option_map, Result, Ok, Err}
+use Rattle.std.specs.Prelude.{◌≡◌, ℕ, Bool, true, false, List, ◌++◌, Option, option_map, Result, Ok, Err}
 use Rattle.wm_session.specs.declared.writing.WriteFault.{WriteFault}
-use Rattle.wm_session.specs.declared.writing.WriteFault.TheVariants.{Failed, Memory}
+use Rattle.wm_session.specs.declared.writing.WriteFault.TheVariants.{Failed}
 use Rattle.wm_faults.specs.Faults as faults
 use Rattle.wm_machine.specs.Log.{BeginsWith}
 
@@ -13,8 +13,10 @@ IsGiven before now text = now ≡ option_map (λ given. given ++ text) before
 abbrev pub IsPartGiven : Option (List ℕ) → Option (List ℕ) → List ℕ → Type 0
 IsPartGiven before now text = (front : List ℕ) × BeginsWith text front × IsGiven before now front
 
+abbrev pub is_failed : {T : Type 0} → Result T WriteFault → Bool
+is_failed (Err Failed) = true
+is_failed _ = false
+
 -- `Failed` comes only where the count rose, and any other answer leaves it
 abbrev pub WriteCause : {T : Type 0} → Result T WriteFault → ℕ → ℕ → Type 0
-WriteCause (Ok value) before now = now ≡ before
-WriteCause (Err Failed) before now = faults.Failed before now
-WriteCause (Err Memory) before now = now ≡ before
+WriteCause result before now = faults.HasCause (is_failed result) before now

@@ -1,5 +1,5 @@
 -- What the calls of the table do to the state, its log and the rows held. This project's own choice.
-use Rattle.std.specs.Prelude.{◌≡◌, ℕ, ◌+◌, ◌≤◌, true, false, List, [], ◌∷◌, ◌++◌, length, Option, Some, None, IsSome, IsSomeAnd, option_map, Result, Ok, Err}
+use Rattle.std.specs.Prelude.{◌≡◌, ℕ, ◌+◌, ◌≤◌, Bool, true, false, List, [], ◌∷◌, ◌++◌, length, Option, Some, None, IsSome, IsSomeAnd, option_map, Result, Ok, Err}
 use Rattle.std.specs.List.{AllByRecursion}
 use Rattle.wm_data.specs.declared.data.DataEntry.{DataEntry}
 use Rattle.wm_faults.specs.Faults as faults
@@ -51,11 +51,13 @@ pub record IsUntouched {K : Type 0} (held : K → Option (List Row)) (old new : 
   pub log : new.log ≡ old.log
   pub rows : held new.keeper ≡ held old.keeper
 
+abbrev pub is_keeper_fault : {T : Type 0} → Result T Trouble → Bool
+is_keeper_fault (Err trouble.KeeperFault) = true
+is_keeper_fault _ = false
+
 -- `KeeperFault` comes only where the keeper's count rose, and any other answer leaves it
 abbrev pub TroubleCause : {T : Type 0} → Result T Trouble → ℕ → ℕ → Type 0
-TroubleCause (Ok value) before now = now ≡ before
-TroubleCause (Err trouble.KeeperFault) before now = faults.Failed before now
-TroubleCause (Err trouble.Memory) before now = now ≡ before
+TroubleCause result before now = faults.HasCause (is_keeper_fault result) before now
 
 -- ---- begin
 
@@ -131,12 +133,13 @@ IsTurned held ticket told (turn.Again same) old new =
 IsTurned held ticket told (turn.Refused same report why) old new =
     CountsIn old.state ticket.task.run told × (same ≡ ticket) × (report ≡ told) × IsUntouched held old new
 
+abbrev pub is_refused_for_keeper : TurnAnswer → Bool
+is_refused_for_keeper (turn.Refused same report trouble.KeeperFault) = true
+is_refused_for_keeper _ = false
+
 -- `KeeperFault` comes only where the keeper's count rose, and any other answer leaves it
 abbrev pub TurnCause : TurnAnswer → ℕ → ℕ → Type 0
-TurnCause turn.Finished before now = now ≡ before
-TurnCause (turn.Again same) before now = now ≡ before
-TurnCause (turn.Refused same report trouble.KeeperFault) before now = faults.Failed before now
-TurnCause (turn.Refused same report trouble.Memory) before now = now ≡ before
+TurnCause answer before now = faults.HasCause (is_refused_for_keeper answer) before now
 
 -- ---- what a table keeps
 
