@@ -1,7 +1,7 @@
 -- What each kind of event makes of all but the records.
 use Rattle.std.proofs.Common.{◌≡◌, ℕ, ◌+◌, ◌≤◌, true, false, cond, eqb, List, [], ◌∷◌, ◌++◌, Option, Some, None, refl, sym, ◌∙◌, ap, arith}
 use Rattle.wm_data.specs.declared.data.DataEntry.{DataEntry}
-use Rattle.wm_machine.specs.Diaries.{end_entries, event_entries}
+use Rattle.wm_machine.specs.Diaries.{end_entries}
 use Rattle.wm_machine.specs.Ends.{end_of}
 use Rattle.wm_machine.specs.Enqueued.{outcome_by, placed, placed_record, refusal_of, with_work}
 use Rattle.wm_machine.specs.First.{first_of, idle_instance}

@@ -1,5 +1,5 @@
 -- A query that names nothing.
-use Rattle.std.proofs.Common.{◌≡◌, true, List, filter, refl}
+use Rattle.std.proofs.Common.{◌≡◌, true, refl}
 use Rattle.wm_machine.proofs.Lists.{filter-all}
 use Rattle.wm_machine.specs.Built.{NamesNothing}
 use Rattle.wm_machine.specs.Queried.{answer_to, matches}

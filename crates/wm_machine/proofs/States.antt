@@ -1,31 +1,30 @@
 -- Every step keeps what holds of the states, and adds the rows that it places.
-use Rattle.std.proofs.Common.{◌≡◌, ℕ, ◌+◌, ◌^◌, ◌<◌, ◌≤◌, Bool, true, false, cond, not, eqb, ltb, ◌||◌, pos, List, [], ◌∷◌, ◌++◌, length, map, Option, Some, None, Ok, refl, sym, ◌∙◌, ap, subst, inl, inr, arith, rules, length-append}
+use Rattle.std.proofs.Common.{◌≡◌, ℕ, ◌+◌, ◌^◌, ◌<◌, ◌≤◌, Bool, true, false, cond, not, eqb, ltb, ◌||◌, pos, List, [], ◌∷◌, ◌++◌, length, map, Option, Some, None, refl, sym, ◌∙◌, ap, subst, inl, inr, arith, rules, length-append}
 use Rattle.std.specs.List.{AllByRecursion, list_any}
 use Rattle.std.specs.Str.{bytes_eq}
 use Rattle.std.proofs.lemmas.Bool.{and_from, eq-eqb, ne_eqb, eqb-true, eqb-false, ltb-false, not-true, or_left, or_right, true≢false}
 use Rattle.std.proofs.lemmas.List.{length-map}
 use Rattle.std.proofs.lemmas.List.Folds.{list_any-append}
 use Rattle.std.specs.Prelude.{◌<ℤ◌}
-use Rattle.wm_collections.specs.Lists.{AllLater}
 use Rattle.wm_data.specs.declared.data.DataEntry.{DataEntry}
 use Rattle.wm_keeper.specs.declared.row.Row.{Row}
 use Rattle.wm_machine.proofs.Firsts.{first_of-stored, first_of-waiting, idle_instance-idle, idle_instance-stored}
 use Rattle.wm_machine.proofs.Frames.{after_start}
 use Rattle.wm_machine.proofs.Lists.{All-both, All-filter, All-map, All-push, All-weaker, AllLater-filter, AllLater-push, find-passes, HasOne-filter, HasOne-front, HasOne-last, HasOne-weaker, All-any, list_any-false, list_any-filter, none_pass, one_gives}
-use Rattle.wm_machine.proofs.Narrows.{found_valid, IsPlainEnd, plain_end, with_failure, with_start_failed-alone, with_success}
+use Rattle.wm_machine.proofs.Narrows.{found_valid, plain_end, with_failure, with_start_failed-alone, with_success}
 use Rattle.wm_machine.proofs.Records.{ArePriorSound-none, IsNarrowRecord-placed, IsRecord-failed, IsRecord-placed, IsRecord-started, IsRecord-succeeded, plain_node}
-use Rattle.wm_machine.proofs.Runnings.{all_of_number, AreNumberedInOrder-made, changed, changed_both, changed_there, found_or_apart, in_order-changed, IsAlone-stored, IsFoundOrApart, IsSameWork, KeepsWork, made, made_both, made_there, numbers-changed, old_work, other_number, other_work, records-changed, same_instance}
+use Rattle.wm_machine.proofs.Runnings.{all_of_number, AreNumberedInOrder-made, changed, changed_both, changed_there, found_or_apart, in_order-changed, IsAlone-stored, IsFoundOrApart, KeepsWork, made, made_both, made_there, numbers-changed, old_work, other_number, other_work, records-changed, same_instance}
 use Rattle.wm_machine.specs.Built.{IsPlain}
 use Rattle.wm_machine.specs.Closed.{closed}
 use Rattle.wm_machine.specs.Ends.{succeeded, with_start_failed}
-use Rattle.wm_machine.specs.Enqueued.{enqueued, first_of, id_in_use, is_stored, numbers_spent, outcome_by, placed, placed_record, refusal_of, too_many_works, with_work}
+use Rattle.wm_machine.specs.Enqueued.{enqueued, first_of, id_in_use, is_stored, numbers_spent, outcome_by, placed_record, refusal_of, too_many_works, with_work}
 use Rattle.wm_machine.specs.First.{first_of as first_work, idle_instance}
 use Rattle.wm_machine.specs.Limits.{IsShortText}
 use Rattle.wm_machine.specs.Narrow.{IsNarrow, IsNarrowRecord, IsNarrowRun}
 use Rattle.wm_machine.specs.Rows.{row_of}
-use Rattle.wm_machine.specs.Runs.{changed_work, other_runs, run_numbered, run_on, start_on, started, with_start}
-use Rattle.wm_machine.specs.Step.{after, after_command, IsEnd, IsStart, IsStartFailure, Legal, start_of}
-use Rattle.wm_machine.specs.Valid.{AreApart, AreOfOneKind, ArePriorSound, HasOne, IsBefore, IsCurrentOf, IsInstanceOf, IsOutForRun, IsRecord, IsValidRun, IsWorkOf, Valid}
+use Rattle.wm_machine.specs.Runs.{changed_work, other_runs, run_numbered, run_on, started, with_start}
+use Rattle.wm_machine.specs.Step.{after, IsEnd, IsStart, IsStartFailure, Legal}
+use Rattle.wm_machine.specs.Valid.{AreApart, ArePriorSound, HasOne, IsBefore, IsCurrentOf, IsInstanceOf, IsOutForRun, IsRecord, IsValidRun, IsWorkOf, Valid}
 use Rattle.wm_machine.specs.declared.command.Command.TheVariants as command
 use Rattle.wm_machine.specs.declared.event.Cause.{Cause}
 use Rattle.wm_machine.specs.declared.event.End.{End}
@@ -36,7 +35,6 @@ use Rattle.wm_machine.specs.declared.record.Phase.TheVariants as phase
 use Rattle.wm_machine.specs.declared.record.Record.{Record}
 use Rattle.wm_machine.specs.declared.reply.Refusal.{Refusal}
 use Rattle.wm_machine.specs.declared.reply.Refusal.TheVariants.{IdInUse, NumbersSpent, TooManyWorks}
-use Rattle.wm_machine.specs.declared.reply.Reply.{Reply}
 use Rattle.wm_machine.specs.declared.request.Node.{Node}
 use Rattle.wm_machine.specs.declared.state.Instance.{Instance}
 use Rattle.wm_machine.specs.declared.state.Run.{Run}

@@ -5,7 +5,6 @@ use Rattle.std.specs.Str.{bytes_eq}
 use Rattle.wm_machine.specs.Shown.{infos_of}
 use Rattle.wm_machine.specs.declared.record.Shown.{Shown}
 use Rattle.wm_machine.specs.declared.record.Shown.TheVariants as shown
-use Rattle.wm_machine.specs.declared.reply.Reply.TheVariants as reply
 use Rattle.wm_machine.specs.declared.reply.WorkInfo.{WorkInfo}
 use Rattle.wm_machine.specs.declared.state.State.{State}
 use Rattle.wm_machine.specs.declared.state.WorkQuery.{WorkQuery}
