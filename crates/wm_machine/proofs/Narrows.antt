@@ -208,8 +208,10 @@ plain_end s number end valid narrow legal =
     let run = legal.run in
     let kind = run_kind s run narrow (found_valid s number run valid legal.is_running) in
     let nothing : run.input ≡ [] = (found_narrow s number run narrow legal.is_running).no_input in
-    let is : end ≡ Success [] = echo_end run.kind run.input run.attempt run.turn end kind legal.may_give ∙ ap (λ (input : List DataEntry). Success input) nothing in
+    let is : end ≡ Success [] =
+    echo_end run.kind run.input run.attempt run.turn end kind legal.may_give ∙ ap (λ (input : List DataEntry). Success input) nothing in
     record {
       gives_nothing = is;
-      state = ap (λ e. after s (event.Finish number e)) is ∙ ap (λ found. end_of s found (Success [])) legal.is_running ∙ with_end-success s run [] narrow.records;
+      state = ap (λ e. after s (event.Finish number e)) is ∙ ap (λ found. end_of s found (Success [])) legal.is_running
+          ∙ with_end-success s run [] narrow.records;
     }

@@ -68,7 +68,8 @@ pub in_order-changed : (change : Record → Record) (seq : ℕ) (works : List Re
     → AllLater IsBefore (changed_work change seq works)
 in_order-changed change seq works keeps in_order =
     AllLater-map IsBefore IsBefore (changed change seq) works (λ one other before.
-    IsBefore-same one (changed change seq one) other (changed change seq other) (same-changed change seq one keeps) (same-changed change seq other keeps) before)
+    IsBefore-same one (changed change seq one) other (changed change seq other) (same-changed change seq one keeps)
+    (same-changed change seq other keeps) before)
     in_order
 
 -- what holds of each record still does, where the change keeps it of the one that it is made to

@@ -175,7 +175,8 @@ IsOutForRun-made runs run other out =
 
 -- the records are within their limits and narrow after such a change
 records-kept : (s : State) (change : Record → Record) (seq : ℕ) → Valid s → IsNarrow s
-    → ((work : Record) → work.seq ≡ seq → IsNarrowRecord work → IsRecord work → IsRecord (change work)) → AllByRecursion IsRecord (changed_work change seq s.works)
+    → ((work : Record) → work.seq ≡ seq → IsNarrowRecord work → IsRecord work → IsRecord (change work))
+    → AllByRecursion IsRecord (changed_work change seq s.works)
 records-kept s change seq valid narrow fine =
     records-changed (λ w. IsNarrowRecord w × IsRecord w) IsRecord change seq s.works (λ w e both. fine w e both.0 both.1) (λ w both. both.1)
     (All-both IsNarrowRecord IsRecord s.works narrow.records valid.records)
@@ -306,7 +307,8 @@ Valid-failure s work valid narrow first =
       sound = sound-narrow works works (narrow-kept s change work.seq narrow plain-failed);
       running = All-map (λ w. w.phase ≡ phase.Running → HasOne (IsCurrentOf w.seq) s.runs) (λ w. w.phase ≡ phase.Running → HasOne (IsCurrentOf w.seq) s.runs)
           (changed change work.seq) s.works (λ w has.
-          changed_both (λ c. c.phase ≡ phase.Running → HasOne (IsCurrentOf c.seq) s.runs) change work.seq w (λ e running. absurd (cc)) (λ e. has)) valid.running;
+          changed_both (λ c. c.phase ≡ phase.Running → HasOne (IsCurrentOf c.seq) s.runs) change work.seq w (λ e running. absurd (cc))
+          (λ e. has)) valid.running;
       runs = All-weaker (IsValidRun s) (IsValidRun (with_failure s work.seq)) s.runs (λ r is. record {
         number = is.number;
         turn = is.turn;
@@ -351,7 +353,8 @@ IsOutForRun-freed s run i told out =
     let on : Run → Bool = λ r. eqb r.instance i.number in
     made_both (IsOutForRun (other_runs run.run s.runs)) false run.instance i (λ e. sym
     (list_any-false on (other_runs run.run s.runs)
-    (others s run (λ r. on r ≡ false) told (λ other apart is. ne_eqb other.instance i.number (λ same. apart.instances (sym (same ∙ e))))))) (λ differs. out ∙ sym
+    (others s run (λ r. on r ≡ false) told (λ other apart is. ne_eqb other.instance i.number (λ same. apart.instances (sym (same ∙ e)))))))
+    (λ differs. out ∙ sym
     (list_any-filter on (stays run) s.runs (All-weaker (IsTold s run) (λ r. stays run r ≡ false → on r ≡ false) s.runs (λ r is dropped.
     elim is.0 [
       | inl found ↦ ne_eqb r.instance i.number (λ same. differs (sym same ∙ ap (λ (x : Run). x.instance) found.1))
