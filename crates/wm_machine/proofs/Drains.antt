@@ -3,36 +3,32 @@ use Rattle.std.proofs.Common.{◌≡◌, ℕ, ◌<◌, ◌≤◌, zero, suc, con
 use Rattle.std.specs.List.{AllByRecursion}
 use Rattle.std.proofs.lemmas.Bool.{eq-eqb}
 use Rattle.wm_data.specs.declared.data.DataEntry.{DataEntry}
+use Rattle.wm_machine.proofs.Commands.{answered}
 use Rattle.wm_machine.proofs.Firsts.{first_of-no_worker, first_of-stored, start_refusal-no_worker}
 use Rattle.wm_machine.proofs.Frames.{after_start, frame-command}
 use Rattle.wm_machine.proofs.Narrows.{found_narrow, found_valid, run_kind, with_success}
 use Rattle.wm_machine.proofs.Runnings.{IsAlone-stored}
-use Rattle.wm_machine.proofs.States.{after_finish, after_start_failed, IsReached, IsReached-after}
+use Rattle.wm_machine.proofs.States.{after_finish, after_start_failed, IsReached-after}
 use Rattle.wm_machine.proofs.Waitings.{left_to_drain-started, left_to_drain-succeeded}
 use Rattle.wm_machine.specs.Built.{IsBuilt}
 use Rattle.wm_machine.specs.Closed.{closed}
-use Rattle.wm_machine.specs.Enqueued.{enqueued}
 use Rattle.wm_machine.specs.First.{first_of, idle_instance}
 use Rattle.wm_machine.specs.Frame.{Frame}
 use Rattle.wm_machine.specs.Log.{command_in, commands_of}
-use Rattle.wm_machine.specs.Queried.{answer_to}
+use Rattle.wm_machine.specs.Narrow.{IsReached}
 use Rattle.wm_machine.specs.Quiet.{IsQuiet}
 use Rattle.wm_machine.specs.Replay.{Replay}
 use Rattle.wm_machine.specs.Runs.{other_runs, run_numbered, run_on, started, with_start}
 use Rattle.wm_machine.specs.Serial.{AreInTurn, IsInTurn}
-use Rattle.wm_machine.specs.Step.{after, Answers, Legal}
+use Rattle.wm_machine.specs.Step.{after, Legal}
 use Rattle.wm_machine.specs.Waiting.{left_to_drain}
 use Rattle.wm_machine.specs.declared.command.Command.{Command}
-use Rattle.wm_machine.specs.declared.command.Command.TheVariants as command
 use Rattle.wm_machine.specs.declared.event.Cause.TheVariants.{NoWorker}
 use Rattle.wm_machine.specs.declared.event.End.TheVariants.{Success}
 use Rattle.wm_machine.specs.declared.event.Event.{Event}
 use Rattle.wm_machine.specs.declared.event.Event.TheVariants as event
 use Rattle.wm_machine.specs.declared.record.How.TheVariants as how
 use Rattle.wm_machine.specs.declared.record.Record.{Record}
-use Rattle.wm_machine.specs.declared.reply.Refusal.TheVariants.{Line}
-use Rattle.wm_machine.specs.declared.reply.Reply.{Reply}
-use Rattle.wm_machine.specs.declared.reply.Reply.TheVariants as reply
 use Rattle.wm_machine.specs.declared.state.Instance.{Instance}
 use Rattle.wm_machine.specs.declared.state.Run.{Run}
 use Rattle.wm_machine.specs.declared.state.State.{State}
@@ -201,13 +197,6 @@ settle : (s : State) → IsReached s → length s.runs ≤ 1 → GoesOn [] s
 settle s reached few = settle_by s s.runs refl reached few
 
 -- ---- the lines
-
--- each command that is built has a reply
-pub answered : (s : State) (asked : Command) → IsBuilt asked → (answer : Reply) × Answers s asked answer
-answered s (command.Enqueue None batch) built = ((enqueued s None batch.works).reply, refl)
-answered s (command.Query query) built = (reply.Query (answer_to s query), refl)
-answered s (command.Faulty fault) built = (reply.Refused (Line fault), refl)
-answered s _ built = absurd built
 
 -- the lines follow one another, each once all before it is done
 pub goes_on : (lines : List Command) (s : State) → AllByRecursion IsBuilt lines → IsReached s → length s.runs ≤ 1 → GoesOn lines s

@@ -1,65 +1,22 @@
 -- What each kind of event makes of all but the records.
+pub use Rattle.wm_machine.proofs.Commands.{frame-command}
 use Rattle.std.proofs.Common.{◌≡◌, ℕ, ◌+◌, ◌≤◌, true, false, cond, eqb, List, [], ◌∷◌, ◌++◌, Option, Some, None, refl, sym, ◌∙◌, ap, arith}
 use Rattle.wm_data.specs.declared.data.DataEntry.{DataEntry}
 use Rattle.wm_machine.specs.Diaries.{end_entries}
 use Rattle.wm_machine.specs.Ends.{end_of}
-use Rattle.wm_machine.specs.Enqueued.{outcome_by, placed, placed_record, refusal_of, with_work}
 use Rattle.wm_machine.specs.First.{first_of, idle_instance}
-use Rattle.wm_machine.specs.Frame.{Frame, frame_of}
+use Rattle.wm_machine.specs.Frame.{Frame, frame_of, untouched}
 use Rattle.wm_machine.specs.Runs.{other_runs, run_numbered, run_on, start_on, with_out, with_start}
 use Rattle.wm_machine.specs.Step.{after, IsEnd, IsStart, start_of}
-use Rattle.wm_machine.specs.declared.command.Command.{Command}
-use Rattle.wm_machine.specs.declared.command.Command.TheVariants as command
 use Rattle.wm_machine.specs.declared.event.Cause.{Cause}
 use Rattle.wm_machine.specs.declared.event.End.{End}
 use Rattle.wm_machine.specs.declared.event.Event.{Event}
 use Rattle.wm_machine.specs.declared.event.Event.TheVariants as event
 use Rattle.wm_machine.specs.declared.record.Record.{Record}
-use Rattle.wm_machine.specs.declared.reply.Refusal.{Refusal}
-use Rattle.wm_machine.specs.declared.reply.Reply.{Reply}
-use Rattle.wm_machine.specs.declared.request.Node.{Node}
 use Rattle.wm_machine.specs.declared.state.Instance.{Instance}
 use Rattle.wm_machine.specs.declared.state.Run.{Run}
 use Rattle.wm_machine.specs.declared.state.State.{State}
 use Rattle.wm_worker.specs.declared.answer.Entry.TheVariants.{Begun}
-
--- a frame that leaves all as it is, but for these commands
-abbrev pub untouched : State → List Command → Frame
-untouched s commands = record {
-  commands = commands;
-  runs = s.runs;
-  instances = s.instances;
-  next_run = s.next_run;
-  entries = λ number. [];
-}
-
--- the frame of a state in which other works stand, where the rest is the same
-abbrev frame_in : State → List Command → State → Frame
-frame_in s commands t = record {
-  commands = commands;
-  runs = t.runs;
-  instances = t.instances;
-  next_run = t.next_run;
-  entries = λ number. [];
-}
-
-frame-placed : (s : State) (commands : List Command) (name : Option (List ℕ)) (nodes : List Node)
-    → frame_in s commands (placed s name nodes) ≡ untouched s commands
-frame-placed s commands name [] = refl
-frame-placed s commands name (node ∷ nodes) = frame-placed (with_work s (placed_record s name node)) commands name nodes
-
-frame-outcome : (s : State) (commands : List Command) (found : Option Refusal) (works : List Node)
-    → frame_in s commands (outcome_by found s None works).state ≡ untouched s commands
-frame-outcome s commands (Some found) works = refl
-frame-outcome s commands None works = frame-placed s commands None works
-
--- a command changes neither runs nor instances
-pub frame-command : (s : State) (line : ℕ) (asked : Command) (answer : Reply)
-    → frame_of s (event.Command line asked answer) ≡ untouched s (asked ∷ [])
-frame-command s line (command.Enqueue None batch) answer =
-    frame-outcome s (command.Enqueue None batch ∷ []) (refusal_of s None batch.works) batch.works
-frame-command s line (command.Enqueue (Some unique) batch) answer = refl
-frame-command s line _ answer = refl
 
 -- a start leads to the state with its run
 pub after_start : (s : State) (run seq instance : ℕ) (input : List DataEntry) (legal : IsStart s run seq instance input)

@@ -1,5 +1,7 @@
+pub mod Commands
 pub mod DiaryLogs
 pub mod Drains
+pub mod Enqueues
 pub mod Firsts
 pub mod Frames
 pub mod Lists

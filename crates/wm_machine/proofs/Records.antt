@@ -1,6 +1,8 @@
 -- What a change keeps of a record.
 use Rattle.std.proofs.Common.{◌≡◌, ℕ, ◌+◌, ◌^◌, ◌<◌, ◌≤◌, List, [], length, None, refl, sym, ◌∙◌, subst, arith}
+use Rattle.std.specs.List.{AllByRecursion}
 use Rattle.wm_data.specs.Size.{IsData}
+use Rattle.wm_machine.proofs.Lists.{All-weaker}
 use Rattle.wm_machine.specs.Closed.{closed}
 use Rattle.wm_machine.specs.Ends.{succeeded}
 use Rattle.wm_machine.specs.Enqueued.{placed_record}
@@ -146,3 +148,9 @@ ArePriorSound-none works (phase.Done how.Succeeded) prior none =
     subst (λ prior. ArePriorSound works (phase.Done how.Succeeded) prior) (sym none) tt
 ArePriorSound-none works (phase.Done how.Failed) prior none = tt
 ArePriorSound-none works (phase.Done how.Cancelled) prior none = tt
+
+-- what is sound among these records, where none names a prerequisite
+pub sound-narrow : (works among : List Record) → AllByRecursion IsNarrowRecord works → AllByRecursion (λ work. ArePriorSound among work.phase work.prior) works
+sound-narrow works among narrow =
+    All-weaker IsNarrowRecord (λ work. ArePriorSound among work.phase work.prior) works
+    (λ work is. ArePriorSound-none among work.phase work.prior is.no_prerequisite) narrow

@@ -1,13 +1,14 @@
 -- A log in serial order, with more events.
 use Rattle.std.proofs.Common.{◌≡◌, ℕ, ◌≤◌, List, [], ◌∷◌, ◌++◌, length, sym, ◌∙◌, ap, subst}
 use Rattle.std.specs.List.{AllByRecursion}
-use Rattle.wm_machine.proofs.Drains.{answered, AreInTurn-append, commands_of-append, goes_on, Replay-append}
+use Rattle.wm_machine.proofs.Commands.{answered}
+use Rattle.wm_machine.proofs.Drains.{AreInTurn-append, commands_of-append, goes_on, Replay-append}
 use Rattle.wm_machine.proofs.Frames.{frame-command}
-use Rattle.wm_machine.proofs.States.{IsReached, IsReached-after}
+use Rattle.wm_machine.proofs.States.{IsReached-after}
 use Rattle.wm_machine.specs.Built.{IsBuilt}
 use Rattle.wm_machine.specs.Frame.{Frame}
 use Rattle.wm_machine.specs.Log.{commands_of}
-use Rattle.wm_machine.specs.Narrow.{IsNarrow}
+use Rattle.wm_machine.specs.Narrow.{IsNarrow, IsReached}
 use Rattle.wm_machine.specs.Replay.{Replay}
 use Rattle.wm_machine.specs.Serial.{AreInOrder, AreInTurn, BeginsSerial, IsInTurn, MayGoOn}
 use Rattle.wm_machine.specs.Step.{after, Legal}

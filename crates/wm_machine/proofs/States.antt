@@ -1,31 +1,27 @@
 -- Every step keeps what holds of the states, and adds the rows that it places.
-use Rattle.std.proofs.Common.{◌≡◌, ℕ, ◌+◌, ◌^◌, ◌<◌, ◌≤◌, Bool, true, false, cond, not, eqb, ltb, ◌||◌, pos, List, [], ◌∷◌, ◌++◌, length, map, Option, Some, None, refl, sym, ◌∙◌, ap, subst, inl, inr, arith, rules, length-append}
+use Rattle.std.proofs.Common.{◌≡◌, ℕ, ◌<◌, ◌≤◌, Bool, true, false, not, eqb, ◌||◌, pos, List, [], ◌∷◌, ◌++◌, map, Some, refl, sym, ◌∙◌, ap, subst, inl, inr, arith, rules}
 use Rattle.std.specs.List.{AllByRecursion, list_any}
-use Rattle.std.specs.Str.{bytes_eq}
-use Rattle.std.proofs.lemmas.Bool.{and_from, eq-eqb, ne_eqb, eqb-true, eqb-false, ltb-false, not-true, or_left, or_right, true≢false}
+use Rattle.std.proofs.lemmas.Bool.{eq-eqb, ne_eqb, eqb-true, eqb-false, not-true, or_left, or_right, true≢false}
 use Rattle.std.proofs.lemmas.List.{length-map}
 use Rattle.std.proofs.lemmas.List.Folds.{list_any-append}
 use Rattle.std.specs.Prelude.{◌<ℤ◌}
 use Rattle.wm_data.specs.declared.data.DataEntry.{DataEntry}
 use Rattle.wm_keeper.specs.declared.row.Row.{Row}
+use Rattle.wm_machine.proofs.Commands.{reached-command}
 use Rattle.wm_machine.proofs.Firsts.{first_of-stored, first_of-waiting, idle_instance-idle, idle_instance-stored}
 use Rattle.wm_machine.proofs.Frames.{after_start}
 use Rattle.wm_machine.proofs.Lists.{All-both, All-filter, All-map, All-push, All-weaker, AllLater-filter, AllLater-push, find-passes, HasOne-filter, HasOne-front, HasOne-last, HasOne-weaker, All-any, list_any-false, list_any-filter, none_pass, one_gives}
 use Rattle.wm_machine.proofs.Narrows.{found_valid, plain_end, with_failure, with_start_failed-alone, with_success}
-use Rattle.wm_machine.proofs.Records.{ArePriorSound-none, IsNarrowRecord-placed, IsRecord-failed, IsRecord-placed, IsRecord-started, IsRecord-succeeded, plain_node}
+use Rattle.wm_machine.proofs.Records.{IsRecord-failed, IsRecord-started, IsRecord-succeeded, sound-narrow}
 use Rattle.wm_machine.proofs.Runnings.{all_of_number, AreNumberedInOrder-made, changed, changed_both, changed_there, found_or_apart, in_order-changed, IsAlone-stored, IsFoundOrApart, KeepsWork, made, made_both, made_there, numbers-changed, old_work, other_number, other_work, records-changed, same_instance}
-use Rattle.wm_machine.specs.Built.{IsPlain}
 use Rattle.wm_machine.specs.Closed.{closed}
 use Rattle.wm_machine.specs.Ends.{succeeded, with_start_failed}
-use Rattle.wm_machine.specs.Enqueued.{enqueued, first_of, id_in_use, is_stored, numbers_spent, outcome_by, placed_record, refusal_of, too_many_works, with_work}
 use Rattle.wm_machine.specs.First.{first_of as first_work, idle_instance}
-use Rattle.wm_machine.specs.Limits.{IsShortText}
-use Rattle.wm_machine.specs.Narrow.{IsNarrow, IsNarrowRecord, IsNarrowRun}
+use Rattle.wm_machine.specs.Narrow.{IsNarrow, IsNarrowRecord, IsNarrowRun, IsReached}
 use Rattle.wm_machine.specs.Rows.{row_of}
 use Rattle.wm_machine.specs.Runs.{changed_work, other_runs, run_numbered, run_on, started, with_start}
 use Rattle.wm_machine.specs.Step.{after, IsEnd, IsStart, IsStartFailure, Legal}
-use Rattle.wm_machine.specs.Valid.{AreApart, ArePriorSound, HasOne, IsBefore, IsCurrentOf, IsInstanceOf, IsOutForRun, IsRecord, IsValidRun, IsWorkOf, Valid}
-use Rattle.wm_machine.specs.declared.command.Command.TheVariants as command
+use Rattle.wm_machine.specs.Valid.{AreApart, HasOne, IsCurrentOf, IsInstanceOf, IsOutForRun, IsRecord, IsValidRun, IsWorkOf, Valid}
 use Rattle.wm_machine.specs.declared.event.Cause.{Cause}
 use Rattle.wm_machine.specs.declared.event.End.{End}
 use Rattle.wm_machine.specs.declared.event.Event.{Event}
@@ -33,9 +29,6 @@ use Rattle.wm_machine.specs.declared.event.Event.TheVariants as event
 use Rattle.wm_machine.specs.declared.record.How.TheVariants as how
 use Rattle.wm_machine.specs.declared.record.Phase.TheVariants as phase
 use Rattle.wm_machine.specs.declared.record.Record.{Record}
-use Rattle.wm_machine.specs.declared.reply.Refusal.{Refusal}
-use Rattle.wm_machine.specs.declared.reply.Refusal.TheVariants.{IdInUse, NumbersSpent, TooManyWorks}
-use Rattle.wm_machine.specs.declared.request.Node.{Node}
 use Rattle.wm_machine.specs.declared.state.Instance.{Instance}
 use Rattle.wm_machine.specs.declared.state.Run.{Run}
 use Rattle.wm_machine.specs.declared.state.State.{State}
@@ -50,104 +43,6 @@ rows_below (work ∷ works) next below = (search (rules, below.0), rows_below wo
 pub map-push : {A B : Type 0} (f : A → B) (xs : List A) (x : A) → map f (xs ++ x ∷ []) ≡ map f xs ++ f x ∷ []
 map-push f [] x = refl
 map-push f (y ∷ xs) x = ap (λ rest. f y ∷ rest) (map-push f xs x)
-
--- what is sound among these records, where none names a prerequisite
-sound-narrow : (works among : List Record) → AllByRecursion IsNarrowRecord works → AllByRecursion (λ work. ArePriorSound among work.phase work.prior) works
-sound-narrow works among narrow =
-    All-weaker IsNarrowRecord (λ work. ArePriorSound among work.phase work.prior) works
-    (λ work is. ArePriorSound-none among work.phase work.prior is.no_prerequisite) narrow
-
--- ---- an enqueue
-
-bytes_eq-refl : (text : List ℕ) → bytes_eq text text ≡ true
-bytes_eq-refl [] = refl
-bytes_eq-refl (byte ∷ text) = and_from _ _ (eq-eqb byte byte refl) (bytes_eq-refl text)
-
--- a record under the next number and with a new id, without a unique name, which isn't running, keeps what is valid, where there is room
-Valid-with_work : (s : State) (work : Record) → Valid s → IsNarrow (with_work s work) → work.seq ≡ s.next → work.name ≡ None
-    → is_stored s.works work.request.id ≡ false → IsRecord work → (work.phase ≡ phase.Running → ⊥)
-    → length s.works + 1 ≤ 100000 → s.next + 1 ≤ 2 ^ 53 → Valid (with_work s work)
-Valid-with_work s work valid narrow numbered unnamed new fine idle room numbers =
-    let others =
-    All-both (λ other. other.seq < s.next) (λ other. bytes_eq other.request.id work.request.id ≡ false) s.works valid.numbers
-    (none_pass (λ other. bytes_eq other.request.id work.request.id) s.works new) in
-    record {
-      numbers =
-          All-push (λ w. w.seq < s.next + 1) s.works work
-          (All-weaker (λ w. w.seq < s.next) (λ w. w.seq < s.next + 1) s.works (λ w below. omega arith) valid.numbers) (omega arith);
-      first = let first = valid.first in omega arith;
-      next = numbers;
-      few_works = omega (arith, length-append s.works (work ∷ []));
-      records = All-push IsRecord s.works work valid.records fine;
-      in_order = AllLater-push IsBefore s.works work valid.in_order
-          (All-weaker (λ other. (other.seq < s.next) × (bytes_eq other.request.id work.request.id ≡ false)) (λ other. IsBefore other work) s.works
-          (λ other is. record {
-            number = let below = is.0 in omega arith;
-            id = λ e. true≢false (sym (ap (λ id. bytes_eq id work.request.id) e ∙ bytes_eq-refl work.request.id) ∙ is.1);
-            name = λ name has named. let clash : None ≡ Some name = sym unnamed ∙ named in absurd (cc);
-          }) others);
-      sound = sound-narrow (s.works ++ work ∷ []) (s.works ++ work ∷ []) narrow.records;
-      running = All-push (λ w. w.phase ≡ phase.Running → HasOne (IsCurrentOf w.seq) s.runs) s.works work valid.running (λ e. absurd (idle e));
-      runs = All-weaker (IsValidRun s) (IsValidRun (with_work s work)) s.runs (λ run is. record {
-        number = is.number;
-        turn = is.turn;
-        work = λ current. HasOne-front (IsWorkOf run) s.works (work ∷ []) (is.work current);
-        instance = is.instance;
-      }) valid.runs;
-      apart = valid.apart;
-      instances = valid.instances;
-      numbered = valid.numbered;
-      few_observers = valid.few_observers;
-      now = valid.now;
-    }
-
-IsNarrow-with_work : (s : State) (work : Record) → IsNarrow s → IsNarrowRecord work → IsNarrow (with_work s work)
-IsNarrow-with_work s work narrow is = record {
-  records = All-push IsNarrowRecord s.works work narrow.records is;
-  runs = narrow.runs;
-  echoes = narrow.echoes;
-}
-
-first_of-none : (check : Option Refusal) (checks : List (Option Refusal)) → first_of (check ∷ checks) ≡ None → (check ≡ None) × (first_of checks ≡ None)
-first_of-none (Some found) checks none = absurd (cc)
-first_of-none None checks none = (refl, none)
-
-not_found : (test : Bool) (found : Refusal) → cond test (Some found) None ≡ None → test ≡ false
-not_found true found none = absurd (cc)
-not_found false found none = refl
-
--- where no check refuses a batch, there is room for it
-pub room : (s : State) (works : List Node) → refusal_of s None works ≡ None → (length s.works + length works ≤ 100000) × (s.next + length works ≤ 2 ^ 53)
-room s works none =
-    let first = first_of-none (too_many_works s works) (numbers_spent s works ∷ id_in_use s works ∷ []) none in
-    let second = first_of-none (numbers_spent s works) (id_in_use s works ∷ []) first.1 in (
-      ltb-false 100000 (length s.works + length works) (not_found (ltb 100000 (length s.works + length works)) (TooManyWorks (length s.works)) first.0),
-      ltb-false (2 ^ 53) (s.next + length works) (not_found (ltb (2 ^ 53) (s.next + length works)) (NumbersSpent s.next) second.0),
-    )
-
--- and no record has the id of its work
-new_id : (s : State) (work : Node) → refusal_of s None (work ∷ []) ≡ None → is_stored s.works work.request.id ≡ false
-new_id s work none =
-    let works = work ∷ [] in
-    let first = first_of-none (too_many_works s works) (numbers_spent s works ∷ id_in_use s works ∷ []) none in
-    let second = first_of-none (numbers_spent s works) (id_in_use s works ∷ []) first.1 in
-    let third = first_of-none (id_in_use s works) [] second.1 in
-    not_found (is_stored s.works work.request.id) (IdInUse work.request.id) third.0
-
-Valid-outcome : (s : State) (id class : List ℕ) (found : Option Refusal) → refusal_of s None (plain_node id class ∷ []) ≡ found
-    → length id ≡ 16 → IsShortText class → Valid s → IsNarrow s → Valid (outcome_by found s None (plain_node id class ∷ [])).state
-Valid-outcome s id class (Some found) is sixteen short valid narrow = valid
-Valid-outcome s id class None is sixteen short valid narrow =
-    let fits = room s (plain_node id class ∷ []) is in
-    let work = placed_record s None (plain_node id class) in
-    Valid-with_work s work valid (IsNarrow-with_work s work narrow (IsNarrowRecord-placed s id class)) refl refl (new_id s (plain_node id class) is)
-    (IsRecord-placed s id class sixteen short valid.first fits.1 valid.now) (λ e. cc) fits.0 fits.1
-
-IsNarrow-outcome : (s : State) (id class : List ℕ) (found : Option Refusal) → IsNarrow s
-    → IsNarrow (outcome_by found s None (plain_node id class ∷ [])).state
-IsNarrow-outcome s id class (Some found) narrow = narrow
-IsNarrow-outcome s id class None narrow =
-    IsNarrow-with_work s (placed_record s None (plain_node id class)) narrow (IsNarrowRecord-placed s id class)
 
 -- ---- a start
 
@@ -415,19 +310,6 @@ Valid-success s number run valid narrow found current =
 
 -- ---- every step
 
--- a state is valid, and narrow for now
-pub record IsReached (s : State) : Type 0 where
-  pub valid : Valid s
-  pub narrow : IsNarrow s
-
-reached-enqueue : (s : State) (works : List Node) → IsReached s → IsPlain works → IsReached (enqueued s None works).state
-reached-enqueue s works reached plain =
-    subst (λ (works : List Node). IsReached (enqueued s None works).state) (sym plain.one) (record {
-      valid = Valid-outcome s plain.id plain.class (refusal_of s None (plain_node plain.id plain.class ∷ [])) refl plain.id_is plain.class_is
-          reached.valid reached.narrow;
-      narrow = IsNarrow-outcome s plain.id plain.class (refusal_of s None (plain_node plain.id plain.class ∷ [])) reached.narrow;
-    })
-
 -- the input of a work is none
 start_nothing : (s : State) (run seq instance : ℕ) (input : List DataEntry) → IsNarrow s → (legal : IsStart s run seq instance input) → input ≡ []
 start_nothing s run seq instance input narrow legal =
@@ -462,7 +344,7 @@ after_finish s number end reached legal = (plain_end s number end reached.valid 
 
 -- every step keeps what holds of the states that are reached
 pub IsReached-after : (s : State) (e : Event) → IsReached s → Legal s e → IsReached (after s e)
-IsReached-after s (event.Command line (command.Enqueue None batch) reply) reached legal = reached-enqueue s batch.works reached legal.0
+IsReached-after s (event.Command line asked reply) reached legal = reached-command s asked legal.0 reached
 IsReached-after s (event.Start run seq instance input) reached legal =
     subst IsReached (sym (after_start s run seq instance input legal)) (reached-start s run seq instance input reached legal)
 IsReached-after s (event.StartFailed seq cause) reached legal =
@@ -475,9 +357,6 @@ IsReached-after s (event.Finish number end) reached legal =
       valid = Valid-success s number legal.run reached.valid reached.narrow legal.is_running legal.is_current;
       narrow = IsNarrow-success s legal.run reached.narrow;
     })
-IsReached-after s (event.Command line (command.Query query) reply) reached legal = reached
-IsReached-after s (event.Command line (command.Faulty fault) reply) reached legal = reached
-IsReached-after s (event.Command line _ reply) reached legal = absurd legal.0
 IsReached-after s _ reached legal = absurd legal
 
 pub Valid-after : (s : State) (e : Event) → Valid s → IsNarrow s → Legal s e → Valid (after s e)

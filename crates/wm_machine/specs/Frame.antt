@@ -1,5 +1,5 @@
 -- What an event makes of all but the records. This project's own choice.
-use Rattle.std.specs.Prelude.{ℕ, List}
+use Rattle.std.specs.Prelude.{ℕ, List, []}
 use Rattle.wm_machine.specs.Diaries.{event_entries}
 use Rattle.wm_machine.specs.Log.{command_in}
 use Rattle.wm_machine.specs.Step.{after}
@@ -25,4 +25,14 @@ frame_of s e = record {
   instances = (after s e).instances;
   next_run = (after s e).next_run;
   entries = λ number. event_entries number s e;
+}
+
+-- a frame that leaves all as it is, but for these commands
+abbrev pub untouched : State → List Command → Frame
+untouched s commands = record {
+  commands = commands;
+  runs = s.runs;
+  instances = s.instances;
+  next_run = s.next_run;
+  entries = λ number. [];
 }

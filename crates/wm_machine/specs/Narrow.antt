@@ -2,6 +2,7 @@
 -- This project's own choice.
 use Rattle.std.specs.Prelude.{◌≡◌, true, [], None}
 use Rattle.std.specs.List.{AllByRecursion}
+use Rattle.wm_machine.specs.Valid.{Valid}
 use Rattle.wm_machine.specs.declared.record.Record.{Record}
 use Rattle.wm_machine.specs.declared.state.Run.{Run}
 use Rattle.wm_machine.specs.declared.state.State.{State}
@@ -27,3 +28,8 @@ pub record IsNarrow (s : State) : Type 0 where
   pub records : AllByRecursion IsNarrowRecord s.works
   pub runs : AllByRecursion IsNarrowRun s.runs
   pub echoes : AllByRecursion (λ instance. instance.kind ≡ Echo) s.instances
+
+-- a state that the machine reaches for now
+pub record IsReached (s : State) : Type 0 where
+  pub valid : Valid s
+  pub narrow : IsNarrow s

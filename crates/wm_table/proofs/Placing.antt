@@ -4,7 +4,8 @@ use Rattle.wm_keeper.proofs.Ascending.{put_row-above}
 use Rattle.wm_keeper.specs.Keeper.{put_row}
 use Rattle.wm_keeper.specs.declared.row.Row.{Row}
 use Rattle.wm_machine.proofs.Records.{IsRecord-placed}
-use Rattle.wm_machine.proofs.States.{room, rows_below, map-push}
+use Rattle.wm_machine.proofs.Enqueues.{room}
+use Rattle.wm_machine.proofs.States.{rows_below, map-push}
 use Rattle.wm_machine.specs.Built.{IsPlain}
 use Rattle.wm_machine.specs.Enqueued.{enqueued, outcome_by, placed_record, refusal_of, with_work}
 use Rattle.wm_machine.specs.Requests.{plain_request}
