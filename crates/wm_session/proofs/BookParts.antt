@@ -3,7 +3,9 @@ use Rattle.std.proofs.Common.{◌≡◌, ℕ, ◌+◌, ◌-◌, ◌^◌, ◌≤�
 use Rattle.std.proofs.Math.Nat.{le-min, le_trans, min-le_left, min-le_right}
 use Rattle.wm_faults.specs.Faults.{Failed}
 use Rattle.wm_keeper.specs.declared.row.Row.{Row}
+use Rattle.wm_machine.proofs.Logs.{Replay-push}
 use Rattle.wm_machine.specs.Log.{BeginsWith}
+use Rattle.wm_machine.specs.Replay.{Replay}
 use Rattle.wm_machine.specs.Rows.{rows_of}
 use Rattle.wm_machine.specs.declared.command.Command.{Command}
 use Rattle.wm_machine.specs.declared.event.Cause.{Cause}
@@ -86,6 +88,16 @@ StopCause-write fault.Memory keeper keeper_now before now start same later = (om
 pub IsUntouched-same : {K : Type 0} (held : K → Option (List Row)) (old new : TableState K) → new ≡ old → IsUntouched held old new
 IsUntouched-same held old new same =
     subst (IsUntouched held old) (sym same) (record { first = refl; state = refl; log = refl; rows = refl })
+
+-- the log replays with its new event
+pub Replay-step : {K : Type 0} (held : K → Option (List Row)) (e : Event) (old new : TableState K) → Replay old.first old.log old.state
+    → IsOneStep held e old new → Replay new.first new.log new.state
+Replay-step held e old new replays step =
+    rw (step.first, step.appended, step.state) (Replay-push old.first old.log old.state e replays step.legal)
+
+pub Replay-same : {K : Type 0} (held : K → Option (List Row)) (old new : TableState K) → Replay old.first old.log old.state → IsUntouched held old new
+    → Replay new.first new.log new.state
+Replay-same held old new replays same = rw (same.first, same.log, same.state) replays
 
 last_of-push : {T : Type 0} (xs : List T) (x : T) → last_of (xs ++ x ∷ []) ≡ Some x
 last_of-push [] x = refl

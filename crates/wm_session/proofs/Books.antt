@@ -7,7 +7,7 @@ use Rattle.wm_bench.specs.Seat.{Seat}
 use Rattle.wm_bench.specs.declared.place.Place.{Place}
 use Rattle.wm_data.specs.declared.data.DataEntry.{DataEntry}
 use Rattle.wm_machine.proofs.Firsts.{idle_instance-idle, idle_instance-stored}
-use Rattle.wm_machine.proofs.Logs.{Replay-push, commands_of-push, AreNumberedFrom-push}
+use Rattle.wm_machine.proofs.Logs.{commands_of-push, AreNumberedFrom-push}
 use Rattle.wm_script.proofs.LogTexts.{log_text-push}
 use Rattle.wm_machine.proofs.States.{Valid-after}
 use Rattle.wm_machine.specs.Built.{IsBuilt}
@@ -26,7 +26,7 @@ use Rattle.wm_machine.specs.declared.reply.Reply.{Reply}
 use Rattle.wm_machine.specs.declared.state.State.{State}
 use Rattle.wm_session.proofs.Benches.{all_here, away-changed, away-taken, idle_at-in, kind-Echo, no_seat, seat_is, traits-given, traits-taken, traits-with_out}
 use Rattle.wm_session.proofs.BookEvents.{AreNumberedFrom-silent, IsSilent, IsSilent-finish, IsSilent-start, IsSilent-start_failed, instances-after_command, instances-finished, instances-started, ticket_kind}
-use Rattle.wm_session.proofs.BookParts.{AreAwayKept-from, AreAwayKept-stopped, AreLinesKept-from, AreLinesKept-front, AreTextsKept-stopped, IsUntouched-same, StopCause-turn, StopCause-write, last_of-step, rows_then}
+use Rattle.wm_session.proofs.BookParts.{AreAwayKept-from, AreAwayKept-stopped, AreLinesKept-from, AreLinesKept-front, AreTextsKept-stopped, IsUntouched-same, StopCause-turn, StopCause-write, last_of-step, Replay-same, Replay-step, rows_then}
 use Rattle.wm_session.proofs.Pieces.{AreTextsKept-more, AreTextsKept-unwritten}
 use Rattle.wm_session.specs.Bench.{instance_traits, is_away, place_traits, AreIdle}
 use Rattle.wm_session.specs.Book as book
@@ -62,14 +62,6 @@ away_now : {K W B : Type 0} (old : BookState K W B) → old.status ≡ None → 
 away_now old going kept = subst (λ status. AreAwayKept status old) going kept
 
 module _ {K W B : Type 0} {run : Given} {tells : Tells K W B} where
-  replayed : (e : Event) (old new : BookState K W B) → IsBookKept run tells old → IsOneStep tells.held e old.table new.table
-      → Replay new.table.first new.table.log new.table.state
-  replayed e old new kept step =
-      subst (λ first. Replay first new.table.log new.table.state) (sym step.first)
-      (subst (λ log. Replay old.table.first log new.table.state) (sym step.appended)
-      (subst (λ s. Replay old.table.first (old.table.log ++ e ∷ []) s) (sym step.state)
-      (Replay-push old.table.first old.table.log old.table.state e kept.replay step.legal)))
-
   text_is : (e : Event) (old new : BookState K W B) → IsBookKept run tells old → IsOneStep tells.held e old.table new.table
       → log_text new.table.first new.table.log ≡ log_text old.table.first old.table.log ++ event_text old.table.state e
   text_is e old new kept step =
@@ -98,7 +90,7 @@ module _ {K W B : Type 0} {run : Given} {tells : Tells K W B} where
       subst (λ status. AreTextsKept status run.written (tells.given old.sink) (log_text old.table.first old.table.log) old.pending) more.going kept.texts in
       record {
         first = step.first ∙ kept.first;
-        replay = replayed e old new kept step;
+        replay = Replay-step tells.held e old.table new.table kept.replay step;
         valid = subst Valid (sym step.state) (Valid-after old.table.state e kept.valid step.legal);
         lines = AreLinesKept-from new.status run.lines (commands_of new.table.log) new.left
             (lines ∙ ap (λ (l : List Command). done ++ l) more.left ∙ sym (append_assoc done (command_in e) new.left) ∙ ap (λ (l : List Command). l ++ new.left)
@@ -258,9 +250,7 @@ module _ {K W B : Type 0} {run : Given} {tells : Tells K W B} where
       let few : old.line + length old.left < 2 ^ 32 = kept.few_lines in
       record {
         first = same.first ∙ kept.first;
-        replay = subst (λ first. Replay first table.log table.state) (sym same.first)
-            (subst (λ log. Replay old.table.first log table.state) (sym same.log)
-            (subst (λ s. Replay old.table.first old.table.log s) (sym same.state) kept.replay));
+        replay = Replay-same tells.held old.table table kept.replay same;
         valid = subst Valid (sym same.state) kept.valid;
         lines = subst (λ log. BeginsWith run.lines (commands_of log)) (sym same.log)
             (AreLinesKept-front old.status run.lines (commands_of old.table.log) old.left kept.lines);

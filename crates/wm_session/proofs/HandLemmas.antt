@@ -34,11 +34,12 @@ AreIdle-back kind_of back number [] idle = tt
 AreIdle-back kind_of back zero (place ∷ places) idle = (refl, idle.1)
 AreIdle-back kind_of back (suc number) (place ∷ places) idle = (idle.0, AreIdle-back kind_of back number places idle.1)
 
-pub NoneRetired-back : {B : Type 0} (kind_of : B → Kind) (back : B) (number : ℕ) (places : List (Place B)) → NoneRetired places
-    → NoneRetired (changed_at (made_idle back) number (changed_at (made_away kind_of) number places))
-NoneRetired-back kind_of back number [] kept = tt
-NoneRetired-back kind_of back zero (place ∷ places) kept = (kept.0, kept.1)
-NoneRetired-back kind_of back (suc number) (place ∷ places) kept = (kept.0, NoneRetired-back kind_of back number places kept.1)
+-- a change that leaves its class
+pub NoneRetired-changed : {B : Type 0} (change : Place B → Place B) (number : ℕ) (places : List (Place B))
+    → ((place : Place B) → (change place).retired ≡ place.retired) → NoneRetired places → NoneRetired (changed_at change number places)
+NoneRetired-changed change number [] same kept = tt
+NoneRetired-changed change zero (place ∷ places) same kept = (same place ∙ kept.0, kept.1)
+NoneRetired-changed change (suc number) (place ∷ places) same kept = (kept.0, NoneRetired-changed change number places same kept.1)
 
 away_from-idle : {B : Type 0} (kind_of : B → Kind) (worker : B) (presence : Presence B) → idle_in presence ≡ Some worker
     → away_from kind_of presence ≡ Away (kind_of worker)

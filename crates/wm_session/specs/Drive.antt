@@ -1,35 +1,63 @@
 -- What driving a run to its end does. This project's own choice.
-use Rattle.std.specs.Prelude.{◌≡◌, ◌⊎◌, List, [], ◌∷◌, Option, Result, IfOk}
+use Rattle.std.specs.Prelude.{◌≡◌, ◌⊎◌, ℕ, ◌+◌, ◌<◌, ◌≤◌, List, [], ◌∷◌, length, slice_set, Option, Some, None, Result, IfOk}
 use Rattle.std.specs.declared.alloc.AllocError.{AllocError}
-use Rattle.wm_bench.specs.Places.{changed_at, made_idle}
+use Rattle.wm_bench.specs.Places.{changed_at, made_idle, IsAwayAt}
+use Rattle.wm_bench.specs.Seat.{Seat}
 use Rattle.wm_data.specs.declared.data.DataEntry.{DataEntry}
 use Rattle.wm_keeper.specs.declared.row.Row.{Row}
+use Rattle.wm_machine.specs.Diaries.{diaries_after}
+use Rattle.wm_machine.specs.Replay.{Replay}
+use Rattle.wm_machine.specs.Waiting.{waiting_count}
+use Rattle.wm_machine.specs.declared.command.Command.{Command}
 use Rattle.wm_machine.specs.declared.event.End.TheVariants.{Success}
 use Rattle.wm_machine.specs.declared.event.Event.TheVariants as event
+use Rattle.wm_session.specs.Bench.{AreIdle, place_diaries}
 use Rattle.wm_session.specs.Book.{GoesOn, HasStopped}
 use Rattle.wm_session.specs.BookState.{BookState}
-use Rattle.wm_table.specs.Table.{IsOneStep}
+use Rattle.wm_session.specs.Rest.{GoesInOrder, IsAtRest, KeepDiaries, NoneRetired}
+use Rattle.wm_table.specs.Table.{IsOneStep, IsTicketIn}
 use Rattle.wm_table.specs.TableState.{TicketState}
 use Rattle.wm_worker.specs.Diary.{diary_with, turn_entries}
 use Rattle.wm_worker.specs.Told.{Report}
 use Rattle.wm_worker.specs.declared.answer.Entry.{Entry}
-use Rattle.wm_worker.specs.declared.answer.Entry.TheVariants.{Begun, Gave}
+use Rattle.wm_worker.specs.declared.answer.Entry.TheVariants.{Gave}
 use Rattle.wm_worker.specs.declared.answer.Given.TheVariants as given
+use Rattle.wm_worker.specs.declared.kind.Kind.{Kind}
+
+-- ---- a run under way
+
+-- The run of a ticket is under way: the log replays, no other run is unreturned, the worker of its instance is away, and once it is back
+-- every worker is at its place.
+pub record IsUnderWay {K W B : Type 0} (ticket : TicketState) (book : BookState K W B) : Type 0 where
+  pub replay : Replay book.table.first book.table.log book.table.state
+  pub ticket_in : IsTicketIn book.table.state ticket
+  pub alone : length book.table.state.runs ≤ 1
+  pub away : IsAwayAt ticket.instance ticket.kind book.places
+  pub others : (back : B) → AreIdle (changed_at (made_idle back) ticket.instance book.places)
+  pub not_retired : NoneRetired book.places
+
+-- while the session goes on, each worker that tells a diary has written down its part of the log after these; the one that is away from
+-- this place has this diary
+abbrev pub KeepDiariesWith : {K W B : Type 0} → (B → Option (List Entry)) → ℕ → Option (List Entry) → List (Option (List Entry)) → BookState K W B
+    → Type 0
+KeepDiariesWith diary_of number diary diaries book =
+    book.status ≡ None → slice_set (place_diaries diary_of book.places) number diary ≡ diaries_after 0 book.table.first book.table.log diaries
+
+-- ---- one turn
 
 -- what a worker has written down once it has told this, where it did
 abbrev pub HasWritten : {B : Type 0} → (B → Option (List Entry)) → TicketState → B → B → Result Report AllocError → Type 0
 HasWritten diary_of ticket worker now told =
-    IfOk told
-    (λ answered. diary_of now ≡ diary_with (turn_entries ticket.task.run ticket.k answered.answer) (diary_with (Begun ticket.task.run ∷ []) (diary_of worker)))
+    IfOk told (λ answered. diary_of now ≡ diary_with (turn_entries ticket.task.run ticket.k answered.answer) (diary_of worker))
 
--- the run is over, and its worker, which has written down that it began and what it gave, is at its place again
-pub record IsDone {K W B : Type 0} (held : K → Option (List Row)) (diary_of : B → Option (List Entry)) (ticket : TicketState) (worker : B)
+-- the run is over, and its worker, which has written down what it gave, is at its place again
+pub record IsLastTurn {K W B : Type 0} (held : K → Option (List Row)) (diary_of : B → Option (List Entry)) (ticket : TicketState) (worker : B)
     (old new : BookState K W B) : Type 0 where
   pub output : List DataEntry
   pub back : B
   pub goes_on : GoesOn old new
   pub step : IsOneStep held (event.Finish ticket.task.run (Success output)) old.table new.table
-  pub diary : diary_of back ≡ diary_with (Begun ticket.task.run ∷ Gave ticket.task.run ticket.k (given.Success output) ∷ []) (diary_of worker)
+  pub diary : diary_of back ≡ diary_with (Gave ticket.task.run ticket.k (given.Success output) ∷ []) (diary_of worker)
   pub places : new.places ≡ changed_at (made_idle back) ticket.instance old.places
   pub left : new.left ≡ old.left
 
@@ -39,6 +67,35 @@ pub record IsGivenUp {K W B : Type 0} (held : K → Option (List Row)) (ticket :
   pub stopped : HasStopped held old new
   pub places : new.places ≡ changed_at (made_idle back) ticket.instance old.places
 
--- the run of a ticket was driven by this worker to its end, or the session has stopped early
-abbrev pub IsDriven : {K W B : Type 0} → (K → Option (List Row)) → (B → Option (List Entry)) → TicketState → B → BookState K W B → BookState K W B → Type 0
-IsDriven held diary_of ticket worker old new = IsDone held diary_of ticket worker old new ⊎ IsGivenUp held ticket old new
+-- the run goes on with this ticket, which is at the next turn of at most 1,000, and this seat, whose worker has written down what it gave
+pub record IsOtherTurn {K W B : Type 0} (held : K → Option (List Row)) (kind_of : B → Kind) (diary_of : B → Option (List Entry)) (ticket : TicketState)
+    (worker : B) (next : TicketState) (seat : Seat B) (old new : BookState K W B) : Type 0 where
+  pub progress : Option (List DataEntry)
+  pub goes_on : GoesOn old new
+  pub step : IsOneStep held (event.Turn ticket.task.run progress) old.table new.table
+  pub next_is : next ≡ record ticket { k = ticket.k + 1 }
+  pub turns_left : next.k < 1000
+  pub ticket_in : IsTicketIn new.table.state next
+  pub number : seat.number ≡ ticket.instance
+  pub kind : kind_of seat.worker ≡ ticket.kind
+  pub diary : diary_of seat.worker ≡ diary_with (Gave ticket.task.run ticket.k (given.More progress) ∷ []) (diary_of worker)
+  pub places : new.places ≡ old.places
+  pub left : new.left ≡ old.left
+
+-- the worker of a run took a turn: the run is over, or the session has stopped early, or the run goes on
+abbrev pub IsTurned : {K W B : Type 0} → (K → Option (List Row)) → (B → Kind) → (B → Option (List Entry)) → TicketState → B
+    → Option (TicketState × Seat B) → BookState K W B → BookState K W B → Type 0
+IsTurned held kind_of diary_of ticket worker None old new = IsLastTurn held diary_of ticket worker old new ⊎ IsGivenUp held ticket old new
+IsTurned held kind_of diary_of ticket worker (Some run) old new = IsOtherTurn held kind_of diary_of ticket worker run.0 run.1 old new
+
+-- ---- all turns
+
+-- A run was driven to its end, whose worker is away from this place and had this diary: the book is at rest with the lines that were left,
+-- no more works wait, and order and diaries are kept.
+pub record IsDriven {K W B : Type 0} (diary_of : B → Option (List Entry)) (number : ℕ) (diary : Option (List Entry)) (old new : BookState K W B)
+    : Type 0 where
+  pub rest : IsAtRest new
+  pub left : new.left ≡ old.left
+  pub no_more : waiting_count new.table.state.works ≤ waiting_count old.table.state.works
+  pub order : (lines : List Command) → GoesInOrder lines old → GoesInOrder lines new
+  pub diaries : (diaries : List (Option (List Entry))) → KeepDiariesWith diary_of number diary diaries old → KeepDiaries diary_of diaries new

@@ -1,12 +1,11 @@
--- A book between the runs of a serial session. This project's own choice.
-use Rattle.std.specs.Prelude.{◌≡◌, ◌⊎◌, ◌≤◌, false, List, [], ◌∷◌, ◌++◌, length, Option, None}
+-- A book between the runs of a session, and when its log is in serial order. This project's own choice.
+use Rattle.std.specs.Prelude.{◌≡◌, ◌⊎◌, ◌≤◌, false, List, [], length, Option, None}
 use Rattle.std.specs.List.{AllByRecursion}
 use Rattle.wm_bench.specs.declared.place.Place.{Place}
 use Rattle.wm_machine.specs.Diaries.{diaries_after}
-use Rattle.wm_machine.specs.Log.{commands_of}
 use Rattle.wm_machine.specs.Quiet.{IsQuiet}
 use Rattle.wm_machine.specs.Replay.{Replay}
-use Rattle.wm_machine.specs.Serial.{AreInOrder}
+use Rattle.wm_machine.specs.Serial.{AreInOrder, MayGoOn}
 use Rattle.wm_machine.specs.declared.command.Command.{Command}
 use Rattle.wm_session.specs.Bench.{AreIdle, place_diaries}
 use Rattle.wm_session.specs.BookState.{BookState}
@@ -25,13 +24,9 @@ pub record IsAtBegin {K W B : Type 0} (lines : List Command) (book : BookState K
   pub begun : book.table.state ≡ book.table.first
   pub lines_are : lines ≡ book.left
 
--- The log replays, is in serial order, and has the lines that were executed. Every worker is at its place, and while the session goes on
--- no run is unreturned.
-pub record IsAtRest {K W B : Type 0} (lines : List Command) (book : BookState K W B) : Type 0 where
+-- the log replays, every worker is at its place, and while the session goes on no run is unreturned
+pub record IsAtRest {K W B : Type 0} (book : BookState K W B) : Type 0 where
   pub replay : Replay book.table.first book.table.log book.table.state
-  pub lines_are : book.status ≡ None → lines ≡ commands_of book.table.log ++ book.left
-  pub in_order : AreInOrder lines book.table.first book.table.log
-  pub few_runs : length book.table.state.runs ≤ 1
   pub no_run : book.status ≡ None → book.table.state.runs ≡ []
   pub idle : AreIdle book.places
   pub not_retired : NoneRetired book.places
@@ -40,7 +35,20 @@ pub record IsAtRest {K W B : Type 0} (lines : List Command) (book : BookState K 
 abbrev pub KeepDiaries : {K W B : Type 0} → (B → Option (List Entry)) → List (Option (List Entry)) → BookState K W B → Type 0
 KeepDiaries diary_of diaries book = book.status ≡ None → place_diaries diary_of book.places ≡ diaries_after 0 book.table.first book.table.log diaries
 
--- the next line may be executed: nothing is left to do before it, or it is the first; where no line is left, nothing is left to do
-abbrev pub IsReady : {K W B : Type 0} → List Command → BookState K W B → Type 0
-IsReady [] book = IsQuiet book.table.state
-IsReady (asked ∷ left) book = IsQuiet book.table.state ⊎ (book.table.log ≡ [])
+-- ---- the serial order
+
+-- the log is in serial order over these lines, and at most one run is unreturned
+pub record IsInOrder {K W B : Type 0} (lines : List Command) (book : BookState K W B) : Type 0 where
+  pub in_order : AreInOrder lines book.table.first book.table.log
+  pub few_runs : length book.table.state.runs ≤ 1
+
+-- and while the session goes on, runs may start
+pub record GoesInOrder {K W B : Type 0} (lines : List Command) (book : BookState K W B) : Type 0 where
+  pub order : IsInOrder lines book
+  pub may_go_on : book.status ≡ None → MayGoOn lines book.table.log
+
+-- and while the session goes on, a line may come, and where none is left, runs may start: nothing is left to do, or nothing has happened
+-- and all of these lines are left
+pub record IsReady {K W B : Type 0} (lines : List Command) (book : BookState K W B) : Type 0 where
+  pub order : IsInOrder lines book
+  pub next : book.status ≡ None → (IsQuiet book.table.state × MayGoOn lines book.table.log) ⊎ ((book.table.log ≡ []) × (lines ≡ book.left))

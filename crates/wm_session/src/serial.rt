@@ -1,20 +1,20 @@
 //! The serial run: the lines one after another, and after each of them all that may start.
-ghost use Rattle.std.specs.Prelude.{◌≡◌, ◌<◌, [], List, Option, None, IsSome, true, IfOk};
+ghost use Rattle.std.specs.Prelude.{◌≡◌, ◌<◌, ◌∷◌, [], List, Option, None, IsSome, true, IfOk};
 ghost use Rattle.std.specs.List.{AllByRecursion};
-ghost use Rattle.wm_bench.specs.Places.{IsAwayAt};
 ghost use Rattle.wm_machine.specs.Built.{IsBuilt};
 ghost use Rattle.wm_machine.specs.Quiet.{IsQuiet};
-ghost use Rattle.wm_machine.specs.Serial.{MayGoOn};
 ghost use Rattle.wm_machine.specs.Waiting.{waiting_count};
+ghost use Rattle.wm_machine.specs.declared.command.Command.{Command};
 ghost use Rattle.wm_session.specs.Bench.{place_diaries};
-ghost use Rattle.wm_session.specs.Drive.{HasWritten, IsDriven};
+ghost use Rattle.wm_session.specs.Drive.{HasWritten, IsDriven, IsTurned, IsUnderWay};
 ghost use Rattle.wm_session.specs.Ended.{IsSerialEnd};
-ghost use Rattle.wm_session.specs.Rest.{IsAtBegin, IsAtRest, IsReady, KeepDiaries};
+ghost use Rattle.wm_session.specs.Rest.{GoesInOrder, IsAtBegin, IsAtRest, IsReady, KeepDiaries};
 ghost use Rattle.wm_session.specs.Tells.{tells_of};
-ghost use Rattle.wm_table.specs.Table.{IsTicketIn};
 ghost use Rattle.wm_worker.specs.Answers.{given_of};
+ghost use Rattle.wm_worker.specs.Diary.{diary_with};
 ghost use Rattle.wm_worker.specs.Told.{IsReportOf};
 ghost use Rattle.wm_worker.specs.declared.answer.Entry.{Entry};
+ghost use Rattle.wm_worker.specs.declared.answer.Entry.TheVariants.{Begun};
 
 use crate::book::{After, BookOf, Front, Job};
 use crate::ended::EndedOf;
@@ -49,27 +49,28 @@ pub fn run_serial<K: Keeper, W: Sink, B: Worker, M: Mark>(
     ensures { IsSerialEnd (tells_of K.held K.faults W.given W.faults B.kind_of B.diary_of)
         M.given (place_diaries B.diary_of book.places) result }
 {
-    if book.next_line().is_none() {
-        drain(alloc, &mut book);
-    }
     execute_lines(alloc, &mut book);
     book.finish()
 }
 
-/// Executes the lines that are left, and after each of them drives all that may start.
+/// Executes the lines that are left. After each of them, or once where none is left, it drives all
+/// that may start, until there is nothing left to do.
 fn execute_lines<K: Keeper, W: Sink, B: Worker, M: Mark>(
     alloc: Global,
     book: &mut BookOf<K, W, B, M>,
 )
-    requires rest { IsAtRest M.given.lines book.old }
-    requires ready { book.old.status ≡ None → IsReady book.old.left book.old }
-    ensures rest { IsAtRest M.given.lines book.new }
+    requires { IsAtRest book.old }
+    ensures rest { IsAtRest book.new }
     ensures done { book.new.status ≡ None → book.new.left ≡ [] }
     ensures quiet { book.new.status ≡ None → IsQuiet book.new.table.state }
+    ensures order { (lines : List Command) → IsReady lines book.old → IsReady lines book.new }
     ensures diaries { (diaries : List (Option (List Entry)))
         → KeepDiaries B.diary_of diaries book.old
         → KeepDiaries B.diary_of diaries book.new }
 {
+    if book.next_line().is_none() {
+        drain(alloc, book);
+    }
     'lines: loop {
         match book.front_step() {
             Front::Moved => drain(alloc, book),
@@ -81,11 +82,12 @@ fn execute_lines<K: Keeper, W: Sink, B: Worker, M: Mark>(
 /// Drives all that may start, until there is nothing left to do. Each start leaves one waiting work
 /// fewer, so it ends.
 fn drain<K: Keeper, W: Sink, B: Worker, M: Mark>(alloc: Global, book: &mut BookOf<K, W, B, M>)
-    requires rest { IsAtRest M.given.lines book.old }
-    requires may_go_on { MayGoOn M.given.lines book.old.table.log }
-    ensures rest { IsAtRest M.given.lines book.new }
+    requires { IsAtRest book.old }
+    ensures rest { IsAtRest book.new }
     ensures left { book.new.left ≡ book.old.left }
     ensures quiet { book.new.status ≡ None → IsQuiet book.new.table.state }
+    ensures order { (lines : List Command)
+        → GoesInOrder lines book.old → GoesInOrder lines book.new }
     ensures diaries { (diaries : List (Option (List Entry)))
         → KeepDiaries B.diary_of diaries book.old
         → KeepDiaries B.diary_of diaries book.new }
@@ -98,15 +100,15 @@ fn drive_first<K: Keeper, W: Sink, B: Worker, M: Mark>(
     alloc: Global,
     book: &mut BookOf<K, W, B, M>,
 ) -> Progress
-    requires rest { IsAtRest M.given.lines book.old }
-    requires may_go_on { MayGoOn M.given.lines book.old.table.log }
-    ensures rest { IsAtRest M.given.lines book.new }
-    ensures may_go_on { MayGoOn M.given.lines book.new.table.log }
+    requires { IsAtRest book.old }
+    ensures rest { IsAtRest book.new }
     ensures left { book.new.left ≡ book.old.left }
     ensures fewer { result ≡ Progress.Driven
         → waiting_count book.new.table.state.works < waiting_count book.old.table.state.works }
     ensures nothing { result ≡ Progress.Nothing → IsQuiet book.new.table.state }
     ensures stopped { result ≡ Progress.Stopped → IsSome book.new.status }
+    ensures order { (lines : List Command)
+        → GoesInOrder lines book.old → GoesInOrder lines book.new }
     ensures diaries { (diaries : List (Option (List Entry)))
         → KeepDiaries B.diary_of diaries book.old
         → KeepDiaries B.diary_of diaries book.new }
@@ -122,7 +124,8 @@ fn drive_first<K: Keeper, W: Sink, B: Worker, M: Mark>(
     }
 }
 
-/// Drives a run to its end: its worker begins, takes its turn, and is put back.
+/// Drives a run that has started to its end: its worker begins, and then takes its turns. Where
+/// memory is refused to it as it begins, that is reported in place of a turn.
 fn drive<K: Keeper, W: Sink, B: Worker, M: Mark>(
     alloc: Global,
     book: &mut BookOf<K, W, B, M>,
@@ -130,22 +133,70 @@ fn drive<K: Keeper, W: Sink, B: Worker, M: Mark>(
     mut seat: SeatedOf<B>,
     signal: &Signal,
 )
-    requires ticket_in { IsTicketIn book.old.table.state ticket }
+    requires under_way { IsUnderWay ticket book.old }
     requires number { seat.number ≡ ticket.instance }
     requires kind { B.kind_of seat.worker ≡ ticket.kind }
-    requires away { IsAwayAt seat.number (B.kind_of seat.worker) book.old.places }
     requires signal_is { signal.now ≡ record { run = ticket.task.run; never = true } }
-    ensures { IsDriven K.held B.diary_of ticket seat.worker book.old book.new }
+    ensures { IsDriven B.diary_of ticket.instance
+        (diary_with (Begun ticket.task.run ∷ []) (B.diary_of seat.worker)) book.old book.new }
 {
-    let told = run_worker(alloc, &mut seat, &ticket, signal);
+    match seat.begin(alloc, ticket.task()) {
+        Ok(()) => take_turns(alloc, book, ticket, seat, signal),
+        Err(refused) => match book.report(ticket, seat, Err(refused)) {
+            After::Stopped => {}
+            After::Over | After::Again(..) => unreachable!(),
+        },
+    }
+}
+
+/// Has the worker of a run, which has begun it, take turn after turn, until the run is over or the
+/// session has ended early. A run has at most 1,000 turns, so it ends.
+fn take_turns<K: Keeper, W: Sink, B: Worker, M: Mark>(
+    alloc: Global,
+    book: &mut BookOf<K, W, B, M>,
+    mut ticket: Ticket,
+    mut seat: SeatedOf<B>,
+    signal: &Signal,
+)
+    requires under_way { IsUnderWay ticket book.old }
+    requires number { seat.number ≡ ticket.instance }
+    requires kind { B.kind_of seat.worker ≡ ticket.kind }
+    requires signal_is { signal.now ≡ record { run = ticket.task.run; never = true } }
+    ensures { IsDriven B.diary_of ticket.instance (B.diary_of seat.worker) book.old book.new }
+{
+    'turns: loop {
+        let Some((next, kept)) = turn_once(alloc, book, ticket, seat, signal) else {
+            return;
+        };
+        ticket = next;
+        seat = kept;
+    }
+}
+
+/// Has the worker of a run take its turn, and reports what it told. Where the run goes on, its
+/// ticket for the next turn comes back, with the same seat.
+fn turn_once<K: Keeper, W: Sink, B: Worker, M: Mark>(
+    alloc: Global,
+    book: &mut BookOf<K, W, B, M>,
+    ticket: Ticket,
+    mut seat: SeatedOf<B>,
+    signal: &Signal,
+) -> Option<(Ticket, SeatedOf<B>)>
+    requires under_way { IsUnderWay ticket book.old }
+    requires number { seat.number ≡ ticket.instance }
+    requires kind { B.kind_of seat.worker ≡ ticket.kind }
+    requires signal_is { signal.now ≡ record { run = ticket.task.run; never = true } }
+    ensures { IsTurned K.held B.kind_of B.diary_of ticket seat.worker result book.old book.new }
+{
+    let told = turn(alloc, &mut seat, &ticket, signal);
     match book.report(ticket, seat, told) {
-        After::Over | After::Stopped => {}
+        After::Over | After::Stopped => None,
         After::Again(..) => unreachable!(),
     }
 }
 
-/// Has the worker of a run begin it and take its turn, whose signal is never raised.
-fn run_worker<B: Worker>(
+/// Has the worker of a run take its turn, whose signal is never raised.
+fn turn<B: Worker>(
     alloc: Global,
     seat: &mut SeatedOf<B>,
     ticket: &Ticket,
@@ -158,6 +209,5 @@ fn run_worker<B: Worker>(
     ensures given { IfOk result (λ told. IsSome (given_of told.answer)) }
     ensures written { HasWritten B.diary_of ticket.now seat.old.worker seat.new.worker result }
 {
-    seat.begin(alloc, ticket.task())?;
     seat.turn(alloc, ticket.task(), ticket.k(), signal)
 }

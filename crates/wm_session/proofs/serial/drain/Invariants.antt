@@ -1,16 +1,16 @@
 use Rattle.std.proofs.Common.{◌≡◌, List, Option}
-use Rattle.wm_machine.specs.Serial.{MayGoOn}
 use Rattle.wm_machine.specs.Waiting.{waiting_count}
-use Rattle.wm_session.specs.Rest.{IsAtRest, KeepDiaries}
+use Rattle.wm_machine.specs.declared.command.Command.{Command}
+use Rattle.wm_session.specs.Rest.{GoesInOrder, IsAtRest, KeepDiaries}
 use Rattle.wm_worker.specs.declared.answer.Entry.{Entry}
 use Rattle.wm_session.proofs.serial.drain.Given as goal
 
 -- the book is at rest again after each start
 abbrev pub invariant-starts : goal.invariant-starts
 invariant-starts g l = record {
-  rest : IsAtRest g.M.Mark.given.lines l.book;
-  may_go_on : MayGoOn g.M.Mark.given.lines l.book.table.log;
+  rest : IsAtRest l.book;
   left : l.book.left ≡ l.fn.book.left;
+  order : (lines : List Command) → GoesInOrder lines l.fn.book → GoesInOrder lines l.book;
   diaries : (diaries : List (Option (List Entry))) → KeepDiaries g.B.Worker.diary_of diaries l.fn.book → KeepDiaries g.B.Worker.diary_of diaries l.book;
 }
 

@@ -1,35 +1,58 @@
-use Rattle.std.proofs.Common.{[], inl, inr, sym, ◌∙◌, ap, subst}
+use Rattle.std.proofs.Common.{[], not, inl, inr, sym, ◌∙◌, ap, subst}
+use Rattle.std.proofs.lemmas.Bool.{false≢true}
 use Rattle.wm_session.proofs.DiaryLemmas.{KeepDiaries-stopped, no_longer}
-use Rattle.wm_session.proofs.SerialLemmas.{IsAtRest-front, IsAtRest-line, IsReady-quiet, KeepDiaries-line}
+use Rattle.wm_session.proofs.SerialLemmas.{GoesInOrder-line, GoesInOrder-ready, IsAtRest-front, IsAtRest-line, IsReady-front, IsReady-quiet, KeepDiaries-line}
 use Rattle.wm_session.specs.Book.{IsFronted}
 use Rattle.wm_session.specs.Rest.{IsAtRest, IsReady, KeepDiaries}
 use Rattle.wm_session.specs.declared.book.Front.TheVariants as front
 use Rattle.wm_session.proofs.serial.execute_lines.Goals as goal
+use Rattle.wm_session.proofs.serial.execute_lines.Goals.{then-is_none, else-is_none}
 
-pub drain-requires-clause-rest : goal.drain-requires-clause-rest
-drain-requires-clause-rest g c =
-    let kept = c.lines.invariant in
-    let moved = c.in-Moved.ensures in
-    IsAtRest-line g.K.Keeper.held g.M.Mark.given.lines c.lines.book c.front_step.new.self kept.rest kept.ready moved.0.before moved.1 moved.2
+pub lines-init : goal.lines-init
+lines-init g c =
+    let none_left = c.next_line.ensures.none in
+    elim c.if-is_none.branch [
+      | then-is_none w ↦
+          let new = w.drain.new.book in
+          let drained = w.drain.ensures in
+          rw w.book-is (record {
+            rest = drained.rest;
+            quiet = λ going none. drained.quiet going;
+            order = λ lines ready.
+                IsReady-quiet lines new drained.quiet
+                (drained.order lines (GoesInOrder-ready lines c.args.book.now (none_left.0 (c.is_none.ensures ∙ ap not w.if-is_none.true)) ready));
+            diaries = drained.diaries;
+          })
+      | else-is_none w ↦ rw w.book-is (record {
+        rest = c.requires;
+        quiet = λ going none. absurd (false≢true (sym (none_left.1 none) ∙ c.is_none.ensures ∙ ap not w.if-is_none.false));
+        order = λ lines ready. ready;
+        diaries = λ diaries keep. keep;
+      })
+    ]
+
+pub drain-requires-in-Moved : goal.drain-requires-in-Moved
+drain-requires-in-Moved g c = let moved = c.in-Moved.ensures in IsAtRest-line c.lines.invariant.rest moved.0.before moved.1 moved.2
 
 pub lines-preserved : goal.lines-preserved
 lines-preserved g c =
     let kept = c.lines.invariant in
     let moved = c.in-Moved.ensures in
-    let new = c.drain.new.book in
+    let drained = c.drain-in-Moved.ensures in
+    let new = c.drain-in-Moved.new.book in
     record {
-      rest = c.drain.ensures.rest;
-      ready = λ going. IsReady-quiet new.left new (c.drain.ensures.quiet going);
-      diaries = λ diaries keep. c.drain.ensures.diaries diaries
-          (KeepDiaries-line g.K.Keeper.held g.M.Mark.given.lines g.B.Worker.diary_of diaries c.lines.book c.front_step.new.self
-          kept.rest moved.0 moved.1 moved.2
-          (kept.diaries diaries keep));
+      rest = drained.rest;
+      quiet = λ going none. drained.quiet going;
+      order = λ lines ready.
+          IsReady-quiet lines new drained.quiet
+          (drained.order lines (GoesInOrder-line lines kept.rest moved.0.before moved.1 (kept.order lines ready)));
+      diaries = λ diaries keep. drained.diaries diaries
+          (KeepDiaries-line g.B.Worker.diary_of diaries kept.rest moved.0 moved.1 moved.2 (kept.diaries diaries keep));
     }
 
 pub returns-in-Ended : goal.returns-in-Ended
 returns-in-Ended g c =
     let kept = c.lines.invariant in
-    let lines = g.M.Mark.given.lines in
     let held = g.K.Keeper.held in
     let diary_of = g.B.Worker.diary_of in
     let old = c.lines.book in
@@ -37,16 +60,18 @@ returns-in-Ended g c =
     elim c.in-Ended.is [
       | inl ended ↦
           let is : IsFronted held front.Ended old new = subst (λ r. IsFronted held r old new) ended c.front_step.ensures in record {
-            rest = subst (IsAtRest lines) (sym is.2) kept.rest;
+            rest = subst IsAtRest (sym is.2) kept.rest;
             done = λ going. ap (λ book. book.left) is.2 ∙ is.1;
-            quiet = λ going. subst (IsReady []) (sym is.2) (subst (λ left. IsReady left old) is.1 (kept.ready is.0));
+            quiet = λ going. rw is.2 (kept.quiet is.0 is.1);
+            order = λ lines ready. subst (IsReady lines) (sym is.2) (kept.order lines ready);
             diaries = λ diaries keep. subst (KeepDiaries diary_of diaries) (sym is.2) (kept.diaries diaries keep);
           }
       | inr stopped ↦
           let is : IsFronted held front.Stopped old new = subst (λ r. IsFronted held r old new) stopped c.front_step.ensures in record {
-            rest = IsAtRest-front held lines old new kept.rest kept.ready is;
+            rest = IsAtRest-front kept.rest is;
             done = λ going. absurd (no_longer new.status is.0 going);
             quiet = λ going. absurd (no_longer new.status is.0 going);
+            order = λ lines ready. IsReady-front lines kept.rest is (kept.order lines ready);
             diaries = λ diaries keep. KeepDiaries-stopped diary_of diaries new is.0;
           }
     ]
