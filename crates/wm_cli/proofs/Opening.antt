@@ -1,15 +1,16 @@
 -- A run that opens an empty store.
-use Rattle.std.proofs.Common.{◌≡◌, List, [], ◌∷◌, refl, sym, ap, subst, arith}
+use Rattle.std.proofs.Common.{◌≡◌, List, [], ◌∷◌, refl, arith}
 use Rattle.std.specs.List.{AllByRecursion}
 use Rattle.wm_machine.proofs.Serials.{BeginsSerial-goes-on}
 use Rattle.wm_machine.specs.Built.{IsBuilt}
 use Rattle.wm_machine.specs.Opened.{opening_state}
 use Rattle.wm_machine.specs.Serial.{AreInOrder, BeginsSerial}
-use Rattle.wm_machine.specs.Valid.{Valid}
 use Rattle.wm_machine.specs.declared.command.Command.{Command}
 use Rattle.wm_machine.specs.declared.event.Event.{Event}
+use Rattle.wm_machine.specs.declared.state.Instance.{Instance}
 use Rattle.wm_machine.specs.declared.state.State.{State}
-use Rattle.wm_table.proofs.TableSteps.{Valid-opening}
+use Rattle.wm_table.proofs.TableSteps.{IsNarrow-opening, Valid-opening}
+use Rattle.wm_table.specs.Table.{AreFresh}
 use Rattle.wm_session.specs.Ended.{IsSerialRun}
 use Rattle.wm_session.specs.declared.status.Status.{Status}
 use Rattle.wm_session.specs.declared.status.Status.TheVariants as status
@@ -18,12 +19,14 @@ no_order : (lines : List Command) (first : State) → AreInOrder lines first []
 no_order [] first = tt
 no_order (asked ∷ lines) first = tt
 
--- the empty log is a front of a serial log, over any commands that are built
-pub BeginsSerial-nothing : (lines : List Command) (first : State) (log : List Event) → AllByRecursion IsBuilt lines → Valid first → first.runs ≡ [] → log ≡ []
-    → BeginsSerial lines first log
-BeginsSerial-nothing lines first log built valid no_run none =
-    subst (BeginsSerial lines first) (sym none)
-    (BeginsSerial-goes-on lines lines first first [] built refl refl valid (rw no_run (omega arith)) (no_order lines first))
+-- where a store without rows was opened, the empty log is a front of a serial log, over any commands that are built
+pub BeginsSerial-nothing : (lines : List Command) (instances : List Instance) (first : State) (log : List Event) → AllByRecursion IsBuilt lines
+    → AreFresh instances → first ≡ opening_state [] instances → log ≡ [] → BeginsSerial lines first log
+BeginsSerial-nothing lines instances first log built fresh opened none =
+    let opening = opening_state [] instances in
+    rw (none, opened)
+    (BeginsSerial-goes-on lines lines opening opening [] built refl refl
+    (Valid-opening instances fresh) (IsNarrow-opening instances fresh) (omega arith) (no_order lines opening))
 
 -- a run that ended early
 pub IsSerialRun-early : (lines : List Command) (ended : Status) (first : State) (log : List Event) (last : State) → (ended ≡ status.Done → ⊥)
@@ -36,5 +39,4 @@ pub IsSerialRun-unopened : (lines : List Command) (ended : Status) (first : Stat
     → (ended ≡ status.Done → ⊥) → first ≡ opening_state [] [] → log ≡ [] → IsSerialRun lines ended first log last
 IsSerialRun-unopened lines ended first log last built early is none =
     IsSerialRun-early lines ended first log last early
-    (BeginsSerial-nothing lines first log built (subst Valid (sym is) (Valid-opening [] (record { in_order = tt; all = tt })))
-    (ap (λ (s : State). s.runs) is) none)
+    (BeginsSerial-nothing lines [] first log built (record { in_order = tt; all = tt }) is none)

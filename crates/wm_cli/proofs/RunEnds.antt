@@ -18,7 +18,6 @@ use Rattle.wm_machine.specs.Built.{IsBuilt}
 use Rattle.wm_machine.specs.Opened.{opening_state}
 use Rattle.wm_machine.specs.Replay.{Replay}
 use Rattle.wm_machine.specs.Rows.{rows_of}
-use Rattle.wm_machine.specs.Valid.{Valid}
 use Rattle.wm_machine.specs.declared.command.Command.{Command}
 use Rattle.wm_machine.specs.declared.state.State.{State}
 use Rattle.wm_session.specs.Bench.{place_diaries}
@@ -30,7 +29,6 @@ use Rattle.wm_session.specs.Tells.{Tells}
 use Rattle.wm_session.specs.declared.ended.EndedOf.{EndedOf}
 use Rattle.wm_session.specs.declared.status.Status.{Status}
 use Rattle.wm_session.specs.declared.status.Status.TheVariants as status
-use Rattle.wm_table.proofs.TableSteps.{Valid-opening}
 use Rattle.wm_table.specs.Table.{BeginCause}
 use Rattle.wm_table.specs.TableState.{TableState}
 use Rattle.wm_table.specs.declared.table.BeginFault.{BeginFault}
@@ -72,9 +70,7 @@ IsSerialEnd-at_once tells commands hands had table sink back ended at begun buil
           (at.last ∙ begun.state ∙ opened) (ap (λ v. v.items) at.hands_are ∙ same);
       diaries = λ done. absurd (early done);
       serial = IsSerialRun-early commands ended.status ended.first ended.log ended.last early
-          (BeginsSerial-nothing commands ended.first ended.log built
-          (subst Valid (sym first) (Valid-opening instances (AreFresh-instances_from tells.kind_of hands echoes)))
-          (ap (λ (s : State). s.runs) first) none);
+          (BeginsSerial-nothing commands instances ended.first ended.log built (AreFresh-instances_from tells.kind_of hands echoes) first none);
     }
 
 -- ---- a run whose table was begun

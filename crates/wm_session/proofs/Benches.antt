@@ -8,9 +8,8 @@ use Rattle.wm_bench.specs.declared.place.Presence.TheVariants.{Idle, Away}
 use Rattle.wm_bench.specs.declared.place.Presence.{Presence}
 use Rattle.wm_machine.proofs.Runnings.{made_both}
 use Rattle.wm_machine.specs.Runs.{with_out}
-use Rattle.wm_machine.specs.Valid.{AreNumberedInOrder, HasOne, IsValidInstance}
+use Rattle.wm_machine.specs.Valid.{AreNumberedInOrder, HasOne}
 use Rattle.wm_machine.specs.declared.state.Instance.{Instance}
-use Rattle.wm_machine.specs.declared.state.Run.{Run}
 use Rattle.wm_session.specs.Bench.{instance_traits, is_away, place_traits, AreIdle, Traits, kind_at}
 use Rattle.wm_worker.specs.declared.kind.Kind.TheVariants.{Echo}
 use Rattle.wm_worker.specs.declared.kind.Kind.{Kind}
@@ -177,14 +176,14 @@ kind_at-idle kind_of (Idle other) worker is = let same : other ≡ worker = cc i
 kind_at-idle kind_of (Away kind) worker is = absurd cc
 
 -- every worker is an Echo, as every instance is
-pub kind-Echo : {B : Type 0} (kind_of : B → Kind) (runs : List Run) (worker : B) (number : ℕ) (places : List (Place B)) (instances : List Instance)
-    → AllByRecursion (IsValidInstance runs) instances → map (place_traits kind_of) places ≡ map instance_traits instances → idle_at number places ≡ Some worker
+pub kind-Echo : {B : Type 0} (kind_of : B → Kind) (worker : B) (number : ℕ) (places : List (Place B)) (instances : List Instance)
+    → AllByRecursion (λ instance. instance.kind ≡ Echo) instances → map (place_traits kind_of) places ≡ map instance_traits instances → idle_at number places ≡ Some worker
     → kind_of worker ≡ Echo
-kind-Echo kind_of runs worker number [] instances valid same is = absurd cc
-kind-Echo kind_of runs worker number (place ∷ places) [] valid same is = absurd cc
-kind-Echo kind_of runs worker zero (place ∷ places) (instance ∷ instances) valid same is =
+kind-Echo kind_of worker number [] instances echoes same is = absurd cc
+kind-Echo kind_of worker number (place ∷ places) [] echoes same is = absurd cc
+kind-Echo kind_of worker zero (place ∷ places) (instance ∷ instances) echoes same is =
     let head : place_traits kind_of place ≡ instance_traits instance = cc in
-    sym (kind_at-idle kind_of place.presence worker is) ∙ ap (λ (traits : Traits). traits.kind) head ∙ valid.0.kind
-kind-Echo kind_of runs worker (suc number) (place ∷ places) (instance ∷ instances) valid same is =
+    sym (kind_at-idle kind_of place.presence worker is) ∙ ap (λ (traits : Traits). traits.kind) head ∙ echoes.0
+kind-Echo kind_of worker (suc number) (place ∷ places) (instance ∷ instances) echoes same is =
     let rest : map (place_traits kind_of) places ≡ map instance_traits instances = cc in
-    kind-Echo kind_of runs worker number places instances valid.1 rest is
+    kind-Echo kind_of worker number places instances echoes.1 rest is

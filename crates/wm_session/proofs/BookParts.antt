@@ -14,7 +14,6 @@ use Rattle.wm_machine.specs.declared.event.Event.{Event}
 use Rattle.wm_machine.specs.declared.state.State.{State}
 use Rattle.wm_session.proofs.Pieces.{AreTextsKept-front}
 use Rattle.wm_session.specs.Bench.{is_away}
-use Rattle.wm_session.specs.Book as book
 use Rattle.wm_session.specs.BookState.{BookState}
 use Rattle.wm_session.specs.Causes.{stop_by_fault, stop_by_trouble, StopCause}
 use Rattle.wm_session.specs.Kept.{AreAwayKept, AreLinesKept, AreTextsKept}
@@ -116,14 +115,3 @@ claimed_run held claimed ticket old new is done = subst (λ (c : Option Claim). 
 pub claimed_failed : {K : Type 0} (held : K → Option (List Row)) (claimed : Option Claim) (seq : ℕ) (cause : Cause) (old new : TableState K)
     → claimed ≡ Some (claim.Failed seq cause) → IsClaimed held claimed old new → IsOneStep held (event.StartFailed seq cause) old new
 claimed_failed held claimed seq cause old new is done = subst (λ (c : Option Claim). IsClaimed held c old new) is done
-
-pub IsStartFailed-kept : {K W B : Type 0} (held : K → Option (List Row)) (old : BookState K W B) (table : TableState K) (seq : ℕ) (cause : Cause)
-    → old.status ≡ None → IsOneStep held (event.StartFailed seq cause) old.table table → book.IsStartFailed held old (record old { table = table })
-IsStartFailed-kept held old table seq cause going step = record {
-  seq = seq;
-  cause = cause;
-  goes_on = record { before = going; now = going };
-  step = step;
-  places = refl;
-  left = refl;
-}

@@ -1,5 +1,5 @@
 -- A book after one change.
-use Rattle.std.proofs.Common.{◌≡◌, ℕ, ◌+◌, ◌^◌, ◌<◌, ◌≤◌, true, false, List, [], ◌∷◌, ◌++◌, length, map, Option, Some, None, IsSome, option_map, Err, refl, sym, ◌∙◌, ap, subst, arith, append_assoc, length-append}
+use Rattle.std.proofs.Common.{◌≡◌, ℕ, ◌+◌, ◌^◌, ◌<◌, ◌≤◌, true, false, List, [], ◌∷◌, ◌++◌, length, map, Option, Some, None, IsSome, IsSomeAnd, option_map, Err, refl, sym, ◌∙◌, ap, subst, arith, append_assoc, length-append}
 use Rattle.std.proofs.lemmas.List.{append-nil}
 use Rattle.std.specs.List.{AllByRecursion}
 use Rattle.wm_bench.specs.Places.{changed_at, made_away, made_idle, idle_at, IsAwayAt}
@@ -7,11 +7,14 @@ use Rattle.wm_bench.specs.Seat.{Seat}
 use Rattle.wm_bench.specs.declared.place.Place.{Place}
 use Rattle.wm_data.specs.declared.data.DataEntry.{DataEntry}
 use Rattle.wm_machine.proofs.Firsts.{idle_instance-idle, idle_instance-stored}
+use Rattle.wm_machine.proofs.Frames.{frame-command, frame-finish, frame-start}
 use Rattle.wm_machine.proofs.Logs.{commands_of-push, AreNumberedFrom-push}
 use Rattle.wm_script.proofs.LogTexts.{log_text-push}
-use Rattle.wm_machine.proofs.States.{Valid-after}
+use Rattle.wm_machine.proofs.States.{IsNarrow-after, Valid-after}
 use Rattle.wm_machine.specs.Built.{IsBuilt}
+use Rattle.wm_machine.specs.Frame.{Frame}
 use Rattle.wm_machine.specs.Log.{command_in, commands_of, AreNumberedFrom, BeginsWith}
+use Rattle.wm_machine.specs.Narrow.{IsNarrow}
 use Rattle.wm_machine.specs.Replay.{Replay}
 use Rattle.wm_machine.specs.Rows.{rows_of}
 use Rattle.wm_machine.specs.Runs.{run_numbered, with_out}
@@ -25,7 +28,7 @@ use Rattle.wm_machine.specs.declared.event.Event.{Event}
 use Rattle.wm_machine.specs.declared.reply.Reply.{Reply}
 use Rattle.wm_machine.specs.declared.state.State.{State}
 use Rattle.wm_session.proofs.Benches.{all_here, away-changed, away-taken, idle_at-in, kind-Echo, no_seat, seat_is, traits-given, traits-taken, traits-with_out}
-use Rattle.wm_session.proofs.BookEvents.{AreNumberedFrom-silent, IsSilent, IsSilent-finish, IsSilent-start, IsSilent-start_failed, instances-after_command, instances-finished, instances-started, ticket_kind}
+use Rattle.wm_session.proofs.BookEvents.{AreNumberedFrom-silent, event_text-silent, failed_fewer, finished_no_more, started_fewer, ticket_kind}
 use Rattle.wm_session.proofs.BookParts.{AreAwayKept-from, AreAwayKept-stopped, AreLinesKept-from, AreLinesKept-front, AreTextsKept-stopped, IsUntouched-same, StopCause-turn, StopCause-write, last_of-step, Replay-same, Replay-step, rows_then}
 use Rattle.wm_session.proofs.Pieces.{AreTextsKept-more, AreTextsKept-unwritten}
 use Rattle.wm_session.specs.Bench.{instance_traits, is_away, place_traits, AreIdle}
@@ -35,7 +38,7 @@ use Rattle.wm_session.specs.Causes.{stop_by_fault, stop_by_trouble, StopCause}
 use Rattle.wm_session.specs.Given.{Given}
 use Rattle.wm_session.specs.Kept.{AreAwayKept, AreLinesKept, AreTextsKept, IsBookKept}
 use Rattle.wm_session.specs.Tells.{Tells}
-use Rattle.wm_table.specs.Table.{last_of, IsOneStep, IsTicketIn, IsUntouched, Stands, TurnCause}
+use Rattle.wm_table.specs.Table.{last_of, CountsIn, IsFinished, IsOneStep, IsTicketIn, IsUntouched, Stands, TurnCause}
 use Rattle.wm_table.specs.TableState.{TableState, TicketState}
 use Rattle.wm_session.specs.Writing.{WriteCause}
 use Rattle.wm_session.specs.declared.book.Stop.TheVariants as why
@@ -91,7 +94,8 @@ module _ {K W B : Type 0} {run : Given} {tells : Tells K W B} where
       record {
         first = step.first ∙ kept.first;
         replay = Replay-step tells.held e old.table new.table kept.replay step;
-        valid = subst Valid (sym step.state) (Valid-after old.table.state e kept.valid step.legal);
+        valid = subst Valid (sym step.state) (Valid-after old.table.state e kept.valid kept.narrow step.legal);
+        narrow = subst IsNarrow (sym step.state) (IsNarrow-after old.table.state e kept.valid kept.narrow step.legal);
         lines = AreLinesKept-from new.status run.lines (commands_of new.table.log) new.left
             (lines ∙ ap (λ (l : List Command). done ++ l) more.left ∙ sym (append_assoc done (command_in e) new.left) ∙ ap (λ (l : List Command). l ++ new.left)
             (sym commands));
@@ -111,7 +115,7 @@ module _ {K W B : Type 0} {run : Given} {tells : Tells K W B} where
       }
 
   IsBookKept-silent : (e : Event) (old : BookState K W B) (table : TableState K) (places : List (Place B))
-      → IsBookKept run tells old → old.status ≡ None → IsOneStep tells.held e old.table table → IsSilent old.table.state e
+      → IsBookKept run tells old → old.status ≡ None → IsOneStep tells.held e old.table table → command_in e ≡ []
       → map (place_traits tells.kind_of) places ≡ map instance_traits table.state.instances
       → map (λ place. is_away place.presence) places ≡ map (λ instance. instance.out) table.state.instances
       → tells.keeper_faults table.keeper ≡ tells.keeper_faults old.table.keeper
@@ -119,17 +123,17 @@ module _ {K W B : Type 0} {run : Given} {tells : Tells K W B} where
   IsBookKept-silent e old table places kept going step silent workers away no_fault =
       let new : BookState K W B = record old { table = table; places = places } in
       let text : old.pending ≡ old.pending ++ event_text old.table.state e =
-      sym (append-nil old.pending) ∙ ap (λ (l : List ℕ). old.pending ++ l) (sym silent.no_text) in
+      sym (append-nil old.pending) ∙ ap (λ (l : List ℕ). old.pending ++ l) (sym (event_text-silent old.table.state e silent)) in
       IsBookKept-step e old new kept (record {
         going = going;
         step = step;
-        left = ap (λ (l : List Command). l ++ old.left) (sym silent.no_command);
+        left = ap (λ (l : List Command). l ++ old.left) (sym silent);
         built = kept.built;
-        line = let none : length (command_in e) ≡ 0 = ap length silent.no_command in omega arith;
+        line = let none : length (command_in e) ≡ 0 = ap length silent in omega arith;
         workers = workers;
         no_fault = no_fault;
       })
-      (AreNumberedFrom-silent 1 old.table.log e silent.no_command kept.numbered)
+      (AreNumberedFrom-silent 1 old.table.log e silent kept.numbered)
       (subst (λ status. AreTextsKept status (tells.given old.sink) (tells.given old.sink) (old.pending ++ event_text old.table.state e) old.pending) (sym going)
       (subst (λ l. AreTextsKept None (tells.given old.sink) (tells.given old.sink) l old.pending) text
       (AreTextsKept-unwritten (tells.given old.sink) old.pending)))
@@ -148,7 +152,7 @@ module _ {K W B : Type 0} {run : Given} {tells : Tells K W B} where
       let start = step.legal in
       let instances = old.table.state.instances in
       let is : start.idle.number ≡ 0 + place = sym start.instance_is ∙ sym same ∙ omega arith in
-      idle_at-in start.idle place 0 old.places instances kept.valid.in_order (away_now old going kept.away)
+      idle_at-in start.idle place 0 old.places instances kept.valid.numbered (away_now old going kept.away)
       (idle_instance-stored instances start.work.request.class start.idle start.is_idle)
       (idle_instance-idle instances start.work.request.class start.idle start.is_idle).is_in is
       (no_seat place (idle_at place old.places) none)
@@ -162,14 +166,14 @@ module _ {K W B : Type 0} {run : Given} {tells : Tells K W B} where
   IsBookKept-begun {old = old} table places number seq instance place input kept going step same there no_fault =
       let s = old.table.state in
       let instances : table.state.instances ≡ with_out true instance s.instances =
-      ap (λ (t : State). t.instances) step.state ∙ instances-started s number seq instance input step.legal in
+      ap (λ (t : State). t.instances) step.state ∙ ap (λ (f : Frame). f.instances) (frame-start s number seq instance input step.legal) in
       let from_zero : 0 + instance ≡ instance = omega arith in
       let are : places ≡ changed_at (made_away tells.kind_of) instance old.places = there ∙ ap (λ n. changed_at (made_away tells.kind_of) n old.places) same in
-      IsBookKept-silent (event.Start number seq instance input) old table places kept going step (IsSilent-start s number seq instance input)
+      IsBookKept-silent (event.Start number seq instance input) old table places kept going step refl
       (ap (map (place_traits tells.kind_of)) are ∙ traits-taken tells.kind_of instance old.places ∙ kept.workers
       ∙ sym (traits-with_out true instance s.instances) ∙ ap (map instance_traits) (sym instances))
       (ap (map (λ place. is_away place.presence)) are
-      ∙ away-changed (made_away tells.kind_of) true instance 0 old.places s.instances (away-taken tells.kind_of) kept.valid.in_order
+      ∙ away-changed (made_away tells.kind_of) true instance 0 old.places s.instances (away-taken tells.kind_of) kept.valid.numbered
       (away_now old going kept.away)
       ∙ ap (λ n. map (λ instance. instance.out) (with_out true n s.instances)) from_zero
       ∙ ap (map (λ instance. instance.out)) (sym instances))
@@ -187,19 +191,23 @@ module _ {K W B : Type 0} {run : Given} {tells : Tells K W B} where
       let there : idle_at ticket.instance old.places ≡ Some seat.worker = ap (λ n. idle_at n old.places) (sym same) ∙ seated.0 in
       let valid : Valid table.state =
       subst Valid (sym step.state)
-      (Valid-after old.table.state (event.Start ticket.task.run ticket.seq ticket.instance ticket.task.input) kept.valid step.legal) in
+      (Valid-after old.table.state (event.Start ticket.task.run ticket.seq ticket.instance ticket.task.input) kept.valid kept.narrow step.legal) in
+      let narrow : IsNarrow table.state =
+      subst IsNarrow (sym step.state)
+      (IsNarrow-after old.table.state (event.Start ticket.task.run ticket.seq ticket.instance ticket.task.input) kept.valid kept.narrow step.legal) in
       record {
         goes_on = record { before = going; now = going };
         step = step;
         ticket_in = ticket_in;
         number = seated.1 ∙ same;
-        kind = kind-Echo tells.kind_of old.table.state.runs seat.worker ticket.instance old.places old.table.state.instances kept.valid.instances
-            kept.workers there
-            ∙ sym (ticket_kind table.state ticket (run_numbered ticket.task.run table.state.runs) valid refl ticket_in);
+        kind = kind-Echo tells.kind_of seat.worker ticket.instance old.places old.table.state.instances kept.narrow.echoes kept.workers there
+            ∙ sym (ticket_kind table.state ticket (run_numbered ticket.task.run table.state.runs) valid narrow refl ticket_in);
         worker = there;
         places = are ∙ ap (λ n. changed_at (made_away tells.kind_of) n old.places) same;
         signal_is = signal_is;
         left = refl;
+        fewer = rw step.state
+            (started_fewer old.table.state ticket.task.run ticket.seq ticket.instance ticket.task.input kept.valid step.legal);
       }
 
   -- ---- a work that couldn't start
@@ -209,12 +217,39 @@ module _ {K W B : Type 0} {run : Given} {tells : Tells K W B} where
       → tells.keeper_faults table.keeper ≡ tells.keeper_faults old.table.keeper → IsBookKept run tells (record old { table = table })
   IsBookKept-start_failed {old = old} table seq cause kept going step no_fault =
       let instances : table.state.instances ≡ old.table.state.instances = ap (λ (t : State). t.instances) step.state in
-      IsBookKept-silent (event.StartFailed seq cause) old table old.places kept going step (IsSilent-start_failed old.table.state seq cause)
+      IsBookKept-silent (event.StartFailed seq cause) old table old.places kept going step refl
       (kept.workers ∙ ap (map instance_traits) (sym instances))
       (away_now old going kept.away ∙ ap (map (λ instance. instance.out)) (sym instances))
       no_fault
 
+  pub IsStartFailed-kept : {old : BookState K W B} (table : TableState K) (seq : ℕ) (cause : Cause)
+      → IsBookKept run tells old → old.status ≡ None → IsOneStep tells.held (event.StartFailed seq cause) old.table table
+      → book.IsStartFailed tells.held old (record old { table = table })
+  IsStartFailed-kept {old = old} table seq cause kept going step = record {
+    seq = seq;
+    cause = cause;
+    goes_on = record { before = going; now = going };
+    step = step;
+    places = refl;
+    left = refl;
+    fewer = rw step.state (failed_fewer old.table.state seq cause kept.valid kept.narrow step.legal);
+  }
+
   -- ---- the end of a run
+
+  pub IsOver-finished : {old : BookState K W B} (table : TableState K) (places : List (Place B)) (ticket : TicketState) (seat : Seat B) (told : Report)
+      → IsBookKept run tells old → old.status ≡ None → CountsIn old.table.state ticket.task.run told
+      → IsFinished tells.held ticket.task.run told old.table table → places ≡ changed_at (made_idle seat.worker) seat.number old.places
+      → book.IsOver tells.held ticket seat told old (record old { table = table; places = places })
+  IsOver-finished {old = old} table places ticket seat told kept going counts finished are = record {
+    goes_on = record { before = going; now = going };
+    counts = counts;
+    finished = finished;
+    places = are;
+    left = refl;
+    no_more = rw finished.step.state
+        (finished_no_more old.table.state ticket.task.run (Success finished.output) kept.valid kept.narrow finished.step.legal);
+  }
 
   pub IsBookKept-over : {old : BookState K W B} (table : TableState K) (places : List (Place B)) (ticket : TicketState) (place : ℕ) (output : List DataEntry)
       (worker : B)
@@ -225,14 +260,17 @@ module _ {K W B : Type 0} {run : Given} {tells : Tells K W B} where
       → IsBookKept run tells (record old { table = table; places = places })
   IsBookKept-over {old = old} table places ticket place output worker kept going step stands same away are no_fault =
       let s = old.table.state in
+      let on = subst (λ found. IsSomeAnd found (λ run. (run.instance ≡ ticket.instance) × (run.kind ≡ ticket.kind))) step.legal.is_running stands in
       let instances : table.state.instances ≡ with_out false ticket.instance s.instances =
-      ap (λ (t : State). t.instances) step.state ∙ instances-finished s ticket output (run_numbered ticket.task.run s.runs) stands in
+      ap (λ (t : State). t.instances) step.state
+      ∙ ap (λ (f : Frame). f.instances) (frame-finish s ticket.task.run (Success output) step.legal)
+      ∙ ap (λ number. with_out false number s.instances) on.0 in
       let from_zero : 0 + place ≡ ticket.instance = omega arith ∙ same in
-      IsBookKept-silent (event.Finish ticket.task.run (Success output)) old table places kept going step (IsSilent-finish s ticket.task.run (Success output))
+      IsBookKept-silent (event.Finish ticket.task.run (Success output)) old table places kept going step refl
       (ap (map (place_traits tells.kind_of)) are ∙ traits-given tells.kind_of worker place old.places away ∙ kept.workers ∙ sym
       (traits-with_out false ticket.instance s.instances) ∙ ap (map instance_traits) (sym instances))
       (ap (map (λ place. is_away place.presence)) are
-      ∙ away-changed (made_idle worker) false place 0 old.places s.instances (λ place. refl) kept.valid.in_order (away_now old going kept.away)
+      ∙ away-changed (made_idle worker) false place 0 old.places s.instances (λ place. refl) kept.valid.numbered (away_now old going kept.away)
       ∙ ap (λ n. map (λ instance. instance.out) (with_out false n s.instances)) from_zero
       ∙ ap (map (λ instance. instance.out)) (sym instances))
       no_fault
@@ -252,6 +290,7 @@ module _ {K W B : Type 0} {run : Given} {tells : Tells K W B} where
         first = same.first ∙ kept.first;
         replay = Replay-same tells.held old.table table kept.replay same;
         valid = subst Valid (sym same.state) kept.valid;
+        narrow = subst IsNarrow (sym same.state) kept.narrow;
         lines = subst (λ log. BeginsWith run.lines (commands_of log)) (sym same.log)
             (AreLinesKept-front old.status run.lines (commands_of old.table.log) old.left kept.lines);
         built = built;
@@ -309,6 +348,7 @@ module _ {K W B : Type 0} {run : Given} {tells : Tells K W B} where
         first = kept.first;
         replay = kept.replay;
         valid = kept.valid;
+        narrow = kept.narrow;
         lines = kept.lines;
         built = kept.built;
         numbered = kept.numbered;
@@ -343,7 +383,7 @@ module _ {K W B : Type 0} {run : Given} {tells : Tells K W B} where
       let built : AllByRecursion IsBuilt (command ∷ left) = subst (AllByRecursion IsBuilt) next kept.built in
       let number : old.line + 1 ≡ 1 + length (commands_of old.table.log) = ap (λ n. n + 1) kept.line ∙ omega arith in
       let instances : table.state.instances ≡ old.table.state.instances =
-      ap (λ (t : State). t.instances) step.state ∙ instances-after_command old.table.state command in
+      ap (λ (t : State). t.instances) step.state ∙ ap (λ (f : Frame). f.instances) (frame-command old.table.state (old.line + 1) command reply) in
       IsBookKept-step e old new kept (record {
         going = going;
         step = step;
@@ -403,18 +443,19 @@ module _ {K W B : Type 0} {run : Given} {tells : Tells K W B} where
 pub IsBookKept-new : {K W B : Type 0} (run : Given) (tells : Tells K W B) (table : TableState K) (places : List (Place B)) (left : List Command)
     (pending : List ℕ) (sink : W)
     → table.log ≡ [] → left ≡ run.lines → pending ≡ [] → map (place_traits tells.kind_of) places ≡ map instance_traits table.state.instances → AreIdle places
-    → AllByRecursion (λ instance. instance.out ≡ false) table.state.instances → Valid table.state → 0 + length left < 2 ^ 32 → AllByRecursion IsBuilt left
+    → AllByRecursion (λ instance. instance.out ≡ false) table.state.instances → Valid table.state → IsNarrow table.state → 0 + length left < 2 ^ 32 → AllByRecursion IsBuilt left
     → table.state ≡ table.first → table.first ≡ run.first → tells.held table.keeper ≡ option_map (λ _. rows_of table.state) run.rows
     → tells.given sink ≡ run.written
     → run.keeper_faults ≤ tells.keeper_faults table.keeper → run.sink_faults ≤ tells.sink_faults sink
     → IsBookKept run tells
     (record { table = table; places = places; left = left; line = 0; pending = pending; sink = sink; status = None })
-IsBookKept-new run tells table places left pending sink empty lines none workers idle all_in valid few built begun first
+IsBookKept-new run tells table places left pending sink empty lines none workers idle all_in valid narrow few built begun first
     rows written keeper sink_later =
     record {
       first = first;
       replay = subst (λ log. Replay table.first log table.state) (sym empty) begun;
       valid = valid;
+      narrow = narrow;
       lines = sym lines ∙ ap (λ log. commands_of log ++ left) (sym empty);
       built = built;
       numbered = subst (AreNumberedFrom 1) (sym empty) tt;

@@ -8,16 +8,15 @@ use Rattle.wm_bench.specs.Seat.{Seat}
 use Rattle.wm_bench.specs.declared.place.Place.{Place}
 use Rattle.wm_bench.specs.declared.place.Presence.{Presence}
 use Rattle.wm_bench.specs.declared.place.Presence.TheVariants.{Idle, Away}
-use Rattle.wm_data.specs.declared.data.DataEntry.{DataEntry}
 use Rattle.wm_keeper.specs.declared.row.Row.{Row}
 use Rattle.wm_machine.proofs.DiaryLogs.{log_entries-push}
-use Rattle.wm_machine.specs.Diaries.{diaries_after, end_entries, event_entries, log_entries}
+use Rattle.wm_machine.proofs.Frames.{frame-finish}
+use Rattle.wm_machine.specs.Diaries.{diaries_after, event_entries, log_entries}
+use Rattle.wm_machine.specs.Ends.{given_by}
+use Rattle.wm_machine.specs.Frame.{Frame}
 use Rattle.wm_machine.specs.Replay.{Replay}
-use Rattle.wm_machine.specs.Runs.{run_numbered}
-use Rattle.wm_machine.specs.declared.event.End.TheVariants.{Success}
 use Rattle.wm_machine.specs.declared.event.Event.{Event}
 use Rattle.wm_machine.specs.declared.event.Event.TheVariants as event
-use Rattle.wm_machine.specs.declared.state.Run.{Run}
 use Rattle.wm_machine.specs.declared.state.State.{State}
 use Rattle.wm_session.specs.Bench.{diary_in, place_diaries}
 use Rattle.wm_session.specs.Book.{GoesOn, IsBegun}
@@ -30,7 +29,6 @@ use Rattle.wm_worker.specs.Diary.{diary_with}
 use Rattle.wm_worker.specs.Signal.{SignalState}
 use Rattle.wm_worker.specs.declared.answer.Entry.{Entry}
 use Rattle.wm_worker.specs.declared.answer.Entry.TheVariants.{Begun, Gave}
-use Rattle.wm_worker.specs.declared.answer.Given.TheVariants as given
 use Rattle.wm_worker.specs.declared.kind.Kind.{Kind}
 
 -- ---- one diary
@@ -172,13 +170,6 @@ KeepDiaries-begun {held = held} {kind_of = kind_of} {ticket = ticket} {seat = se
     (λ n. refl)
     (place_diaries-taken kind_of diary_of seat.worker ticket.instance old.places begun.worker ∙ keep begun.goes_on.before))
 
--- the end of a run is written down by the worker of its ticket's instance
-end_entries-ticket : (number : ℕ) (found : Option Run) (ticket : TicketState) (output : List DataEntry) → IsSomeAnd found (λ run. ticket ≡ ticket_of run)
-    → end_entries number found (Success output) ≡ cond (eqb ticket.instance number) (Gave ticket.task.run ticket.k (given.Success output) ∷ []) []
-end_entries-ticket number None ticket output is = absurd is
-end_entries-ticket number (Some run) ticket output is =
-    ap (λ (t : TicketState). cond (eqb t.instance number) (Gave t.task.run t.k (given.Success output) ∷ []) []) (sym is)
-
 -- a run is over, and its worker has written down what it gave
 pub KeepDiaries-last : {K W B : Type 0} {held : K → Option (List Row)} {diary_of : B → Option (List Entry)} {ticket : TicketState} {worker : B}
     {old new : BookState K W B} (diaries : List (Option (List Entry)))
@@ -186,12 +177,16 @@ pub KeepDiaries-last : {K W B : Type 0} {held : K → Option (List Row)} {diary_
     → KeepDiaries diary_of diaries new
 KeepDiaries-last {held = held} {diary_of = diary_of} {ticket = ticket} {worker = worker} {old = old} {new = new} diaries under_way last keep going =
     let s = old.table.state in
-    let finish = event.Finish ticket.task.run (Success last.output) in
-    let gave = Gave ticket.task.run ticket.k (given.Success last.output) ∷ [] in
+    let legal = last.step.legal in
+    let gave = Gave ticket.task.run ticket.k (given_by last.end) ∷ [] in
     let away = place_diaries diary_of old.places in
+    let of_run : ticket ≡ ticket_of legal.run =
+    subst (λ found. IsSomeAnd found (λ run. ticket ≡ ticket_of run)) legal.is_running under_way.ticket_in in
     rw last.places
     (place_diaries-back diary_of last.back ticket.instance old.places
     ∙ ap (slice_set away ticket.instance) last.diary
-    ∙ diaries_after-written held finish old.table new.table ticket.instance gave (diary_of worker) away diaries under_way.replay last.step
-    (λ n. end_entries-ticket n (run_numbered ticket.task.run s.runs) ticket last.output under_way.ticket_in)
+    ∙ diaries_after-written held (event.Finish ticket.task.run last.end) old.table new.table ticket.instance gave
+    (diary_of worker) away diaries under_way.replay last.step
+    (λ n. ap (λ (f : Frame). f.entries n) (frame-finish s ticket.task.run last.end legal)
+    ∙ ap (λ (t : TicketState). cond (eqb t.instance n) (Gave t.task.run t.k (given_by last.end) ∷ []) []) (sym of_run))
     (keep last.goes_on.before))

@@ -6,26 +6,22 @@ use Rattle.std.proofs.lemmas.Bool.{cond_both, eq-eqb}
 use Rattle.wm_bench.specs.Places.{changed_at, idle_hands, made_away, made_idle, IsAwayAt}
 use Rattle.wm_bench.specs.Seat.{Seat}
 use Rattle.wm_bench.specs.declared.place.Place.{Place}
-use Rattle.wm_data.specs.declared.data.DataEntry.{DataEntry}
 use Rattle.wm_keeper.specs.declared.row.Row.{Row}
-use Rattle.wm_machine.proofs.Drains.{runs-after_command}
+use Rattle.wm_machine.proofs.Frames.{frame-command, frame-finish, frame-start}
 use Rattle.wm_machine.proofs.Serials.{AreInOrder-push, BeginsSerial-goes-on}
-use Rattle.wm_machine.proofs.Waitings.{waiting_count-changed, waiting_count-started}
 use Rattle.wm_machine.specs.Built.{IsBuilt}
+use Rattle.wm_machine.specs.Frame.{Frame}
 use Rattle.wm_machine.specs.Log.{BeginsWith, commands_of}
+use Rattle.wm_machine.specs.Narrow.{IsNarrow}
 use Rattle.wm_machine.specs.Quiet.{IsQuiet}
 use Rattle.wm_machine.specs.Replay.{Replay}
-use Rattle.wm_machine.specs.Runs.{closed, other_runs, run_numbered, run_on, start_on, started, succeeded, success_of, with_start, with_success}
+use Rattle.wm_machine.specs.Runs.{other_runs, run_numbered}
 use Rattle.wm_machine.specs.Serial.{AreInOrder, BeginsSerial, IsInTurn, MayGoOn}
-use Rattle.wm_machine.specs.Step.{after, start_of, Legal}
 use Rattle.wm_machine.specs.Valid.{Valid}
-use Rattle.wm_machine.specs.Waiting.{waiting_count}
 use Rattle.wm_machine.specs.declared.command.Command.{Command}
-use Rattle.wm_machine.specs.declared.event.Cause.{Cause}
 use Rattle.wm_machine.specs.declared.event.End.TheVariants.{Success}
 use Rattle.wm_machine.specs.declared.event.Event.{Event}
 use Rattle.wm_machine.specs.declared.event.Event.TheVariants as event
-use Rattle.wm_machine.specs.declared.record.How.TheVariants as how
 use Rattle.wm_machine.specs.declared.reply.Reply.{Reply}
 use Rattle.wm_machine.specs.declared.state.Run.{Run}
 use Rattle.wm_machine.specs.declared.state.State.{State}
@@ -60,13 +56,14 @@ pub IsTurned-reported : {K W B : Type 0} (held : K → Option (List Row)) (diary
     → HasWritten diary_of ticket worker seat.worker told → IsLastTurn held diary_of ticket worker old new ⊎ IsGivenUp held ticket old new
 IsTurned-reported held diary_of ticket worker seat (Ok told) report.Over old new done ends number written =
     inl (record {
-      output = done.finished.output;
+      end = Success done.finished.output;
       back = seat.worker;
       goes_on = done.goes_on;
       step = done.finished.step;
       diary = written ∙ ap (λ answer. diary_with (turn_entries ticket.task.run ticket.k answer) (diary_of worker)) done.finished.told_is;
       places = done.places ∙ ap (λ n. changed_at (made_idle seat.worker) n old.places) number;
       left = done.left;
+      no_more = done.no_more;
     })
 IsTurned-reported held diary_of ticket worker seat (Ok told) (report.Again same kept) old new done (inl ends) number written = absurd (cc)
 IsTurned-reported held diary_of ticket worker seat (Ok told) (report.Again same kept) old new done (inr ends) number written = absurd (cc)
@@ -128,44 +125,7 @@ module _ {K W B : Type 0} (held : K → Option (List Row)) where
     not_retired = rw places rest.not_retired;
   }
 
--- ---- the runs and the works of a step
-
-after_start : (s : State) (run seq instance : ℕ) (input : List DataEntry) (legal : Legal s (event.Start run seq instance input))
-    → after s (event.Start run seq instance input) ≡ with_start s legal.work legal.idle
-after_start s run seq instance input legal = ap (start_of s) legal.is_first ∙ ap (start_on s legal.work) legal.is_idle
-
--- a start leaves one waiting work fewer
-started_fewer : (s : State) (run seq instance : ℕ) (input : List DataEntry) → Legal s (event.Start run seq instance input)
-    → waiting_count (after s (event.Start run seq instance input)).works < waiting_count s.works
-started_fewer s run seq instance input legal =
-    subst (λ (t : State). waiting_count t.works < waiting_count s.works) (sym (after_start s run seq instance input legal))
-    (waiting_count-started s legal.work started legal.is_first (λ other. refl))
-
--- and one run, where there was none
-started_one : (s : State) (run seq instance : ℕ) (input : List DataEntry) → Legal s (event.Start run seq instance input) → s.runs ≡ []
-    → length (after s (event.Start run seq instance input)).runs ≤ 1
-started_one s run seq instance input legal none =
-    let one : (with_start s legal.work legal.idle).runs ≡ run_on s legal.work legal.idle ∷ [] = ap (λ runs. runs ++ run_on s legal.work legal.idle ∷ []) none in
-    subst (λ (t : State). length t.runs ≤ 1) (sym (after_start s run seq instance input legal))
-    (subst (λ (runs : List Run). length runs ≤ 1) (sym one) (omega arith))
-
--- a failed start leaves one waiting work fewer too
-failed_fewer : (s : State) (seq : ℕ) (cause : Cause) → Legal s (event.StartFailed seq cause)
-    → waiting_count (after s (event.StartFailed seq cause)).works < waiting_count s.works
-failed_fewer s seq cause legal =
-    subst (λ n. waiting_count (after s (event.StartFailed n cause)).works < waiting_count s.works) (sym legal.seq_is)
-    (waiting_count-started s legal.work (closed how.Failed) legal.is_first (λ other. refl))
-
-after_finish : (s : State) (number : ℕ) (output : List DataEntry) (legal : Legal s (event.Finish number (Success output)))
-    → after s (event.Finish number (Success output)) ≡ with_success s legal.run output
-after_finish s number output legal = ap (λ found. success_of s found output) legal.is_running
-
--- a finish leaves no more waiting
-finished_same : (s : State) (number : ℕ) (output : List DataEntry) → Legal s (event.Finish number (Success output))
-    → waiting_count (after s (event.Finish number (Success output))).works ≤ waiting_count s.works
-finished_same s number output legal =
-    subst (λ (t : State). waiting_count t.works ≤ waiting_count s.works) (sym (after_finish s number output legal))
-    (waiting_count-changed (succeeded output) legal.run.seq s.works (λ other. refl))
+-- ---- the end of the one run
 
 -- without the one that there is, no run is left
 none_left : (number : ℕ) (run : Run) (runs : List Run) → run_numbered number runs ≡ Some run → length runs ≤ 1 → other_runs run.run runs ≡ []
@@ -176,19 +136,14 @@ none_left number run (one ∷ []) found few =
     ap (λ (r : Run). other_runs r.run (one ∷ [])) (sym same) ∙ ap (λ b. cond (not b) (one ∷ []) []) (eq-eqb one.run one.run refl)
 none_left number run (one ∷ other ∷ runs) found few = absurd (omega arith)
 
-finished_none : (s : State) (number : ℕ) (output : List DataEntry) → Legal s (event.Finish number (Success output)) → length s.runs ≤ 1
-    → (after s (event.Finish number (Success output))).runs ≡ []
-finished_none s number output legal few =
-    ap (λ (t : State). t.runs) (after_finish s number output legal) ∙ none_left number legal.run s.runs legal.is_running few
-
 -- ---- a start
 
 module _ {K W B : Type 0} {held : K → Option (List Row)} {kind_of : B → Kind} {ticket : TicketState} {seat : Seat B} {signal : SignalState}
     {old new : BookState K W B} where
   begun_few : IsAtRest old → IsBegun held kind_of ticket seat signal old new → length new.table.state.runs ≤ 1
   begun_few rest begun =
-      rw begun.step.state
-      (started_one old.table.state ticket.task.run ticket.seq ticket.instance ticket.task.input begun.step.legal (rest.no_run begun.goes_on.before))
+      let frame = frame-start old.table.state ticket.task.run ticket.seq ticket.instance ticket.task.input begun.step.legal in
+      rw (begun.step.state, ap (λ (f : Frame). f.runs) frame, rest.no_run begun.goes_on.before) (omega arith)
 
   -- a run that starts in a book at rest is under way
   pub IsUnderWay-begun : IsAtRest old → IsBegun held kind_of ticket seat signal old new → IsUnderWay ticket new
@@ -205,11 +160,7 @@ module _ {K W B : Type 0} {held : K → Option (List Row)} {kind_of : B → Kind
         not_retired = rw begun.places (NoneRetired-changed (made_away kind_of) ticket.instance old.places (λ place. refl) rest.not_retired);
       }
 
-  -- fewer works wait
-  pub begun_fewer : IsBegun held kind_of ticket seat signal old new → waiting_count new.table.state.works < waiting_count old.table.state.works
-  begun_fewer begun =
-      rw begun.step.state (started_fewer old.table.state ticket.task.run ticket.seq ticket.instance ticket.task.input begun.step.legal)
-
+  -- in its turn
   pub GoesInOrder-begun : (lines : List Command) → IsAtRest old → IsBegun held kind_of ticket seat signal old new → GoesInOrder lines old
       → GoesInOrder lines new
   GoesInOrder-begun lines rest begun =
@@ -224,9 +175,6 @@ module _ {K W B : Type 0} {held : K → Option (List Row)} {old new : BookState 
   pub IsAtRest-failed : IsAtRest old → IsStartFailed held old new → IsAtRest new
   IsAtRest-failed rest failed =
       IsAtRest-step held (event.StartFailed failed.seq failed.cause) old new rest failed.step failed.places (failed_none rest failed)
-
-  pub start_failed_fewer : IsStartFailed held old new → waiting_count new.table.state.works < waiting_count old.table.state.works
-  start_failed_fewer failed = rw failed.step.state (failed_fewer old.table.state failed.seq failed.cause failed.step.legal)
 
   pub GoesInOrder-failed : (lines : List Command) → IsAtRest old → IsStartFailed held old new → GoesInOrder lines old → GoesInOrder lines new
   GoesInOrder-failed lines rest failed =
@@ -259,10 +207,12 @@ module _ {K W B : Type 0} {held : K → Option (List Row)} {diary_of : B → Opt
   -- its last turn
   IsDriven-last : IsUnderWay ticket old → IsLastTurn held diary_of ticket worker old new → IsDriven diary_of ticket.instance (diary_of worker) old new
   IsDriven-last under_way last =
-      let s = old.table.state in
-      let finish = event.Finish ticket.task.run (Success last.output) in
+      let finish = event.Finish ticket.task.run last.end in
+      let legal = last.step.legal in
       let none : new.table.state.runs ≡ [] =
-      ap (λ (t : State). t.runs) last.step.state ∙ finished_none s ticket.task.run last.output last.step.legal under_way.alone in
+      ap (λ (t : State). t.runs) last.step.state
+      ∙ ap (λ (f : Frame). f.runs) (frame-finish old.table.state ticket.task.run last.end legal)
+      ∙ none_left ticket.task.run legal.run old.table.state.runs legal.is_running under_way.alone in
       record {
         rest = record {
           replay = Replay-step held finish old.table new.table under_way.replay last.step;
@@ -271,7 +221,7 @@ module _ {K W B : Type 0} {held : K → Option (List Row)} {diary_of : B → Opt
           not_retired = rw last.places (NoneRetired-changed (made_idle last.back) ticket.instance old.places (λ place. refl) under_way.not_retired);
         };
         left = last.left;
-        no_more = rw last.step.state (finished_same s ticket.task.run last.output last.step.legal);
+        no_more = last.no_more;
         order = λ lines. GoesInOrder-step held lines finish old new under_way.replay last.step last.goes_on tt (rw none (omega arith));
         diaries = λ diaries. KeepDiaries-last diaries under_way last;
       }
@@ -305,7 +255,9 @@ in_order-line lines left first now log number asked reply order replays (inr beg
 module _ {K W B : Type 0} {held : K → Option (List Row)} {old new : BookState K W B} where
   line_none : IsAtRest old → old.status ≡ None → IsLineDone held old new → new.table.state.runs ≡ []
   line_none rest going done =
-      ap (λ (t : State). t.runs) done.step.state ∙ runs-after_command old.table.state done.command ∙ rest.no_run going
+      ap (λ (t : State). t.runs) done.step.state
+      ∙ ap (λ (f : Frame). f.runs) (frame-command old.table.state (old.line + 1) done.command done.reply)
+      ∙ rest.no_run going
 
   -- a line was executed
   pub IsAtRest-line : IsAtRest old → old.status ≡ None → IsLineDone held old new → new.places ≡ old.places → IsAtRest new
@@ -398,19 +350,19 @@ built_left (asked ∷ done) left built = built_left done left built.1
 
 -- a log in order begins that of a serial run
 BeginsSerial-order : (lines : List Command) (first last : State) (log : List Event) → AllByRecursion IsBuilt lines → BeginsWith lines (commands_of log)
-    → Replay first log last → Valid last → length last.runs ≤ 1 → AreInOrder lines first log → BeginsSerial lines first log
-BeginsSerial-order lines first last log built (left, whole) replays valid few order =
+    → Replay first log last → Valid last → IsNarrow last → length last.runs ≤ 1 → AreInOrder lines first log → BeginsSerial lines first log
+BeginsSerial-order lines first last log built (left, whole) replays valid narrow few order =
     BeginsSerial-goes-on lines left first last log
-    (built_left (commands_of log) left (subst (AllByRecursion IsBuilt) whole built)) whole replays valid few order
+    (built_left (commands_of log) left (subst (AllByRecursion IsBuilt) whole built)) whole replays valid narrow few order
 
 -- a log in order is that of a serial run, once all is done, and else begins one
 pub IsSerialRun-order : (lines : List Command) (ended : Status) (first last : State) (log : List Event) → AllByRecursion IsBuilt lines
-    → HasCommands lines ended log → Replay first log last → Valid last → length last.runs ≤ 1 → AreInOrder lines first log
+    → HasCommands lines ended log → Replay first log last → Valid last → IsNarrow last → length last.runs ≤ 1 → AreInOrder lines first log
     → (ended ≡ status.Done → IsQuiet last) → IsSerialRun lines ended first log last
-IsSerialRun-order lines status.Done first last log built commands replays valid few order quiet =
+IsSerialRun-order lines status.Done first last log built commands replays valid narrow few order quiet =
     record { replay = replays; commands = commands.all refl; in_order = order; quiet = quiet refl }
-IsSerialRun-order lines _ first last log built commands replays valid few order quiet =
-    BeginsSerial-order lines first last log built commands.front replays valid few order
+IsSerialRun-order lines _ first last log built commands replays valid narrow few order quiet =
+    BeginsSerial-order lines first last log built commands.front replays valid narrow few order
 
 -- the workers that are handed back while the session goes on have told their part of the log
 pub HaveTold-rest : {K W B : Type 0} (diary_of : B → Option (List Entry)) (diaries : List (Option (List Entry))) (book : BookState K W B) → AreIdle book.places

@@ -1,10 +1,11 @@
 -- What the calls of a book do. This project's own choice.
-use Rattle.std.specs.Prelude.{◌≡◌, ◌⊎◌, ℕ, ◌+◌, true, List, [], ◌∷◌, Option, Some, None, IsSome, Result, Ok, Err}
+use Rattle.std.specs.Prelude.{◌≡◌, ◌⊎◌, ℕ, ◌+◌, ◌<◌, ◌≤◌, true, List, [], ◌∷◌, Option, Some, None, IsSome, Result, Ok, Err}
 use Rattle.std.specs.declared.alloc.AllocError.{AllocError}
 use Rattle.wm_bench.specs.Places.{changed_at, idle_at, made_away, made_idle}
 use Rattle.wm_bench.specs.Seat.{Seat}
 use Rattle.wm_keeper.specs.declared.row.Row.{Row}
 use Rattle.wm_machine.specs.First.{first_of}
+use Rattle.wm_machine.specs.Waiting.{left_to_drain}
 use Rattle.wm_machine.specs.declared.command.Command.{Command}
 use Rattle.wm_machine.specs.declared.event.Cause.{Cause}
 use Rattle.wm_machine.specs.declared.event.Event.TheVariants as event
@@ -53,7 +54,7 @@ IsFronted held front.Stopped old new =
 
 -- ---- a start
 
--- a run began: its ticket holds what it keeps, and the worker of its instance is out with the seat
+-- a run began: its ticket holds what it keeps, the worker of its instance is out with the seat, and fewer works are left to drain
 pub record IsBegun {K W B : Type 0} (held : K → Option (List Row)) (kind_of : B → Kind) (ticket : TicketState) (seat : Seat B) (signal : SignalState)
     (old new : BookState K W B) : Type 0 where
   pub goes_on : GoesOn old new
@@ -65,8 +66,9 @@ pub record IsBegun {K W B : Type 0} (held : K → Option (List Row)) (kind_of : 
   pub places : new.places ≡ changed_at (made_away kind_of) ticket.instance old.places
   pub signal_is : signal ≡ record { run = ticket.task.run; never = true }
   pub left : new.left ≡ old.left
+  pub fewer : left_to_drain new.table.state < left_to_drain old.table.state
 
--- a work couldn't start
+-- a work couldn't start, and fewer are left to drain
 pub record IsStartFailed {K W B : Type 0} (held : K → Option (List Row)) (old new : BookState K W B) : Type 0 where
   pub seq : ℕ
   pub cause : Cause
@@ -74,6 +76,7 @@ pub record IsStartFailed {K W B : Type 0} (held : K → Option (List Row)) (old 
   pub step : IsOneStep held (event.StartFailed seq cause) old.table new.table
   pub places : new.places ≡ old.places
   pub left : new.left ≡ old.left
+  pub fewer : left_to_drain new.table.state < left_to_drain old.table.state
 
 -- the session has stopped early; nothing else is different
 pub record HasStopped {K W B : Type 0} (held : K → Option (List Row)) (old new : BookState K W B) : Type 0 where
@@ -90,7 +93,7 @@ IsClaimed held kind_of job.Stopped old new = HasStopped held old new × (new.pla
 
 -- ---- a report
 
--- a run is over, and its worker is at its place again
+-- a run is over, its worker is at its place again, and no more works are left to drain
 pub record IsOver {K W B : Type 0} (held : K → Option (List Row)) (ticket : TicketState) (seat : Seat B) (told : Report)
     (old new : BookState K W B) : Type 0 where
   pub goes_on : GoesOn old new
@@ -98,6 +101,7 @@ pub record IsOver {K W B : Type 0} (held : K → Option (List Row)) (ticket : Ti
   pub finished : IsFinished held ticket.task.run told old.table new.table
   pub places : new.places ≡ changed_at (made_idle seat.worker) seat.number old.places
   pub left : new.left ≡ old.left
+  pub no_more : left_to_drain new.table.state ≤ left_to_drain old.table.state
 
 -- Over where what was told counts, with its event; Again where it doesn't, and nothing changes; Stopped where the session has stopped
 -- early, and the worker is at its place again

@@ -6,10 +6,11 @@ use Rattle.wm_bench.specs.Seat.{Seat}
 use Rattle.wm_data.specs.declared.data.DataEntry.{DataEntry}
 use Rattle.wm_keeper.specs.declared.row.Row.{Row}
 use Rattle.wm_machine.specs.Diaries.{diaries_after}
+use Rattle.wm_machine.specs.Ends.{given_by}
 use Rattle.wm_machine.specs.Replay.{Replay}
-use Rattle.wm_machine.specs.Waiting.{waiting_count}
+use Rattle.wm_machine.specs.Waiting.{left_to_drain}
 use Rattle.wm_machine.specs.declared.command.Command.{Command}
-use Rattle.wm_machine.specs.declared.event.End.TheVariants.{Success}
+use Rattle.wm_machine.specs.declared.event.End.{End}
 use Rattle.wm_machine.specs.declared.event.Event.TheVariants as event
 use Rattle.wm_session.specs.Bench.{AreIdle, place_diaries}
 use Rattle.wm_session.specs.Book.{GoesOn, HasStopped}
@@ -53,13 +54,14 @@ HasWritten diary_of ticket worker now told =
 -- the run is over, and its worker, which has written down what it gave, is at its place again
 pub record IsLastTurn {K W B : Type 0} (held : K → Option (List Row)) (diary_of : B → Option (List Entry)) (ticket : TicketState) (worker : B)
     (old new : BookState K W B) : Type 0 where
-  pub output : List DataEntry
+  pub end : End
   pub back : B
   pub goes_on : GoesOn old new
-  pub step : IsOneStep held (event.Finish ticket.task.run (Success output)) old.table new.table
-  pub diary : diary_of back ≡ diary_with (Gave ticket.task.run ticket.k (given.Success output) ∷ []) (diary_of worker)
+  pub step : IsOneStep held (event.Finish ticket.task.run end) old.table new.table
+  pub diary : diary_of back ≡ diary_with (Gave ticket.task.run ticket.k (given_by end) ∷ []) (diary_of worker)
   pub places : new.places ≡ changed_at (made_idle back) ticket.instance old.places
   pub left : new.left ≡ old.left
+  pub no_more : left_to_drain new.table.state ≤ left_to_drain old.table.state
 
 -- the session has stopped early, and a worker is at the place again
 pub record IsGivenUp {K W B : Type 0} (held : K → Option (List Row)) (ticket : TicketState) (old new : BookState K W B) : Type 0 where
@@ -81,6 +83,7 @@ pub record IsOtherTurn {K W B : Type 0} (held : K → Option (List Row)) (kind_o
   pub diary : diary_of seat.worker ≡ diary_with (Gave ticket.task.run ticket.k (given.More progress) ∷ []) (diary_of worker)
   pub places : new.places ≡ old.places
   pub left : new.left ≡ old.left
+  pub no_more : left_to_drain new.table.state ≤ left_to_drain old.table.state
 
 -- the worker of a run took a turn: the run is over, or the session has stopped early, or the run goes on
 abbrev pub IsTurned : {K W B : Type 0} → (K → Option (List Row)) → (B → Kind) → (B → Option (List Entry)) → TicketState → B
@@ -91,11 +94,11 @@ IsTurned held kind_of diary_of ticket worker (Some run) old new = IsOtherTurn he
 -- ---- all turns
 
 -- A run was driven to its end, whose worker is away from this place and had this diary: the book is at rest with the lines that were left,
--- no more works wait, and order and diaries are kept.
+-- no more works are left to drain, and order and diaries are kept.
 pub record IsDriven {K W B : Type 0} (diary_of : B → Option (List Entry)) (number : ℕ) (diary : Option (List Entry)) (old new : BookState K W B)
     : Type 0 where
   pub rest : IsAtRest new
   pub left : new.left ≡ old.left
-  pub no_more : waiting_count new.table.state.works ≤ waiting_count old.table.state.works
+  pub no_more : left_to_drain new.table.state ≤ left_to_drain old.table.state
   pub order : (lines : List Command) → GoesInOrder lines old → GoesInOrder lines new
   pub diaries : (diaries : List (Option (List Entry))) → KeepDiariesWith diary_of number diary diaries old → KeepDiaries diary_of diaries new

@@ -6,6 +6,7 @@ use Rattle.wm_bench.specs.declared.hand.HandOf.{HandOf}
 use Rattle.wm_faults.specs.Faults.{Failed}
 use Rattle.wm_machine.specs.Diaries.{diaries_after}
 use Rattle.wm_machine.specs.Log.{commands_of, AreNumberedFrom, BeginsWith}
+use Rattle.wm_machine.specs.Narrow.{IsNarrow}
 use Rattle.wm_machine.specs.Opened.{opening_state}
 use Rattle.wm_machine.specs.Quiet.{IsQuiet}
 use Rattle.wm_machine.specs.Replay.{Replay}
@@ -82,6 +83,7 @@ pub record IsHandedBack {K W B : Type 0} (kind_of : B → Kind) (book : BookStat
   pub hands : ended.hands.items ≡ idle_hands book.places
   pub workers : map (place_traits kind_of) book.places ≡ map instance_traits ended.last.instances
   pub valid : Valid ended.last
+  pub narrow : IsNarrow ended.last
 
 -- A serial session that is over, whose workers had these diaries: on `Done` nothing is left to do, and the workers have written down their
 -- part of the log; they come back; and the log is that of a serial run, or a front of one.

@@ -3,6 +3,7 @@ use Rattle.std.specs.Prelude.{◌≡◌, ℕ, ◌+◌, ◌^◌, ◌<◌, ◌≤�
 use Rattle.std.specs.List.{AllByRecursion}
 use Rattle.wm_machine.specs.Built.{IsBuilt}
 use Rattle.wm_machine.specs.Log.{commands_of, AreNumberedFrom, BeginsWith}
+use Rattle.wm_machine.specs.Narrow.{IsNarrow}
 use Rattle.wm_machine.specs.Replay.{Replay}
 use Rattle.wm_machine.specs.Rows.{rows_of}
 use Rattle.wm_script.specs.Texts.{log_text}
@@ -38,13 +39,14 @@ abbrev pub AreAwayKept : {K W B : Type 0} → Option Stop → BookState K W B �
 AreAwayKept None book = map (λ place. is_away place.presence) book.places ≡ map (λ instance. instance.out) book.table.state.instances
 AreAwayKept (Some why) book = Unit {0}
 
--- The facts of a book, of what its run was given: the log replays from the first state to the state now, which is valid; its commands are
+-- The facts of a book, of what its run was given: the log replays from the first state to the state now, which is valid, and narrow for now; its commands are
 -- the lines up to the one that is next; the bytes written and pending are its text; the rows held are those of the state; the workers are
 -- the instances; and the counts of faults haven't fallen, and have risen where a fault stopped the session.
 pub record IsBookKept {K W B : Type 0} (run : Given) (tells : Tells K W B) (book : BookState K W B) : Type 0 where
   pub first : book.table.first ≡ run.first
   pub replay : Replay book.table.first book.table.log book.table.state
   pub valid : Valid book.table.state
+  pub narrow : IsNarrow book.table.state
   pub lines : AreLinesKept book.status run.lines (commands_of book.table.log) book.left
   pub built : AllByRecursion IsBuilt book.left
   pub numbered : AreNumberedFrom 1 book.table.log

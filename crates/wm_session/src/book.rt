@@ -4,6 +4,7 @@ ghost use Rattle.std.specs.Prelude.{◌≡◌, ◌↔◌, ◌^◌, ◌<◌, ◌�
 ghost use Rattle.std.specs.List.{AllByRecursion};
 ghost use Rattle.wm_bench.specs.Places.{IsAwayAt};
 ghost use Rattle.wm_machine.specs.Built.{IsBuilt};
+ghost use Rattle.wm_machine.specs.Narrow.{IsNarrow};
 ghost use Rattle.wm_machine.specs.Quiet.{IsQuiet};
 ghost use Rattle.wm_machine.specs.Rows.{rows_of};
 ghost use Rattle.wm_machine.specs.Valid.{Valid};
@@ -162,6 +163,7 @@ impl<K: Keeper, W: Sink, B: Worker, M: Mark> BookOf<K, W, B, M> {
         requires idle { AreIdle bench }
         requires all_in { AllByRecursion (λ instance. instance.out ≡ false) table.state.instances }
         requires valid { Valid table.state }
+        requires narrow { IsNarrow table.state }
         requires few { length lines < 2 ^ 32 }
         requires built { AllByRecursion IsBuilt lines }
 

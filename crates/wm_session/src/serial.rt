@@ -3,7 +3,7 @@ ghost use Rattle.std.specs.Prelude.{◌≡◌, ◌<◌, ◌∷◌, [], List, Opt
 ghost use Rattle.std.specs.List.{AllByRecursion};
 ghost use Rattle.wm_machine.specs.Built.{IsBuilt};
 ghost use Rattle.wm_machine.specs.Quiet.{IsQuiet};
-ghost use Rattle.wm_machine.specs.Waiting.{waiting_count};
+ghost use Rattle.wm_machine.specs.Waiting.{left_to_drain};
 ghost use Rattle.wm_machine.specs.declared.command.Command.{Command};
 ghost use Rattle.wm_session.specs.Bench.{place_diaries};
 ghost use Rattle.wm_session.specs.Drive.{HasWritten, IsDriven, IsTurned, IsUnderWay};
@@ -79,8 +79,8 @@ fn execute_lines<K: Keeper, W: Sink, B: Worker, M: Mark>(
     }
 }
 
-/// Drives all that may start, until there is nothing left to do. Each start leaves one waiting work
-/// fewer, so it ends.
+/// Drives all that may start, until there is nothing left to do. Each start leaves fewer works that
+/// wait and are due by now or blocked, so it ends.
 fn drain<K: Keeper, W: Sink, B: Worker, M: Mark>(alloc: Global, book: &mut BookOf<K, W, B, M>)
     requires { IsAtRest book.old }
     ensures rest { IsAtRest book.new }
@@ -104,7 +104,7 @@ fn drive_first<K: Keeper, W: Sink, B: Worker, M: Mark>(
     ensures rest { IsAtRest book.new }
     ensures left { book.new.left ≡ book.old.left }
     ensures fewer { result ≡ Progress.Driven
-        → waiting_count book.new.table.state.works < waiting_count book.old.table.state.works }
+        → left_to_drain book.new.table.state < left_to_drain book.old.table.state }
     ensures nothing { result ≡ Progress.Nothing → IsQuiet book.new.table.state }
     ensures stopped { result ≡ Progress.Stopped → IsSome book.new.status }
     ensures order { (lines : List Command)

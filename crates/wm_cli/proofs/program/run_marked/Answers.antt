@@ -4,6 +4,7 @@ use Rattle.wm_bench.specs.Places.{idle_hands}
 use Rattle.wm_cli.proofs.Hands.{all_in, idle_hands-places, traits-places, AreFresh-instances_from}
 use Rattle.wm_cli.proofs.RunEnds.{IsSerialEnd-at_once}
 use Rattle.wm_cli.specs.Ended.{IsEndedAtOnce}
+use Rattle.wm_machine.specs.Narrow.{IsNarrow}
 use Rattle.wm_machine.specs.Valid.{Valid}
 use Rattle.wm_machine.specs.declared.state.State.{State}
 use Rattle.wm_session.specs.Bench.{instance_traits, place_diaries, place_traits, AreIdle}
@@ -12,7 +13,7 @@ use Rattle.wm_session.specs.Hands.{instances_from}
 use Rattle.wm_session.specs.Rest.{NoneRetired}
 use Rattle.wm_session.specs.Tells.{tells_of}
 use Rattle.wm_session.proofs.HandLemmas.{AreIdle-hands, NoneRetired-hands}
-use Rattle.wm_table.proofs.TableSteps.{Valid-opening}
+use Rattle.wm_table.proofs.TableSteps.{IsNarrow-opening, Valid-opening}
 use Rattle.wm_cli.proofs.program.run_marked.Goals as goal
 
 pub new-requires-clause-workers : goal.new-requires-clause-workers
@@ -31,6 +32,12 @@ new-requires-clause-valid g c =
     let benched = c.requires.benched in
     subst Valid (sym (c.requires.begun.state ∙ benched.opened))
     (Valid-opening (instances_from g.B.Worker.kind_of 0 benched.hands) (AreFresh-instances_from g.B.Worker.kind_of benched.hands benched.echoes))
+
+pub new-requires-clause-narrow : goal.new-requires-clause-narrow
+new-requires-clause-narrow g c =
+    let benched = c.requires.benched in
+    subst IsNarrow (sym (c.requires.begun.state ∙ benched.opened))
+    (IsNarrow-opening (instances_from g.B.Worker.kind_of 0 benched.hands) (AreFresh-instances_from g.B.Worker.kind_of benched.hands benched.echoes))
 
 pub new-requires-clause-all_in : goal.new-requires-clause-all_in
 new-requires-clause-all_in g c =

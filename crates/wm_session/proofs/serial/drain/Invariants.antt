@@ -1,5 +1,5 @@
 use Rattle.std.proofs.Common.{◌≡◌, List, Option}
-use Rattle.wm_machine.specs.Waiting.{waiting_count}
+use Rattle.wm_machine.specs.Waiting.{left_to_drain}
 use Rattle.wm_machine.specs.declared.command.Command.{Command}
 use Rattle.wm_session.specs.Rest.{GoesInOrder, IsAtRest, KeepDiaries}
 use Rattle.wm_worker.specs.declared.answer.Entry.{Entry}
@@ -15,4 +15,4 @@ invariant-starts g l = record {
 }
 
 abbrev pub decreases-starts : goal.decreases-starts
-decreases-starts g l = waiting_count l.book.table.state.works
+decreases-starts g l = left_to_drain l.book.table.state

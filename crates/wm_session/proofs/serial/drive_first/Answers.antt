@@ -1,8 +1,7 @@
 use Rattle.std.proofs.Common.{◌<◌, ◌≤◌, refl, arith}
-use Rattle.wm_machine.specs.Waiting.{waiting_count}
 use Rattle.wm_machine.specs.declared.event.Event.TheVariants as event
 use Rattle.wm_session.proofs.DiaryLemmas.{KeepDiaries-begun, KeepDiaries-same}
-use Rattle.wm_session.proofs.SerialLemmas.{GoesInOrder-begun, GoesInOrder-failed, GoesInOrder-stopped, IsAtRest-failed, IsUnderWay-begun, begun_fewer, start_failed_fewer}
+use Rattle.wm_session.proofs.SerialLemmas.{GoesInOrder-begun, GoesInOrder-failed, GoesInOrder-stopped, IsAtRest-failed, IsUnderWay-begun}
 use Rattle.wm_session.proofs.serial.drive_first.Goals as goal
 
 pub drive-requires-clause-under_way : goal.drive-requires-clause-under_way
@@ -10,7 +9,8 @@ drive-requires-clause-under_way g c = IsUnderWay-begun c.requires c.in-Run.ensur
 
 pub returns-in-Run-clause-fewer : goal.returns-in-Run-clause-fewer
 returns-in-Run-clause-fewer g c driven =
-    let fewer = begun_fewer c.in-Run.ensures in
+    let begun = c.in-Run.ensures in
+    let fewer = begun.fewer in
     let no_more = c.drive.ensures.no_more in
     omega arith
 
@@ -23,9 +23,6 @@ returns-in-Run-clause-diaries g c diaries keep =
 
 pub returns-in-Failed-clause-rest : goal.returns-in-Failed-clause-rest
 returns-in-Failed-clause-rest g c = IsAtRest-failed c.requires c.in-Failed.ensures
-
-pub returns-in-Failed-clause-fewer : goal.returns-in-Failed-clause-fewer
-returns-in-Failed-clause-fewer g c driven = start_failed_fewer c.in-Failed.ensures
 
 pub returns-in-Failed-clause-order : goal.returns-in-Failed-clause-order
 returns-in-Failed-clause-order g c lines = GoesInOrder-failed lines c.requires c.in-Failed.ensures

@@ -30,6 +30,6 @@ returns g c =
           HaveTold-rest diary_of diaries book executed.rest.idle (c.finish.ensures.done done)
           (executed.diaries diaries (KeepDiaries-begin diary_of c.args.book c.requires.begins.log)) in
           rw (back.hands, back.first, back.log) told;
-      serial = IsSerialRun-order lines last.status last.first last.last last.log c.requires.built session.commands session.replay back.valid
+      serial = IsSerialRun-order lines last.status last.first last.last last.log c.requires.built session.commands session.replay back.valid back.narrow
           (rw back.last order.few_runs) in_order (λ done. rw back.last (executed.quiet (c.finish.ensures.done done)));
     }

@@ -1,6 +1,6 @@
 use Rattle.std.proofs.Common.{Some, ap, ◌∙◌, rules}
-use Rattle.wm_session.proofs.BookParts.{claimed_failed, claimed_run, IsStartFailed-kept}
-use Rattle.wm_session.proofs.Books.{claimed_idle, IsBookKept-begun, IsBookKept-start_failed, IsBegun-taken}
+use Rattle.wm_session.proofs.BookParts.{claimed_failed, claimed_run}
+use Rattle.wm_session.proofs.Books.{claimed_idle, IsBookKept-begun, IsBookKept-start_failed, IsBegun-taken, IsStartFailed-kept}
 use Rattle.wm_session.proofs.book.BookOf.claim.Goals as goal
 
 pub unreachable-requires : goal.unreachable-requires
@@ -43,4 +43,4 @@ returns-in-Failed g c =
     let step =
     claimed_failed g.K.Keeper.held c.in-Ok-Some.field-0 c.in-Failed.seq c.in-Failed.cause c.self.inside.table c.claim.new.self
     (c.in-Ok-Some.field-0-is ∙ ap Some c.in-Failed.is) c.in-Ok-Some.ensures.ok in
-    rw (← c.self.view_is) (IsStartFailed-kept g.K.Keeper.held _ c.claim.new.self c.in-Failed.seq c.in-Failed.cause (search rules) step)
+    rw (← c.self.view_is) (IsStartFailed-kept c.claim.new.self c.in-Failed.seq c.in-Failed.cause c.self.invariant (search rules) step)

@@ -1,7 +1,7 @@
 use Rattle.std.proofs.Common.{subst, sym, rules}
 use Rattle.wm_bench.specs.Places.{IsAwayAt}
 use Rattle.wm_session.proofs.Benches.{traits-back}
-use Rattle.wm_session.proofs.Books.{IsBookKept-memory, IsBookKept-over, IsBookKept-placed, IsBookKept-refused}
+use Rattle.wm_session.proofs.Books.{IsBookKept-memory, IsBookKept-over, IsBookKept-placed, IsBookKept-refused, IsOver-finished}
 use Rattle.wm_table.specs.Table.{Stands}
 use Rattle.wm_session.proofs.book.BookOf.report.Goals as goal
 
@@ -38,3 +38,9 @@ invariant_of-self-in-Refused g c =
     IsBookKept-refused c.turn.new.self back.new.table back.new.bench refused.ticket refused.told refused.trouble c.from.result c.self.invariant
     refused.ensures.answer.3 back.ensures.table refused.ensures.cause c.from.ensures
     (traits-back g.B.Worker.kind_of seat.worker seat.number c.self.inside.bench back.new.bench away back.ensures.places)
+
+pub returns-in-Finished : goal.returns-in-Finished
+returns-in-Finished g c =
+    let answer = c.in-Finished.ensures.answer in
+    rw (c.in-Ok.is, ← c.self.view_is)
+    (IsOver-finished c.turn.new.self c.give.new.self c.args.ticket c.args.seat c.in-Ok.told c.self.invariant (search rules) answer.0 answer.1 c.give.ensures)
