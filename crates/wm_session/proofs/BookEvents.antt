@@ -5,16 +5,14 @@ use Rattle.wm_machine.proofs.Firsts.{first_of-stored}
 use Rattle.wm_machine.proofs.Frames.{after_start}
 use Rattle.wm_machine.proofs.Narrows.{found_valid, run_kind}
 use Rattle.wm_machine.proofs.Runnings.{IsAlone-stored}
-use Rattle.wm_machine.proofs.States.{after_finish, after_start_failed}
+use Rattle.wm_machine.proofs.States.{after_finish, after_start_failed, IsReached}
 use Rattle.wm_machine.proofs.Waitings.{left_to_drain-started, left_to_drain-succeeded}
 use Rattle.wm_machine.specs.Closed.{closed}
 use Rattle.wm_machine.specs.Log.{command_in, AreNumberedFrom}
-use Rattle.wm_machine.specs.Narrow.{IsNarrow}
 use Rattle.wm_machine.specs.Runs.{run_numbered, started}
 use Rattle.wm_machine.specs.Step.{after, IsEnd, IsStart, IsStartFailure}
 use Rattle.wm_machine.specs.Waiting.{left_to_drain}
 use Rattle.wm_script.specs.Texts.{event_text}
-use Rattle.wm_machine.specs.Valid.{Valid}
 use Rattle.wm_machine.specs.declared.event.Cause.{Cause}
 use Rattle.wm_machine.specs.declared.event.End.{End}
 use Rattle.wm_machine.specs.declared.event.Event.TheVariants as event
@@ -31,62 +29,46 @@ use Rattle.wm_worker.specs.declared.kind.Kind.TheVariants.{Echo}
 pub event_text-silent : (s : State) (e : Event) → command_in e ≡ [] → event_text s e ≡ []
 unfolding event_text
 event_text-silent s (event.Command number asked reply) is = absurd cc
-event_text-silent s (event.Start run seq instance input) is = refl
-event_text-silent s (event.StartFailed seq cause) is = refl
-event_text-silent s (event.Turn run progress) is = refl
-event_text-silent s (event.Finish run end) is = refl
-event_text-silent s (event.TimedOut run) is = refl
-event_text-silent s (event.Late run) is = refl
+event_text-silent s _ is = refl
 
 numbered_alone : (line : ℕ) (e : Event) → command_in e ≡ [] → AreNumberedFrom line (e ∷ [])
 numbered_alone line (event.Command number asked reply) is = absurd cc
-numbered_alone line (event.Start run seq instance input) is = tt
-numbered_alone line (event.StartFailed seq cause) is = tt
-numbered_alone line (event.Turn run progress) is = tt
-numbered_alone line (event.Finish run end) is = tt
-numbered_alone line (event.TimedOut run) is = tt
-numbered_alone line (event.Late run) is = tt
+numbered_alone line _ is = tt
 
 -- the lines are numbered as before
 pub AreNumberedFrom-silent : (line : ℕ) (log : List Event) (e : Event) → command_in e ≡ [] → AreNumberedFrom line log → AreNumberedFrom line (log ++ e ∷ [])
 AreNumberedFrom-silent line [] e is numbered = numbered_alone line e is
 AreNumberedFrom-silent line (event.Command number asked reply ∷ log) e is numbered = (numbered.0, AreNumberedFrom-silent (line + 1) log e is numbered.1)
-AreNumberedFrom-silent line (event.Start run seq instance input ∷ log) e is numbered = AreNumberedFrom-silent line log e is numbered
-AreNumberedFrom-silent line (event.StartFailed seq cause ∷ log) e is numbered = AreNumberedFrom-silent line log e is numbered
-AreNumberedFrom-silent line (event.Turn run progress ∷ log) e is numbered = AreNumberedFrom-silent line log e is numbered
-AreNumberedFrom-silent line (event.Finish run end ∷ log) e is numbered = AreNumberedFrom-silent line log e is numbered
-AreNumberedFrom-silent line (event.TimedOut run ∷ log) e is numbered = AreNumberedFrom-silent line log e is numbered
-AreNumberedFrom-silent line (event.Late run ∷ log) e is numbered = AreNumberedFrom-silent line log e is numbered
+AreNumberedFrom-silent line (_ ∷ log) e is numbered = AreNumberedFrom-silent line log e is numbered
 
 -- ---- the kind of a run
 
--- a ticket in a valid state is of an Echo
-pub ticket_kind : (s : State) (ticket : TicketState) (found : Option Run) → Valid s → IsNarrow s → run_numbered ticket.task.run s.runs ≡ found
+-- a ticket in a state that is reached is of an Echo
+pub ticket_kind : (s : State) (ticket : TicketState) (found : Option Run) → IsReached s → run_numbered ticket.task.run s.runs ≡ found
     → IsSomeAnd found (λ run. ticket ≡ ticket_of run) → ticket.kind ≡ Echo
-ticket_kind s ticket None valid narrow is stands = absurd stands
-ticket_kind s ticket (Some run) valid narrow is stands =
-    ap (λ (t : TicketState). t.kind) stands ∙ run_kind s run narrow (found_valid s ticket.task.run run valid is)
+ticket_kind s ticket None reached is stands = absurd stands
+ticket_kind s ticket (Some run) reached is stands =
+    ap (λ (t : TicketState). t.kind) stands ∙ run_kind s run reached.narrow (found_valid s ticket.task.run run reached.valid is)
 
 -- ---- what is left to drain
 
 -- a start leaves fewer works
-pub started_fewer : (s : State) (run seq instance : ℕ) (input : List DataEntry) → Valid s → IsStart s run seq instance input
+pub started_fewer : (s : State) (run seq instance : ℕ) (input : List DataEntry) → IsReached s → IsStart s run seq instance input
     → left_to_drain (after s (event.Start run seq instance input)) < left_to_drain s
-started_fewer s run seq instance input valid legal =
-    let alone = IsAlone-stored legal.work s.works valid.in_order (first_of-stored s legal.work legal.is_first) in
+started_fewer s run seq instance input reached legal =
+    let alone = IsAlone-stored legal.work s.works reached.valid.in_order (first_of-stored s legal.work legal.is_first) in
     rw (after_start s run seq instance input legal)
     (left_to_drain-started s legal.work started legal.is_first alone (λ other. refl) (λ other. refl))
 
 -- and so does one that fails
-pub failed_fewer : (s : State) (seq : ℕ) (cause : Cause) → Valid s → IsNarrow s → IsStartFailure s seq cause
+pub failed_fewer : (s : State) (seq : ℕ) (cause : Cause) → IsReached s → IsStartFailure s seq cause
     → left_to_drain (after s (event.StartFailed seq cause)) < left_to_drain s
-failed_fewer s seq cause valid narrow legal =
-    let alone = IsAlone-stored legal.work s.works valid.in_order (first_of-stored s legal.work legal.is_first) in
-    subst (λ (t : State). left_to_drain t < left_to_drain s) (sym (after_start_failed s seq cause (record { valid = valid; narrow = narrow }) legal))
+failed_fewer s seq cause reached legal =
+    let alone = IsAlone-stored legal.work s.works reached.valid.in_order (first_of-stored s legal.work legal.is_first) in
+    subst (λ (t : State). left_to_drain t < left_to_drain s) (sym (after_start_failed s seq cause reached legal))
     (left_to_drain-started s legal.work (closed how.Failed) legal.is_first alone (λ other. refl) (λ other. refl))
 
 -- the end of a run leaves no more
-pub finished_no_more : (s : State) (number : ℕ) (end : End) → Valid s → IsNarrow s → IsEnd s number end
+pub finished_no_more : (s : State) (number : ℕ) (end : End) → IsReached s → IsEnd s number end
     → left_to_drain (after s (event.Finish number end)) ≤ left_to_drain s
-finished_no_more s number end valid narrow legal =
-    rw (after_finish s number end (record { valid = valid; narrow = narrow }) legal) (left_to_drain-succeeded s.now legal.run.seq s.works)
+finished_no_more s number end reached legal = rw (after_finish s number end reached legal) (left_to_drain-succeeded s.now legal.run.seq s.works)

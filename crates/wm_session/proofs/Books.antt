@@ -10,7 +10,7 @@ use Rattle.wm_machine.proofs.Firsts.{idle_instance-idle, idle_instance-stored}
 use Rattle.wm_machine.proofs.Frames.{frame-command, frame-finish, frame-start}
 use Rattle.wm_machine.proofs.Logs.{commands_of-push, AreNumberedFrom-push}
 use Rattle.wm_script.proofs.LogTexts.{log_text-push}
-use Rattle.wm_machine.proofs.States.{IsNarrow-after, Valid-after}
+use Rattle.wm_machine.proofs.States.{IsReached, IsReached-after}
 use Rattle.wm_machine.specs.Built.{IsBuilt}
 use Rattle.wm_machine.specs.Frame.{Frame}
 use Rattle.wm_machine.specs.Log.{command_in, commands_of, AreNumberedFrom, BeginsWith}
@@ -65,6 +65,12 @@ away_now : {K W B : Type 0} (old : BookState K W B) → old.status ≡ None → 
 away_now old going kept = subst (λ status. AreAwayKept status old) going kept
 
 module _ {K W B : Type 0} {run : Given} {tells : Tells K W B} where
+  reached : {book : BookState K W B} → IsBookKept run tells book → IsReached book.table.state
+  reached kept = record { valid = kept.valid; narrow = kept.narrow }
+
+  reached_after : (e : Event) (old new : BookState K W B) → IsBookKept run tells old → IsOneStep tells.held e old.table new.table → IsReached new.table.state
+  reached_after e old new kept step = rw step.state (IsReached-after old.table.state e (reached kept) step.legal)
+
   text_is : (e : Event) (old new : BookState K W B) → IsBookKept run tells old → IsOneStep tells.held e old.table new.table
       → log_text new.table.first new.table.log ≡ log_text old.table.first old.table.log ++ event_text old.table.state e
   text_is e old new kept step =
@@ -94,8 +100,8 @@ module _ {K W B : Type 0} {run : Given} {tells : Tells K W B} where
       record {
         first = step.first ∙ kept.first;
         replay = Replay-step tells.held e old.table new.table kept.replay step;
-        valid = subst Valid (sym step.state) (Valid-after old.table.state e kept.valid kept.narrow step.legal);
-        narrow = subst IsNarrow (sym step.state) (IsNarrow-after old.table.state e kept.valid kept.narrow step.legal);
+        valid = (reached_after e old new kept step).valid;
+        narrow = (reached_after e old new kept step).narrow;
         lines = AreLinesKept-from new.status run.lines (commands_of new.table.log) new.left
             (lines ∙ ap (λ (l : List Command). done ++ l) more.left ∙ sym (append_assoc done (command_in e) new.left) ∙ ap (λ (l : List Command). l ++ new.left)
             (sym commands));
@@ -189,25 +195,21 @@ module _ {K W B : Type 0} {run : Given} {tells : Tells K W B} where
   IsBegun-taken {old = old} table places ticket place seat signal kept going step ticket_in same taken are signal_is =
       let seated = seat_is place (idle_at place old.places) seat taken in
       let there : idle_at ticket.instance old.places ≡ Some seat.worker = ap (λ n. idle_at n old.places) (sym same) ∙ seated.0 in
-      let valid : Valid table.state =
-      subst Valid (sym step.state)
-      (Valid-after old.table.state (event.Start ticket.task.run ticket.seq ticket.instance ticket.task.input) kept.valid kept.narrow step.legal) in
-      let narrow : IsNarrow table.state =
-      subst IsNarrow (sym step.state)
-      (IsNarrow-after old.table.state (event.Start ticket.task.run ticket.seq ticket.instance ticket.task.input) kept.valid kept.narrow step.legal) in
+      let start = event.Start ticket.task.run ticket.seq ticket.instance ticket.task.input in
       record {
         goes_on = record { before = going; now = going };
         step = step;
         ticket_in = ticket_in;
         number = seated.1 ∙ same;
         kind = kind-Echo tells.kind_of seat.worker ticket.instance old.places old.table.state.instances kept.narrow.echoes kept.workers there
-            ∙ sym (ticket_kind table.state ticket (run_numbered ticket.task.run table.state.runs) valid narrow refl ticket_in);
+            ∙ sym (ticket_kind table.state ticket (run_numbered ticket.task.run table.state.runs)
+            (reached_after start old (record old { table = table; places = places }) kept step) refl ticket_in);
         worker = there;
         places = are ∙ ap (λ n. changed_at (made_away tells.kind_of) n old.places) same;
         signal_is = signal_is;
         left = refl;
         fewer = rw step.state
-            (started_fewer old.table.state ticket.task.run ticket.seq ticket.instance ticket.task.input kept.valid step.legal);
+            (started_fewer old.table.state ticket.task.run ticket.seq ticket.instance ticket.task.input (reached kept) step.legal);
       }
 
   -- ---- a work that couldn't start
@@ -232,7 +234,7 @@ module _ {K W B : Type 0} {run : Given} {tells : Tells K W B} where
     step = step;
     places = refl;
     left = refl;
-    fewer = rw step.state (failed_fewer old.table.state seq cause kept.valid kept.narrow step.legal);
+    fewer = rw step.state (failed_fewer old.table.state seq cause (reached kept) step.legal);
   }
 
   -- ---- the end of a run
@@ -248,7 +250,7 @@ module _ {K W B : Type 0} {run : Given} {tells : Tells K W B} where
     places = are;
     left = refl;
     no_more = rw finished.step.state
-        (finished_no_more old.table.state ticket.task.run (Success finished.output) kept.valid kept.narrow finished.step.legal);
+        (finished_no_more old.table.state ticket.task.run (Success finished.output) (reached kept) finished.step.legal);
   }
 
   pub IsBookKept-over : {old : BookState K W B} (table : TableState K) (places : List (Place B)) (ticket : TicketState) (place : ℕ) (output : List DataEntry)

@@ -77,12 +77,8 @@ diaries_after-more : (more : ℕ → List Entry) (number : ℕ) (first : State) 
     → diaries_after number first longer diaries ≡ diaries_with more number (diaries_after number first log diaries)
 diaries_after-more more number first log longer [] entries = refl
 diaries_after-more more number first log longer (diary ∷ diaries) entries =
-    rw (
-      entries number,
-      diary_with-append (log_entries number first log) (more number) diary,
-      diaries_after-more more
-          (number + 1) first log longer diaries entries,
-    ) refl
+    let rest = diaries_after-more more (number + 1) first log longer diaries entries in
+    rw (entries number, diary_with-append (log_entries number first log) (more number) diary, rest) refl
 
 -- one event more
 diaries_after-step : {K : Type 0} (held : K → Option (List Row)) (e : Event) (old new : TableState K) (diaries : List (Option (List Entry)))

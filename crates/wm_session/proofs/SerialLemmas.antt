@@ -1,11 +1,10 @@
 -- What the steps of a serial session make of its book.
-use Rattle.std.proofs.Common.{◌≡◌, ◌⊎◌, ℕ, ◌+◌, ◌<◌, ◌≤◌, cond, not, eqb, List, [], ◌∷◌, ◌++◌, length, Option, Some, None, IsSome, Result, Ok, Err, refl, sym, ◌∙◌, ap, subst, inl, inr, arith}
+use Rattle.std.proofs.Common.{◌≡◌, ◌⊎◌, ℕ, ◌+◌, ◌≤◌, cond, not, eqb, List, [], ◌∷◌, ◌++◌, length, Option, Some, None, IsSome, Result, Ok, Err, refl, sym, ◌∙◌, ap, subst, inl, inr, arith}
 use Rattle.std.specs.List.{AllByRecursion}
 use Rattle.std.specs.declared.alloc.AllocError.{AllocError}
 use Rattle.std.proofs.lemmas.Bool.{cond_both, eq-eqb}
 use Rattle.wm_bench.specs.Places.{changed_at, idle_hands, made_away, made_idle, IsAwayAt}
 use Rattle.wm_bench.specs.Seat.{Seat}
-use Rattle.wm_bench.specs.declared.place.Place.{Place}
 use Rattle.wm_keeper.specs.declared.row.Row.{Row}
 use Rattle.wm_machine.proofs.Frames.{frame-command, frame-finish, frame-start}
 use Rattle.wm_machine.proofs.Serials.{AreInOrder-push, BeginsSerial-goes-on}
@@ -31,7 +30,7 @@ use Rattle.wm_session.proofs.HandLemmas.{AreIdle-back, IsAwayAt-taken, NoneRetir
 use Rattle.wm_session.specs.Bench.{AreIdle, place_diaries}
 use Rattle.wm_session.specs.Book.{GoesOn, IsBegun, IsFronted, IsLineDone, IsReported, IsStartFailed}
 use Rattle.wm_session.specs.BookState.{BookState}
-use Rattle.wm_session.specs.Drive.{HasWritten, IsDriven, IsGivenUp, IsLastTurn, IsOtherTurn, IsUnderWay}
+use Rattle.wm_session.specs.Drive.{HasWritten, IsDriven, IsGivenUp, IsLastTurn, IsUnderWay}
 use Rattle.wm_session.specs.Ended.{HasCommands, HaveTold, IsSerialRun}
 use Rattle.wm_session.specs.Rest.{GoesInOrder, IsAtBegin, IsAtRest, IsInOrder, IsReady, KeepDiaries}
 use Rattle.wm_table.specs.Table.{IsOneStep, IsUntouched}
@@ -231,16 +230,6 @@ module _ {K W B : Type 0} {held : K → Option (List Row)} {diary_of : B → Opt
       → IsDriven diary_of ticket.instance (diary_of worker) old new
   IsDriven-turned under_way (inl last) = IsDriven-last under_way last
   IsDriven-turned under_way (inr over) = IsDriven-given_up diary_of (diary_of worker) under_way over
-
-module _ {K W B : Type 0} {held : K → Option (List Row)} {kind_of : B → Kind} {diary_of : B → Option (List Entry)} {ticket next : TicketState} {worker : B}
-    {seat : Seat B} {old between : BookState K W B} where
-  -- no turn that is built leaves its run under way
-  pub IsUnderWay-next : IsOtherTurn held kind_of diary_of ticket worker next seat old between → IsUnderWay next between
-  IsUnderWay-next other = absurd other.step.legal
-
-  pub IsDriven-next : (new : BookState K W B) → IsOtherTurn held kind_of diary_of ticket worker next seat old between
-      → IsDriven diary_of next.instance (diary_of seat.worker) between new → IsDriven diary_of ticket.instance (diary_of worker) old new
-  IsDriven-next new other driven = absurd other.step.legal
 
 -- ---- a line
 

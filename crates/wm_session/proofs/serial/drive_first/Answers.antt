@@ -1,7 +1,7 @@
-use Rattle.std.proofs.Common.{◌<◌, ◌≤◌, refl, arith}
+use Rattle.std.proofs.Common.{refl, arith}
 use Rattle.wm_machine.specs.declared.event.Event.TheVariants as event
 use Rattle.wm_session.proofs.DiaryLemmas.{KeepDiaries-begun, KeepDiaries-same}
-use Rattle.wm_session.proofs.SerialLemmas.{GoesInOrder-begun, GoesInOrder-failed, GoesInOrder-stopped, IsAtRest-failed, IsUnderWay-begun}
+use Rattle.wm_session.proofs.SerialLemmas.{GoesInOrder-begun, GoesInOrder-failed, IsAtRest-failed, IsUnderWay-begun}
 use Rattle.wm_session.proofs.serial.drive_first.Goals as goal
 
 pub drive-requires-clause-under_way : goal.drive-requires-clause-under_way

@@ -1,9 +1,8 @@
-use Rattle.std.proofs.Common.{[], not, inl, inr, sym, ◌∙◌, ap, subst}
+use Rattle.std.proofs.Common.{not, inl, inr, sym, ◌∙◌, ap, subst}
 use Rattle.std.proofs.lemmas.Bool.{false≢true}
 use Rattle.wm_session.proofs.DiaryLemmas.{KeepDiaries-stopped, no_longer}
 use Rattle.wm_session.proofs.SerialLemmas.{GoesInOrder-line, GoesInOrder-ready, IsAtRest-front, IsAtRest-line, IsReady-front, IsReady-quiet, KeepDiaries-line}
 use Rattle.wm_session.specs.Book.{IsFronted}
-use Rattle.wm_session.specs.Rest.{IsAtRest, IsReady, KeepDiaries}
 use Rattle.wm_session.specs.declared.book.Front.TheVariants as front
 use Rattle.wm_session.proofs.serial.execute_lines.Goals as goal
 use Rattle.wm_session.proofs.serial.execute_lines.Goals.{then-is_none, else-is_none}
@@ -59,13 +58,8 @@ returns-in-Ended g c =
     let new = c.front_step.new.self in
     elim c.in-Ended.is [
       | inl ended ↦
-          let is : IsFronted held front.Ended old new = subst (λ r. IsFronted held r old new) ended c.front_step.ensures in record {
-            rest = subst IsAtRest (sym is.2) kept.rest;
-            done = λ going. ap (λ book. book.left) is.2 ∙ is.1;
-            quiet = λ going. rw is.2 (kept.quiet is.0 is.1);
-            order = λ lines ready. subst (IsReady lines) (sym is.2) (kept.order lines ready);
-            diaries = λ diaries keep. subst (KeepDiaries diary_of diaries) (sym is.2) (kept.diaries diaries keep);
-          }
+          let is : IsFronted held front.Ended old new = subst (λ r. IsFronted held r old new) ended c.front_step.ensures in
+          rw is.2 (record { rest = kept.rest; done = λ going. is.1; quiet = λ going. kept.quiet is.0 is.1; order = kept.order; diaries = kept.diaries })
       | inr stopped ↦
           let is : IsFronted held front.Stopped old new = subst (λ r. IsFronted held r old new) stopped c.front_step.ensures in record {
             rest = IsAtRest-front kept.rest is;
