@@ -2,31 +2,57 @@
 ghost use Rattle.std.specs.Prelude.{◌≡◌, [], Some, IfOk};
 ghost use Rattle.wm_machine.specs.Limits.{FitsRow};
 ghost use Rattle.wm_machine.specs.Rows.{HasNoData};
-ghost use Rattle.wm_machine.specs.Built.{IsWritten, TellsNoData};
+ghost use Rattle.wm_machine.specs.Built.{ReplyTellsNoData, TellsNoData};
 
 use std::alloc::{AllocError, Global};
+use std::process::Abort;
 use std::test::Fail;
 use uuid::Uuid;
 use wm_collections::{Items, Replica, Text};
 use wm_data::{Data, Merger};
 use wm_keeper::Row;
 use wm_machine::{
-    Backoff, Command, Constraints, Event, How, LineFault, Network, Period, Phase, Record, Refusal,
-    Reply, Request, Shown, WorkInfo,
+    Applied, Backoff, Command, Constraints, Counts, Event, How, LineFault, Network, Period, Phase,
+    Record, Refusal, Reply, Request, Shown, WorkInfo,
 };
 use wm_rows::to_row;
 use wm_script::event_text;
 
 /// The text of a reply to a line.
 fn text_of(alloc: Global, line: u32, reply: Reply) -> Result<Vec<u8>, AllocError>
-    requires { IsWritten reply }
+    requires { ReplyTellsNoData reply }
 {
     let event = Event::Command {
         line,
         command: Command::Settle,
         reply,
     };
-    event_text(alloc, &event)
+    event_text(alloc, &event, false)
+}
+
+/// The reply to the seventh line has this text, and this one after `hush`.
+fn expect_texts(
+    rt: &impl Abort,
+    alloc: Global,
+    reply: Reply,
+    expected: &str,
+    after_hush: &str,
+) -> Result<(), AllocError>
+    requires { ReplyTellsNoData reply }
+{
+    let event = Event::Command {
+        line: 7,
+        command: Command::Settle,
+        reply,
+    };
+    let text = event_text(alloc, &event, false);
+    let hushed = event_text(alloc, &event, true);
+    drop(event);
+    let text = text?;
+    let hushed = hushed?;
+    assert_eq!(rt; text.as_slice(), expected.as_bytes());
+    assert_eq!(rt; hushed.as_slice(), after_hush.as_bytes());
+    Ok(())
 }
 
 /// What is told of a work that was enqueued under a name and waits, with two tags.
@@ -70,7 +96,7 @@ fn ended_info(alloc: Global, state: Shown) -> WorkInfo
 
 /// The reply that tells two works that ended, in this order.
 fn ended_query(alloc: Global, first: Shown, second: Shown) -> Result<Reply, AllocError>
-    ensures { IfOk result (λ reply. IsWritten reply) }
+    ensures { IfOk result (λ reply. ReplyTellsNoData reply) }
 {
     let mut works = Items::new(alloc);
     works.push(ended_info(alloc, first))?;
@@ -78,13 +104,14 @@ fn ended_query(alloc: Global, first: Shown, second: Shown) -> Result<Reply, Allo
     Ok(Reply::Query(works))
 }
 
-/// A replica of the reply that tells one work that waits.
-fn waiting_query(alloc: Global) -> Result<Reply, AllocError>
-    ensures { IfOk result (λ reply. IsWritten reply) }
+/// A replica of the reply that tells the first observer one work that waits.
+fn observing(alloc: Global) -> Result<Reply, AllocError>
+    ensures { IfOk result (λ reply. ReplyTellsNoData reply) }
 {
     let mut works = Items::new(alloc);
     works.push(enqueued_info(alloc)?)?;
-    Reply::Query(works).replica(alloc)
+    let reply = Reply::Observing { observer: 1, works };
+    reply.replica(alloc)
 }
 
 /// Refusals, each with the number of its line and its text.
@@ -137,44 +164,96 @@ fn refusals(alloc: Global) -> Result<Vec<(u32, Refusal, &'static str)>, AllocErr
     ]?)
 }
 
+/// An update that did this to the second generation of a work.
+fn updated(applied: Applied) -> Reply
+    ensures { ReplyTellsNoData result }
+{
+    Reply::Updated {
+        result: applied,
+        generation: 2,
+    }
+}
+
+/// Seven different counts.
+fn summary() -> Reply
+    ensures { ReplyTellsNoData result }
+{
+    Reply::Summary(Counts {
+        enqueued: 1,
+        running: 2,
+        succeeded: 3,
+        failed: 4,
+        blocked: 5,
+        cancelled: 6,
+        attempts: 9_007_199_254_740_992,
+    })
+}
+
+/// The replies that tell neither works nor counts, each with its text, and with that after `hush`.
+fn expect_plain_replies(rt: &impl Abort, alloc: Global) -> Result<(), AllocError> {
+    let text = "{\"line\":7,\"ok\":\"kept\"}\n";
+    expect_texts(rt, alloc, Reply::Kept, text, "")?;
+    let text = "{\"generation\":2,\"line\":7,\"ok\":\"updated\",\"result\":\"NOT_APPLIED\"}\n";
+    expect_texts(rt, alloc, updated(Applied::NotApplied), text, "")?;
+    let text =
+        "{\"generation\":2,\"line\":7,\"ok\":\"updated\",\"result\":\"APPLIED_IMMEDIATELY\"}\n";
+    expect_texts(rt, alloc, updated(Applied::Immediately), text, "")?;
+    let text =
+        "{\"generation\":2,\"line\":7,\"ok\":\"updated\",\"result\":\"APPLIED_FOR_NEXT_RUN\"}\n";
+    expect_texts(rt, alloc, updated(Applied::ForNextRun), text, "")?;
+    let text = "{\"line\":7,\"ok\":\"moment\"}\n";
+    expect_texts(rt, alloc, Reply::Moment, text, "")?;
+    let text = "{\"line\":7,\"ok\":\"settled\"}\n";
+    expect_texts(rt, alloc, Reply::Settled, text, "")?;
+    let text = "{\"error\":\"NoSuchClass\",\"line\":7}\n";
+    expect_texts(rt, alloc, Reply::Refused(Refusal::NoSuchClass), text, "")?;
+    expect_texts(rt, alloc, Reply::Hushed, "", "")
+}
+
+/// The replies that tell counts, each with its text, and with that after `hush`.
+fn expect_counts(rt: &impl Abort, alloc: Global) -> Result<(), AllocError> {
+    let text = "{\"count\":2,\"line\":7,\"ok\":\"cancelled\"}\n";
+    expect_texts(rt, alloc, Reply::Cancelled(2), text, "")?;
+    let text = "{\"line\":7,\"ok\":\"conditions\",\"stopped\":0}\n";
+    expect_texts(rt, alloc, Reply::Conditions { stopped: 0 }, text, "")?;
+    let text = "{\"count\":3,\"line\":7,\"ok\":\"pruned\"}\n";
+    expect_texts(rt, alloc, Reply::Pruned(3), text, "")?;
+    let text = "{\"dropped\":4,\"line\":7,\"ok\":\"retired\"}\n";
+    expect_texts(rt, alloc, Reply::Retired(4), text, "")?;
+    let text =
+        "{\"attempts\":9007199254740992,\"blocked\":5,\"cancelled\":6,\"enqueued\":1,\"failed\":4,\"line\":7,\"ok\":\"summary\",\"running\":2,\"succeeded\":3}\n";
+    expect_texts(rt, alloc, summary(), text, text)
+}
+
+/// The replies that tell works, each with its text, and with that after `hush`.
+fn expect_works(rt: &impl Abort, alloc: Global) -> Result<(), AllocError> {
+    let numbers = Items::from_vec(vec![in alloc; 9, 10, 11]?);
+    let text = "{\"line\":7,\"ok\":\"enqueued\",\"works\":[9,10,11]}\n";
+    expect_texts(rt, alloc, Reply::Enqueued(numbers), text, "")?;
+    let text = "{\"line\":7,\"ok\":\"enqueued\",\"works\":[]}\n";
+    expect_texts(rt, alloc, Reply::Enqueued(Items::new(alloc)), text, "")?;
+    let text = "{\"line\":7,\"ok\":\"query\",\"works\":[]}\n";
+    expect_texts(rt, alloc, Reply::Query(Items::new(alloc)), text, "")?;
+    let ended = ended_query(alloc, Shown::Failed, Shown::Cancelled)?;
+    let text =
+        "{\"line\":7,\"ok\":\"query\",\"works\":[{\"attempt\":1,\"generation\":0,\"id\":\"00000000-0000-0000-0000-000000000001\",\"output\":{},\"progress\":{},\"seq\":1,\"state\":\"FAILED\",\"tags\":[]},{\"attempt\":1,\"generation\":0,\"id\":\"00000000-0000-0000-0000-000000000001\",\"output\":{},\"progress\":{},\"seq\":1,\"state\":\"CANCELLED\",\"tags\":[]}]}\n";
+    expect_texts(rt, alloc, ended, text, "")?;
+    let text =
+        "{\"line\":7,\"observer\":1,\"ok\":\"observing\",\"works\":[{\"attempt\":0,\"due\":0,\"generation\":3,\"id\":\"67e55044-10b1-426f-9247-bb680e5fe0c8\",\"name\":\"sync\",\"output\":{},\"progress\":{},\"seq\":7,\"state\":\"ENQUEUED\",\"tags\":[\"a\",\"b\"]}]}\n";
+    expect_texts(rt, alloc, observing(alloc)?, text, "")
+}
+
 #[test]
 fn replies_alone_are_written(rt: HostRuntime) -> Result<(), Fail> {
     let alloc = rt.alloc();
-    let works: [(&[u64], &str); 3] = [
-        (&[], "{\"line\":7,\"ok\":\"enqueued\",\"works\":[]}\n"),
-        (&[1], "{\"line\":7,\"ok\":\"enqueued\",\"works\":[1]}\n"),
-        (
-            &[9, 10, 11],
-            "{\"line\":7,\"ok\":\"enqueued\",\"works\":[9,10,11]}\n",
-        ),
-    ];
-    for (numbers, expected) in works {
-        let works = Items::from_vec(numbers.to_vec(alloc)?);
-        let text = text_of(alloc, 7, Reply::Enqueued(works))?;
-        assert_eq!(rt; text.as_slice(), expected.as_bytes());
-    }
+    expect_plain_replies(&rt, alloc)?;
+    expect_counts(&rt, alloc)?;
+    expect_works(&rt, alloc)?;
     for (line, refusal, expected) in refusals(alloc)? {
         let text = text_of(alloc, line, Reply::Refused(refusal))?;
         assert_eq!(rt; text.as_slice(), expected.as_bytes());
     }
-    assert!(rt; event_text(alloc, &Event::TimedOut { run: 1 })?.is_empty());
-    Ok(())
-}
-
-#[test]
-fn works_are_told(rt: HostRuntime) -> Result<(), Fail> {
-    let alloc = rt.alloc();
-    let none = text_of(alloc, 2, Reply::Query(Items::new(alloc)))?;
-    let expected = "{\"line\":2,\"ok\":\"query\",\"works\":[]}\n";
-    assert_eq!(rt; none.as_slice(), expected.as_bytes());
-    let ended = ended_query(alloc, Shown::Failed, Shown::Cancelled)?;
-    let expected =
-        "{\"line\":2,\"ok\":\"query\",\"works\":[{\"attempt\":1,\"generation\":0,\"id\":\"00000000-0000-0000-0000-000000000001\",\"output\":{},\"progress\":{},\"seq\":1,\"state\":\"FAILED\",\"tags\":[]},{\"attempt\":1,\"generation\":0,\"id\":\"00000000-0000-0000-0000-000000000001\",\"output\":{},\"progress\":{},\"seq\":1,\"state\":\"CANCELLED\",\"tags\":[]}]}\n";
-    assert_eq!(rt; text_of(alloc, 2, ended)?.as_slice(), expected.as_bytes());
-    let waiting = waiting_query(alloc)?;
-    let expected =
-        "{\"line\":3,\"ok\":\"query\",\"works\":[{\"attempt\":0,\"due\":0,\"generation\":3,\"id\":\"67e55044-10b1-426f-9247-bb680e5fe0c8\",\"name\":\"sync\",\"output\":{},\"progress\":{},\"seq\":7,\"state\":\"ENQUEUED\",\"tags\":[\"a\",\"b\"]}]}\n";
-    assert_eq!(rt; text_of(alloc, 3, waiting)?.as_slice(), expected.as_bytes());
+    assert!(rt; event_text(alloc, &Event::TimedOut { run: 1 }, false)?.is_empty());
     Ok(())
 }
 

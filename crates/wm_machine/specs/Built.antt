@@ -1,4 +1,4 @@
--- Which commands, and which replies to them, are built. Each command that joins the grammar joins them.
+-- Which commands are built, and that no reply tells of data yet. Each command that joins the grammar joins them.
 use Rattle.std.specs.Prelude.{◌≡◌, ℕ, List, [], ◌∷◌, length, None}
 use Rattle.std.specs.List.{AllByRecursion}
 use Rattle.wm_machine.specs.Limits.{IsShortText}
@@ -40,14 +40,13 @@ pub record TellsNoData (info : WorkInfo) : Type 0 where
   pub output : info.output ≡ []
   pub progress : info.progress ≡ []
 
--- the replies to these commands
-abbrev pub IsWritten : Reply → Type 0
-IsWritten (reply.Enqueued works) = Unit {0}
-IsWritten (reply.Query works) = AllByRecursion TellsNoData works
-IsWritten (reply.Refused found) = Unit {0}
-IsWritten _ = ⊥
+-- The reply tells nothing of data: none of the works in it does. What is told of data has no text yet.
+abbrev pub ReplyTellsNoData : Reply → Type 0
+ReplyTellsNoData (reply.Query works) = AllByRecursion TellsNoData works
+ReplyTellsNoData (reply.Observing observer works) = AllByRecursion TellsNoData works
+ReplyTellsNoData _ = Unit {0}
 
--- the event is no command, or its reply is one of these
-abbrev pub HasText : Event → Type 0
-HasText (event.Command line asked answer) = IsWritten answer
-HasText _ = Unit {0}
+-- the event is no command, or its reply tells nothing of data
+abbrev pub EventTellsNoData : Event → Type 0
+EventTellsNoData (event.Command line asked answer) = ReplyTellsNoData answer
+EventTellsNoData _ = Unit {0}

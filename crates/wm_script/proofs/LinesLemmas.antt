@@ -1,5 +1,5 @@
 -- Lemmas on the lines of a script and their commands.
-use Rattle.std.proofs.Common.{◌≡◌, ℕ, ◌+◌, ◌<◌, ◌≤◌, zero, List, [], ◌∷◌, ◌++◌, length, take, drop, map, Option, Some, None, String, Global, refl, ap, ◌∙◌, arith, rules, one-add, add-one, suc, eqb, cond, not, true, false, Bool, IfSome, option_map, option_and_then, unwrap_or, position, Result, Ok, Err, IsOk, IfOk, ◌↔◌, IsUtf8, true≢false, sym}
+use Rattle.std.proofs.Common.{◌≡◌, ℕ, ◌+◌, ◌<◌, ◌≤◌, zero, List, [], ◌∷◌, length, take, drop, map, Option, Some, None, String, Global, refl, ap, ◌∙◌, arith, rules, one-add, add-one, suc, eqb, cond, not, true, false, Bool, IfSome, option_map, option_and_then, unwrap_or, position, Result, Ok, Err, IsOk, IfOk, ◌↔◌, IsUtf8, true≢false, sym}
 use Rattle.std.specs.Prelude.{◌&&◌, codes, nat_le, nat_lt, slice_index}
 use Rattle.std.specs.List.{AllByRecursion, before_first, after_first, position_or_len}
 use Rattle.std.proofs.lemmas.Bool.{and_parts, leb-true, ltb-true}

@@ -73,5 +73,6 @@ refusal_has_no_float line _ = refl
 pub reply_has_no_float : (line : ℕ) (answer : Reply) → has_float (reply_json line answer) ≡ false
 reply_has_no_float line (reply.Enqueued works) = rw (list_has_no_float count works (λ n. refl))
 reply_has_no_float line (reply.Query works) = rw (list_has_no_float info_json works info_has_no_float)
+reply_has_no_float line (reply.Observing observer works) = rw (list_has_no_float info_json works info_has_no_float)
 reply_has_no_float line (reply.Refused found) = refusal_has_no_float line found
 reply_has_no_float line _ = refl

@@ -1,5 +1,5 @@
 -- What is written for an event and for a log. This project's own choice.
-use Rattle.std.specs.Prelude.{ℕ, List, [], ◌∷◌, ◌++◌, map, codes, Option, Some, None}
+use Rattle.std.specs.Prelude.{ℕ, Bool, true, false, not, List, [], ◌∷◌, ◌++◌, map, codes, if◌then◌else◌, Option, Some, None}
 use Rattle.serde_json.specs.Data as json
 use Rattle.serde_json.specs.View.{items_of}
 use Rattle.serde_json.specs.Written.{compact_text}
@@ -12,6 +12,9 @@ use Rattle.wm_machine.specs.declared.event.Event.{Event}
 use Rattle.wm_machine.specs.declared.event.Event.TheVariants as event
 use Rattle.wm_machine.specs.declared.record.Shown.{Shown}
 use Rattle.wm_machine.specs.declared.record.Shown.TheVariants as shown
+use Rattle.wm_machine.specs.declared.reply.Applied.{Applied}
+use Rattle.wm_machine.specs.declared.reply.Applied.TheVariants as applied
+use Rattle.wm_machine.specs.declared.reply.Counts.{Counts}
 use Rattle.wm_machine.specs.declared.reply.Refusal.{Refusal}
 use Rattle.wm_machine.specs.declared.reply.Refusal.TheVariants as refusal
 use Rattle.wm_machine.specs.declared.reply.Reply.{Reply}
@@ -129,29 +132,85 @@ infos works = json.array (items_of (map info_json works))
 
 -- ---- replies
 
--- the reply to a line, as JSON
+-- what an update did, after `androidx.work.WorkManager.UpdateResult`
+abbrev pub applied_name : Applied → List ℕ
+applied_name applied.NotApplied = codes "NOT_APPLIED"
+applied_name applied.Immediately = codes "APPLIED_IMMEDIATELY"
+applied_name applied.ForNextRun = codes "APPLIED_FOR_NEXT_RUN"
+
+-- the number of the line and what was done, and then these
+abbrev pub ok_members : ℕ → List ℕ → json.Members → json.Members
+ok_members line done more = json.member (codes "line") (count line) (json.member (codes "ok") (json.string done) more)
+
+-- a reply that tells what was done, and no more
+abbrev pub done_json : ℕ → List ℕ → json.Data
+done_json line done = json.object (ok_members line done json.no_members)
+
+-- a reply that tells how many works it was done to
+abbrev pub counted_json : ℕ → List ℕ → ℕ → json.Data
+counted_json line done n = json.object (json.member (codes "count") (count n) (ok_members line done json.no_members))
+
+-- the counts of a summary
+abbrev pub summary_json : ℕ → Counts → json.Data
+summary_json line counts = json.object
+    (json.member (codes "attempts") (count counts.attempts)
+    (json.member (codes "blocked") (count counts.blocked)
+    (json.member (codes "cancelled") (count counts.cancelled)
+    (json.member (codes "enqueued") (count counts.enqueued)
+    (json.member (codes "failed") (count counts.failed)
+    (ok_members line (codes "summary")
+    (json.member (codes "running") (count counts.running)
+    (json.member (codes "succeeded") (count counts.succeeded) json.no_members))))))))
+
+-- the reply to a line, as JSON; that of `hush` is never written
 abbrev pub reply_json : ℕ → Reply → json.Data
-reply_json line (reply.Enqueued works) = json.object
+reply_json line (reply.Enqueued works) = json.object (ok_members line (codes "enqueued") (json.member (codes "works") (numbers works) json.no_members))
+reply_json line reply.Kept = done_json line (codes "kept")
+reply_json line (reply.Updated result generation) = json.object
+    (json.member (codes "generation") (count generation)
+    (ok_members line (codes "updated")
+    (json.member (codes "result") (json.string (applied_name result)) json.no_members)))
+reply_json line (reply.Cancelled n) = counted_json line (codes "cancelled") n
+reply_json line reply.Moment = done_json line (codes "moment")
+reply_json line (reply.Conditions stopped) = json.object
+    (ok_members line (codes "conditions") (json.member (codes "stopped") (count stopped) json.no_members))
+reply_json line (reply.Pruned n) = counted_json line (codes "pruned") n
+reply_json line (reply.Query works) = json.object (ok_members line (codes "query") (json.member (codes "works") (infos works) json.no_members))
+reply_json line (reply.Observing observer works) = json.object
     (json.member (codes "line") (count line)
-    (json.member (codes "ok") (json.string (codes "enqueued"))
-    (json.member (codes "works") (numbers works) json.no_members)))
-reply_json line (reply.Query works) = json.object
-    (json.member (codes "line") (count line)
-    (json.member (codes "ok") (json.string (codes "query"))
-    (json.member (codes "works") (infos works) json.no_members)))
+    (json.member (codes "observer") (count observer)
+    (json.member (codes "ok") (json.string (codes "observing"))
+    (json.member (codes "works") (infos works) json.no_members))))
+reply_json line (reply.Retired dropped) = json.object
+    (json.member (codes "dropped") (count dropped) (ok_members line (codes "retired") json.no_members))
+reply_json line reply.Settled = done_json line (codes "settled")
+reply_json line reply.Hushed = json.null
+reply_json line (reply.Summary counts) = summary_json line counts
 reply_json line (reply.Refused found) = json.object (with_refusal found (refused_members line found))
-reply_json line _ = json.null
 
 -- a line: compact JSON, keys in ascending byte order, and LF
 abbrev pub reply_text : ℕ → Reply → List ℕ
 reply_text line answer = compact_text (reply_json line answer) ++ 10 ∷ []
 
--- what is written for an event in a state
-unfoldable pub event_text : State → Event → List ℕ
-event_text s (event.Command line asked answer) = reply_text line answer
-event_text s _ = []
+-- ---- events
+
+-- whether a reply is written, where the state after it is hushed or isn't: that of `hush` never, that of `summary` always, and every
+-- other one where it isn't
+abbrev pub is_written : Reply → Bool → Bool
+is_written reply.Hushed hushed = false
+is_written (reply.Summary counts) hushed = true
+is_written _ hushed = not hushed
+
+-- the text of an event, where the state after it is hushed or isn't: the reply to a line, where it is written
+unfoldable pub text_of : Event → Bool → List ℕ
+text_of (event.Command line asked answer) hushed = if is_written answer hushed then reply_text line answer else []
+text_of _ hushed = []
+
+-- what is written for an event in a state, with the state after it
+abbrev pub event_text : State → Event → State → List ℕ
+event_text s e t = text_of e t.hushed
 
 -- what is written for a log, from a first state on
 abbrev pub log_text : State → List Event → List ℕ
 log_text first [] = []
-log_text first (e ∷ log) = event_text first e ++ log_text (after first e) log
+log_text first (e ∷ log) = event_text first e (after first e) ++ log_text (after first e) log

@@ -2,34 +2,49 @@ ghost use Rattle.std.specs.Prelude.{◌≡◌, [], IfOk, OnOk, OnErr};
 ghost use Rattle.std.specs.List.{AllByRecursion};
 ghost use Rattle.serde_json.specs.View.{view, members_view};
 ghost use Rattle.wm_data.specs.DataJson.{data_json};
-ghost use Rattle.wm_machine.specs.Built.{HasText, IsWritten, TellsNoData};
+ghost use Rattle.wm_machine.specs.Built.{EventTellsNoData, ReplyTellsNoData, TellsNoData};
 ghost use Rattle.wm_script.specs.Texts as texts;
-ghost use Rattle.wm_machine.specs.declared.state.State.{State};
 
 use serde_json::{Map, Value, json, push, put};
 use std::alloc::{AllocError, Global};
 use uuid::Uuid;
 use wm_collections::Text;
 use wm_data::Data;
-use wm_machine::{Event, LineFault, Refusal, Reply, Shown, WorkInfo};
+use wm_machine::{Applied, Counts, Event, LineFault, Refusal, Reply, Shown, WorkInfo};
 
-/// What is written for an event: the reply to a line as one compact JSON object, keys in ascending
-/// byte order, and LF; for any other event nothing.
-#[tactic(auto, unfolding(crate::specs::Texts::event_text))]
-pub fn event_text(alloc: Global, event: &Event) -> Result<Vec<u8>, AllocError>
-    requires { HasText event.now }
-    ensures { IfOk result (λ text. (s : State) → text.items ≡ texts.event_text s event.now) }
+/// What is written for an event, where the state after it is hushed or isn't: the reply to a line,
+/// where it is written, as one compact JSON object, keys in ascending byte order, and LF; for any
+/// other event nothing.
+#[tactic(auto, unfolding(crate::specs::Texts::text_of))]
+pub fn event_text(alloc: Global, event: &Event, hushed: bool) -> Result<Vec<u8>, AllocError>
+    requires { EventTellsNoData event.now }
+    ensures { IfOk result (λ text. text.items ≡ texts.text_of event.now hushed) }
 {
-    match event {
-        Event::Command { line, reply, .. } => reply_text(alloc, *line, reply),
-        _ => Ok(Vec::new(alloc)),
+    let Event::Command { line, reply, .. } = event else {
+        return Ok(Vec::new(alloc));
+    };
+    if is_written(reply, hushed) {
+        reply_text(alloc, *line, reply)
+    } else {
+        Ok(Vec::new(alloc))
+    }
+}
+
+// Whether a reply is written, where the state after it is hushed or isn't.
+fn is_written(reply: &Reply, hushed: bool) -> bool
+    ensures { result ≡ texts.is_written reply.now hushed }
+{
+    match reply {
+        Reply::Hushed => false,
+        Reply::Summary(_) => true,
+        _ => !hushed,
     }
 }
 
 // The reply to a line, and LF.
 #[tactic(auto, using(crate::proofs::TextsLemmas::reply_has_no_float))]
 fn reply_text(alloc: Global, line: u32, reply: &Reply) -> Result<Vec<u8>, AllocError>
-    requires { IsWritten reply.now }
+    requires { ReplyTellsNoData reply.now }
     ensures { IfOk result (λ text. text.items ≡ texts.reply_text line reply.now) }
 {
     let mut text = reply_value(alloc, line, reply)?.to_vec(alloc)?;
@@ -38,15 +53,43 @@ fn reply_text(alloc: Global, line: u32, reply: &Reply) -> Result<Vec<u8>, AllocE
 }
 
 fn reply_value(alloc: Global, line: u32, reply: &Reply) -> Result<Value, AllocError>
-    requires { IsWritten reply.now }
+    requires { ReplyTellsNoData reply.now }
     ensures { IfOk result (λ value. view value ≡ texts.reply_json line reply.now) }
 {
     match reply {
         Reply::Enqueued(works) => enqueued_value(alloc, line, works.as_slice()),
+        Reply::Kept => done_value(alloc, line, "kept"),
+        Reply::Updated { result, generation } => {
+            updated_value(alloc, line, *result, *generation)
+        }
+        Reply::Cancelled(count) => counted_value(alloc, line, "cancelled", *count),
+        Reply::Moment => done_value(alloc, line, "moment"),
+        Reply::Conditions { stopped } => conditions_value(alloc, line, *stopped),
+        Reply::Pruned(count) => counted_value(alloc, line, "pruned", *count),
         Reply::Query(works) => query_value(alloc, line, works.as_slice()),
+        Reply::Observing { observer, works } => {
+            observing_value(alloc, line, *observer, works.as_slice())
+        }
+        Reply::Retired(dropped) => retired_value(alloc, line, *dropped),
+        Reply::Settled => done_value(alloc, line, "settled"),
+        Reply::Hushed => Ok(Value::Null),
+        Reply::Summary(counts) => summary_value(alloc, line, counts),
         Reply::Refused(refusal) => refused_value(alloc, line, refusal),
-        _ => unreachable!(),
     }
+}
+
+// A reply that tells what was done, and no more.
+fn done_value(alloc: Global, line: u32, done: &str) -> Result<Value, AllocError>
+    ensures { IfOk result (λ value. view value ≡ texts.done_json line done.now) }
+{
+    json!(in alloc; {"line": line, "ok": done})
+}
+
+// A reply that tells how many works it was done to.
+fn counted_value(alloc: Global, line: u32, done: &str, count: u64) -> Result<Value, AllocError>
+    ensures { IfOk result (λ value. view value ≡ texts.counted_json line done.now count) }
+{
+    json!(in alloc; {"count": count, "line": line, "ok": done})
 }
 
 fn enqueued_value(alloc: Global, line: u32, works: &[u64]) -> Result<Value, AllocError>
@@ -57,12 +100,67 @@ fn enqueued_value(alloc: Global, line: u32, works: &[u64]) -> Result<Value, Allo
     json!(in alloc; {"line": line, "ok": "enqueued", "works": numbers})
 }
 
+fn updated_value(
+    alloc: Global,
+    line: u32,
+    applied: Applied,
+    generation: u64,
+) -> Result<Value, AllocError>
+    ensures { IfOk result
+        (λ value. view value ≡ texts.reply_json line (Reply.Updated applied generation)) }
+{
+    let applied = applied_name(applied);
+    json!(in alloc; {"generation": generation, "line": line, "ok": "updated", "result": applied})
+}
+
+fn conditions_value(alloc: Global, line: u32, stopped: u64) -> Result<Value, AllocError>
+    ensures { IfOk result (λ value. view value ≡ texts.reply_json line (Reply.Conditions stopped)) }
+{
+    json!(in alloc; {"line": line, "ok": "conditions", "stopped": stopped})
+}
+
 fn query_value(alloc: Global, line: u32, works: &[WorkInfo]) -> Result<Value, AllocError>
     requires { AllByRecursion TellsNoData works.now }
     ensures { IfOk result (λ value. view value ≡ texts.reply_json line (Reply.Query works.now)) }
 {
     let infos = infos_value(alloc, works)?;
     json!(in alloc; {"line": line, "ok": "query", "works": infos})
+}
+
+fn observing_value(
+    alloc: Global,
+    line: u32,
+    observer: u32,
+    works: &[WorkInfo],
+) -> Result<Value, AllocError>
+    requires { AllByRecursion TellsNoData works.now }
+    ensures { IfOk result
+        (λ value. view value ≡ texts.reply_json line (Reply.Observing observer works.now)) }
+{
+    let infos = infos_value(alloc, works)?;
+    json!(in alloc; {"line": line, "observer": observer, "ok": "observing", "works": infos})
+}
+
+fn retired_value(alloc: Global, line: u32, dropped: u32) -> Result<Value, AllocError>
+    ensures { IfOk result (λ value. view value ≡ texts.reply_json line (Reply.Retired dropped)) }
+{
+    json!(in alloc; {"dropped": dropped, "line": line, "ok": "retired"})
+}
+
+fn summary_value(alloc: Global, line: u32, counts: &Counts) -> Result<Value, AllocError>
+    ensures { IfOk result (λ value. view value ≡ texts.summary_json line counts.now) }
+{
+    json!(in alloc; {
+        "attempts": counts.attempts,
+        "blocked": counts.blocked,
+        "cancelled": counts.cancelled,
+        "enqueued": counts.enqueued,
+        "failed": counts.failed,
+        "line": line,
+        "ok": "summary",
+        "running": counts.running,
+        "succeeded": counts.succeeded
+    })
 }
 
 fn refused_value(alloc: Global, line: u32, refusal: &Refusal) -> Result<Value, AllocError>
@@ -192,6 +290,17 @@ fn id_value(alloc: Global, id: &Uuid) -> Result<Value, AllocError>
 {
     let mut buffer = Uuid::encode_buffer();
     Value::try_from_str(alloc, id.hyphenated().encode_lower(&mut buffer))
+}
+
+// The name of what an update did, after `androidx.work.WorkManager.UpdateResult`.
+fn applied_name(applied: Applied) -> &'static str
+    ensures { result.now ≡ texts.applied_name applied }
+{
+    match applied {
+        Applied::NotApplied => "NOT_APPLIED",
+        Applied::Immediately => "APPLIED_IMMEDIATELY",
+        Applied::ForNextRun => "APPLIED_FOR_NEXT_RUN",
+    }
 }
 
 // The name of a state, after `androidx.work.WorkInfo.State`.

@@ -5,14 +5,14 @@ use Rattle.wm_machine.proofs.Firsts.{first_of-stored}
 use Rattle.wm_machine.proofs.Frames.{after_start}
 use Rattle.wm_machine.proofs.Narrows.{found_valid, run_kind}
 use Rattle.wm_machine.proofs.Runnings.{IsAlone-stored}
-use Rattle.wm_machine.proofs.States.{after_finish, after_start_failed, IsReached}
+use Rattle.wm_machine.proofs.States.{after_finish, after_start_failed}
 use Rattle.wm_machine.proofs.Waitings.{left_to_drain-started, left_to_drain-succeeded}
 use Rattle.wm_machine.specs.Closed.{closed}
 use Rattle.wm_machine.specs.Log.{command_in, AreNumberedFrom}
+use Rattle.wm_machine.specs.Narrow.{IsReached}
 use Rattle.wm_machine.specs.Runs.{run_numbered, started}
 use Rattle.wm_machine.specs.Step.{after, IsEnd, IsStart, IsStartFailure}
 use Rattle.wm_machine.specs.Waiting.{left_to_drain}
-use Rattle.wm_script.specs.Texts.{event_text}
 use Rattle.wm_machine.specs.declared.event.Cause.{Cause}
 use Rattle.wm_machine.specs.declared.event.End.{End}
 use Rattle.wm_machine.specs.declared.event.Event.TheVariants as event
@@ -24,12 +24,6 @@ use Rattle.wm_table.specs.TableState.{TicketState, ticket_of}
 use Rattle.wm_worker.specs.declared.kind.Kind.TheVariants.{Echo}
 
 -- ---- events that aren't commands
-
--- such an event has no text
-pub event_text-silent : (s : State) (e : Event) → command_in e ≡ [] → event_text s e ≡ []
-unfolding event_text
-event_text-silent s (event.Command number asked reply) is = absurd cc
-event_text-silent s _ is = refl
 
 numbered_alone : (line : ℕ) (e : Event) → command_in e ≡ [] → AreNumberedFrom line (e ∷ [])
 numbered_alone line (event.Command number asked reply) is = absurd cc

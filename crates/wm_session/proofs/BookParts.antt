@@ -1,24 +1,29 @@
 -- Parts of what a book keeps, after a change.
-use Rattle.std.proofs.Common.{◌≡◌, ℕ, ◌+◌, ◌-◌, ◌^◌, ◌≤◌, min, List, [], ◌∷◌, ◌++◌, map, Option, Some, None, IsSome, option_map, Err, refl, sym, ◌∙◌, ap, subst, arith}
+use Rattle.std.proofs.Common.{◌≡◌, ◌⊎◌, ℕ, ◌+◌, ◌-◌, ◌^◌, ◌≤◌, min, List, [], ◌∷◌, ◌++◌, map, Option, Some, None, IsSome, IsSomeAnd, option_map, Err, refl, sym, ◌∙◌, ap, subst, inr, arith}
 use Rattle.std.proofs.Math.Nat.{le-min, le_trans, min-le_left, min-le_right}
 use Rattle.wm_faults.specs.Faults.{Failed}
 use Rattle.wm_keeper.specs.declared.row.Row.{Row}
+use Rattle.std.specs.Option.{IfSome}
 use Rattle.wm_machine.proofs.Logs.{Replay-push}
-use Rattle.wm_machine.specs.Log.{BeginsWith}
+use Rattle.wm_machine.specs.Built.{EventTellsNoData}
+use Rattle.wm_machine.specs.Log.{command_in, BeginsWith}
 use Rattle.wm_machine.specs.Replay.{Replay}
 use Rattle.wm_machine.specs.Rows.{rows_of}
+use Rattle.wm_machine.specs.Runs.{run_numbered}
 use Rattle.wm_machine.specs.declared.command.Command.{Command}
 use Rattle.wm_machine.specs.declared.event.Cause.{Cause}
 use Rattle.wm_machine.specs.declared.event.Event.TheVariants as event
 use Rattle.wm_machine.specs.declared.event.Event.{Event}
+use Rattle.wm_machine.specs.declared.state.Run.{Run}
 use Rattle.wm_machine.specs.declared.state.State.{State}
 use Rattle.wm_session.proofs.Pieces.{AreTextsKept-front}
 use Rattle.wm_session.specs.Bench.{is_away}
+use Rattle.wm_session.specs.Book as book
 use Rattle.wm_session.specs.BookState.{BookState}
 use Rattle.wm_session.specs.Causes.{stop_by_fault, stop_by_trouble, StopCause}
 use Rattle.wm_session.specs.Kept.{AreAwayKept, AreLinesKept, AreTextsKept}
 use Rattle.wm_table.specs.Table.{last_of, IsClaimed, IsOneStep, IsTicketIn, IsUntouched, TurnCause}
-use Rattle.wm_table.specs.TableState.{TableState, TicketState}
+use Rattle.wm_table.specs.TableState.{TableState, TicketState, ticket_of}
 use Rattle.wm_session.specs.Writing.{WriteCause}
 use Rattle.wm_session.specs.declared.book.Stop.{Stop}
 use Rattle.wm_table.specs.declared.table.Claim.TheVariants as claim
@@ -115,3 +120,45 @@ claimed_run held claimed ticket old new is done = subst (λ (c : Option Claim). 
 pub claimed_failed : {K : Type 0} (held : K → Option (List Row)) (claimed : Option Claim) (seq : ℕ) (cause : Cause) (old new : TableState K)
     → claimed ≡ Some (claim.Failed seq cause) → IsClaimed held claimed old new → IsOneStep held (event.StartFailed seq cause) old new
 claimed_failed held claimed seq cause old new is done = subst (λ (c : Option Claim). IsClaimed held c old new) is done
+
+-- a claim's event, which is no line
+pub claimed_step : {K : Type 0} (held : K → Option (List Row)) (claimed : Claim) (old new : TableState K) → IsClaimed held (Some claimed) old new
+    → (e : Event) × IsOneStep held e old new × (command_in e ≡ [])
+claimed_step held (claim.Run ticket) old new (step, stands) =
+    (event.Start ticket.task.run ticket.seq ticket.instance ticket.task.input, step, refl)
+claimed_step held (claim.Failed seq cause) old new step = (event.StartFailed seq cause, step, refl)
+
+-- nor does it tell of data
+pub claimed_tells : {K : Type 0} (held : K → Option (List Row)) (claimed : Claim) (old new : TableState K) → IsClaimed held (Some claimed) old new
+    → IfSome (last_of new.log) EventTellsNoData
+claimed_tells held (claim.Run ticket) old new (step, stands) =
+    let e = event.Start ticket.task.run ticket.seq ticket.instance ticket.task.input in
+    subst (λ (last : Option Event). IfSome last EventTellsNoData) (sym (last_of-step held e old new step)) tt
+claimed_tells held (claim.Failed seq cause) old new step =
+    subst (λ (last : Option Event). IfSome last EventTellsNoData) (sym (last_of-step held (event.StartFailed seq cause) old new step)) tt
+
+-- a ticket that holds what its run keeps stands
+ticket_stands : (found : Option Run) (ticket : TicketState) → IsSomeAnd found (λ run. ticket ≡ ticket_of run)
+    → IsSomeAnd found (λ run. (run.instance ≡ ticket.instance) × (run.kind ≡ ticket.kind))
+ticket_stands None ticket is = absurd is
+ticket_stands (Some run) ticket is = (ap (λ (t : TicketState). t.instance) (sym is), ap (λ (t : TicketState). t.kind) (sym is))
+
+-- so a claim can be given up
+pub claimed_in : {K : Type 0} (held : K → Option (List Row)) (claimed : Claim) (old new : TableState K) → IsClaimed held (Some claimed) old new
+    → book.IsClaimIn new.state claimed
+claimed_in held (claim.Run ticket) old new (step, stands) = ticket_stands (run_numbered ticket.task.run new.state.runs) ticket stands
+claimed_in held (claim.Failed seq cause) old new step = tt
+
+-- the session stopped while a claim was told, and its ticket was taken back
+pub IsUntold-claimed : {K W B : Type 0} (held : K → Option (List Row)) (claimed : Claim) (old : BookState K W B) (between table : TableState K)
+    (pending : List ℕ) (sink : W) (stop : Stop)
+    → old.status ≡ None → IsClaimed held (Some claimed) old.table between → table ≡ between
+    → book.HasStopped held old (record old { table = table; pending = pending; sink = sink; status = Some stop })
+    ⊎ book.IsClaimUntold held old (record old { table = table; pending = pending; sink = sink; status = Some stop })
+IsUntold-claimed held claimed old between table pending sink stop going done same = inr (record {
+  made = claimed;
+  before = going;
+  status = refl;
+  claimed = subst (IsClaimed held (Some claimed) old.table) (sym same) done;
+  left = refl;
+})

@@ -1,6 +1,5 @@
 -- A book after one change.
 use Rattle.std.proofs.Common.{◌≡◌, ℕ, ◌+◌, ◌^◌, ◌<◌, ◌≤◌, true, false, List, [], ◌∷◌, ◌++◌, length, map, Option, Some, None, IsSome, IsSomeAnd, option_map, Err, refl, sym, ◌∙◌, ap, subst, arith, append_assoc, length-append}
-use Rattle.std.proofs.lemmas.List.{append-nil}
 use Rattle.std.specs.List.{AllByRecursion}
 use Rattle.wm_bench.specs.Places.{changed_at, made_away, made_idle, idle_at, IsAwayAt}
 use Rattle.wm_bench.specs.Seat.{Seat}
@@ -10,11 +9,11 @@ use Rattle.wm_machine.proofs.Firsts.{idle_instance-idle, idle_instance-stored}
 use Rattle.wm_machine.proofs.Frames.{frame-command, frame-finish, frame-start}
 use Rattle.wm_machine.proofs.Logs.{commands_of-push, AreNumberedFrom-push}
 use Rattle.wm_script.proofs.LogTexts.{log_text-push}
-use Rattle.wm_machine.proofs.States.{IsReached, IsReached-after}
+use Rattle.wm_machine.proofs.States.{IsReached-after}
 use Rattle.wm_machine.specs.Built.{IsBuilt}
 use Rattle.wm_machine.specs.Frame.{Frame}
 use Rattle.wm_machine.specs.Log.{command_in, commands_of, AreNumberedFrom, BeginsWith}
-use Rattle.wm_machine.specs.Narrow.{IsNarrow}
+use Rattle.wm_machine.specs.Narrow.{IsNarrow, IsReached}
 use Rattle.wm_machine.specs.Replay.{Replay}
 use Rattle.wm_machine.specs.Rows.{rows_of}
 use Rattle.wm_machine.specs.Runs.{run_numbered, with_out}
@@ -28,21 +27,23 @@ use Rattle.wm_machine.specs.declared.event.Event.{Event}
 use Rattle.wm_machine.specs.declared.reply.Reply.{Reply}
 use Rattle.wm_machine.specs.declared.state.State.{State}
 use Rattle.wm_session.proofs.Benches.{all_here, away-changed, away-taken, idle_at-in, kind-Echo, no_seat, seat_is, traits-given, traits-taken, traits-with_out}
-use Rattle.wm_session.proofs.BookEvents.{AreNumberedFrom-silent, event_text-silent, failed_fewer, finished_no_more, started_fewer, ticket_kind}
-use Rattle.wm_session.proofs.BookParts.{AreAwayKept-from, AreAwayKept-stopped, AreLinesKept-from, AreLinesKept-front, AreTextsKept-stopped, IsUntouched-same, StopCause-turn, StopCause-write, last_of-step, Replay-same, Replay-step, rows_then}
+use Rattle.wm_session.proofs.BookEvents.{AreNumberedFrom-silent, failed_fewer, finished_no_more, started_fewer, ticket_kind}
+use Rattle.wm_session.proofs.BookParts.{AreAwayKept-from, AreAwayKept-stopped, AreLinesKept-from, AreLinesKept-front, AreTextsKept-stopped, IsUntouched-same, StopCause-turn, StopCause-write, claimed_step, last_of-step, Replay-same, Replay-step, rows_then}
 use Rattle.wm_session.proofs.Pieces.{AreTextsKept-more, AreTextsKept-unwritten}
 use Rattle.wm_session.specs.Bench.{instance_traits, is_away, place_traits, AreIdle}
 use Rattle.wm_session.specs.Book as book
 use Rattle.wm_session.specs.BookState.{BookState}
 use Rattle.wm_session.specs.Causes.{stop_by_fault, stop_by_trouble, StopCause}
 use Rattle.wm_session.specs.Given.{Given}
-use Rattle.wm_session.specs.Kept.{AreAwayKept, AreLinesKept, AreTextsKept, IsBookKept}
+use Rattle.wm_session.specs.Kept.{AreAwayKept, AreLinesKept, AreTextsKept, IsBookKept, IsLastTold}
 use Rattle.wm_session.specs.Tells.{Tells}
-use Rattle.wm_table.specs.Table.{last_of, CountsIn, IsFinished, IsOneStep, IsTicketIn, IsUntouched, Stands, TurnCause}
+use Rattle.wm_table.specs.Table.{CountsIn, IsClaimed, IsFinished, IsOneStep, IsTicketIn, IsUntouched, Stands, TurnCause}
 use Rattle.wm_table.specs.TableState.{TableState, TicketState}
 use Rattle.wm_session.specs.Writing.{WriteCause}
 use Rattle.wm_session.specs.declared.book.Stop.TheVariants as why
 use Rattle.wm_session.specs.declared.book.Stop.{Stop}
+use Rattle.wm_table.specs.declared.table.Claim.TheVariants as claim
+use Rattle.wm_table.specs.declared.table.Claim.{Claim}
 use Rattle.wm_table.specs.declared.table.Trouble.{Trouble}
 use Rattle.wm_table.specs.declared.table.TurnAnswer.TheVariants as turn
 use Rattle.wm_session.specs.declared.writing.WriteFault.{WriteFault}
@@ -59,6 +60,13 @@ record IsStep {K W B : Type 0} (tells : Tells K W B) (e : Event) (old new : Book
   workers : map (place_traits tells.kind_of) new.places ≡ map instance_traits new.table.state.instances
   no_fault : tells.keeper_faults new.table.keeper ≡ tells.keeper_faults old.table.keeper
 
+-- what telling an event made of what is pending and of the sink, and why the session stopped, where it did
+pub record IsTold {K W B : Type 0} (run : Given) (tells : Tells K W B) (e : Event) (old : BookState K W B) (table : TableState K) (pending : List ℕ)
+    (sink : W) (status : Option Stop) : Type 0 where
+  pub texts : AreTextsKept status (tells.given old.sink) (tells.given sink) (old.pending ++ event_text old.table.state e table.state) pending
+  pub later : tells.sink_faults old.sink ≤ tells.sink_faults sink
+  pub cause : StopCause status run.keeper_faults (tells.keeper_faults table.keeper) run.sink_faults (tells.sink_faults sink)
+
 -- the workers that are away are those of the instances that are out
 away_now : {K W B : Type 0} (old : BookState K W B) → old.status ≡ None → AreAwayKept old.status old
     → map (λ place. is_away place.presence) old.places ≡ map (λ instance. instance.out) old.table.state.instances
@@ -72,20 +80,17 @@ module _ {K W B : Type 0} {run : Given} {tells : Tells K W B} where
   reached_after e old new kept step = rw step.state (IsReached-after old.table.state e (reached kept) step.legal)
 
   text_is : (e : Event) (old new : BookState K W B) → IsBookKept run tells old → IsOneStep tells.held e old.table new.table
-      → log_text new.table.first new.table.log ≡ log_text old.table.first old.table.log ++ event_text old.table.state e
+      → log_text new.table.first new.table.log ≡ log_text old.table.first old.table.log ++ event_text old.table.state e new.table.state
   text_is e old new kept step =
       ap (λ first. log_text first new.table.log) step.first
       ∙ ap (log_text old.table.first) step.appended
       ∙ log_text-push old.table.first old.table.log old.table.state e kept.replay
+      ∙ ap (λ s. log_text old.table.first old.table.log ++ event_text old.table.state e s) (sym step.state)
 
   IsBookKept-step : (e : Event) (old new : BookState K W B) → IsBookKept run tells old
       → IsStep tells e old new → AreNumberedFrom 1 (old.table.log ++ e ∷ [])
-      → AreTextsKept new.status (tells.given old.sink) (tells.given new.sink) (old.pending ++ event_text old.table.state e) new.pending
-      → AreAwayKept new.status new
-      → tells.sink_faults old.sink ≤ tells.sink_faults new.sink
-      → StopCause new.status run.keeper_faults (tells.keeper_faults new.table.keeper) run.sink_faults (tells.sink_faults new.sink)
-      → IsBookKept run tells new
-  IsBookKept-step e old new kept more numbered texts away later cause =
+      → IsTold run tells e old new.table new.pending new.sink new.status → AreAwayKept new.status new → IsBookKept run tells new
+  IsBookKept-step e old new kept more numbered told away =
       let step = more.step in
       let done = commands_of old.table.log in
       let commands : commands_of new.table.log ≡ done ++ command_in e = ap commands_of step.appended ∙ commands_of-push old.table.log e in
@@ -95,6 +100,7 @@ module _ {K W B : Type 0} {run : Given} {tells : Tells K W B} where
       let line_is : new.line ≡ old.line + length (command_in e) = more.line in
       let sink_before : run.sink_faults ≤ tells.sink_faults old.sink = kept.sink_later in
       let keeper_before : run.keeper_faults ≤ tells.keeper_faults old.table.keeper = kept.keeper_later in
+      let later : tells.sink_faults old.sink ≤ tells.sink_faults new.sink = told.later in
       let before : AreTextsKept None run.written (tells.given old.sink) (log_text old.table.first old.table.log) old.pending =
       subst (λ status. AreTextsKept status run.written (tells.given old.sink) (log_text old.table.first old.table.log) old.pending) more.going kept.texts in
       record {
@@ -111,41 +117,69 @@ module _ {K W B : Type 0} {run : Given} {tells : Tells K W B} where
         few_lines = omega arith;
         texts = subst (λ text. AreTextsKept new.status run.written (tells.given new.sink) text new.pending) (sym (text_is e old new kept step))
             (AreTextsKept-more new.status run.written (tells.given old.sink) (tells.given new.sink) (log_text old.table.first old.table.log)
-            (event_text old.table.state e) old.pending new.pending before texts);
+            (event_text old.table.state e new.table.state) old.pending new.pending before told.texts);
         rows = rows_then old.table.state new.table.state run.rows (tells.held old.table.keeper) (tells.held new.table.keeper) kept.rows step.rows;
         workers = more.workers;
         away = away;
         keeper_later = subst (λ n. run.keeper_faults ≤ n) (sym more.no_fault) keeper_before;
         sink_later = omega arith;
-        cause = cause;
+        cause = told.cause;
       }
 
-  IsBookKept-silent : (e : Event) (old : BookState K W B) (table : TableState K) (places : List (Place B))
+  -- the text was told, and all that was pending written
+  pub IsTold-all : {old : BookState K W B} (e : Event) (table : TableState K) (pending : List ℕ) (sink : W)
+      → IsBookKept run tells old → old.status ≡ None → IsOneStep tells.held e old.table table
+      → IsLastTold None table (tells.given old.sink) (tells.given sink) old.pending pending
+      → tells.sink_faults sink ≡ tells.sink_faults old.sink
+      → IsTold run tells e old table pending sink old.status
+  IsTold-all {old = old} e table pending sink kept going step last no_sink_fault = record {
+    texts = subst
+        (λ status. AreTextsKept status (tells.given old.sink) (tells.given sink) (old.pending ++ event_text old.table.state e table.state) pending)
+        (sym going) (last old.table.state e (last_of-step tells.held e old.table table step));
+    later = omega arith;
+    cause = subst (λ status. StopCause status run.keeper_faults (tells.keeper_faults table.keeper) run.sink_faults (tells.sink_faults sink)) (sym going) tt;
+  }
+
+  -- the session stopped while the text was told
+  pub IsTold-cut : {old : BookState K W B} (e : Event) (table : TableState K) (pending : List ℕ) (sink : W) (refused : WriteFault) (stop : Stop)
+      → IsBookKept run tells old → IsOneStep tells.held e old.table table
+      → IsLastTold (Some (stop_by_fault refused)) table (tells.given old.sink) (tells.given sink) old.pending pending
+      → WriteCause {T = Unit {0}} (Err refused) (tells.sink_faults old.sink) (tells.sink_faults sink) → stop ≡ stop_by_fault refused
+      → IsTold run tells e old table pending sink (Some stop)
+  IsTold-cut {old = old} e table pending sink refused stop kept step last trouble stop_is =
+      let cause =
+      StopCause-write refused run.keeper_faults (tells.keeper_faults table.keeper) (tells.sink_faults old.sink)
+      (tells.sink_faults sink) run.sink_faults trouble kept.sink_later in record {
+        texts = subst
+            (λ why. AreTextsKept (Some why) (tells.given old.sink) (tells.given sink) (old.pending ++ event_text old.table.state e table.state) pending)
+            (sym stop_is) (last old.table.state e (last_of-step tells.held e old.table table step));
+        later = cause.0;
+        cause = subst (λ s. StopCause (Some s) run.keeper_faults (tells.keeper_faults table.keeper) run.sink_faults (tells.sink_faults sink))
+            (sym stop_is) cause.1;
+      }
+
+  -- an event that is no line, and its text told or not
+  IsBookKept-event : (e : Event) (old : BookState K W B) (table : TableState K) (places : List (Place B)) (pending : List ℕ) (sink : W)
+      (status : Option Stop)
       → IsBookKept run tells old → old.status ≡ None → IsOneStep tells.held e old.table table → command_in e ≡ []
+      → IsTold run tells e old table pending sink status
       → map (place_traits tells.kind_of) places ≡ map instance_traits table.state.instances
-      → map (λ place. is_away place.presence) places ≡ map (λ instance. instance.out) table.state.instances
+      → AreAwayKept status (record old { table = table; places = places; pending = pending; sink = sink; status = status })
       → tells.keeper_faults table.keeper ≡ tells.keeper_faults old.table.keeper
-      → IsBookKept run tells (record old { table = table; places = places })
-  IsBookKept-silent e old table places kept going step silent workers away no_fault =
-      let new : BookState K W B = record old { table = table; places = places } in
-      let text : old.pending ≡ old.pending ++ event_text old.table.state e =
-      sym (append-nil old.pending) ∙ ap (λ (l : List ℕ). old.pending ++ l) (sym (event_text-silent old.table.state e silent)) in
+      → IsBookKept run tells (record old { table = table; places = places; pending = pending; sink = sink; status = status })
+  IsBookKept-event e old table places pending sink status kept going step none told workers away no_fault =
+      let new : BookState K W B = record old { table = table; places = places; pending = pending; sink = sink; status = status } in
       IsBookKept-step e old new kept (record {
         going = going;
         step = step;
-        left = ap (λ (l : List Command). l ++ old.left) (sym silent);
+        left = ap (λ (l : List Command). l ++ old.left) (sym none);
         built = kept.built;
-        line = let none : length (command_in e) ≡ 0 = ap length silent in omega arith;
+        line = let empty : length (command_in e) ≡ 0 = ap length none in omega arith;
         workers = workers;
         no_fault = no_fault;
       })
-      (AreNumberedFrom-silent 1 old.table.log e silent kept.numbered)
-      (subst (λ status. AreTextsKept status (tells.given old.sink) (tells.given old.sink) (old.pending ++ event_text old.table.state e) old.pending) (sym going)
-      (subst (λ l. AreTextsKept None (tells.given old.sink) (tells.given old.sink) l old.pending) text
-      (AreTextsKept-unwritten (tells.given old.sink) old.pending)))
-      (subst (λ status. AreAwayKept status new) (sym going) away)
-      (omega arith)
-      (subst (λ status. StopCause status run.keeper_faults (tells.keeper_faults table.keeper) run.sink_faults (tells.sink_faults old.sink)) (sym going) tt)
+      (AreNumberedFrom-silent 1 old.table.log e none kept.numbered)
+      told away
 
   -- ---- a start
 
@@ -163,36 +197,41 @@ module _ {K W B : Type 0} {run : Given} {tells : Tells K W B} where
       (idle_instance-idle instances start.work.request.class start.idle start.is_idle).is_in is
       (no_seat place (idle_at place old.places) none)
 
-  pub IsBookKept-begun : {old : BookState K W B} (table : TableState K) (places : List (Place B)) (number seq instance place : ℕ) (input : List DataEntry)
+  -- a run began and was told
+  pub IsBookKept-begun : {old : BookState K W B} (table : TableState K) (places : List (Place B)) (pending : List ℕ) (sink : W)
+      (number seq instance place : ℕ) (input : List DataEntry)
       → IsBookKept run tells old → old.status ≡ None
       → IsOneStep tells.held (event.Start number seq instance input) old.table table → place ≡ instance
       → places ≡ changed_at (made_away tells.kind_of) place old.places
+      → IsTold run tells (event.Start number seq instance input) old table pending sink old.status
       → tells.keeper_faults table.keeper ≡ tells.keeper_faults old.table.keeper
-      → IsBookKept run tells (record old { table = table; places = places })
-  IsBookKept-begun {old = old} table places number seq instance place input kept going step same there no_fault =
+      → IsBookKept run tells (record old { table = table; places = places; pending = pending; sink = sink })
+  IsBookKept-begun {old = old} table places pending sink number seq instance place input kept going step same there told no_fault =
       let s = old.table.state in
       let instances : table.state.instances ≡ with_out true instance s.instances =
       ap (λ (t : State). t.instances) step.state ∙ ap (λ (f : Frame). f.instances) (frame-start s number seq instance input step.legal) in
       let from_zero : 0 + instance ≡ instance = omega arith in
       let are : places ≡ changed_at (made_away tells.kind_of) instance old.places = there ∙ ap (λ n. changed_at (made_away tells.kind_of) n old.places) same in
-      IsBookKept-silent (event.Start number seq instance input) old table places kept going step refl
+      IsBookKept-event (event.Start number seq instance input) old table places pending sink old.status kept going step refl told
       (ap (map (place_traits tells.kind_of)) are ∙ traits-taken tells.kind_of instance old.places ∙ kept.workers
       ∙ sym (traits-with_out true instance s.instances) ∙ ap (map instance_traits) (sym instances))
+      (AreAwayKept-from old.status (record old { table = table; places = places; pending = pending; sink = sink })
       (ap (map (λ place. is_away place.presence)) are
       ∙ away-changed (made_away tells.kind_of) true instance 0 old.places s.instances (away-taken tells.kind_of) kept.valid.numbered
       (away_now old going kept.away)
       ∙ ap (λ n. map (λ instance. instance.out) (with_out true n s.instances)) from_zero
-      ∙ ap (map (λ instance. instance.out)) (sym instances))
+      ∙ ap (map (λ instance. instance.out)) (sym instances)))
       no_fault
 
-  pub IsBegun-taken : {old : BookState K W B} (table : TableState K) (places : List (Place B)) (ticket : TicketState) (place : ℕ) (seat : Seat B)
-      (signal : SignalState)
+  pub IsBegun-taken : {old : BookState K W B} (table : TableState K) (places : List (Place B)) (pending : List ℕ) (sink : W) (ticket : TicketState)
+      (place : ℕ) (seat : Seat B) (signal : SignalState)
       → IsBookKept run tells old → old.status ≡ None
       → IsOneStep tells.held (event.Start ticket.task.run ticket.seq ticket.instance ticket.task.input) old.table table → IsTicketIn table.state ticket
       → place ≡ ticket.instance → Some seat ≡ option_map (λ worker. record { number = place; worker = worker }) (idle_at place old.places)
       → places ≡ changed_at (made_away tells.kind_of) place old.places → signal ≡ record { run = ticket.task.run; never = true }
-      → book.IsBegun tells.held tells.kind_of ticket seat signal old (record old { table = table; places = places })
-  IsBegun-taken {old = old} table places ticket place seat signal kept going step ticket_in same taken are signal_is =
+      → book.IsBegun tells.held tells.kind_of ticket seat signal old
+      (record old { table = table; places = places; pending = pending; sink = sink })
+  IsBegun-taken {old = old} table places pending sink ticket place seat signal kept going step ticket_in same taken are signal_is =
       let seated = seat_is place (idle_at place old.places) seat taken in
       let there : idle_at ticket.instance old.places ≡ Some seat.worker = ap (λ n. idle_at n old.places) (sym same) ∙ seated.0 in
       let start = event.Start ticket.task.run ticket.seq ticket.instance ticket.task.input in
@@ -214,20 +253,23 @@ module _ {K W B : Type 0} {run : Given} {tells : Tells K W B} where
 
   -- ---- a work that couldn't start
 
-  pub IsBookKept-start_failed : {old : BookState K W B} (table : TableState K) (seq : ℕ) (cause : Cause)
+  pub IsBookKept-start_failed : {old : BookState K W B} (table : TableState K) (pending : List ℕ) (sink : W) (seq : ℕ) (cause : Cause)
       → IsBookKept run tells old → old.status ≡ None → IsOneStep tells.held (event.StartFailed seq cause) old.table table
-      → tells.keeper_faults table.keeper ≡ tells.keeper_faults old.table.keeper → IsBookKept run tells (record old { table = table })
-  IsBookKept-start_failed {old = old} table seq cause kept going step no_fault =
+      → IsTold run tells (event.StartFailed seq cause) old table pending sink old.status
+      → tells.keeper_faults table.keeper ≡ tells.keeper_faults old.table.keeper
+      → IsBookKept run tells (record old { table = table; pending = pending; sink = sink })
+  IsBookKept-start_failed {old = old} table pending sink seq cause kept going step told no_fault =
       let instances : table.state.instances ≡ old.table.state.instances = ap (λ (t : State). t.instances) step.state in
-      IsBookKept-silent (event.StartFailed seq cause) old table old.places kept going step refl
+      IsBookKept-event (event.StartFailed seq cause) old table old.places pending sink old.status kept going step refl told
       (kept.workers ∙ ap (map instance_traits) (sym instances))
-      (away_now old going kept.away ∙ ap (map (λ instance. instance.out)) (sym instances))
+      (AreAwayKept-from old.status (record old { table = table; pending = pending; sink = sink })
+      (away_now old going kept.away ∙ ap (map (λ instance. instance.out)) (sym instances)))
       no_fault
 
-  pub IsStartFailed-kept : {old : BookState K W B} (table : TableState K) (seq : ℕ) (cause : Cause)
+  pub IsStartFailed-kept : {old : BookState K W B} (table : TableState K) (pending : List ℕ) (sink : W) (seq : ℕ) (cause : Cause)
       → IsBookKept run tells old → old.status ≡ None → IsOneStep tells.held (event.StartFailed seq cause) old.table table
-      → book.IsStartFailed tells.held old (record old { table = table })
-  IsStartFailed-kept {old = old} table seq cause kept going step = record {
+      → book.IsStartFailed tells.held old (record old { table = table; pending = pending; sink = sink })
+  IsStartFailed-kept {old = old} table pending sink seq cause kept going step = record {
     seq = seq;
     cause = cause;
     goes_on = record { before = going; now = going };
@@ -237,13 +279,40 @@ module _ {K W B : Type 0} {run : Given} {tells : Tells K W B} where
     fewer = rw step.state (failed_fewer old.table.state seq cause (reached kept) step.legal);
   }
 
+  -- ---- a claim that couldn't be told
+
+  untold_traits : (claimed : Claim) (old : BookState K W B) (table : TableState K) → IsBookKept run tells old
+      → IsClaimed tells.held (Some claimed) old.table table
+      → map (place_traits tells.kind_of) old.places ≡ map instance_traits table.state.instances
+  untold_traits (claim.Run ticket) old table kept (step, stands) =
+      let s = old.table.state in
+      let instances : table.state.instances ≡ with_out true ticket.instance s.instances =
+      ap (λ (t : State). t.instances) step.state
+      ∙ ap (λ (f : Frame). f.instances) (frame-start s ticket.task.run ticket.seq ticket.instance ticket.task.input step.legal) in
+      kept.workers ∙ sym (traits-with_out true ticket.instance s.instances) ∙ ap (map instance_traits) (sym instances)
+  untold_traits (claim.Failed seq cause) old table kept step =
+      kept.workers ∙ ap (λ (t : State). map instance_traits t.instances) (sym step.state)
+
+  -- the session stopped while the claim was told, and its ticket was taken back
+  pub IsBookKept-untold : {old : BookState K W B} (claimed : Claim) (between table : TableState K) (pending : List ℕ) (sink : W) (stop : Stop)
+      → IsBookKept run tells old → old.status ≡ None → IsClaimed tells.held (Some claimed) old.table between → table ≡ between
+      → ((e : Event) → IsOneStep tells.held e old.table between → IsTold run tells e old between pending sink (Some stop))
+      → tells.keeper_faults between.keeper ≡ tells.keeper_faults old.table.keeper
+      → IsBookKept run tells (record old { table = table; pending = pending; sink = sink; status = Some stop })
+  IsBookKept-untold {old = old} claimed between table pending sink stop kept going done same told no_fault =
+      let step = claimed_step tells.held claimed old.table between done in
+      subst (λ t. IsBookKept run tells (record old { table = t; pending = pending; sink = sink; status = Some stop })) (sym same)
+      (IsBookKept-event step.0 old between old.places pending sink (Some stop) kept going step.1 step.2 (told step.0 step.1)
+      (untold_traits claimed old between kept done) tt no_fault)
+
   -- ---- the end of a run
 
-  pub IsOver-finished : {old : BookState K W B} (table : TableState K) (places : List (Place B)) (ticket : TicketState) (seat : Seat B) (told : Report)
+  pub IsOver-finished : {old : BookState K W B} (table : TableState K) (places : List (Place B)) (pending : List ℕ) (sink : W) (ticket : TicketState)
+      (seat : Seat B) (told : Report)
       → IsBookKept run tells old → old.status ≡ None → CountsIn old.table.state ticket.task.run told
       → IsFinished tells.held ticket.task.run told old.table table → places ≡ changed_at (made_idle seat.worker) seat.number old.places
-      → book.IsOver tells.held ticket seat told old (record old { table = table; places = places })
-  IsOver-finished {old = old} table places ticket seat told kept going counts finished are = record {
+      → book.IsOver tells.held ticket seat told old (record old { table = table; places = places; pending = pending; sink = sink })
+  IsOver-finished {old = old} table places pending sink ticket seat told kept going counts finished are = record {
     goes_on = record { before = going; now = going };
     counts = counts;
     finished = finished;
@@ -253,14 +322,33 @@ module _ {K W B : Type 0} {run : Given} {tells : Tells K W B} where
         (finished_no_more old.table.state ticket.task.run (Success finished.output) (reached kept) finished.step.legal);
   }
 
-  pub IsBookKept-over : {old : BookState K W B} (table : TableState K) (places : List (Place B)) (ticket : TicketState) (place : ℕ) (output : List DataEntry)
-      (worker : B)
+  -- the session stopped while that was told
+  pub IsEndUntold-finished : {old : BookState K W B} (table : TableState K) (places : List (Place B)) (pending : List ℕ) (sink : W) (stop : Stop)
+      (ticket : TicketState) (told : Report)
+      → IsBookKept run tells old → old.status ≡ None → CountsIn old.table.state ticket.task.run told
+      → IsFinished tells.held ticket.task.run told old.table table
+      → book.IsEndUntold tells.held ticket told old
+      (record old { table = table; places = places; pending = pending; sink = sink; status = Some stop })
+  IsEndUntold-finished {old = old} table places pending sink stop ticket told kept going counts finished = record {
+    before = going;
+    status = refl;
+    counts = counts;
+    finished = finished;
+    left = refl;
+    no_more = rw finished.step.state
+        (finished_no_more old.table.state ticket.task.run (Success finished.output) (reached kept) finished.step.legal);
+  }
+
+  -- a run is over, and its text told or not
+  pub IsBookKept-over : {old : BookState K W B} (table : TableState K) (places : List (Place B)) (pending : List ℕ) (sink : W) (status : Option Stop)
+      (ticket : TicketState) (place : ℕ) (output : List DataEntry) (worker : B)
       → IsBookKept run tells old → old.status ≡ None
       → IsOneStep tells.held (event.Finish ticket.task.run (Success output)) old.table table → Stands old.table.state ticket → place ≡ ticket.instance
       → IsAwayAt place (tells.kind_of worker) old.places → places ≡ changed_at (made_idle worker) place old.places
+      → IsTold run tells (event.Finish ticket.task.run (Success output)) old table pending sink status
       → tells.keeper_faults table.keeper ≡ tells.keeper_faults old.table.keeper
-      → IsBookKept run tells (record old { table = table; places = places })
-  IsBookKept-over {old = old} table places ticket place output worker kept going step stands same away are no_fault =
+      → IsBookKept run tells (record old { table = table; places = places; pending = pending; sink = sink; status = status })
+  IsBookKept-over {old = old} table places pending sink status ticket place output worker kept going step stands same away are told no_fault =
       let s = old.table.state in
       let on = subst (λ found. IsSomeAnd found (λ run. (run.instance ≡ ticket.instance) × (run.kind ≡ ticket.kind))) step.legal.is_running stands in
       let instances : table.state.instances ≡ with_out false ticket.instance s.instances =
@@ -268,13 +356,14 @@ module _ {K W B : Type 0} {run : Given} {tells : Tells K W B} where
       ∙ ap (λ (f : Frame). f.instances) (frame-finish s ticket.task.run (Success output) step.legal)
       ∙ ap (λ number. with_out false number s.instances) on.0 in
       let from_zero : 0 + place ≡ ticket.instance = omega arith ∙ same in
-      IsBookKept-silent (event.Finish ticket.task.run (Success output)) old table places kept going step refl
+      IsBookKept-event (event.Finish ticket.task.run (Success output)) old table places pending sink status kept going step refl told
       (ap (map (place_traits tells.kind_of)) are ∙ traits-given tells.kind_of worker place old.places away ∙ kept.workers ∙ sym
       (traits-with_out false ticket.instance s.instances) ∙ ap (map instance_traits) (sym instances))
+      (AreAwayKept-from status (record old { table = table; places = places; pending = pending; sink = sink; status = status })
       (ap (map (λ place. is_away place.presence)) are
       ∙ away-changed (made_idle worker) false place 0 old.places s.instances (λ place. refl) kept.valid.numbered (away_now old going kept.away)
       ∙ ap (λ n. map (λ instance. instance.out) (with_out false n s.instances)) from_zero
-      ∙ ap (map (λ instance. instance.out)) (sym instances))
+      ∙ ap (map (λ instance. instance.out)) (sym instances)))
       no_fault
 
   -- ---- a session that stops
@@ -373,13 +462,10 @@ module _ {K W B : Type 0} {run : Given} {tells : Tells K W B} where
       → IsBookKept run tells old → old.status ≡ None
       → IsOneStep tells.held (event.Command (old.line + 1) command reply) old.table table → old.left ≡ command ∷ left
       → tells.keeper_faults table.keeper ≡ tells.keeper_faults old.table.keeper
-      → AreTextsKept status (tells.given old.sink) (tells.given sink)
-      (old.pending ++ event_text old.table.state (event.Command (old.line + 1) command reply)) pending
-      → tells.sink_faults old.sink ≤ tells.sink_faults sink
-      → StopCause status run.keeper_faults (tells.keeper_faults table.keeper) run.sink_faults (tells.sink_faults sink)
+      → IsTold run tells (event.Command (old.line + 1) command reply) old table pending sink status
       → IsBookKept run tells
       (record old { table = table; left = left; line = old.line + 1; pending = pending; sink = sink; status = status })
-  IsBookKept-line {old = old} table left pending sink status command reply kept going step next no_fault texts later cause =
+  IsBookKept-line {old = old} table left pending sink status command reply kept going step next no_fault told =
       let new : BookState K W B = record old { table = table; left = left; line = old.line + 1; pending = pending; sink = sink; status = status } in
       let e = event.Command (old.line + 1) command reply in
       let built : AllByRecursion IsBuilt (command ∷ left) = subst (AllByRecursion IsBuilt) next kept.built in
@@ -396,49 +482,8 @@ module _ {K W B : Type 0} {run : Given} {tells : Tells K W B} where
         no_fault = no_fault;
       })
       (AreNumberedFrom-push 1 old.table.log (old.line + 1) command reply kept.numbered number)
-      texts
+      told
       (AreAwayKept-from status new (away_now old going kept.away ∙ ap (map (λ instance. instance.out)) (sym instances)))
-      later cause
-
-  -- a line was executed, and what is pending was written
-  pub IsBookKept-told : {old : BookState K W B} (table : TableState K) (left : List Command) (pending : List ℕ) (sink : W) (command : Command) (reply : Reply)
-      → IsBookKept run tells old → old.status ≡ None
-      → IsOneStep tells.held (event.Command (old.line + 1) command reply) old.table table → old.left ≡ command ∷ left
-      → tells.keeper_faults table.keeper ≡ tells.keeper_faults old.table.keeper
-      → ((s : State) (e : Event) → last_of table.log ≡ Some e
-      → AreTextsKept None (tells.given old.sink) (tells.given sink) (old.pending ++ event_text s e) pending)
-      → tells.sink_faults sink ≡ tells.sink_faults old.sink
-      → IsBookKept run tells
-      (record old { table = table; left = left; line = old.line + 1; pending = pending; sink = sink })
-  IsBookKept-told {old = old} table left pending sink command reply kept going step next no_fault texts no_sink_fault =
-      let e = event.Command (old.line + 1) command reply in
-      let told = texts old.table.state e (last_of-step tells.held e old.table table step) in
-      IsBookKept-line table left pending sink old.status command reply kept going step next no_fault
-      (subst (λ status. AreTextsKept status (tells.given old.sink) (tells.given sink) (old.pending ++ event_text old.table.state e) pending) (sym going) told)
-      (omega arith)
-      (subst (λ status. StopCause status run.keeper_faults (tells.keeper_faults table.keeper) run.sink_faults (tells.sink_faults sink)) (sym going) tt)
-
-  -- a line was executed, and the session stopped while its text was told
-  pub IsBookKept-cut : {old : BookState K W B} (table : TableState K) (left : List Command) (pending : List ℕ) (sink : W) (refused : WriteFault) (stop : Stop)
-      (command : Command) (reply : Reply)
-      → IsBookKept run tells old → old.status ≡ None
-      → IsOneStep tells.held (event.Command (old.line + 1) command reply) old.table table → old.left ≡ command ∷ left
-      → tells.keeper_faults table.keeper ≡ tells.keeper_faults old.table.keeper
-      → ((s : State) (e : Event) → last_of table.log ≡ Some e → AreTextsKept (Some (stop_by_fault refused)) (tells.given old.sink) (tells.given sink)
-      (old.pending ++ event_text s e) pending)
-      → WriteCause {T = Unit {0}} (Err refused) (tells.sink_faults old.sink) (tells.sink_faults sink) → stop ≡ stop_by_fault refused
-      → IsBookKept run tells
-      (record old { table = table; left = left; line = old.line + 1; pending = pending; sink = sink; status = Some stop })
-  IsBookKept-cut {old = old} table left pending sink refused stop command reply kept going step next no_fault texts trouble stop_is =
-      let e = event.Command (old.line + 1) command reply in
-      let told = texts old.table.state e (last_of-step tells.held e old.table table step) in
-      let cause =
-      StopCause-write refused run.keeper_faults (tells.keeper_faults table.keeper) (tells.sink_faults old.sink)
-      (tells.sink_faults sink) run.sink_faults trouble kept.sink_later in
-      IsBookKept-line table left pending sink (Some stop) command reply kept going step next no_fault
-      (subst (λ s. AreTextsKept (Some s) (tells.given old.sink) (tells.given sink) (old.pending ++ event_text old.table.state e) pending) (sym stop_is) told)
-      cause.0
-      (subst (λ s. StopCause (Some s) run.keeper_faults (tells.keeper_faults table.keeper) run.sink_faults (tells.sink_faults sink)) (sym stop_is) cause.1)
 
 -- ---- the begin
 

@@ -185,4 +185,4 @@ KeepDiaries-last {held = held} {diary_of = diary_of} {ticket = ticket} {worker =
     (diary_of worker) away diaries under_way.replay last.step
     (λ n. ap (λ (f : Frame). f.entries n) (frame-finish s ticket.task.run last.end legal)
     ∙ ap (λ (t : TicketState). cond (eqb t.instance n) (Gave t.task.run t.k (given_by last.end) ∷ []) []) (sym of_run))
-    (keep last.goes_on.before))
+    (keep last.before))

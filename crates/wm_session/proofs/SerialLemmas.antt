@@ -24,20 +24,24 @@ use Rattle.wm_machine.specs.declared.event.Event.TheVariants as event
 use Rattle.wm_machine.specs.declared.reply.Reply.{Reply}
 use Rattle.wm_machine.specs.declared.state.Run.{Run}
 use Rattle.wm_machine.specs.declared.state.State.{State}
-use Rattle.wm_session.proofs.BookParts.{Replay-same, Replay-step}
+use Rattle.wm_session.proofs.BookParts.{claimed_step, Replay-same, Replay-step}
 use Rattle.wm_session.proofs.DiaryLemmas.{KeepDiaries-last, KeepDiaries-same, KeepDiaries-stopped, diaries_after-nothing, no_longer}
 use Rattle.wm_session.proofs.HandLemmas.{AreIdle-back, IsAwayAt-taken, NoneRetired-changed, hand_diaries-places}
 use Rattle.wm_session.specs.Bench.{AreIdle, place_diaries}
-use Rattle.wm_session.specs.Book.{GoesOn, IsBegun, IsFronted, IsLineDone, IsReported, IsStartFailed}
+use Rattle.wm_session.specs.Book.{GoesOn, IsBegun, IsClaimed, IsFronted, IsLineDone, IsReported, IsStartFailed}
 use Rattle.wm_session.specs.BookState.{BookState}
 use Rattle.wm_session.specs.Drive.{HasWritten, IsDriven, IsGivenUp, IsLastTurn, IsUnderWay}
 use Rattle.wm_session.specs.Ended.{HasCommands, HaveTold, IsSerialRun}
 use Rattle.wm_session.specs.Rest.{GoesInOrder, IsAtBegin, IsAtRest, IsInOrder, IsReady, KeepDiaries}
+use Rattle.wm_table.specs.Table as table
 use Rattle.wm_table.specs.Table.{IsOneStep, IsUntouched}
 use Rattle.wm_table.specs.TableState.{TicketState}
+use Rattle.wm_table.specs.declared.table.Claim.{Claim}
+use Rattle.wm_table.specs.declared.table.Claim.TheVariants as claim
 use Rattle.wm_session.specs.declared.book.Front.TheVariants as front
 use Rattle.wm_session.specs.declared.book.After.{After}
 use Rattle.wm_session.specs.declared.book.After.TheVariants as report
+use Rattle.wm_session.specs.declared.book.Job.TheVariants as job
 use Rattle.wm_session.specs.declared.status.Status.{Status}
 use Rattle.wm_session.specs.declared.status.Status.TheVariants as status
 use Rattle.wm_worker.specs.Diary.{diary_with, turn_entries}
@@ -57,7 +61,7 @@ IsTurned-reported held diary_of ticket worker seat (Ok told) report.Over old new
     inl (record {
       end = Success done.finished.output;
       back = seat.worker;
-      goes_on = done.goes_on;
+      before = done.goes_on.before;
       step = done.finished.step;
       diary = written ∙ ap (λ answer. diary_with (turn_entries ticket.task.run ticket.k answer) (diary_of worker)) done.finished.told_is;
       places = done.places ∙ ap (λ n. changed_at (made_idle seat.worker) n old.places) number;
@@ -66,8 +70,19 @@ IsTurned-reported held diary_of ticket worker seat (Ok told) report.Over old new
     })
 IsTurned-reported held diary_of ticket worker seat (Ok told) (report.Again same kept) old new done (inl ends) number written = absurd (cc)
 IsTurned-reported held diary_of ticket worker seat (Ok told) (report.Again same kept) old new done (inr ends) number written = absurd (cc)
-IsTurned-reported held diary_of ticket worker seat (Ok told) report.Stopped old new done ends number written =
-    inr (record { back = seat.worker; stopped = done.0; places = done.1 ∙ ap (λ n. changed_at (made_idle seat.worker) n old.places) number })
+IsTurned-reported held diary_of ticket worker seat (Ok told) report.Stopped old new (inl stopped, places) ends number written =
+    inr (record { back = seat.worker; stopped = stopped; places = places ∙ ap (λ n. changed_at (made_idle seat.worker) n old.places) number })
+IsTurned-reported held diary_of ticket worker seat (Ok told) report.Stopped old new (inr untold, places) ends number written =
+    inl (record {
+      end = Success untold.finished.output;
+      back = seat.worker;
+      before = untold.before;
+      step = untold.finished.step;
+      diary = written ∙ ap (λ answer. diary_with (turn_entries ticket.task.run ticket.k answer) (diary_of worker)) untold.finished.told_is;
+      places = places ∙ ap (λ n. changed_at (made_idle seat.worker) n old.places) number;
+      left = untold.left;
+      no_more = untold.no_more;
+    })
 IsTurned-reported held diary_of ticket worker seat (Err refused) report.Stopped old new done ends number written =
     inr (record { back = seat.worker; stopped = done.0; places = done.1 ∙ ap (λ n. changed_at (made_idle seat.worker) n old.places) number })
 IsTurned-reported held diary_of ticket worker seat (Err refused) _ old new done ends number written = absurd done
@@ -83,11 +98,11 @@ MayGoOn-push (asked ∷ lines) (d ∷ log) e = tt
 module _ {K W B : Type 0} (held : K → Option (List Row)) (lines : List Command) where
   -- an event in its turn
   GoesInOrder-step : (e : Event) (old new : BookState K W B) → Replay old.table.first old.table.log old.table.state → IsOneStep held e old.table new.table
-      → GoesOn old new → IsInTurn old.table.state e → length new.table.state.runs ≤ 1 → GoesInOrder lines old → GoesInOrder lines new
+      → old.status ≡ None → IsInTurn old.table.state e → length new.table.state.runs ≤ 1 → GoesInOrder lines old → GoesInOrder lines new
   GoesInOrder-step e old new replays step going turn few goes = record {
     order = record {
       in_order = rw (step.first, step.appended)
-          (AreInOrder-push lines old.table.first old.table.log old.table.state e goes.order.in_order replays (goes.may_go_on going.before) turn);
+          (AreInOrder-push lines old.table.first old.table.log old.table.state e goes.order.in_order replays (goes.may_go_on going) turn);
       few_runs = few;
     };
     may_go_on = λ still. rw step.appended (MayGoOn-push lines old.table.log e);
@@ -163,8 +178,8 @@ module _ {K W B : Type 0} {held : K → Option (List Row)} {kind_of : B → Kind
   pub GoesInOrder-begun : (lines : List Command) → IsAtRest old → IsBegun held kind_of ticket seat signal old new → GoesInOrder lines old
       → GoesInOrder lines new
   GoesInOrder-begun lines rest begun =
-      GoesInOrder-step held lines (event.Start ticket.task.run ticket.seq ticket.instance ticket.task.input) old new rest.replay begun.step begun.goes_on
-      (rest.no_run begun.goes_on.before) (begun_few rest begun)
+      GoesInOrder-step held lines (event.Start ticket.task.run ticket.seq ticket.instance ticket.task.input) old new rest.replay begun.step
+      begun.goes_on.before (rest.no_run begun.goes_on.before) (begun_few rest begun)
 
 module _ {K W B : Type 0} {held : K → Option (List Row)} {old new : BookState K W B} where
   failed_none : IsAtRest old → IsStartFailed held old new → new.table.state.runs ≡ []
@@ -177,8 +192,44 @@ module _ {K W B : Type 0} {held : K → Option (List Row)} {old new : BookState 
 
   pub GoesInOrder-failed : (lines : List Command) → IsAtRest old → IsStartFailed held old new → GoesInOrder lines old → GoesInOrder lines new
   GoesInOrder-failed lines rest failed =
-      GoesInOrder-step held lines (event.StartFailed failed.seq failed.cause) old new rest.replay failed.step failed.goes_on
-      (rest.no_run failed.goes_on.before) (rw (failed_none rest failed) (omega arith))
+      GoesInOrder-step held lines (event.StartFailed failed.seq failed.cause) old new rest.replay failed.step
+      failed.goes_on.before (rest.no_run failed.goes_on.before) (rw (failed_none rest failed) (omega arith))
+
+-- ---- a claim after which the session has stopped early
+
+module _ {K W B : Type 0} (held : K → Option (List Row)) (kind_of : B → Kind) (old new : BookState K W B) where
+  pub IsAtRest-halted : IsAtRest old → IsClaimed held kind_of job.Stopped old new → IsAtRest new
+  IsAtRest-halted rest (inl stopped, places) = IsAtRest-stopped held old new rest stopped.status stopped.table places
+  IsAtRest-halted rest (inr untold, places) =
+      let step = claimed_step held untold.made old.table new.table untold.claimed in record {
+        replay = Replay-step held step.0 old.table new.table rest.replay step.1;
+        no_run = λ going. absurd (no_longer new.status untold.status going);
+        idle = rw places rest.idle;
+        not_retired = rw places rest.not_retired;
+      }
+
+  -- the event of a claim comes in its turn, told or not
+  GoesInOrder-claimed : (lines : List Command) (claimed : Claim) → IsAtRest old → table.IsClaimed held (Some claimed) old.table new.table
+      → old.status ≡ None → GoesInOrder lines old → GoesInOrder lines new
+  GoesInOrder-claimed lines (claim.Run ticket) rest (step, stands) going =
+      let frame = frame-start old.table.state ticket.task.run ticket.seq ticket.instance ticket.task.input step.legal in
+      GoesInOrder-step held lines (event.Start ticket.task.run ticket.seq ticket.instance ticket.task.input) old new rest.replay step going
+      (rest.no_run going) (rw (step.state, ap (λ (f : Frame). f.runs) frame, rest.no_run going) (omega arith))
+  GoesInOrder-claimed lines (claim.Failed seq cause) rest step going =
+      let none : new.table.state.runs ≡ [] = ap (λ (t : State). t.runs) step.state ∙ rest.no_run going in
+      GoesInOrder-step held lines (event.StartFailed seq cause) old new rest.replay step going (rest.no_run going) (rw none (omega arith))
+
+  pub GoesInOrder-halted : (lines : List Command) → IsAtRest old → IsClaimed held kind_of job.Stopped old new → GoesInOrder lines old → GoesInOrder lines new
+  GoesInOrder-halted lines rest (inl stopped, places) = GoesInOrder-stopped held lines old new stopped.table stopped.status
+  GoesInOrder-halted lines rest (inr untold, places) = GoesInOrder-claimed lines untold.made rest untold.claimed untold.before
+
+  pub left-halted : IsClaimed held kind_of job.Stopped old new → new.left ≡ old.left
+  left-halted (inl stopped, places) = stopped.left
+  left-halted (inr untold, places) = untold.left
+
+  pub status-halted : IsClaimed held kind_of job.Stopped old new → IsSome new.status
+  status-halted (inl stopped, places) = stopped.status
+  status-halted (inr untold, places) = untold.status
 
 -- ---- a run under way
 
@@ -221,7 +272,7 @@ module _ {K W B : Type 0} {held : K → Option (List Row)} {diary_of : B → Opt
         };
         left = last.left;
         no_more = last.no_more;
-        order = λ lines. GoesInOrder-step held lines finish old new under_way.replay last.step last.goes_on tt (rw none (omega arith));
+        order = λ lines. GoesInOrder-step held lines finish old new under_way.replay last.step last.before tt (rw none (omega arith));
         diaries = λ diaries. KeepDiaries-last diaries under_way last;
       }
 

@@ -10,9 +10,13 @@ use Rattle.wm_machine.specs.declared.command.Command.{Command}
 use Rattle.wm_machine.specs.declared.event.Cause.{Cause}
 use Rattle.wm_machine.specs.declared.event.Event.TheVariants as event
 use Rattle.wm_machine.specs.declared.reply.Reply.{Reply}
+use Rattle.wm_machine.specs.declared.state.State.{State}
 use Rattle.wm_session.specs.BookState.{BookState}
-use Rattle.wm_table.specs.Table.{IsOneStep, IsUntouched, IsTicketIn, CountsIn, IsFinished}
+use Rattle.wm_table.specs.Table as table
+use Rattle.wm_table.specs.Table.{IsOneStep, IsUntouched, IsTicketIn, CountsIn, IsFinished, Stands}
 use Rattle.wm_table.specs.TableState.{TicketState}
+use Rattle.wm_table.specs.declared.table.Claim.{Claim}
+use Rattle.wm_table.specs.declared.table.Claim.TheVariants as claim
 use Rattle.wm_session.specs.declared.book.After.{After}
 use Rattle.wm_session.specs.declared.book.After.TheVariants as after
 use Rattle.wm_session.specs.declared.book.Front.{Front}
@@ -78,18 +82,32 @@ pub record IsStartFailed {K W B : Type 0} (held : K → Option (List Row)) (old 
   pub left : new.left ≡ old.left
   pub fewer : left_to_drain new.table.state < left_to_drain old.table.state
 
--- the session has stopped early; nothing else is different
+-- the session has stopped early, or had before; nothing else is different
 pub record HasStopped {K W B : Type 0} (held : K → Option (List Row)) (old new : BookState K W B) : Type 0 where
   pub status : IsSome new.status
   pub stays : IsSome old.status → StaysStopped old new
   pub table : IsUntouched held old.table new.table
   pub left : new.left ≡ old.left
 
+-- the ticket of a claim stands in the state, where it has one
+abbrev pub IsClaimIn : State → Claim → Type 0
+IsClaimIn s (claim.Run ticket) = Stands s ticket
+IsClaimIn s (claim.Failed seq cause) = Unit {0}
+
+-- a work was started, or couldn't start, and the session stopped while that was told: a run that began stays in the state, without a
+-- ticket, and its worker stays on the bench
+pub record IsClaimUntold {K W B : Type 0} (held : K → Option (List Row)) (old new : BookState K W B) : Type 0 where
+  pub made : Claim
+  pub before : old.status ≡ None
+  pub status : IsSome new.status
+  pub claimed : table.IsClaimed held (Some made) old.table new.table
+  pub left : new.left ≡ old.left
+
 abbrev pub IsClaimed : {K W B : Type 0} → (K → Option (List Row)) → (B → Kind) → Job B → BookState K W B → BookState K W B → Type 0
 IsClaimed held kind_of (job.Run ticket seat signal) old new = IsBegun held kind_of ticket seat signal old new
 IsClaimed held kind_of job.Failed old new = IsStartFailed held old new
 IsClaimed held kind_of job.None old new = (old.status ≡ None) × (first_of old.table.state ≡ None) × (new ≡ old)
-IsClaimed held kind_of job.Stopped old new = HasStopped held old new × (new.places ≡ old.places)
+IsClaimed held kind_of job.Stopped old new = (HasStopped held old new ⊎ IsClaimUntold held old new) × (new.places ≡ old.places)
 
 -- ---- a report
 
@@ -103,13 +121,24 @@ pub record IsOver {K W B : Type 0} (held : K → Option (List Row)) (ticket : Ti
   pub left : new.left ≡ old.left
   pub no_more : left_to_drain new.table.state ≤ left_to_drain old.table.state
 
+-- a run is over, and the session stopped while that was told
+pub record IsEndUntold {K W B : Type 0} (held : K → Option (List Row)) (ticket : TicketState) (told : Report) (old new : BookState K W B) : Type 0 where
+  pub before : old.status ≡ None
+  pub status : IsSome new.status
+  pub counts : CountsIn old.table.state ticket.task.run told
+  pub finished : IsFinished held ticket.task.run told old.table new.table
+  pub left : new.left ≡ old.left
+  pub no_more : left_to_drain new.table.state ≤ left_to_drain old.table.state
+
 -- Over where what was told counts, with its event; Again where it doesn't, and nothing changes; Stopped where the session has stopped
--- early, and the worker is at its place again
+-- early, with or without that event, and the worker is at its place again
 abbrev pub IsReported : {K W B : Type 0} → (K → Option (List Row)) → TicketState → Seat B → Result Report AllocError → After B → BookState K W B
     → BookState K W B → Type 0
 IsReported held ticket seat (Ok told) after.Over old new = IsOver held ticket seat told old new
 IsReported held ticket seat (Ok told) (after.Again same kept) old new =
     (old.status ≡ None) × (CountsIn old.table.state ticket.task.run told → ⊥) × (same ≡ ticket) × (kept ≡ seat) × (new ≡ old)
-IsReported held ticket seat told after.Stopped old new =
+IsReported held ticket seat (Ok told) after.Stopped old new =
+    (HasStopped held old new ⊎ IsEndUntold held ticket told old new) × (new.places ≡ changed_at (made_idle seat.worker) seat.number old.places)
+IsReported held ticket seat (Err refused) after.Stopped old new =
     HasStopped held old new × (new.places ≡ changed_at (made_idle seat.worker) seat.number old.places)
 IsReported held ticket seat (Err refused) _ old new = ⊥

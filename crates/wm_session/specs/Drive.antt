@@ -51,12 +51,12 @@ abbrev pub HasWritten : {B : Type 0} → (B → Option (List Entry)) → TicketS
 HasWritten diary_of ticket worker now told =
     IfOk told (λ answered. diary_of now ≡ diary_with (turn_entries ticket.task.run ticket.k answered.answer) (diary_of worker))
 
--- the run is over, and its worker, which has written down what it gave, is at its place again
+-- the run is over, told or not, and its worker, which has written down what it gave, is at its place again
 pub record IsLastTurn {K W B : Type 0} (held : K → Option (List Row)) (diary_of : B → Option (List Entry)) (ticket : TicketState) (worker : B)
     (old new : BookState K W B) : Type 0 where
   pub end : End
   pub back : B
-  pub goes_on : GoesOn old new
+  pub before : old.status ≡ None
   pub step : IsOneStep held (event.Finish ticket.task.run end) old.table new.table
   pub diary : diary_of back ≡ diary_with (Gave ticket.task.run ticket.k (given_by end) ∷ []) (diary_of worker)
   pub places : new.places ≡ changed_at (made_idle back) ticket.instance old.places

@@ -6,9 +6,11 @@ use Rattle.wm_machine.specs.Log.{commands_of, AreNumberedFrom, BeginsWith}
 use Rattle.wm_machine.specs.Narrow.{IsNarrow}
 use Rattle.wm_machine.specs.Replay.{Replay}
 use Rattle.wm_machine.specs.Rows.{rows_of}
-use Rattle.wm_script.specs.Texts.{log_text}
+use Rattle.wm_script.specs.Texts.{event_text, log_text}
 use Rattle.wm_machine.specs.Valid.{Valid}
 use Rattle.wm_machine.specs.declared.command.Command.{Command}
+use Rattle.wm_machine.specs.declared.event.Event.{Event}
+use Rattle.wm_machine.specs.declared.state.State.{State}
 use Rattle.wm_session.specs.Bench.{instance_traits, is_away, place_traits}
 use Rattle.wm_session.specs.BookState.{BookState}
 use Rattle.wm_session.specs.Causes.{StopCause}
@@ -16,6 +18,8 @@ use Rattle.wm_session.specs.Given.{Given}
 use Rattle.wm_session.specs.Tells.{Tells}
 use Rattle.wm_session.specs.Writing.{IsGiven}
 use Rattle.wm_session.specs.declared.book.Stop.{Stop}
+use Rattle.wm_table.specs.Table.{last_of}
+use Rattle.wm_table.specs.TableState.{TableState}
 
 -- while a session goes on, the lines are those that were executed and those that are left; after it has stopped early, those that were
 -- executed are a front of them
@@ -33,6 +37,12 @@ pub record AreTextsKept (status : Option Stop) (before now : Option (List ℕ)) 
   pub written : List ℕ
   pub given : IsGiven before now written
   pub kept : AreBytesKept status text written pending
+
+-- the text of a table's last event, in whichever state it came, is put behind what is pending, and what is pending is written as far as
+-- the sink takes it
+abbrev pub IsLastTold : {K : Type 0} → Option Stop → TableState K → Option (List ℕ) → Option (List ℕ) → List ℕ → List ℕ → Type 0
+IsLastTold status table before now pending left =
+    (s : State) (e : Event) → last_of table.log ≡ Some e → AreTextsKept status before now (pending ++ event_text s e table.state) left
 
 -- while a session goes on, the workers that are away are those of the instances that are out
 abbrev pub AreAwayKept : {K W B : Type 0} → Option Stop → BookState K W B → Type 0

@@ -18,7 +18,7 @@ ghost use Rattle.wm_table.specs.Table.{IsTicketIn, Stands};
 use crate::ended::EndedOf;
 use crate::mark::Mark;
 use crate::status::Status;
-use crate::steps::{execute, give_back, status_after, tell_last, write_pending};
+use crate::steps::{execute, give_back, give_up, status_after, tell_last, write_pending};
 use crate::writing::WriteFault;
 use std::alloc::{AllocError, Global};
 use std::collections::VecDeque;
@@ -224,16 +224,23 @@ impl<K: Keeper, W: Sink, B: Worker, M: Mark> BookOf<K, W, B, M> {
         }
     }
 
-    /// Starts the work that is first, and takes the worker of its instance from the bench.
+    /// Starts the work that is first, tells it, and takes the worker of its instance from the bench.
     pub fn claim(&mut self) -> Job<B>
         ensures { IsClaimed K.held B.kind_of result self.old self.new }
     {
         if self.status.is_some() {
             return Job::Stopped;
         }
-        match self.table.claim() {
-            Ok(None) => Job::None,
-            Ok(Some(claim)) => match claim {
+        let claim = match self.table.claim() {
+            Ok(Some(claim)) => claim,
+            Ok(None) => return Job::None,
+            Err(trouble) => {
+                self.status = Some(Stop::from(trouble));
+                return Job::Stopped;
+            }
+        };
+        match tell_last(self.alloc, &self.table, &mut self.pending, &mut self.sink) {
+            Ok(()) => match claim {
                 Claim::Run(ticket) => {
                     let Some(seat) = self.bench.take(ticket.instance()) else {
                         unreachable!();
@@ -246,15 +253,16 @@ impl<K: Keeper, W: Sink, B: Worker, M: Mark> BookOf<K, W, B, M> {
                     Job::Failed
                 }
             },
-            Err(trouble) => {
-                self.status = Some(Stop::from(trouble));
+            Err(fault) => {
+                self.status = Some(Stop::from(fault));
+                give_up(&mut self.table, claim);
                 Job::Stopped
             }
         }
     }
 
-    /// Ends the turn of a run as its worker told, and puts the worker back where the run is over.
-    /// Where memory was refused to the worker, the session ends.
+    /// Ends the turn of a run as its worker told, tells that, and puts the worker back where the run
+    /// is over. Where memory was refused to the worker, the session ends.
     pub fn report(
         &mut self,
         ticket: Ticket,
@@ -280,7 +288,13 @@ impl<K: Keeper, W: Sink, B: Worker, M: Mark> BookOf<K, W, B, M> {
         match self.table.turn(ticket, told) {
             TurnAnswer::Finished => {
                 self.bench.give(seat);
-                After::Over
+                match tell_last(self.alloc, &self.table, &mut self.pending, &mut self.sink) {
+                    Ok(()) => After::Over,
+                    Err(fault) => {
+                        self.status = Some(Stop::from(fault));
+                        After::Stopped
+                    }
+                }
             }
             TurnAnswer::Again(ticket) => After::Again(ticket, seat),
             TurnAnswer::Refused(ticket, told, trouble) => {

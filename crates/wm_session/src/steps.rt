@@ -2,14 +2,13 @@
 //! worker back.
 ghost use Rattle.std.specs.Prelude.{◌≡◌, ◌++◌, [], None, Some, IsNone, IfErr, IfSome, OnOk, OnErr};
 ghost use Rattle.wm_bench.specs.Places.{changed_at, made_idle, IsAwayAt};
-ghost use Rattle.wm_machine.specs.Built.{HasText, IsBuilt, IsWritten};
-ghost use Rattle.wm_script.specs.Texts.{event_text};
-ghost use Rattle.wm_machine.specs.declared.event.Event.{Event};
+ghost use Rattle.wm_machine.specs.Built.{EventTellsNoData, IsBuilt, ReplyTellsNoData};
+ghost use Rattle.wm_script.specs.Texts.{text_of};
 ghost use Rattle.wm_machine.specs.declared.event.Event.TheVariants as event;
 ghost use Rattle.wm_machine.specs.declared.reply.Reply.{Reply};
-ghost use Rattle.wm_machine.specs.declared.state.State.{State};
+ghost use Rattle.wm_session.specs.Book.{IsClaimIn};
 ghost use Rattle.wm_session.specs.Causes.{status_by_stop, stop_by_fault};
-ghost use Rattle.wm_session.specs.Kept.{AreTextsKept};
+ghost use Rattle.wm_session.specs.Kept.{AreTextsKept, IsLastTold};
 ghost use Rattle.wm_table.specs.Table.{last_of, IsOneStep, IsUntouched, Stands, TroubleCause};
 ghost use Rattle.wm_session.specs.Writing.{WriteCause};
 
@@ -22,14 +21,14 @@ use wm_io::Sink;
 use wm_keeper::Keeper;
 use wm_machine::{Command, Event};
 use wm_script::event_text;
-use wm_table::{Table, Ticket, Trouble};
+use wm_table::{Claim, Table, Ticket, Trouble};
 use wm_worker::Worker;
 
 /// Executes the command of a line. Its reply stands in the table's last event.
 pub fn execute<K: Keeper>(table: &mut Table<K>, line: u32, command: Command) -> Result<(), Trouble>
     requires built { IsBuilt command }
     requires no_run { table.old.state.runs ≡ [] }
-    ensures ok { OnOk result ((reply : Reply) × IsWritten reply
+    ensures ok { OnOk result ((reply : Reply) × ReplyTellsNoData reply
         × IsOneStep K.held (event.Command line command reply) table.old table.new) }
     ensures err { OnErr result (IsUntouched K.held table.old table.new) }
     ensures cause { TroubleCause result (K.faults table.old.keeper) (K.faults table.new.keeper) }
@@ -59,6 +58,17 @@ pub fn give_back<K: Keeper, B: Worker>(
     bench.give(seat);
 }
 
+/// Gives up a claim: a ticket of it is taken without an event.
+pub fn give_up<K: Keeper>(table: &mut Table<K>, claim: Claim)
+    requires { IsClaimIn table.old.state claim }
+    ensures { table.new ≡ table.old }
+{
+    match claim {
+        Claim::Run(ticket) => table.take_back(ticket),
+        Claim::Failed { seq: _, cause } => drop(cause),
+    }
+}
+
 /// Puts the text of the table's last event behind what is pending, and writes what is pending.
 pub fn tell_last<K: Keeper, W: Sink>(
     alloc: Global,
@@ -66,15 +76,15 @@ pub fn tell_last<K: Keeper, W: Sink>(
     pending: &mut Vec<u8>,
     sink: &mut W,
 ) -> Result<(), WriteFault>
-    requires { IfSome (last_of table.now.log) HasText }
-    ensures ok { OnOk result ((s : State) (e : Event) → last_of table.now.log ≡ Some e
-        → AreTextsKept None (W.given sink.old) (W.given sink.new) (pending.old.items ++ event_text s e) pending.new.items) }
-    ensures err { IfErr result (λ fault. (s : State) (e : Event) → last_of table.now.log ≡ Some e
-        → AreTextsKept (Some (stop_by_fault fault)) (W.given sink.old) (W.given sink.new) (pending.old.items ++ event_text s e) pending.new.items) }
+    requires { IfSome (last_of table.now.log) EventTellsNoData }
+    ensures ok { OnOk result (IsLastTold None table.now (W.given sink.old) (W.given sink.new)
+        pending.old.items pending.new.items) }
+    ensures err { IfErr result (λ fault. IsLastTold (Some (stop_by_fault fault)) table.now
+        (W.given sink.old) (W.given sink.new) pending.old.items pending.new.items) }
     ensures cause { WriteCause result (W.faults sink.old) (W.faults sink.new) }
 {
     match table.last_event() {
-        Some(event) => tell(alloc, event, pending, sink),
+        Some(event) => tell(alloc, event, table.hushed(), pending, sink),
         None => Ok(()),
     }
 }
@@ -83,18 +93,19 @@ pub fn tell_last<K: Keeper, W: Sink>(
 fn tell<W: Sink>(
     alloc: Global,
     event: &Event,
+    hushed: bool,
     pending: &mut Vec<u8>,
     sink: &mut W,
 ) -> Result<(), WriteFault>
-    requires { HasText event.now }
-    ensures ok { OnOk result ((s : State) → AreTextsKept None (W.given sink.old) (W.given sink.new)
-        (pending.old.items ++ event_text s event.now) pending.new.items) }
-    ensures err { IfErr result (λ fault. (s : State) → AreTextsKept (Some (stop_by_fault fault))
+    requires { EventTellsNoData event.now }
+    ensures ok { OnOk result (AreTextsKept None (W.given sink.old) (W.given sink.new)
+        (pending.old.items ++ text_of event.now hushed) pending.new.items) }
+    ensures err { IfErr result (λ fault. AreTextsKept (Some (stop_by_fault fault))
         (W.given sink.old) (W.given sink.new)
-        (pending.old.items ++ event_text s event.now) pending.new.items) }
+        (pending.old.items ++ text_of event.now hushed) pending.new.items) }
     ensures cause { WriteCause result (W.faults sink.old) (W.faults sink.new) }
 {
-    let Ok(text) = event_text(alloc, event) else {
+    let Ok(text) = event_text(alloc, event, hushed) else {
         return Err(WriteFault::Memory);
     };
     if pending.extend_from_slice(&text).is_err() {

@@ -1,7 +1,7 @@
 //! The table: the state, the log of the events that led to it, and the keeper of its rows.
 ghost use Rattle.std.specs.Prelude.{◌≡◌, ◌≢◌, ◌↔◌, ◌<◌, [], length, slice_get, None, Some, Err, IsSomeAnd, IsTrue, IfOk, IfErr, IfSome, OnOk, OnErr};
 ghost use Rattle.std.specs.Option.{option_copied};
-ghost use Rattle.wm_machine.specs.Built.{IsBuilt, IsPlain, IsWritten, NamesNothing};
+ghost use Rattle.wm_machine.specs.Built.{IsBuilt, IsPlain, NamesNothing, ReplyTellsNoData};
 ghost use Rattle.wm_machine.specs.Enqueued.{refusal_of};
 ghost use Rattle.wm_machine.specs.First.{first_of, idle_instance};
 ghost use Rattle.wm_machine.specs.Narrow.{IsNarrow};
@@ -184,7 +184,7 @@ impl<K: Keeper> Table<K> {
         requires no_run { self.old.state.runs ≡ [] }
         ensures ok { IfOk result (λ reply.
             IsOneStep K.held (event.Command line command reply) self.old self.new) }
-        ensures text { IfOk result IsWritten }
+        ensures text { IfOk result ReplyTellsNoData }
         ensures err { OnErr result (IsUntouched K.held self.old self.new) }
         ensures cause { TroubleCause result (K.faults self.old.keeper) (K.faults self.new.keeper) }
         ensures untouched_keeper { ChangesNoRow self.old.state command
@@ -308,7 +308,7 @@ impl<K: Keeper> Table<K> {
         requires { NamesNothing query }
         ensures ok { IfOk result (λ reply.
             IsOneStep K.held (event.Command line (Command.Query query) reply) self.old self.new) }
-        ensures text { IfOk result IsWritten }
+        ensures text { IfOk result ReplyTellsNoData }
         ensures err { OnErr result (IsUntouched K.held self.old self.new) }
         ensures cause { TroubleCause result (K.faults self.old.keeper) (K.faults self.new.keeper) }
         ensures untouched_keeper { self.new.keeper ≡ self.old.keeper }
@@ -321,7 +321,7 @@ impl<K: Keeper> Table<K> {
     fn refuse_line(&mut self, line: u32, fault: LineFault) -> Result<Reply, Trouble>
         ensures ok { IfOk result (λ reply.
             IsOneStep K.held (event.Command line (Command.Faulty fault) reply) self.old self.new) }
-        ensures text { IfOk result IsWritten }
+        ensures text { IfOk result ReplyTellsNoData }
         ensures err { OnErr result (IsUntouched K.held self.old self.new) }
         ensures cause { TroubleCause result (K.faults self.old.keeper) (K.faults self.new.keeper) }
         ensures untouched_keeper { self.new.keeper ≡ self.old.keeper }
@@ -337,7 +337,7 @@ impl<K: Keeper> Table<K> {
         ensures ok { IfOk result (λ reply.
             IsOneStep K.held (event.Command line (Command.Enqueue None batch) reply) self.old
             self.new) }
-        ensures text { IfOk result IsWritten }
+        ensures text { IfOk result ReplyTellsNoData }
         ensures err { OnErr result (IsUntouched K.held self.old self.new) }
         ensures cause { TroubleCause result (K.faults self.old.keeper) (K.faults self.new.keeper) }
         ensures untouched_keeper { IfSome (refusal_of self.old.state None batch.works)
@@ -378,7 +378,7 @@ impl<K: Keeper> Table<K> {
     fn place(&mut self, line: u32, batch: Batch) -> Result<Reply, Trouble>
         requires plain { IsPlain batch.works }
         requires accepted { refusal_of self.old.state None batch.works ≡ None }
-        ensures reply { IfOk result IsWritten }
+        ensures reply { IfOk result ReplyTellsNoData }
         ensures ok { IfOk result (λ reply.
             IsOneStep K.held (event.Command line (Command.Enqueue None batch) reply) self.old
             self.new) }

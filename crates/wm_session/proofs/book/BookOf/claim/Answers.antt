@@ -1,7 +1,30 @@
-use Rattle.std.proofs.Common.{Some, ap, ◌∙◌, rules}
-use Rattle.wm_session.proofs.BookParts.{claimed_failed, claimed_run}
-use Rattle.wm_session.proofs.Books.{claimed_idle, IsBookKept-begun, IsBookKept-start_failed, IsBegun-taken, IsStartFailed-kept}
+use Rattle.std.proofs.Common.{Some, refl, sym, ◌∙◌, ap, subst, inr, rules}
+use Rattle.wm_machine.specs.declared.event.Event.TheVariants as event
+use Rattle.wm_session.proofs.BookParts.{claimed_failed, claimed_in, claimed_run, claimed_tells, IsUntold-claimed}
+use Rattle.wm_session.proofs.Books.{claimed_idle, IsBookKept-begun, IsBookKept-start_failed, IsBookKept-untold, IsBegun-taken, IsStartFailed-kept, IsTold-all, IsTold-cut}
 use Rattle.wm_session.proofs.book.BookOf.claim.Goals as goal
+
+pub tell_last-requires : goal.tell_last-requires
+tell_last-requires g c =
+    let done = rw c.in-Ok-Some.field-0-is at c.in-Ok-Some.ensures.ok in
+    claimed_tells g.K.Keeper.held c.in-Ok-Some.claim c.self.inside.table c.claim.new.self done
+
+pub give_up-requires : goal.give_up-requires
+give_up-requires g c =
+    let done = rw c.in-Ok-Some.field-0-is at c.in-Ok-Some.ensures.ok in
+    claimed_in g.K.Keeper.held c.in-Ok-Some.claim c.self.inside.table c.claim.new.self done
+
+pub invariant_of-self-in-Err-tell_last : goal.invariant_of-self-in-Err-tell_last
+invariant_of-self-in-Err-tell_last g c =
+    let done = rw c.in-Ok-Some.field-0-is at c.in-Ok-Some.ensures.ok in
+    let told = c.tell_last.new in
+    let refused = c.in-Err-tell_last in
+    let stop = c.from-in-Err-tell_last in
+    IsBookKept-untold c.in-Ok-Some.claim c.claim.new.self c.give_up.new.table told.pending.items told.sink stop.result c.self.invariant
+    (search rules) done c.give_up.ensures
+    (λ e step. IsTold-cut e c.claim.new.self told.pending.items told.sink refused.fault stop.result c.self.invariant step
+    refused.ensures.err refused.ensures.cause stop.ensures)
+    c.in-Ok-Some.ensures.cause
 
 pub unreachable-requires : goal.unreachable-requires
 unreachable-requires g c =
@@ -15,32 +38,56 @@ unreachable-requires g c =
 pub invariant_of-self-in-Run : goal.invariant_of-self-in-Run
 invariant_of-self-in-Run g c =
     let ticket = c.in-Run.ticket in
+    let told = c.tell_last.new in
+    let e = event.Start ticket.task.run ticket.seq ticket.instance ticket.task.input in
     let run =
     claimed_run g.K.Keeper.held c.in-Ok-Some.field-0 ticket c.self.inside.table c.claim.new.self
     (c.in-Ok-Some.field-0-is ∙ ap Some c.in-Run.is) c.in-Ok-Some.ensures.ok in
-    IsBookKept-begun c.claim.new.self c.take.new.self ticket.task.run ticket.seq ticket.instance c.instance.result ticket.task.input c.self.invariant
-    (search rules) run.0 c.instance.ensures c.in-Some.ensures.taken c.in-Ok-Some.ensures.cause
+    IsBookKept-begun c.claim.new.self c.take.new.self told.pending.items told.sink ticket.task.run ticket.seq ticket.instance c.instance.result
+    ticket.task.input c.self.invariant (search rules) run.0 c.instance.ensures c.in-Some.ensures.taken
+    (IsTold-all e c.claim.new.self told.pending.items told.sink c.self.invariant (search rules) run.0
+    c.in-Ok.ensures.ok c.in-Ok.ensures.cause)
+    c.in-Ok-Some.ensures.cause
 
 pub invariant_of-self-in-Failed : goal.invariant_of-self-in-Failed
 invariant_of-self-in-Failed g c =
+    let failed = c.in-Failed in
+    let told = c.tell_last.new in
     let step =
-    claimed_failed g.K.Keeper.held c.in-Ok-Some.field-0 c.in-Failed.seq c.in-Failed.cause c.self.inside.table c.claim.new.self
-    (c.in-Ok-Some.field-0-is ∙ ap Some c.in-Failed.is) c.in-Ok-Some.ensures.ok in
-    IsBookKept-start_failed c.claim.new.self c.in-Failed.seq c.in-Failed.cause c.self.invariant (search rules) step c.in-Ok-Some.ensures.cause
+    claimed_failed g.K.Keeper.held c.in-Ok-Some.field-0 failed.seq failed.cause c.self.inside.table c.claim.new.self
+    (c.in-Ok-Some.field-0-is ∙ ap Some failed.is) c.in-Ok-Some.ensures.ok in
+    IsBookKept-start_failed c.claim.new.self told.pending.items told.sink failed.seq failed.cause c.self.invariant (search rules) step
+    (IsTold-all (event.StartFailed failed.seq failed.cause) c.claim.new.self told.pending.items told.sink c.self.invariant (search rules) step
+    c.in-Ok.ensures.ok c.in-Ok.ensures.cause)
+    c.in-Ok-Some.ensures.cause
+
+pub returns-in-Err-tell_last : goal.returns-in-Err-tell_last
+returns-in-Err-tell_last g c =
+    let done = rw c.in-Ok-Some.field-0-is at c.in-Ok-Some.ensures.ok in
+    let told = c.tell_last.new in
+    rw (← c.self.view_is) (
+      IsUntold-claimed g.K.Keeper.held c.in-Ok-Some.claim _ c.claim.new.self c.give_up.new.table told.pending.items told.sink
+          c.from-in-Err-tell_last.result (search rules) done c.give_up.ensures,
+      refl,
+    )
 
 pub returns-in-Some : goal.returns-in-Some
 returns-in-Some g c =
     let ticket = c.in-Run.ticket in
+    let told = c.tell_last.new in
     let run =
     claimed_run g.K.Keeper.held c.in-Ok-Some.field-0 ticket c.self.inside.table c.claim.new.self
     (c.in-Ok-Some.field-0-is ∙ ap Some c.in-Run.is) c.in-Ok-Some.ensures.ok in
     rw (← c.self.view_is)
-    (IsBegun-taken c.claim.new.self c.take.new.self ticket c.instance.result c.in-Some.seat c.never-signal.result c.self.invariant
-    (search rules) run.0 run.1 c.instance.ensures c.in-Some.ensures.seat c.in-Some.ensures.taken (cc))
+    (IsBegun-taken c.claim.new.self c.take.new.self told.pending.items told.sink ticket c.instance.result c.in-Some.seat c.never-signal.result
+    c.self.invariant (search rules) run.0 run.1 c.instance.ensures c.in-Some.ensures.seat c.in-Some.ensures.taken (cc))
 
 pub returns-in-Failed : goal.returns-in-Failed
 returns-in-Failed g c =
+    let failed = c.in-Failed in
+    let told = c.tell_last.new in
     let step =
-    claimed_failed g.K.Keeper.held c.in-Ok-Some.field-0 c.in-Failed.seq c.in-Failed.cause c.self.inside.table c.claim.new.self
-    (c.in-Ok-Some.field-0-is ∙ ap Some c.in-Failed.is) c.in-Ok-Some.ensures.ok in
-    rw (← c.self.view_is) (IsStartFailed-kept c.claim.new.self c.in-Failed.seq c.in-Failed.cause c.self.invariant (search rules) step)
+    claimed_failed g.K.Keeper.held c.in-Ok-Some.field-0 failed.seq failed.cause c.self.inside.table c.claim.new.self
+    (c.in-Ok-Some.field-0-is ∙ ap Some failed.is) c.in-Ok-Some.ensures.ok in
+    rw (← c.self.view_is)
+    (IsStartFailed-kept c.claim.new.self told.pending.items told.sink failed.seq failed.cause c.self.invariant (search rules) step)

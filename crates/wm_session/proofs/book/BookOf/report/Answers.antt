@@ -1,7 +1,12 @@
-use Rattle.std.proofs.Common.{subst, sym, rules}
+use Rattle.std.proofs.Common.{Some, inr, subst, sym, rules}
 use Rattle.wm_bench.specs.Places.{IsAwayAt}
 use Rattle.wm_session.proofs.Benches.{traits-back}
-use Rattle.wm_session.proofs.Books.{IsBookKept-memory, IsBookKept-over, IsBookKept-placed, IsBookKept-refused, IsOver-finished}
+use Rattle.std.specs.Option.{IfSome}
+use Rattle.wm_machine.specs.Built.{EventTellsNoData}
+use Rattle.wm_machine.specs.declared.event.End.TheVariants.{Success}
+use Rattle.wm_machine.specs.declared.event.Event.TheVariants as event
+use Rattle.wm_session.proofs.BookParts.{last_of-step}
+use Rattle.wm_session.proofs.Books.{IsBookKept-memory, IsBookKept-over, IsBookKept-placed, IsBookKept-refused, IsEndUntold-finished, IsOver-finished, IsTold-all, IsTold-cut}
 use Rattle.wm_table.specs.Table.{Stands}
 use Rattle.wm_session.proofs.book.BookOf.report.Goals as goal
 
@@ -20,14 +25,42 @@ invariant_of-self-in_default g c =
     IsBookKept-memory back.new.table back.new.bench c.self.invariant back.ensures.table
     (traits-back g.B.Worker.kind_of seat.worker seat.number c.self.inside.bench back.new.bench away back.ensures.places)
 
-pub invariant_of-self-in-Finished : goal.invariant_of-self-in-Finished
-invariant_of-self-in-Finished g c =
-    let seat = c.args.seat in
+pub tell_last-requires : goal.tell_last-requires
+tell_last-requires g c =
     let finished = c.in-Finished.ensures.answer.1 in
+    let e = event.Finish c.args.ticket.task.run (Success finished.output) in
+    let last = last_of-step g.K.Keeper.held e c.self.inside.table c.turn.new.self finished.step in
+    subst (λ event. IfSome event EventTellsNoData) (sym last) tt
+
+pub invariant_of-self-in-Ok-tell_last : goal.invariant_of-self-in-Ok-tell_last
+invariant_of-self-in-Ok-tell_last g c =
+    let seat = c.args.seat in
+    let told = c.tell_last.new in
+    let finished = c.in-Finished.ensures.answer.1 in
+    let e = event.Finish c.args.ticket.task.run (Success finished.output) in
     let stands = subst (λ book. Stands book.table.state c.args.ticket) (sym c.self.view_is) c.requires.stands in
     let away = subst (λ book. IsAwayAt seat.number (g.B.Worker.kind_of seat.worker) book.places) (sym c.self.view_is) c.requires.away in
-    IsBookKept-over c.turn.new.self c.give.new.self c.args.ticket seat.number finished.output seat.worker c.self.invariant
-    (search rules) finished.step stands c.requires.number away c.give.ensures c.in-Finished.ensures.cause
+    IsBookKept-over c.turn.new.self c.give.new.self told.pending.items told.sink c.self.inside.status c.args.ticket seat.number finished.output
+    seat.worker c.self.invariant (search rules) finished.step stands c.requires.number away c.give.ensures
+    (IsTold-all e c.turn.new.self told.pending.items told.sink c.self.invariant (search rules) finished.step c.in-Ok-tell_last.ensures.ok
+    c.in-Ok-tell_last.ensures.cause)
+    c.in-Finished.ensures.cause
+
+pub invariant_of-self-in-Err : goal.invariant_of-self-in-Err
+invariant_of-self-in-Err g c =
+    let seat = c.args.seat in
+    let told = c.tell_last.new in
+    let refused = c.in-Err in
+    let stop = c.from in
+    let finished = c.in-Finished.ensures.answer.1 in
+    let e = event.Finish c.args.ticket.task.run (Success finished.output) in
+    let stands = subst (λ book. Stands book.table.state c.args.ticket) (sym c.self.view_is) c.requires.stands in
+    let away = subst (λ book. IsAwayAt seat.number (g.B.Worker.kind_of seat.worker) book.places) (sym c.self.view_is) c.requires.away in
+    IsBookKept-over c.turn.new.self c.give.new.self told.pending.items told.sink (Some stop.result) c.args.ticket seat.number finished.output
+    seat.worker c.self.invariant (search rules) finished.step stands c.requires.number away c.give.ensures
+    (IsTold-cut e c.turn.new.self told.pending.items told.sink refused.fault stop.result c.self.invariant finished.step refused.ensures.err
+    refused.ensures.cause stop.ensures)
+    c.in-Finished.ensures.cause
 
 pub invariant_of-self-in-Refused : goal.invariant_of-self-in-Refused
 invariant_of-self-in-Refused g c =
@@ -35,12 +68,24 @@ invariant_of-self-in-Refused g c =
     let refused = c.in-Refused in
     let away = subst (λ book. IsAwayAt seat.number (g.B.Worker.kind_of seat.worker) book.places) (sym c.self.view_is) c.requires.away in
     let back = c.give_back-in-Refused in
-    IsBookKept-refused c.turn.new.self back.new.table back.new.bench refused.ticket refused.told refused.trouble c.from.result c.self.invariant
-    refused.ensures.answer.3 back.ensures.table refused.ensures.cause c.from.ensures
+    IsBookKept-refused c.turn.new.self back.new.table back.new.bench refused.ticket refused.told refused.trouble c.from-in-Refused.result c.self.invariant
+    refused.ensures.answer.3 back.ensures.table refused.ensures.cause c.from-in-Refused.ensures
     (traits-back g.B.Worker.kind_of seat.worker seat.number c.self.inside.bench back.new.bench away back.ensures.places)
 
-pub returns-in-Finished : goal.returns-in-Finished
-returns-in-Finished g c =
+pub returns-in-Ok-tell_last : goal.returns-in-Ok-tell_last
+returns-in-Ok-tell_last g c =
+    let told = c.tell_last.new in
     let answer = c.in-Finished.ensures.answer in
     rw (c.in-Ok.is, ← c.self.view_is)
-    (IsOver-finished c.turn.new.self c.give.new.self c.args.ticket c.args.seat c.in-Ok.told c.self.invariant (search rules) answer.0 answer.1 c.give.ensures)
+    (IsOver-finished c.turn.new.self c.give.new.self told.pending.items told.sink c.args.ticket c.args.seat c.in-Ok.told c.self.invariant
+    (search rules) answer.0 answer.1 c.give.ensures)
+
+pub returns-in-Err : goal.returns-in-Err
+returns-in-Err g c =
+    let told = c.tell_last.new in
+    let answer = c.in-Finished.ensures.answer in
+    rw (c.in-Ok.is, ← c.self.view_is) (
+      inr (IsEndUntold-finished c.turn.new.self c.give.new.self told.pending.items told.sink c.from.result c.args.ticket c.in-Ok.told c.self.invariant
+          (search rules) answer.0 answer.1),
+      c.give.ensures,
+    )

@@ -2,7 +2,7 @@ use Rattle.std.proofs.Common.{◌≡◌, List, sym, ◌∙◌, ap, subst}
 use Rattle.std.specs.List.{AllByRecursion}
 use Rattle.std.proofs.lemmas.Result.{IfOk-weaker}
 use Rattle.wm_machine.proofs.Queries.{answer_to-all}
-use Rattle.wm_machine.specs.Built.{IsWritten, TellsNoData}
+use Rattle.wm_machine.specs.Built.{ReplyTellsNoData, TellsNoData}
 use Rattle.wm_machine.specs.Queried.{answer_to}
 use Rattle.wm_machine.specs.declared.reply.Reply.TheVariants as reply
 use Rattle.wm_machine.specs.declared.reply.WorkInfo.{WorkInfo}
@@ -23,4 +23,5 @@ returns-clause-text g c =
     let tell =
     subst (λ (infos : List WorkInfo). AllByRecursion TellsNoData infos) (sym c.in_ok-works.ensures)
     (infos-tell c.self.inside.state c.self.invariant.narrow) in
-    IfOk-weaker c.answer.result (λ answer. answer ≡ reply.Query works) IsWritten (λ answer is. subst IsWritten (sym is) tell) c.answer.ensures.reply
+    IfOk-weaker c.answer.result (λ answer. answer ≡ reply.Query works) ReplyTellsNoData (λ answer is. subst ReplyTellsNoData (sym is) tell)
+    c.answer.ensures.reply
