@@ -4,20 +4,17 @@ use Rattle.std.specs.List.{AllByRecursion}
 use Rattle.wm_machine.proofs.Serials.{BeginsSerial-goes-on}
 use Rattle.wm_machine.specs.Built.{IsBuilt}
 use Rattle.wm_machine.specs.Opened.{opening_state}
-use Rattle.wm_machine.specs.Serial.{AreInOrder, BeginsSerial}
+use Rattle.wm_machine.specs.Serial.{BeginsSerial}
 use Rattle.wm_machine.specs.declared.command.Command.{Command}
 use Rattle.wm_machine.specs.declared.event.Event.{Event}
 use Rattle.wm_machine.specs.declared.state.Instance.{Instance}
 use Rattle.wm_machine.specs.declared.state.State.{State}
 use Rattle.wm_table.proofs.TableSteps.{IsNarrow-opening, Valid-opening}
 use Rattle.wm_table.specs.Table.{AreFresh}
+use Rattle.wm_session.proofs.SerialLemmas.{AreInOrder-nothing}
 use Rattle.wm_session.specs.Ended.{IsSerialRun}
 use Rattle.wm_session.specs.declared.status.Status.{Status}
 use Rattle.wm_session.specs.declared.status.Status.TheVariants as status
-
-no_order : (lines : List Command) (first : State) → AreInOrder lines first []
-no_order [] first = tt
-no_order (asked ∷ lines) first = tt
 
 -- where a store without rows was opened, the empty log is a front of a serial log, over any commands that are built
 pub BeginsSerial-nothing : (lines : List Command) (instances : List Instance) (first : State) (log : List Event) → AllByRecursion IsBuilt lines
@@ -26,7 +23,7 @@ BeginsSerial-nothing lines instances first log built fresh opened none =
     let opening = opening_state [] instances in
     rw (none, opened)
     (BeginsSerial-goes-on lines lines opening opening [] built refl refl
-    (Valid-opening instances fresh) (IsNarrow-opening instances fresh) (omega arith) (no_order lines opening))
+    (Valid-opening instances fresh) (IsNarrow-opening instances fresh) (omega arith) (AreInOrder-nothing lines opening))
 
 -- a run that ended early
 pub IsSerialRun-early : (lines : List Command) (ended : Status) (first : State) (log : List Event) (last : State) → (ended ≡ status.Done → ⊥)

@@ -17,6 +17,7 @@ use Rattle.wm_machine.specs.Frame.{Frame}
 use Rattle.wm_machine.specs.Replay.{Replay}
 use Rattle.wm_machine.specs.declared.event.Event.{Event}
 use Rattle.wm_machine.specs.declared.event.Event.TheVariants as event
+use Rattle.wm_machine.specs.declared.state.Run.{Run}
 use Rattle.wm_machine.specs.declared.state.State.{State}
 use Rattle.wm_session.specs.Bench.{diary_in, place_diaries}
 use Rattle.wm_session.specs.Book.{GoesOn, IsBegun}
@@ -133,25 +134,19 @@ place_diaries-back diary_of back (suc number) (place ∷ places) =
 -- ---- what is kept
 
 -- a session that has stopped early doesn't go on
-pub no_longer : {T : Type 0} (status : Option T) → IsSome status → status ≡ None → ⊥
-no_longer status stopped going = false≢true (subst IsSome going stopped)
+pub no_longer : {T P : Type 0} (status : Option T) → IsSome status → status ≡ None → P
+no_longer status stopped going = absurd (false≢true (subst IsSome going stopped))
 
 -- an event of which no worker writes anything down
-pub KeepDiaries-same : {K W B : Type 0} (held : K → Option (List Row)) (diary_of : B → Option (List Entry)) (diaries : List (Option (List Entry))) (e : Event)
-    (old new : BookState K W B)
-    → IsAtRest old → GoesOn old new → IsOneStep held e old.table new.table → new.places ≡ old.places
+pub KeepDiaries-same : {K W B : Type 0} {held : K → Option (List Row)} {e : Event} {old new : BookState K W B} (diary_of : B → Option (List Entry))
+    (diaries : List (Option (List Entry))) → IsAtRest old → GoesOn old new → IsOneStep held e old.table new.table → new.places ≡ old.places
     → ((number : ℕ) → event_entries number old.table.state e ≡ []) → KeepDiaries diary_of diaries old → KeepDiaries diary_of diaries new
-KeepDiaries-same held diary_of diaries e old new rest goes step places none keep going =
-    let of_event : ℕ → List Entry = λ n. event_entries n old.table.state e in
+KeepDiaries-same {held = held} {e = e} {old = old} {new = new} diary_of diaries rest goes step places none keep going =
+    let before = diaries_after 0 old.table.first old.table.log diaries in
     rw places
     (keep goes.before
-    ∙ sym (diaries_with-nothing of_event 0 (diaries_after 0 old.table.first old.table.log diaries) (λ n above. none n))
+    ∙ sym (diaries_with-nothing (λ n. event_entries n old.table.state e) 0 before (λ n above. none n))
     ∙ sym (diaries_after-step held e old.table new.table diaries rest.replay step))
-
--- a session that has stopped early keeps none
-pub KeepDiaries-stopped : {K W B : Type 0} (diary_of : B → Option (List Entry)) (diaries : List (Option (List Entry))) (new : BookState K W B)
-    → IsSome new.status → KeepDiaries diary_of diaries new
-KeepDiaries-stopped diary_of diaries new stopped going = absurd (no_longer new.status stopped going)
 
 -- a run starts, whose worker is to write down that it began
 pub KeepDiaries-begun : {K W B : Type 0} {held : K → Option (List Row)} {kind_of : B → Kind} {ticket : TicketState} {seat : Seat B} {signal : SignalState}
@@ -166,6 +161,11 @@ KeepDiaries-begun {held = held} {kind_of = kind_of} {ticket = ticket} {seat = se
     (λ n. refl)
     (place_diaries-taken kind_of diary_of seat.worker ticket.instance old.places begun.worker ∙ keep begun.goes_on.before))
 
+-- the run that a ticket is of is the one that is found
+pub ticket-found : (ticket : TicketState) {found : Option Run} {run : Run} → IsSomeAnd found (λ run. ticket ≡ ticket_of run) → found ≡ Some run
+    → ticket ≡ ticket_of run
+ticket-found ticket of_run is = subst (λ found. IsSomeAnd found (λ run. ticket ≡ ticket_of run)) is of_run
+
 -- a run is over, and its worker has written down what it gave
 pub KeepDiaries-last : {K W B : Type 0} {held : K → Option (List Row)} {diary_of : B → Option (List Entry)} {ticket : TicketState} {worker : B}
     {old new : BookState K W B} (diaries : List (Option (List Entry)))
@@ -176,8 +176,7 @@ KeepDiaries-last {held = held} {diary_of = diary_of} {ticket = ticket} {worker =
     let legal = last.step.legal in
     let gave = Gave ticket.task.run ticket.k (given_by last.end) ∷ [] in
     let away = place_diaries diary_of old.places in
-    let of_run : ticket ≡ ticket_of legal.run =
-    subst (λ found. IsSomeAnd found (λ run. ticket ≡ ticket_of run)) legal.is_running under_way.ticket_in in
+    let of_run = ticket-found ticket under_way.ticket_in legal.is_running in
     rw last.places
     (place_diaries-back diary_of last.back ticket.instance old.places
     ∙ ap (slice_set away ticket.instance) last.diary

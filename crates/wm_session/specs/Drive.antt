@@ -1,5 +1,5 @@
 -- What driving a run to its end does. This project's own choice.
-use Rattle.std.specs.Prelude.{◌≡◌, ◌⊎◌, ℕ, ◌+◌, ◌<◌, ◌≤◌, List, [], ◌∷◌, length, slice_set, Option, Some, None, Result, IfOk}
+use Rattle.std.specs.Prelude.{◌≡◌, ◌⊎◌, ℕ, ◌+◌, ◌<◌, ◌≤◌, List, [], ◌∷◌, slice_set, Option, Some, None, Result, IfOk}
 use Rattle.std.specs.declared.alloc.AllocError.{AllocError}
 use Rattle.wm_bench.specs.Places.{changed_at, made_idle, IsAwayAt}
 use Rattle.wm_bench.specs.Seat.{Seat}
@@ -8,6 +8,7 @@ use Rattle.wm_keeper.specs.declared.row.Row.{Row}
 use Rattle.wm_machine.specs.Diaries.{diaries_after}
 use Rattle.wm_machine.specs.Ends.{given_by}
 use Rattle.wm_machine.specs.Replay.{Replay}
+use Rattle.wm_machine.specs.Runs.{other_runs}
 use Rattle.wm_machine.specs.Waiting.{left_to_drain}
 use Rattle.wm_machine.specs.declared.command.Command.{Command}
 use Rattle.wm_machine.specs.declared.event.End.{End}
@@ -32,7 +33,7 @@ use Rattle.wm_worker.specs.declared.kind.Kind.{Kind}
 pub record IsUnderWay {K W B : Type 0} (ticket : TicketState) (book : BookState K W B) : Type 0 where
   pub replay : Replay book.table.first book.table.log book.table.state
   pub ticket_in : IsTicketIn book.table.state ticket
-  pub alone : length book.table.state.runs ≤ 1
+  pub alone : other_runs ticket.task.run book.table.state.runs ≡ []
   pub away : IsAwayAt ticket.instance ticket.kind book.places
   pub others : (back : B) → AreIdle (changed_at (made_idle back) ticket.instance book.places)
   pub not_retired : NoneRetired book.places

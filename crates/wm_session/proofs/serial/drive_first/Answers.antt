@@ -1,21 +1,18 @@
-use Rattle.std.proofs.Common.{refl, arith}
-use Rattle.wm_machine.specs.declared.event.Event.TheVariants as event
-use Rattle.wm_session.proofs.DiaryLemmas.{KeepDiaries-begun, KeepDiaries-same, KeepDiaries-stopped}
-use Rattle.wm_session.proofs.SerialLemmas.{GoesInOrder-begun, GoesInOrder-failed, GoesInOrder-halted, IsAtRest-failed, IsAtRest-halted, IsUnderWay-begun, left-halted, status-halted}
+use Rattle.std.proofs.Common.{refl}
+use Rattle.wm_session.proofs.DiaryLemmas.{KeepDiaries-begun, KeepDiaries-same, no_longer}
+use Rattle.wm_session.proofs.SerialLemmas.{GoesInOrder-claimed, GoesInOrder-halted, IsAtRest-failed, IsAtRest-halted, IsUnderWay-begun, left-halted, status-halted}
+use Rattle.wm_table.specs.declared.table.Claim.TheVariants as claim
 use Rattle.wm_session.proofs.serial.drive_first.Goals as goal
 
 pub drive-requires-clause-under_way : goal.drive-requires-clause-under_way
 drive-requires-clause-under_way g c = IsUnderWay-begun c.requires c.in-Run.ensures
 
-pub returns-in-Run-clause-fewer : goal.returns-in-Run-clause-fewer
-returns-in-Run-clause-fewer g c driven =
-    let begun = c.in-Run.ensures in
-    let fewer = begun.fewer in
-    let no_more = c.drive.ensures.no_more in
-    omega arith
-
 pub returns-in-Run-clause-order : goal.returns-in-Run-clause-order
-returns-in-Run-clause-order g c lines goes = c.drive.ensures.order lines (GoesInOrder-begun lines c.requires c.in-Run.ensures goes)
+returns-in-Run-clause-order g c lines goes =
+    let begun = c.in-Run.ensures in
+    c.drive.ensures.order lines
+    (GoesInOrder-claimed g.K.Keeper.held c.args.book.now c.claim.new.self c.requires begun.goes_on.before
+    (claim.Run c.in-Run.ticket) (begun.step, begun.ticket_in) lines goes)
 
 pub returns-in-Run-clause-diaries : goal.returns-in-Run-clause-diaries
 returns-in-Run-clause-diaries g c diaries keep =
@@ -25,13 +22,14 @@ pub returns-in-Failed-clause-rest : goal.returns-in-Failed-clause-rest
 returns-in-Failed-clause-rest g c = IsAtRest-failed c.requires c.in-Failed.ensures
 
 pub returns-in-Failed-clause-order : goal.returns-in-Failed-clause-order
-returns-in-Failed-clause-order g c lines = GoesInOrder-failed lines c.requires c.in-Failed.ensures
+returns-in-Failed-clause-order g c =
+    let failed = c.in-Failed.ensures in
+    GoesInOrder-claimed g.K.Keeper.held c.args.book.now c.claim.new.self c.requires failed.goes_on.before (claim.Failed failed.seq failed.cause) failed.step
 
 pub returns-in-Failed-clause-diaries : goal.returns-in-Failed-clause-diaries
 returns-in-Failed-clause-diaries g c diaries =
     let failed = c.in-Failed.ensures in
-    KeepDiaries-same g.K.Keeper.held g.B.Worker.diary_of diaries
-    (event.StartFailed failed.seq failed.cause) c.args.book.now c.claim.new.self c.requires failed.goes_on failed.step failed.places (λ number. refl)
+    KeepDiaries-same g.B.Worker.diary_of diaries c.requires failed.goes_on failed.step failed.places (λ number. refl)
 
 pub returns-in-Stopped-clause-rest : goal.returns-in-Stopped-clause-rest
 returns-in-Stopped-clause-rest g c =
@@ -44,10 +42,10 @@ pub returns-in-Stopped-clause-stopped : goal.returns-in-Stopped-clause-stopped
 returns-in-Stopped-clause-stopped g c is = status-halted g.K.Keeper.held g.B.Worker.kind_of c.args.book.now c.claim.new.self c.in-Stopped.ensures
 
 pub returns-in-Stopped-clause-order : goal.returns-in-Stopped-clause-order
-returns-in-Stopped-clause-order g c lines =
-    GoesInOrder-halted g.K.Keeper.held g.B.Worker.kind_of c.args.book.now c.claim.new.self lines c.requires c.in-Stopped.ensures
+returns-in-Stopped-clause-order g c =
+    GoesInOrder-halted g.K.Keeper.held g.B.Worker.kind_of c.args.book.now c.claim.new.self c.requires c.in-Stopped.ensures
 
 pub returns-in-Stopped-clause-diaries : goal.returns-in-Stopped-clause-diaries
 returns-in-Stopped-clause-diaries g c diaries keep =
-    KeepDiaries-stopped g.B.Worker.diary_of diaries c.claim.new.self
-    (status-halted g.K.Keeper.held g.B.Worker.kind_of c.args.book.now c.claim.new.self c.in-Stopped.ensures)
+    let new = c.claim.new.self in
+    no_longer new.status (status-halted g.K.Keeper.held g.B.Worker.kind_of c.args.book.now new c.in-Stopped.ensures)

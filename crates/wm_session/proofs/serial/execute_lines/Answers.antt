@@ -1,7 +1,7 @@
-use Rattle.std.proofs.Common.{not, inl, inr, sym, ◌∙◌, ap, subst}
+use Rattle.std.proofs.Common.{not, inl, inr, refl, sym, ◌∙◌, ap, subst}
 use Rattle.std.proofs.lemmas.Bool.{false≢true}
-use Rattle.wm_session.proofs.DiaryLemmas.{KeepDiaries-stopped, no_longer}
-use Rattle.wm_session.proofs.SerialLemmas.{GoesInOrder-line, GoesInOrder-ready, IsAtRest-front, IsAtRest-line, IsReady-front, IsReady-quiet, KeepDiaries-line}
+use Rattle.wm_session.proofs.DiaryLemmas.{KeepDiaries-same, no_longer}
+use Rattle.wm_session.proofs.SerialLemmas.{GoesInOrder-line, GoesInOrder-ready, IsAtRest-front, IsAtRest-line, IsReady-front, IsReady-quiet}
 use Rattle.wm_session.specs.Book.{IsFronted}
 use Rattle.wm_session.specs.declared.book.Front.TheVariants as front
 use Rattle.wm_session.proofs.serial.execute_lines.Goals as goal
@@ -44,16 +44,15 @@ lines-preserved g c =
       quiet = λ going none. drained.quiet going;
       order = λ lines ready.
           IsReady-quiet lines new drained.quiet
-          (drained.order lines (GoesInOrder-line lines kept.rest moved.0.before moved.1 (kept.order lines ready)));
+          (drained.order lines (GoesInOrder-line kept.rest lines moved.0.before moved.1 (kept.order lines ready)));
       diaries = λ diaries keep. drained.diaries diaries
-          (KeepDiaries-line g.B.Worker.diary_of diaries kept.rest moved.0 moved.1 moved.2 (kept.diaries diaries keep));
+          (KeepDiaries-same g.B.Worker.diary_of diaries kept.rest moved.0 moved.1.step moved.2 (λ number. refl) (kept.diaries diaries keep));
     }
 
 pub returns-in-Ended : goal.returns-in-Ended
 returns-in-Ended g c =
     let kept = c.lines.invariant in
     let held = g.K.Keeper.held in
-    let diary_of = g.B.Worker.diary_of in
     let old = c.lines.book in
     let new = c.front_step.new.self in
     elim c.in-Ended.is [
@@ -63,9 +62,9 @@ returns-in-Ended g c =
       | inr stopped ↦
           let is : IsFronted held front.Stopped old new = subst (λ r. IsFronted held r old new) stopped c.front_step.ensures in record {
             rest = IsAtRest-front kept.rest is;
-            done = λ going. absurd (no_longer new.status is.0 going);
-            quiet = λ going. absurd (no_longer new.status is.0 going);
-            order = λ lines ready. IsReady-front lines kept.rest is (kept.order lines ready);
-            diaries = λ diaries keep. KeepDiaries-stopped diary_of diaries new is.0;
+            done = no_longer new.status is.0;
+            quiet = no_longer new.status is.0;
+            order = λ lines ready. IsReady-front kept.rest lines is (kept.order lines ready);
+            diaries = λ diaries keep. no_longer new.status is.0;
           }
     ]

@@ -1,9 +1,8 @@
-use Rattle.wm_bench.specs.Places.{idle_hands}
 use Rattle.wm_machine.specs.Serial.{AreInOrder}
-use Rattle.wm_session.proofs.HandLemmas.{AreHandsBack-all}
-use Rattle.wm_session.proofs.SerialLemmas.{HaveTold-rest, IsAtRest-begin, IsReady-begin, IsSerialRun-order, KeepDiaries-begin}
+use Rattle.std.proofs.Common.{◌∙◌}
+use Rattle.wm_session.proofs.HandLemmas.{AreHandsBack-all, hand_diaries-places}
+use Rattle.wm_session.proofs.SerialLemmas.{IsAtRest-begin, IsReady-begin, IsSerialRun-order, KeepDiaries-begin}
 use Rattle.wm_session.specs.Bench.{place_diaries}
-use Rattle.wm_session.specs.Ended.{HaveTold}
 use Rattle.wm_session.proofs.serial.run_serial.Goals as goal
 
 pub execute_lines-requires : goal.execute_lines-requires
@@ -19,17 +18,16 @@ returns g c =
     let last = c.finish.result in
     let session = c.finish.ensures.session in
     let back = c.finish.ensures.back in
-    let order = (executed.order lines (IsReady-begin lines c.args.book c.requires.begins)).order in
+    let order = (executed.order lines (IsReady-begin c.requires.begins)).order in
     let in_order : AreInOrder lines last.first last.log = rw (back.first, back.log) order.in_order in
     record {
       session = session;
       quiet = λ done. rw back.last (executed.quiet (c.finish.ensures.done done));
       hands = rw back.hands (AreHandsBack-all g.B.Worker.kind_of book.places last.last executed.rest.idle executed.rest.not_retired back.workers);
       diaries = λ done.
-          let told : HaveTold diary_of diaries book.table.first book.table.log (idle_hands book.places) =
-          HaveTold-rest diary_of diaries book executed.rest.idle (c.finish.ensures.done done)
-          (executed.diaries diaries (KeepDiaries-begin diary_of c.args.book c.requires.begins.log)) in
-          rw (back.hands, back.first, back.log) told;
+          rw (back.hands, back.first, back.log)
+          (hand_diaries-places diary_of book.places executed.rest.idle
+          ∙ executed.diaries diaries (KeepDiaries-begin diary_of c.args.book c.requires.begins.log) (c.finish.ensures.done done));
       serial = IsSerialRun-order lines last.status last.first last.last last.log c.requires.built session.commands session.replay back.valid back.narrow
           (rw back.last order.few_runs) in_order (λ done. rw back.last (executed.quiet (c.finish.ensures.done done)));
     }
