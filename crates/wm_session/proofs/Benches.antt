@@ -177,8 +177,8 @@ kind_at-idle kind_of (Away kind) worker is = absurd cc
 
 -- every worker is an Echo, as every instance is
 pub kind-Echo : {B : Type 0} (kind_of : B → Kind) (worker : B) (number : ℕ) (places : List (Place B)) (instances : List Instance)
-    → AllByRecursion (λ instance. instance.kind ≡ Echo) instances → map (place_traits kind_of) places ≡ map instance_traits instances → idle_at number places ≡ Some worker
-    → kind_of worker ≡ Echo
+    → AllByRecursion (λ instance. instance.kind ≡ Echo) instances → map (place_traits kind_of) places ≡ map instance_traits instances
+    → idle_at number places ≡ Some worker → kind_of worker ≡ Echo
 kind-Echo kind_of worker number [] instances echoes same is = absurd cc
 kind-Echo kind_of worker number (place ∷ places) [] echoes same is = absurd cc
 kind-Echo kind_of worker zero (place ∷ places) (instance ∷ instances) echoes same is =

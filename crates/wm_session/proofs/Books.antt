@@ -490,7 +490,8 @@ module _ {K W B : Type 0} {run : Given} {tells : Tells K W B} where
 pub IsBookKept-new : {K W B : Type 0} (run : Given) (tells : Tells K W B) (table : TableState K) (places : List (Place B)) (left : List Command)
     (pending : List ℕ) (sink : W)
     → table.log ≡ [] → left ≡ run.lines → pending ≡ [] → map (place_traits tells.kind_of) places ≡ map instance_traits table.state.instances → AreIdle places
-    → AllByRecursion (λ instance. instance.out ≡ false) table.state.instances → Valid table.state → IsNarrow table.state → 0 + length left < 2 ^ 32 → AllByRecursion IsBuilt left
+    → AllByRecursion (λ instance. instance.out ≡ false) table.state.instances → Valid table.state → IsNarrow table.state
+    → 0 + length left < 2 ^ 32 → AllByRecursion IsBuilt left
     → table.state ≡ table.first → table.first ≡ run.first → tells.held table.keeper ≡ option_map (λ _. rows_of table.state) run.rows
     → tells.given sink ≡ run.written
     → run.keeper_faults ≤ tells.keeper_faults table.keeper → run.sink_faults ≤ tells.sink_faults sink

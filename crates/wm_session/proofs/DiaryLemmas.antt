@@ -155,10 +155,10 @@ pub KeepDiaries-begun : {K W B : Type 0} {held : K → Option (List Row)} {kind_
     → KeepDiariesWith diary_of ticket.instance (diary_with (Begun ticket.task.run ∷ []) (diary_of seat.worker)) diaries new
 KeepDiaries-begun {held = held} {kind_of = kind_of} {ticket = ticket} {seat = seat} {old = old} {new = new} diary_of diaries rest begun keep going =
     let start = event.Start ticket.task.run ticket.seq ticket.instance ticket.task.input in
+    let began = Begun ticket.task.run ∷ [] in
     let away = place_diaries diary_of (changed_at (made_away kind_of) ticket.instance old.places) in
     rw begun.places
-    (diaries_after-written held start old.table new.table ticket.instance (Begun ticket.task.run ∷ []) (diary_of seat.worker) away diaries rest.replay begun.step
-    (λ n. refl)
+    (diaries_after-written held start old.table new.table ticket.instance began (diary_of seat.worker) away diaries rest.replay begun.step (λ n. refl)
     (place_diaries-taken kind_of diary_of seat.worker ticket.instance old.places begun.worker ∙ keep begun.goes_on.before))
 
 -- the run that a ticket is of is the one that is found

@@ -42,13 +42,13 @@ pub record IsInOrder {K W B : Type 0} (lines : List Command) (book : BookState K
   pub in_order : AreInOrder lines book.table.first book.table.log
   pub few_runs : length book.table.state.runs ≤ 1
 
--- and while the session goes on, runs may start
+-- the log is in order, and while the session goes on runs may start
 pub record GoesInOrder {K W B : Type 0} (lines : List Command) (book : BookState K W B) : Type 0 where
   pub order : IsInOrder lines book
   pub may_go_on : book.status ≡ None → MayGoOn lines book.table.log
 
--- and while the session goes on, a line may come, and where none is left, runs may start: nothing is left to do, or nothing has happened
--- and all of these lines are left
+-- the log is in order, and while the session goes on a line may come, and runs may start where none is left: nothing is left to do, or
+-- nothing has happened and all of these lines are left
 pub record IsReady {K W B : Type 0} (lines : List Command) (book : BookState K W B) : Type 0 where
   pub order : IsInOrder lines book
   pub next : book.status ≡ None → (IsQuiet book.table.state × MayGoOn lines book.table.log) ⊎ ((book.table.log ≡ []) × (lines ≡ book.left))

@@ -10,7 +10,8 @@ invariant-turns g l = record {
   number : l.seat.number ≡ l.ticket.instance;
   kind : g.B.Worker.kind_of l.seat.worker ≡ l.ticket.kind;
   signal_is : l.signal ≡ record { run = l.ticket.task.run; never = true };
-  driven : (new : BookState g.row.K.Denot g.row.W.Denot g.row.B.Denot) → IsDriven g.B.Worker.diary_of l.ticket.instance (g.B.Worker.diary_of l.seat.worker) l.book new
+  driven : (new : BookState g.row.K.Denot g.row.W.Denot g.row.B.Denot)
+      → IsDriven g.B.Worker.diary_of l.ticket.instance (g.B.Worker.diary_of l.seat.worker) l.book new
       → IsDriven g.B.Worker.diary_of l.fn.ticket.instance (g.B.Worker.diary_of l.fn.seat.worker) l.fn.book new;
 }
 
