@@ -1,4 +1,8 @@
-pub mod Changes
-pub mod Placing
+pub mod Enqueues
+pub mod Executions
+pub mod Finishes
+pub mod Lookups
 pub mod ScanLemmas
+pub mod Starts
+pub mod StepRows
 pub mod TableSteps

@@ -1,3 +1,5 @@
+pub mod Builds
+pub mod StepChanges
 pub mod Table
 pub mod TableState
 pub mod Trouble

@@ -1,41 +1,39 @@
 //! The table: the state, the log of the events that led to it, and the keeper of its rows.
-ghost use Rattle.std.specs.Prelude.{◌≡◌, ◌≢◌, ◌↔◌, ◌<◌, [], length, slice_get, None, Some, Err, IsSomeAnd, IsTrue, IfOk, IfErr, IfSome, OnOk, OnErr};
+ghost use Rattle.std.specs.Prelude.{◌≡◌, ◌≢◌, ◌↔◌, [], Err, IsTrue, IfOk, IfErr, IfSome, OnOk, OnErr};
 ghost use Rattle.std.specs.Option.{option_copied};
-ghost use Rattle.wm_machine.specs.Built.{IsBuilt, IsPlain, NamesNothing, ReplyTellsNoData};
-ghost use Rattle.wm_machine.specs.Enqueued.{refusal_of};
-ghost use Rattle.wm_machine.specs.First.{first_of, idle_instance};
-ghost use Rattle.wm_machine.specs.Narrow.{IsNarrow};
+ghost use Rattle.wm_machine.specs.Built.{IsBuilt, IsWritten};
 ghost use Rattle.wm_machine.specs.Opened.{opening_state, Opened};
 ghost use Rattle.wm_machine.specs.Quiet.{IsQuiet};
 ghost use Rattle.wm_machine.specs.Replay.{Replay};
-ghost use Rattle.wm_machine.specs.Runs.{run_numbered};
-ghost use Rattle.wm_machine.specs.Step.{Legal, after};
 ghost use Rattle.wm_machine.specs.Valid.{Valid};
 ghost use Rattle.wm_machine.specs.declared.event.Event.TheVariants as event;
-ghost use Rattle.wm_table.specs.Table.{last_of, AreFresh, BeginCause, ChangesNoRow, ChangesRows, Counts, HoldsRowsOf, IsClaimed, IsFinished, IsOneStep, IsTurned, IsUntouched, Stands, TroubleCause, TurnCause};
+ghost use Rattle.wm_table.specs.Builds.{CountsAt};
+ghost use Rattle.wm_table.specs.StepChanges.{row_changes, IsStepOf};
+ghost use Rattle.wm_table.specs.Table.{last_of, AreFresh, BeginCause, ChangesNoRow, ChangesRows, HoldsRowsOf, IsClaimed, IsFinished, IsOneStep, IsTurned, IsUntouched, Stands, TroubleCause, TurnCause};
 
-mod enqueue;
-mod events;
+mod carry;
+mod change;
+mod commands;
 mod finishing;
 mod infos;
+mod joins;
 mod lifecycle;
-mod placing;
+mod row_changes;
 mod scan;
 mod starting;
 pub mod ticket;
 
 use crate::opening::opening_state;
-use crate::table::events::{change, copied, push_with};
-use crate::table::placing::Placing;
-use crate::table::starting::Starting;
+use crate::table::carry::carry_out;
+use crate::table::change::StepChange;
+use crate::table::commands::{Executed, execute};
+use crate::table::starting::{Claiming, claim_first};
 use std::alloc::{AllocError, Global};
 use std::marker::Model;
 use ticket::Ticket;
 use wm_collections::{Items, Replica};
 use wm_keeper::{KeepFault, Keeper, Row};
-use wm_machine::{
-    Batch, Cause, Command, Event, Instance, LineFault, Refusal, Reply, State, WorkQuery,
-};
+use wm_machine::{Cause, Command, Event, Instance, Reply, State};
 use wm_worker::Told;
 
 /// Why a call of the table changed nothing.
@@ -86,6 +84,16 @@ pub enum Claim {
     Run(Ticket),
     /// It couldn't start.
     Failed { seq: u64, cause: Cause },
+}
+
+impl Claim {
+    /// Lets the claim go, with its ticket.
+    fn spend(self) {
+        match self {
+            Claim::Run(ticket) => ticket.spend(),
+            Claim::Failed { seq: _, cause } => drop(cause),
+        }
+    }
 }
 
 /// What became of a run whose worker reported.
@@ -184,7 +192,7 @@ impl<K: Keeper> Table<K> {
         requires no_run { self.old.state.runs ≡ [] }
         ensures ok { IfOk result (λ reply.
             IsOneStep K.held (event.Command line command reply) self.old self.new) }
-        ensures text { IfOk result ReplyTellsNoData }
+        ensures text { IfOk result IsWritten }
         ensures err { OnErr result (IsUntouched K.held self.old self.new) }
         ensures cause { TroubleCause result (K.faults self.old.keeper) (K.faults self.new.keeper) }
         ensures untouched_keeper { ChangesNoRow self.old.state command
@@ -192,11 +200,13 @@ impl<K: Keeper> Table<K> {
         ensures keeper_fault { result ≡ Err Trouble.KeeperFault
             → ChangesRows self.old.state command }
     {
-        match command {
-            Command::Enqueue { named: None, batch } => self.enqueue(line, batch),
-            Command::Query(query) => self.query(line, query),
-            Command::Faulty(fault) => self.refuse_line(line, fault),
-            _ => unreachable!(),
+        let Executed { change, reply } = execute(self.alloc, &self.state, line, command)?;
+        match self.make(change) {
+            Ok(()) => Ok(reply),
+            Err(trouble) => {
+                drop(reply);
+                Err(trouble)
+            }
         }
     }
 
@@ -207,13 +217,16 @@ impl<K: Keeper> Table<K> {
         ensures err { OnErr result (IsUntouched K.held self.old self.new) }
         ensures cause { TroubleCause result (K.faults self.old.keeper) (K.faults self.new.keeper) }
     {
-        let Some(index) = scan::first_index(&self.state) else {
+        let Some(claiming) = claim_first(self.alloc, &self.state)? else {
             return Ok(None);
         };
-        let class = &self.state.works.as_slice()[index].request.class;
-        match scan::idle_index(self.state.instances.as_slice(), class.as_str()) {
-            Some(instance) => Ok(Some(Claim::Run(self.start(index, instance)?))),
-            None => Ok(Some(self.fail_start(index)?)),
+        let Claiming { change, claim } = claiming;
+        match self.make(change) {
+            Ok(()) => Ok(Some(claim)),
+            Err(trouble) => {
+                claim.spend();
+                Err(trouble)
+            }
         }
     }
 
@@ -224,12 +237,11 @@ impl<K: Keeper> Table<K> {
         ensures answer { IsTurned K.held ticket told result self.old self.new }
         ensures cause { TurnCause result (K.faults self.old.keeper) (K.faults self.new.keeper) }
     {
-        let place = self.place_of(&ticket);
-        if !finishing::counts(&self.state.runs.as_slice()[place], &told) {
+        let Some(place) = finishing::counting(&self.state, &ticket, &told) else {
             drop(told);
             return TurnAnswer::Again(ticket);
-        }
-        match self.finish(place, &told) {
+        };
+        match self.finish(&ticket, place, &told) {
             Ok(()) => {
                 drop(told);
                 ticket.spend();
@@ -284,7 +296,6 @@ impl<K: Keeper> Table<K> {
         ensures keeper { result.keeper ≡ self.keeper }
         ensures replay { Replay result.first result.log result.last }
         ensures valid { Valid result.last }
-        ensures narrow { IsNarrow result.last }
         ensures rows { HoldsRowsOf result.last (K.held result.keeper) }
     {
         let Table {
@@ -304,212 +315,32 @@ impl<K: Keeper> Table<K> {
 }
 
 impl<K: Keeper> Table<K> {
-    fn query(&mut self, line: u32, query: WorkQuery) -> Result<Reply, Trouble>
-        requires { NamesNothing query }
-        ensures ok { IfOk result (λ reply.
-            IsOneStep K.held (event.Command line (Command.Query query) reply) self.old self.new) }
-        ensures text { IfOk result ReplyTellsNoData }
+    /// Ends a ticket's run, which stands at a place and for which the report counts.
+    fn finish(&mut self, ticket: &Ticket, place: usize, told: &Told) -> Result<(), Trouble>
+        requires { CountsAt self.old.state ticket.now.task.run told.now place }
+        ensures ok { OnOk result (IsFinished K.held ticket.now.task.run told.now self.old self.new) }
         ensures err { OnErr result (IsUntouched K.held self.old self.new) }
         ensures cause { TroubleCause result (K.faults self.old.keeper) (K.faults self.new.keeper) }
-        ensures untouched_keeper { self.new.keeper ≡ self.old.keeper }
-        ensures no_keeper_fault { result ≢ Err Trouble.KeeperFault }
     {
-        let works = infos::infos_of(self.alloc, &self.state)?;
-        self.answer(line, Command::Query(query), Reply::Query(works))
+        let change = finishing::finish(self.alloc, &self.state, ticket, place, told)?;
+        self.make(change)
     }
 
-    fn refuse_line(&mut self, line: u32, fault: LineFault) -> Result<Reply, Trouble>
-        ensures ok { IfOk result (λ reply.
-            IsOneStep K.held (event.Command line (Command.Faulty fault) reply) self.old self.new) }
-        ensures text { IfOk result ReplyTellsNoData }
+    /// Makes the step of a change. Where it changes no row, the keeper is as it was.
+    fn make(&mut self, change: StepChange) -> Result<(), Trouble>
+        requires { IsStepOf self.old.state change }
+        ensures ok { OnOk result (IsOneStep K.held change.event self.old self.new) }
         ensures err { OnErr result (IsUntouched K.held self.old self.new) }
         ensures cause { TroubleCause result (K.faults self.old.keeper) (K.faults self.new.keeper) }
-        ensures untouched_keeper { self.new.keeper ≡ self.old.keeper }
-        ensures no_keeper_fault { result ≢ Err Trouble.KeeperFault }
+        ensures untouched_keeper { row_changes change ≡ [] → self.new.keeper ≡ self.old.keeper }
+        ensures no_keeper_fault { row_changes change ≡ [] → result ≢ Err Trouble.KeeperFault }
     {
-        let (fault, found, _) = copied(self.alloc, fault, ())?;
-        let reply = Reply::Refused(Refusal::Line(found));
-        self.answer(line, Command::Faulty(fault), reply)
-    }
-
-    fn enqueue(&mut self, line: u32, batch: Batch) -> Result<Reply, Trouble>
-        requires { IsPlain batch.works }
-        ensures ok { IfOk result (λ reply.
-            IsOneStep K.held (event.Command line (Command.Enqueue None batch) reply) self.old
-            self.new) }
-        ensures text { IfOk result ReplyTellsNoData }
-        ensures err { OnErr result (IsUntouched K.held self.old self.new) }
-        ensures cause { TroubleCause result (K.faults self.old.keeper) (K.faults self.new.keeper) }
-        ensures untouched_keeper { IfSome (refusal_of self.old.state None batch.works)
-            (λ _. self.new.keeper ≡ self.old.keeper) }
-        ensures keeper_fault { result ≡ Err Trouble.KeeperFault
-            → refusal_of self.old.state None batch.works ≡ None }
-    {
-        match enqueue::refusal_of(&self.state, batch.works.as_slice()) {
-            Some(refusal) => {
-                let command = Command::Enqueue { named: None, batch };
-                self.answer(line, command, Reply::Refused(refusal))
-            }
-            None => self.place(line, batch),
-        }
-    }
-
-    /// Appends the event of a command that changes nothing else, and gives its reply back.
-    fn answer(&mut self, line: u32, command: Command, reply: Reply) -> Result<Reply, Trouble>
-        requires legal { Legal self.old.state (event.Command line command reply) }
-        requires same { after self.old.state (event.Command line command reply) ≡ self.old.state }
-        ensures reply { IfOk result (λ answer. answer ≡ reply) }
-        ensures ok { OnOk result (IsOneStep K.held (event.Command line command reply) self.old
-            self.new) }
-        ensures err { OnErr result (IsUntouched K.held self.old self.new) }
-        ensures cause { TroubleCause result (K.faults self.old.keeper) (K.faults self.new.keeper) }
-        ensures untouched_keeper { self.new.keeper ≡ self.old.keeper }
-        ensures no_keeper_fault { result ≢ Err Trouble.KeeperFault }
-    {
-        let (reply, logged, command) = copied(self.alloc, reply, command)?;
-        let event = Event::Command {
-            line,
-            command,
-            reply: logged,
-        };
-        Ok(push_with(&mut self.log, event, reply)?)
-    }
-
-    fn place(&mut self, line: u32, batch: Batch) -> Result<Reply, Trouble>
-        requires plain { IsPlain batch.works }
-        requires accepted { refusal_of self.old.state None batch.works ≡ None }
-        ensures reply { IfOk result ReplyTellsNoData }
-        ensures ok { IfOk result (λ reply.
-            IsOneStep K.held (event.Command line (Command.Enqueue None batch) reply) self.old
-            self.new) }
-        ensures err { OnErr result (IsUntouched K.held self.old self.new) }
-        ensures cause { TroubleCause result (K.faults self.old.keeper) (K.faults self.new.keeper) }
-    {
-        let [work] = batch.works.as_slice() else {
-            unreachable!();
-        };
-        let Placing {
-            work,
-            row,
-            logged,
-            told,
-        } = Placing::of(self.alloc, &self.state, work)?;
-        let event = Event::Command {
-            line,
-            command: Command::Enqueue { named: None, batch },
-            reply: Reply::Enqueued(logged),
-        };
-        placing::place(
-            &mut self.state,
-            &mut self.log,
-            &mut self.keeper,
-            work,
-            row,
-            event,
-        )?;
-        Ok(Reply::Enqueued(told))
-    }
-
-    /// Starts the work at an index, which is first, on the instance at an index.
-    fn start(&mut self, index: usize, instance: usize) -> Result<Ticket, Trouble>
-        requires index { index < length self.old.state.works }
-        requires first { first_of self.old.state ≡ slice_get self.old.state.works index }
-        requires instance { instance < length self.old.state.instances }
-        requires idle { IfSome (slice_get self.old.state.works index)
-            (λ work. idle_instance self.old.state.instances work.request.class ≡ slice_get self.old.state.instances instance) }
-        ensures ok { IfOk result (λ ticket. IsClaimed K.held (Some (Claim.Run ticket)) self.old
-            self.new) }
-        ensures err { OnErr result (IsUntouched K.held self.old self.new) }
-        ensures cause { TroubleCause result (K.faults self.old.keeper) (K.faults self.new.keeper) }
-    {
-        let state = &self.state;
-        let work = &state.works.as_slice()[index];
-        let idle = &state.instances.as_slice()[instance];
-        let Starting {
-            changing,
-            run,
-            task,
-        } = Starting::of(self.alloc, state, index, work, idle)?;
-        let (seq, kind, instance) = (run.seq, run.kind, run.instance);
-        starting::start(
+        carry_out(
             self.alloc,
             &mut self.state,
             &mut self.log,
             &mut self.keeper,
-            changing,
-            run,
-        )?;
-        Ok(Ticket {
-            seq,
-            task,
-            kind,
-            instance,
-            k: 0,
-        })
-    }
-
-    /// Ends the work at an index, which is first and has no worker.
-    fn fail_start(&mut self, index: usize) -> Result<Claim, Trouble>
-        requires index { index < length self.old.state.works }
-        requires first { first_of self.old.state ≡ slice_get self.old.state.works index }
-        requires no_worker { IfSome (slice_get self.old.state.works index)
-            (λ work. idle_instance self.old.state.instances work.request.class ≡ None) }
-        ensures ok { IfOk result (λ claim. IsClaimed K.held (Some claim) self.old self.new) }
-        ensures err { OnErr result (IsUntouched K.held self.old self.new) }
-        ensures cause { TroubleCause result (K.faults self.old.keeper) (K.faults self.new.keeper) }
-    {
-        let work = &self.state.works.as_slice()[index];
-        let seq = work.seq;
-        let changing = starting::failing(self.alloc, index, work)?;
-        change(
-            &mut self.state.works,
-            &mut self.log,
-            &mut self.keeper,
-            changing,
-        )?;
-        Ok(Claim::Failed {
-            seq,
-            cause: Cause::NoWorker,
-        })
-    }
-
-    /// The place of the run that a ticket is of.
-    fn place_of(&self, ticket: &Ticket) -> usize
-        requires { Stands self.now.state ticket.now }
-        ensures { IsSomeAnd (slice_get self.now.state.runs result)
-            (λ run. (run.run ≡ ticket.now.task.run) × (run_numbered ticket.now.task.run self.now.state.runs ≡ Some run)) }
-    {
-        let runs = self.state.runs.as_slice();
-        let Some(place) = finishing::run_index(runs, ticket.task().run) else {
-            unreachable!();
-        };
-        place
-    }
-
-    /// Ends the run at a place, for which the report counts.
-    fn finish(&mut self, place: usize, told: &Told) -> Result<(), Trouble>
-        requires { IsSomeAnd (slice_get self.old.state.runs place)
-            (λ run. Counts run told.now × (run_numbered run.run self.old.state.runs ≡ Some run)) }
-        ensures ok { OnOk result (IsFinished K.held told.now.run told.now self.old self.new) }
-        ensures err { OnErr result (IsUntouched K.held self.old self.new) }
-        ensures cause { TroubleCause result (K.faults self.old.keeper) (K.faults self.new.keeper) }
-    {
-        let run = &self.state.runs.as_slice()[place];
-        let works = self.state.works.as_slice();
-        let Some(index) = finishing::work_index(works, run.seq) else {
-            unreachable!();
-        };
-        let output = finishing::output_of(told);
-        let instance = run.instance as usize;
-        let changing = finishing::finishing(self.alloc, index, &works[index], run.run, output)?;
-        finishing::finish(
-            self.alloc,
-            &mut self.state,
-            &mut self.log,
-            &mut self.keeper,
-            changing,
-            place,
-            instance,
+            change,
         )?;
         Ok(())
     }

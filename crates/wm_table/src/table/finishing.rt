@@ -1,37 +1,47 @@
 //! How a run ends by the report of its worker.
-ghost use Rattle.std.specs.Prelude.{◌≡◌, ◌↔◌, ◌==◌, ◌<◌, ◌∷◌, ◌++◌, [], false, length, remove, slice_set, IfOk, IsSome, IsTrue, OnOk, OnErr, option_map};
+ghost use Rattle.std.specs.Prelude.{◌≡◌, ◌↔◌, ◌==◌, ◌<◌, [], None, length, slice_get, IfNone, IfOk, IfSome, IsSome, IsSomeAnd, IsTrue, MatchOption};
 ghost use Rattle.std.specs.List.{position};
-ghost use Rattle.wm_keeper.specs.Keeper.{put_row};
-ghost use Rattle.wm_machine.specs.Ends.{succeeded};
-ghost use Rattle.wm_machine.specs.Narrow.{IsNarrowRecord};
-ghost use Rattle.wm_machine.specs.Rows.{row_of};
-ghost use Rattle.wm_machine.specs.Runs.{with_out};
-ghost use Rattle.wm_machine.specs.Valid.{AreNumberedInOrder, IsRecord};
-ghost use Rattle.wm_table.specs.Table.{Counts, TroubleCause};
+ghost use Rattle.wm_machine.specs.Runs.{run_numbered};
+ghost use Rattle.wm_machine.specs.Valid.{IsValidRun, IsWorkOf, Valid};
+ghost use Rattle.wm_table.specs.Builds.{CountsAt, IsFinish};
+ghost use Rattle.wm_table.specs.Table.{Counts, CountsIn};
 ghost use Rattle.wm_worker.specs.Answers.{given_of};
 
-use crate::table::events::{Changing, change, with};
-use crate::table::starting::set_out;
-use crate::table::{Trouble, lifecycle};
+use crate::table::change::{RunChange, StepChange};
+use crate::table::joins::{at, with};
+use crate::table::lifecycle;
+use crate::table::ticket::Ticket;
 use std::alloc::{AllocError, Global};
-use wm_collections::{Items, Replica};
+use wm_collections::Replica;
 use wm_data::Data;
-use wm_keeper::Keeper;
-use wm_machine::{End, Event, Kind, Phase, Record, Run, State};
+use wm_machine::{End, Event, Kind, Record, Run, State};
 use wm_worker::{Answer, Told};
 
-/// The index of the run of this number.
-pub fn run_index(runs: &[Run], number: u64) -> Option<usize>
-    ensures { result ≡ position (λ run. run.run == number) runs.now }
+/// The place of the run of this number.
+fn run_place(runs: &[Run], number: u64) -> Option<usize>
+    ensures { MatchOption result (run_numbered number runs.now ≡ None)
+        (λ place. (place < length runs.now) × (run_numbered number runs.now ≡ slice_get runs.now place)) }
 {
     runs.iter().position(|run| run.run == number)
 }
 
 /// The index of the work of this number.
-pub fn work_index(works: &[Record], seq: u64) -> Option<usize>
+fn work_index(works: &[Record], seq: u64) -> Option<usize>
     ensures { result ≡ position (λ work. work.seq == seq) works.now }
 {
     works.iter().position(|work| work.seq == seq)
+}
+
+/// The index of a run's work.
+fn work_of(state: &State, run: &Run) -> usize
+    requires valid { Valid state.now }
+    requires run { IsValidRun state.now run.now }
+    ensures { IsSomeAnd (slice_get state.entry.now.works result) (IsWorkOf run.entry.now) }
+{
+    let Some(index) = work_index(state.works.as_slice(), run.seq) else {
+        unreachable!();
+    };
+    index
 }
 
 /// Whether a worker came to an answer by itself.
@@ -42,7 +52,7 @@ fn is_given(answer: &Answer) -> bool
 }
 
 /// Whether a report counts for a run, which took no input.
-pub fn counts(run: &Run, told: &Told) -> bool
+fn counts(run: &Run, told: &Told) -> bool
     requires { run.now.input ≡ [] }
     ensures { IsTrue result ↔ Counts run.entry.now told.now }
 {
@@ -54,8 +64,22 @@ pub fn counts(run: &Run, told: &Told) -> bool
         && is_given(told.answer())
 }
 
+/// The place of a ticket's run, where the report counts for it.
+pub fn counting(state: &State, ticket: &Ticket, told: &Told) -> Option<usize>
+    requires { Valid state.now }
+    ensures none { IfNone result (CountsIn state.entry.now ticket.now.task.run told.now → ⊥) }
+    ensures some { IfSome result (CountsAt state.entry.now ticket.now.task.run told.now) }
+{
+    let place = run_place(state.runs.as_slice(), ticket.task().run)?;
+    if counts(at(state.runs.as_slice(), place), told) {
+        Some(place)
+    } else {
+        None
+    }
+}
+
 /// The output of a report that an Echo gave.
-pub fn output_of(told: &Told) -> &Data
+fn output_of(told: &Told) -> &Data
     requires echo { told.now.kind ≡ Kind.Echo }
     requires given { IsSome (given_of told.now.answer) }
     ensures answer { told.now.answer ≡ Answer.Success result.now }
@@ -67,29 +91,26 @@ pub fn output_of(told: &Told) -> &Data
     }
 }
 
-/// What takes memory where a run of the work at an index succeeded with an output, which is empty.
-pub fn finishing(
+/// The end of a ticket's run, which stands at a place and for which the report counts.
+pub fn finish(
     alloc: Global,
-    index: usize,
-    work: &Record,
-    run: u64,
-    output: &Data,
-) -> Result<Changing, AllocError>
-    requires running { work.now.phase ≡ Phase.Running }
-    requires record { IsRecord work.now }
-    requires narrow { IsNarrowRecord work.now }
-    requires empty { output.now ≡ [] }
-    ensures { IfOk result (λ changing. changing ≡ record {
-      index = index;
-      work = succeeded output.now work.entry.now;
-      row = row_of (succeeded output.now work.entry.now);
-      event = Event.Finish run (End.Success output.now);
-    }) }
+    state: &State,
+    ticket: &Ticket,
+    place: usize,
+    told: &Told,
+) -> Result<StepChange, AllocError>
+    requires valid { Valid state.now }
+    requires counts { CountsAt state.now ticket.now.task.run told.now place }
+    ensures { IfOk result (IsFinish state.entry.now ticket.now.task.run told.now) }
 {
+    let run = at(state.runs.as_slice(), place);
+    let index = work_of(state, run);
+    let work = at(state.works.as_slice(), index);
+    let output = output_of(told);
     let changed = lifecycle::succeeded(alloc, work, output)?;
-    let event = finish_event(alloc, run, output);
+    let event = finish_event(alloc, run.run, output);
     let (changed, event) = with(changed, event)?;
-    Changing::of(alloc, index, changed, event)
+    StepChange::replacing(alloc, index, changed, RunChange::End { index: place }, event)
 }
 
 /// The event by which a run succeeds with an output.
@@ -100,38 +121,4 @@ fn finish_event(alloc: Global, run: u64, output: &Data) -> Result<Event, AllocEr
         run,
         end: End::Success(output.replica(alloc)?),
     })
-}
-
-/// Ends the run at a place, on the instance of this number: appends its event, commits the row of
-/// its work, and changes work, runs and instances. Where there is trouble, nothing has changed.
-pub fn finish<K: Keeper>(
-    alloc: Global,
-    state: &mut State,
-    log: &mut Items<Event>,
-    keeper: &mut K,
-    changing: Changing,
-    place: usize,
-    instance: usize,
-) -> Result<(), Trouble>
-    requires index { changing.index < length state.old.works }
-    requires place { place < length state.old.runs }
-    requires instance { instance < length state.old.instances }
-    requires in_order { AreNumberedInOrder 0 state.old.instances }
-    ensures state { OnOk result (state.new ≡ record state.old {
-      works = slice_set state.old.works changing.index changing.work;
-      runs = remove state.old.runs place;
-      instances = with_out false instance state.old.instances;
-    }) }
-    ensures log { OnOk result (log.new ≡ log.old ++ changing.event ∷ []) }
-    ensures rows { OnOk result (K.held keeper.new ≡ option_map (put_row changing.row)
-        (K.held keeper.old)) }
-    ensures state_err { OnErr result (state.new ≡ state.old) }
-    ensures log_err { OnErr result (log.new ≡ log.old) }
-    ensures rows_err { OnErr result (K.held keeper.new ≡ K.held keeper.old) }
-    ensures cause { TroubleCause result (K.faults keeper.old) (K.faults keeper.new) }
-{
-    change(&mut state.works, log, keeper, changing)?;
-    drop(state.runs.remove(place));
-    set_out(alloc, &mut state.instances, instance, false);
-    Ok(())
 }

@@ -1,6 +1,7 @@
 //! Looking through the records and the instances of a state: which work starts next, and on which
 //! instance.
 ghost use Rattle.std.specs.List.{AllByRecursion};
+ghost use Rattle.std.specs.Option.{option_copied};
 ghost use Rattle.std.specs.Prelude.{◌≡◌, ◌<◌, length, Some, None, slice_get, option_and_then, IfSome, MatchOption};
 ghost use Rattle.wm_machine.specs.Due.{due_of};
 ghost use Rattle.wm_machine.specs.First.{all_met, comes_before, earlier_of, first_of, has_room, has_succeeded, idle_instance, is_idle, is_live, is_startable, is_succeeded, is_waiting};
@@ -91,22 +92,19 @@ fn is_idle(instance: &Instance, class: &str) -> bool
     instance.class.as_str() == class && !instance.out && !instance.retired
 }
 
-/// The index of the idle instance of a class with the least number.
-pub fn idle_index(instances: &[Instance], class: &str) -> Option<usize>
-    ensures { MatchOption result (idle_instance instances.now class.now ≡ None)
-        (λ index. (index < length instances.now)
-        × (idle_instance instances.now class.now ≡ slice_get instances.now index)) }
+/// The idle instance of a class with the least number.
+#[tactic(auto, unfolding(wm_machine::specs::First::idle_instance))]
+pub fn idle_in<'a>(instances: &'a [Instance], class: &str) -> Option<&'a Instance>
+    ensures { option_copied result ≡ idle_instance instances.now class.now }
 {
-    instances
-        .iter()
-        .position(|instance| is_idle(instance, class))
+    instances.iter().find(|instance| is_idle(instance, class))
 }
 
 /// Whether a class has an idle instance, or no worker at all.
 fn has_room(instances: &[Instance], class: &str) -> bool
     ensures { result ≡ has_room instances.now class.now }
 {
-    idle_index(instances, class).is_some() || !is_live(instances, class)
+    idle_in(instances, class).is_some() || !is_live(instances, class)
 }
 
 /// Whether a work may start now.

@@ -1,0 +1,125 @@
+-- One record or run of a list, found by its number and changed at its index.
+use Rattle.std.proofs.Common.{◌≡◌, ℕ, zero, suc, ◌+◌, ◌<◌, Bool, true, false, cond, eqb, ltb, List, [], ◌∷◌, ◌++◌, length, find, set, slice_get, Option, Some, None, MatchOption, refl, sym, ◌∙◌, ap, subst, arith, inl, inr}
+use Rattle.std.specs.Prelude.{IsSomeAnd, remove}
+use Rattle.std.specs.List.{AllByRecursion, position, position_or_len}
+use Rattle.std.proofs.lemmas.Bool.{eq-eqb, ltb-true, ltb-false, ne_eqb}
+use Rattle.std.proofs.lemmas.List.Folds.{find_at}
+use Rattle.std.proofs.lemmas.Option.{cond_some, none-some, same_Some, slice_get_past}
+use Rattle.wm_machine.proofs.Lists.{All-weaker, one_gives}
+use Rattle.wm_machine.specs.Runs.{changed_work, other_runs, run_numbered}
+use Rattle.wm_machine.specs.Valid.{AllAreApart, AreApart, HasOne, IsValidRun, IsWorkOf, Valid, WorksAscend}
+use Rattle.wm_machine.specs.declared.record.Record.{Record}
+use Rattle.wm_machine.specs.declared.state.Run.{Run}
+use Rattle.wm_machine.specs.declared.state.State.{State}
+
+-- ---- what stands at an index
+
+-- what holds of each holds of the one at an index
+pub All-at : {T : Type 0} (P : T → Type 0) (xs : List T) (i : ℕ) (x : T) → AllByRecursion P xs → slice_get xs i ≡ Some x → P x
+All-at P [] i x all is = absurd (none-some x is)
+All-at P (y ∷ xs) zero x all is = subst P (same_Some y x is) all.0
+All-at P (y ∷ xs) (suc i) x all is = All-at P xs i x all.1 is
+
+-- what is said of the one at an index holds of it
+pub at-some : {T : Type 0} (P : T → Type 0) (xs : List T) (i : ℕ) (x : T) → slice_get xs i ≡ Some x → IsSomeAnd (slice_get xs i) P → P x
+at-some {T} P xs i x at some = subst (λ (o : Option T). IsSomeAnd o P) at some
+
+-- and it is one of those that stand there
+pub within : {T : Type 0} (P : T → Type 0) (xs : List T) (i : ℕ) → IsSomeAnd (slice_get xs i) P → i < length xs
+within P [] i some = absurd some
+within P (x ∷ xs) zero some = omega arith
+within P (x ∷ xs) (suc i) some = let below = within P xs i some in omega arith
+
+-- where a search gives none, none is found
+find-none : {T : Type 0} (test : T → Bool) (xs : List T) → position test xs ≡ None → find test xs ≡ None
+find-none test xs none =
+    let n = position_or_len test xs in
+    find_at test xs ∙ (elim (ltb n (length xs)) as (λ b. ltb n (length xs) ≡ b → cond b (Some n) None ≡ None → slice_get xs n ≡ None) [
+      | true ↦ λ e is. absurd (none-some n (sym is))
+      | false ↦ λ e is. slice_get_past xs n (ltb-false n (length xs) e)
+    ]) refl none
+
+-- what a search by a test gives
+pub searched : {T : Type 0} (test : T → Bool) (xs : List T) (found : Option ℕ) → found ≡ position test xs
+    → MatchOption found (find test xs ≡ None) (λ i. (i < length xs) × (find test xs ≡ slice_get xs i))
+searched test xs None is = find-none test xs (sym is)
+searched test xs (Some i) is =
+    let there = cond_some (ltb (position_or_len test xs) (length xs)) (position_or_len test xs) i (sym is) in
+    (subst (λ n. n < length xs) there.1 (ltb-true _ _ there.0), find_at test xs ∙ ap (slice_get xs) there.1)
+
+-- ---- records
+
+-- the records after this one have other numbers
+changed_work-later : (change : Record → Record) (seq : ℕ) (works : List Record) → AllByRecursion (λ later. seq < later.seq) works
+    → changed_work change seq works ≡ works
+changed_work-later change seq [] above = refl
+changed_work-later change seq (work ∷ works) above =
+    let other = ne_eqb work.seq seq (λ e. absurd (omega (arith, above.0))) in
+    rw other (ap (λ rest. work ∷ rest) (changed_work-later change seq works above.1))
+
+-- the record of a number is changed at its index
+pub changed_work-at : (change : Record → Record) (works : List Record) (i : ℕ) (work : Record) → WorksAscend works → slice_get works i ≡ Some work
+    → changed_work change work.seq works ≡ set works i (change work)
+changed_work-at change [] i work ascend is = absurd (none-some work is)
+changed_work-at change (first ∷ works) zero work ascend is =
+    let same : first ≡ work = same_Some first work is in
+    let hit = eq-eqb work.seq work.seq refl in
+    rw (same, hit)
+    (ap (λ rest. change work ∷ rest)
+    (changed_work-later change work.seq works (subst (λ (w : Record). AllByRecursion (λ later. w.seq < later.seq) works) same ascend.0)))
+changed_work-at change (first ∷ works) (suc i) work ascend is =
+    let above = All-at (λ later. first.seq < later.seq) works i work ascend.0 is in
+    let other = ne_eqb first.seq work.seq (λ e. absurd (omega arith)) in
+    rw other (ap (λ rest. first ∷ rest) (changed_work-at change works i work ascend.1 is))
+
+-- the first record of a run's work number is the run's work
+pub find-work : (run : Run) (works : List Record) → WorksAscend works → HasOne (IsWorkOf run) works
+    → IsSomeAnd (find (λ work. eqb work.seq run.seq) works) (IsWorkOf run)
+find-work run [] ascend one = absurd one
+find-work run (first ∷ works) ascend (inl is) =
+    let hit = eq-eqb first.seq run.seq is.seq in
+    rw hit is
+find-work run (first ∷ works) ascend (inr one) =
+    let above : first.seq < run.seq =
+    one_gives (λ later. first.seq < later.seq) (IsWorkOf run) (first.seq < run.seq) works
+    (λ later above is. subst (λ n. first.seq < n) is.seq above) ascend.0 one in
+    let miss = ne_eqb first.seq run.seq (λ e. absurd (omega arith)) in
+    rw miss (find-work run works ascend.1 one)
+
+-- a search by a run's work number gives the run's work
+pub work-searched : (s : State) (run : Run) (found : Option ℕ) → Valid s → IsValidRun s run → found ≡ position (λ w. eqb w.seq run.seq) s.works
+    → MatchOption found ⊥ (λ i. IsSomeAnd (slice_get s.works i) (IsWorkOf run))
+work-searched s run None valid is at =
+    subst (λ (o : Option Record). IsSomeAnd o (IsWorkOf run)) (searched (λ w. eqb w.seq run.seq) s.works None at) (find-work run s.works valid.ascending is.work)
+work-searched s run (Some i) valid is at =
+    subst (λ (o : Option Record). IsSomeAnd o (IsWorkOf run)) (searched (λ w. eqb w.seq run.seq) s.works (Some i) at).1
+    (find-work run s.works valid.ascending is.work)
+
+-- ---- runs
+
+-- runs of other numbers stay
+other_runs-apart : (number : ℕ) (runs : List Run) → AllByRecursion (λ other. eqb other.run number ≡ false) runs → other_runs number runs ≡ runs
+other_runs-apart number [] apart = refl
+other_runs-apart number (run ∷ runs) apart = rw apart.0 (ap (λ rest. run ∷ rest) (other_runs-apart number runs apart.1))
+
+-- the runs but for the one at an index are the others
+pub remove-run : (runs : List Run) (i : ℕ) (run : Run) → AllAreApart runs → slice_get runs i ≡ Some run → remove runs i ≡ other_runs run.run runs
+remove-run [] i run apart is = absurd (none-some run is)
+remove-run (first ∷ runs) zero run apart is =
+    let same : first ≡ run = same_Some first run is in
+    let hit = eq-eqb run.run run.run refl in
+    rw (same, hit)
+    (sym (other_runs-apart run.run runs (All-weaker (AreApart first) (λ other. eqb other.run run.run ≡ false) runs
+    (λ other differs. ne_eqb other.run run.run (λ e. differs.runs (ap (λ (r : Run). r.run) same ∙ sym e))) apart.0)))
+remove-run (first ∷ runs) (suc i) run apart is =
+    let differs = All-at (AreApart first) runs i run apart.0 is in
+    let miss = ne_eqb first.run run.run differs.runs in
+    rw miss (ap (λ rest. first ∷ rest) (remove-run runs i run apart.1 is))
+
+-- the run of a new number is found where it was added
+pub run_numbered-push : (number : ℕ) (runs : List Run) (run : Run) → AllByRecursion (λ other. other.run < number) runs → run.run ≡ number
+    → run_numbered number (runs ++ run ∷ []) ≡ Some run
+run_numbered-push number [] run below is = let hit = eq-eqb run.run number is in rw hit refl
+run_numbered-push number (first ∷ runs) run below is =
+    let miss = ne_eqb first.run number (λ e. absurd (omega (arith, below.0))) in
+    rw miss (run_numbered-push number runs run below.1 is)

@@ -1,0 +1,281 @@
+-- The rows that a step changes are those of the state that it gives, and so its change is one step of the machine.
+use Rattle.std.proofs.Common.{◌≡◌, ℕ, zero, suc, ◌+◌, ◌^◌, ◌<◌, ◌≤◌, Bool, true, not, eqb, pos, List, [], ◌∷◌, ◌++◌, append_assoc, filter, length, map, set, slice_get, Option, Some, None, option_map, refl, sym, ◌∙◌, ap, subst, arith, inl, inr}
+use Rattle.std.specs.List.{AllByRecursion}
+use Rattle.std.proofs.lemmas.Bool.{cases_order, cond_both, eq-eqb, ne_eqb}
+use Rattle.std.proofs.lemmas.Int.{ints}
+use Rattle.std.proofs.lemmas.List.{append-nil, length-map}
+use Rattle.std.proofs.lemmas.Option.{none-some, same_Some, slice_get-map, slice_get_within}
+use Rattle.wm_data.specs.declared.data.DataEntry.{DataEntry}
+use Rattle.wm_keeper.proofs.Ascending.{int_lt-true, int_lt-false, put_row-above}
+use Rattle.wm_keeper.specs.Keeper.{changed, changed_by as row_changed, put_row, remove_row}
+use Rattle.wm_keeper.specs.declared.row.Change.{Change}
+use Rattle.wm_keeper.specs.declared.row.Row.{Row}
+use Rattle.wm_machine.proofs.Lists.{All-filter, All-push, All-weaker, one_gives}
+use Rattle.wm_machine.proofs.States.{map-push, rows_below}
+use Rattle.wm_machine.specs.Rows.{row_of, rows_of}
+use Rattle.wm_machine.specs.Runs.{changed_work}
+use Rattle.wm_machine.specs.Valid.{HasOne, IsValidRecord, Valid, WorksAscend}
+use Rattle.wm_machine.specs.declared.event.Event.{Event}
+use Rattle.wm_machine.specs.declared.record.Phase.{Phase}
+use Rattle.wm_machine.specs.declared.record.Record.{Record}
+use Rattle.wm_machine.specs.declared.state.State.{State}
+use Rattle.wm_table.proofs.Lookups.{changed_work-at}
+use Rattle.wm_table.specs.StepChanges.{changed_by, next_run_by, other_works, put_replaced, put_work, remove_numbered, replacing, row_changes, seqs_of, with_replaced, without, AreNumberedFrom, Fits, HasRow, IsOfRuns, IsStepOf, KeepsNumber}
+use Rattle.wm_table.specs.Table.{HoldsRowsOf, IsOneStep}
+use Rattle.wm_table.specs.TableState.{TableState}
+use Rattle.wm_table.specs.declared.table.change.Replacement.{Replacement}
+use Rattle.wm_table.specs.declared.table.change.RunChange.{RunChange}
+use Rattle.wm_table.specs.declared.table.change.RunChange.TheVariants.{Unchanged, Begin, End}
+use Rattle.wm_table.specs.declared.table.change.StepChange.{StepChange}
+
+-- ---- a record that takes the place of one of its number
+
+-- what holds of each number holds of the one at an index
+All-seq : (P : ℕ → Type 0) (works : List Record) (i number : ℕ) → AllByRecursion (λ work. P work.seq) works → slice_get (seqs_of works) i ≡ Some number
+    → P number
+All-seq P [] i number all is = absurd (none-some number is)
+All-seq P (work ∷ works) zero number all is = subst P (same_Some work.seq number is) all.0
+All-seq P (work ∷ works) (suc i) number all is = All-seq P works i number all.1 is
+
+seqs-set : (works : List Record) (i : ℕ) (new : Record) → slice_get (seqs_of works) i ≡ Some new.seq → seqs_of (set works i new) ≡ seqs_of works
+seqs-set [] i new is = refl
+seqs-set (work ∷ works) zero new is = ap (λ number. number ∷ seqs_of works) (sym (same_Some work.seq new.seq is))
+seqs-set (work ∷ works) (suc i) new is = ap (λ rest. work.seq ∷ rest) (seqs-set works i new is)
+
+All-set : (P : ℕ → Type 0) (works : List Record) (i : ℕ) (new : Record) → slice_get (seqs_of works) i ≡ Some new.seq
+    → AllByRecursion (λ work. P work.seq) works → AllByRecursion (λ work. P work.seq) (set works i new)
+All-set P [] i new is all = tt
+All-set P (work ∷ works) zero new is all = (subst P (same_Some work.seq new.seq is) all.0, all.1)
+All-set P (work ∷ works) (suc i) new is all = (all.0, All-set P works i new is all.1)
+
+WorksAscend-set : (works : List Record) (i : ℕ) (new : Record) → slice_get (seqs_of works) i ≡ Some new.seq → WorksAscend works
+    → WorksAscend (set works i new)
+WorksAscend-set [] i new is ascend = tt
+WorksAscend-set (work ∷ works) zero new is ascend =
+    (subst (λ number. AllByRecursion (λ later. number < later.seq) works) (same_Some work.seq new.seq is) ascend.0, ascend.1)
+WorksAscend-set (work ∷ works) (suc i) new is ascend =
+    (All-set (λ number. work.seq < number) works i new is ascend.0, WorksAscend-set works i new is ascend.1)
+
+-- its row takes the place of the old row
+put_row-at : (works : List Record) (i : ℕ) (new : Record) → slice_get (seqs_of works) i ≡ Some new.seq → WorksAscend works
+    → put_row (row_of new) (map row_of works) ≡ map row_of (set works i new)
+put_row-at [] i new is ascend = absurd (none-some new.seq is)
+put_row-at (work ∷ works) zero new is ascend =
+    let same : work.seq ≡ new.seq = same_Some work.seq new.seq is in
+    let up = int_lt-false (pos new.seq) (pos work.seq) (omega (arith, ints)) in
+    let down = int_lt-false (pos work.seq) (pos new.seq) (omega (arith, ints)) in
+    rw (up, down) refl
+put_row-at (work ∷ works) (suc i) new is ascend =
+    let above : work.seq < new.seq = All-seq (λ number. work.seq < number) works i new.seq ascend.0 is in
+    let up = int_lt-false (pos new.seq) (pos work.seq) (omega (arith, ints)) in
+    let down = int_lt-true (pos work.seq) (pos new.seq) (omega (arith, ints)) in
+    rw (up, down) (ap (λ (rest : List Row). row_of work ∷ rest) (put_row-at works i new is ascend.1))
+
+-- ascending records below a number
+abbrev AreBelow : ℕ → List Record → Type 0
+AreBelow next works = WorksAscend works × AllByRecursion (λ work. work.seq < next) works
+
+-- the others keep their numbers
+still_keep : (works : List Record) (replaced : Replacement) (later : List Replacement) → AllByRecursion (KeepsNumber works) (replaced ∷ later)
+    → AllByRecursion (KeepsNumber (set works replaced.index replaced.work)) later
+still_keep works replaced later keep =
+    subst (λ numbers. AllByRecursion (λ r. slice_get numbers r.index ≡ Some r.work.seq) later) (sym (seqs-set works replaced.index replaced.work keep.0)) keep.1
+
+AreBelow-replaced : (next : ℕ) (replaced : List Replacement) (works : List Record) → AllByRecursion (KeepsNumber works) replaced → AreBelow next works
+    → AreBelow next (with_replaced replaced works)
+AreBelow-replaced next [] works keep below = below
+AreBelow-replaced next (replaced ∷ later) works keep below =
+    AreBelow-replaced next later (set works replaced.index replaced.work) (still_keep works replaced later keep)
+    (WorksAscend-set works replaced.index replaced.work keep.0 below.0,
+    All-set (λ number. number < next) works replaced.index replaced.work keep.0 below.1)
+
+rows-replaced : (replaced : List Replacement) (works : List Record) → AllByRecursion (KeepsNumber works) replaced → WorksAscend works
+    → changed (map put_replaced replaced) (map row_of works) ≡ map row_of (with_replaced replaced works)
+rows-replaced [] works keep ascend = refl
+rows-replaced (replaced ∷ later) works keep ascend =
+    ap (changed (map put_replaced later)) (put_row-at works replaced.index replaced.work keep.0 ascend)
+    ∙ rows-replaced later (set works replaced.index replaced.work) (still_keep works replaced later keep)
+    (WorksAscend-set works replaced.index replaced.work keep.0 ascend)
+
+-- ---- records that are removed
+
+All-kept : (P : Record → Type 0) (keep : Record → Bool) (works : List Record) → AllByRecursion P works → AllByRecursion P (filter keep works)
+All-kept P keep works all = All-filter P keep works (All-weaker P (λ work. keep work ≡ true → P work) works (λ work is e. is) all)
+
+WorksAscend-filter : (keep : Record → Bool) (works : List Record) → WorksAscend works → WorksAscend (filter keep works)
+WorksAscend-filter keep [] ascend = tt
+WorksAscend-filter keep (work ∷ works) ascend =
+    let rest = WorksAscend-filter keep works ascend.1 in
+    cond_both (keep work) (work ∷ filter keep works) (filter keep works) WorksAscend
+    (λ e. (All-kept (λ later. work.seq < later.seq) keep works ascend.0, rest)) (λ e. rest)
+
+-- records above a number stay
+other_works-above : (number : ℕ) (works : List Record) → AllByRecursion (λ later. number < later.seq) works → other_works number works ≡ works
+other_works-above number [] above = refl
+other_works-above number (work ∷ works) above =
+    let other = ne_eqb work.seq number (λ e. absurd (omega (arith, above.0))) in
+    rw other (ap (λ rest. work ∷ rest) (other_works-above number works above.1))
+
+remove_row-at : (number : ℕ) (works : List Record) → WorksAscend works → remove_row (pos number) (map row_of works) ≡ map row_of (other_works number works)
+remove_row-at number [] ascend = refl
+remove_row-at number (work ∷ works) ascend = elim (cases_order number work.seq) [
+  | inl same ↦
+      let up = int_lt-false (pos number) (pos work.seq) (omega (arith, ints)) in
+      let down = int_lt-false (pos work.seq) (pos number) (omega (arith, ints)) in
+      let hit = eq-eqb work.seq number (sym same) in
+      rw (up, down, hit) (ap (map row_of)
+      (sym (other_works-above number works (subst (λ n. AllByRecursion (λ later. n < later.seq) works) (sym same) ascend.0))))
+  | inr (inl above) ↦
+      let up = int_lt-true (pos number) (pos work.seq) (omega (arith, ints)) in
+      let all =
+      All-weaker (λ later. work.seq < later.seq) (λ later. number < later.seq) works (λ later is. omega arith) ascend.0 in
+      rw up (ap (map row_of) (sym (other_works-above number (work ∷ works) (above, all))))
+  | inr (inr below) ↦
+      let up = int_lt-false (pos number) (pos work.seq) (omega (arith, ints)) in
+      let down = int_lt-true (pos work.seq) (pos number) (omega (arith, ints)) in
+      let miss = ne_eqb work.seq number (λ e. absurd (omega arith)) in
+      rw (up, down, miss) (ap (λ (rest : List Row). row_of work ∷ rest) (remove_row-at number works ascend.1))
+]
+
+AreBelow-removed : (next : ℕ) (numbers : List ℕ) (works : List Record) → AreBelow next works → AreBelow next (without numbers works)
+AreBelow-removed next [] works below = below
+AreBelow-removed next (number ∷ numbers) works below =
+    let keep : Record → Bool = λ work. not (eqb work.seq number) in
+    AreBelow-removed next numbers (other_works number works)
+    (WorksAscend-filter keep works below.0, All-kept (λ work. work.seq < next) keep works below.1)
+
+rows-removed : (numbers : List ℕ) (works : List Record) → WorksAscend works
+    → changed (map remove_numbered numbers) (map row_of works) ≡ map row_of (without numbers works)
+rows-removed [] works ascend = refl
+rows-removed (number ∷ numbers) works ascend =
+    ap (changed (map remove_numbered numbers)) (remove_row-at number works ascend)
+    ∙ rows-removed numbers (other_works number works) (WorksAscend-filter (λ work. not (eqb work.seq number)) works ascend)
+
+-- ---- records that are placed
+
+rows-placed : (next : ℕ) (placed works : List Record) → AreNumberedFrom next placed → AllByRecursion (λ work. work.seq < next) works
+    → changed (map put_work placed) (map row_of works) ≡ map row_of (works ++ placed)
+rows-placed next [] works numbered below = ap (map row_of) (sym (append-nil works))
+rows-placed next (work ∷ placed) works numbered below =
+    let more =
+    All-push (λ w. w.seq < next + 1) works work
+    (All-weaker (λ w. w.seq < next) (λ w. w.seq < next + 1) works (λ w is. omega arith) below) (omega (arith, numbered.0)) in
+    let rows = rows_below works next below in
+    ap (changed (map put_work placed))
+    (put_row-above (row_of work) (map row_of works) (rw (numbered.0) rows) ∙ sym (map-push row_of works work))
+    ∙ rows-placed (next + 1) placed (works ++ work ∷ []) numbered.1 more
+    ∙ ap (map row_of) (append_assoc works (work ∷ []) placed)
+
+-- ---- the step
+
+changed-append : (first second : List Change) (rows : List Row) → changed (first ++ second) rows ≡ changed second (changed first rows)
+changed-append [] second rows = refl
+changed-append (change ∷ first) second rows = changed-append first second (row_changed change rows)
+
+-- the keeper's changes make the rows of the state after the change
+rows-changed : (s : State) (change : StepChange) → Valid s → Fits s change → changed (row_changes change) (rows_of s) ≡ rows_of (changed_by change s)
+rows-changed s change valid fits =
+    let puts = map put_replaced change.replaced in
+    let removes = map remove_numbered change.removed in
+    let placed = map put_work change.placed in
+    let replaced = with_replaced change.replaced s.works in
+    let below = AreBelow-replaced s.next change.replaced s.works fits.replaced (valid.ascending, valid.numbers) in
+    changed-append (puts ++ removes) placed (rows_of s)
+    ∙ ap (changed placed)
+    (changed-append puts removes (rows_of s)
+    ∙ ap (changed removes) (rows-replaced change.replaced s.works fits.replaced valid.ascending)
+    ∙ rows-removed change.removed replaced below.0)
+    ∙ rows-placed s.next change.placed (without change.removed replaced) fits.placed (AreBelow-removed s.next change.removed replaced below).1
+
+-- what makes the rows of one state those of another does so to rows that are held
+rows-held : (s t : State) (change : List Row → List Row) (held : Option (List Row)) → HoldsRowsOf s held → change (rows_of s) ≡ rows_of t
+    → option_map change held ≡ option_map (λ _. rows_of t) held
+rows-held s t change None holds makes = refl
+rows-held s t change (Some rows) holds makes =
+    let same : rows ≡ rows_of s = cc in
+    ap (λ (rs : List Row). Some rs) (ap change same ∙ makes)
+
+-- a change that is that of a legal step makes one step of the machine
+pub change-step : {K : Type 0} (held : K → Option (List Row)) (old new : TableState K) (change : StepChange) → Valid old.state
+    → HoldsRowsOf old.state (held old.keeper) → IsStepOf old.state change → new.first ≡ old.first → new.state ≡ changed_by change old.state
+    → new.log ≡ old.log ++ change.event ∷ [] → held new.keeper ≡ option_map (changed (row_changes change)) (held old.keeper)
+    → IsOneStep held change.event old new
+change-step held old new change valid holds is first state appended rows = record {
+  first = first;
+  legal = is.legal;
+  state = state ∙ is.state;
+  appended = appended;
+  rows =
+      rows
+      ∙ rows-held old.state (changed_by change old.state) (changed (row_changes change)) (held old.keeper) holds
+      (rows-changed old.state change valid is.fits)
+      ∙ ap (λ (t : State). option_map (λ _. rows_of t) (held old.keeper)) (sym state);
+}
+
+-- a change begins one run at most
+pub next_run-changed : (s : State) (change : StepChange) → (changed_by change s).next_run ≤ s.next_run + 1
+next_run-changed s change = elim change.run as (λ run. next_run_by run s.next_run ≤ s.next_run + 1) [
+  | Unchanged ↦ omega arith
+  | Begin run ↦ omega arith
+  | End index ↦ omega arith
+]
+
+-- ---- what fits
+
+-- the numbers that are removed fit a row
+pub removed_fit : (s : State) (change : StepChange) → Valid s → Fits s change → AllByRecursion (λ number. number < 2 ^ 53) change.removed
+removed_fit s change valid fits =
+    All-weaker (λ number. HasOne (λ work. work.seq ≡ number) s.works) (λ number. number < 2 ^ 53) change.removed (λ number one.
+    one_gives (λ work. work.seq < s.next) (λ work. work.seq ≡ number) (number < 2 ^ 53) s.works (λ work below is. omega (arith, valid.next)) valid.numbers one)
+    fits.removed
+
+-- the records that are replaced are there
+pub replaced_within : (works : List Record) (replaced : List Replacement) → AllByRecursion (KeepsNumber works) replaced
+    → AllByRecursion (λ r. r.index < length works) replaced
+replaced_within works replaced keep =
+    All-weaker (KeepsNumber works) (λ r. r.index < length works) replaced (λ r is.
+    omega (arith, slice_get_within (seqs_of works) r.index r.work.seq is, length-map works (λ (work : Record). work.seq))) keep
+
+-- a record has a row whatever its phase, its attempt and its progress
+pub HasRow-moved : (work : Record) (phase : Phase) (attempt : ℕ) (output progress : List DataEntry) → output ≡ [] → IsValidRecord work
+    → HasRow (record work { phase = phase; attempt = attempt; output = output; progress = progress })
+HasRow-moved work phase attempt output progress none valid = record {
+  fits = record {
+    seq = valid.fits.seq;
+    prior = valid.fits.prior;
+    generation = valid.fits.generation;
+    enqueued_at = valid.fits.enqueued_at;
+    delay = valid.fits.delay;
+    wait = valid.fits.wait;
+    period = valid.fits.period;
+  };
+  no_data = record { input = valid.no_data.input; output = none };
+}
+
+-- one record that is replaced by one of its number
+pub Fits-replacing : (s : State) (i : ℕ) (work new : Record) (run : RunChange) (e : Event) → Valid s → slice_get s.works i ≡ Some work → new.seq ≡ work.seq
+    → HasRow new → IsOfRuns run s.runs → Fits s (replacing i new run e)
+Fits-replacing s i work new run e valid at keeps row of_runs = record {
+  replaced =
+      (slice_get-map (λ (w : Record). w.seq) s.works i ∙ ap (option_map (λ (w : Record). w.seq)) at ∙ ap (λ number. Some number) (sym keeps), tt);
+  removed = tt;
+  placed = tt;
+  numbers = omega (arith, valid.next);
+  replaced_rows = (row, tt);
+  placed_rows = tt;
+  apart = (tt, tt);
+  run = of_runs;
+}
+
+-- where nothing is placed, the works have their end and the next number stays
+pub unplaced : (s : State) (works changed : List Record) → works ≡ changed → record s { works = works ++ []; next = s.next + 0 } ≡ record s { works = changed }
+unplaced s works changed same =
+    let next : s.next + 0 ≡ s.next = omega arith in
+    ap (λ number. record s { works = works ++ []; next = number }) next
+    ∙ ap (λ (all : List Record). record s { works = all }) (append-nil works ∙ same)
+
+-- the record stands there as if it had been changed by its number
+pub state-replacing : (s t : State) (i : ℕ) (work : Record) (change : Record → Record) → Valid s → slice_get s.works i ≡ Some work
+    → record t { works = set s.works i (change work) ++ []; next = t.next + 0 } ≡ record t { works = changed_work change work.seq s.works }
+state-replacing s t i work change valid at =
+    unplaced t (set s.works i (change work)) (changed_work change work.seq s.works) (sym (changed_work-at change s.works i work valid.ascending at))

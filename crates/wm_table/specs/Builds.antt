@@ -1,0 +1,66 @@
+-- What is built for an event: the change of its step, and what is answered. This project's own choice.
+use Rattle.std.specs.Prelude.{◌≡◌, ◌⊎◌, ℕ, List, [], Option, Some, None, IsSomeAnd, slice_get}
+use Rattle.wm_data.specs.declared.data.DataEntry.{DataEntry}
+use Rattle.wm_machine.specs.Built.{IsWritten}
+use Rattle.wm_machine.specs.First.{first_of}
+use Rattle.wm_machine.specs.Runs.{run_numbered}
+use Rattle.wm_machine.specs.Step.{after}
+use Rattle.wm_machine.specs.declared.command.Command.{Command}
+use Rattle.wm_machine.specs.declared.event.End.TheVariants.{Success}
+use Rattle.wm_machine.specs.declared.event.Event.{Event}
+use Rattle.wm_machine.specs.declared.event.Event.TheVariants as event
+use Rattle.wm_machine.specs.declared.record.Record.{Record}
+use Rattle.wm_machine.specs.declared.reply.Reply.{Reply}
+use Rattle.wm_machine.specs.declared.state.State.{State}
+use Rattle.wm_table.specs.StepChanges.{row_changes, telling, IsStepOf}
+use Rattle.wm_table.specs.Table.{ChangesRows, Counts, IsTicketIn}
+use Rattle.wm_table.specs.declared.table.Claim.{Claim}
+use Rattle.wm_table.specs.declared.table.Claim.TheVariants as claim
+use Rattle.wm_table.specs.declared.table.change.StepChange.{StepChange}
+use Rattle.wm_table.specs.declared.table.commands.Executed.{Executed}
+use Rattle.wm_table.specs.declared.table.starting.Claiming.{Claiming}
+use Rattle.wm_worker.specs.Told.{Report}
+use Rattle.wm_worker.specs.declared.answer.Answer.TheVariants as answer
+
+-- ---- a command
+
+-- the step of a command and its reply
+pub record IsExecuted (s : State) (line : ℕ) (asked : Command) (executed : Executed) : Type 0 where
+  pub event : executed.change.event ≡ event.Command line asked executed.reply
+  pub step : IsStepOf s executed.change
+  pub text : IsWritten executed.reply
+  pub rows : ChangesRows s asked ⊎ (row_changes executed.change ≡ [])
+
+-- a command that only has a reply
+abbrev pub answering : ℕ → Command → Reply → Executed
+answering line asked answer = record { change = telling (event.Command line asked answer); reply = answer }
+
+-- ---- a claim
+
+-- the work that is first stands at this index
+pub record IsFirstAt (s : State) (index : ℕ) (work : Record) : Type 0 where
+  pub at : slice_get s.works index ≡ Some work
+  pub is_first : first_of s ≡ Some work
+
+-- what is claimed by an event, with the state after it
+abbrev pub IsClaimOf : State → Event → Claim → Type 0
+IsClaimOf s e (claim.Run ticket) = (e ≡ event.Start ticket.task.run ticket.seq ticket.instance ticket.task.input) × IsTicketIn s ticket
+IsClaimOf s e (claim.Failed seq cause) = e ≡ event.StartFailed seq cause
+
+-- the step of a claim
+pub record IsClaiming (s : State) (claiming : Claiming) : Type 0 where
+  pub step : IsStepOf s claiming.change
+  pub claim : IsClaimOf (after s claiming.change.event) claiming.change.event claiming.claim
+
+-- ---- the end of a run
+
+-- the run of this number stands at this place, and the report counts for it
+abbrev pub CountsAt : State → ℕ → Report → ℕ → Type 0
+CountsAt s number told place = IsSomeAnd (slice_get s.runs place) (λ run. Counts run told × (run_numbered number s.runs ≡ Some run))
+
+-- the step by which the run of this number is over: its work succeeded with the output that was told
+pub record IsFinish (s : State) (number : ℕ) (told : Report) (change : StepChange) : Type 0 where
+  pub output : List DataEntry
+  pub told_is : told.answer ≡ answer.Success output
+  pub event : change.event ≡ event.Finish number (Success output)
+  pub step : IsStepOf s change

@@ -1,0 +1,141 @@
+-- What the change of a step makes of a state and of the rows held, and when it fits a state. This project's own choice.
+use Rattle.std.specs.Prelude.{◌≡◌, ℕ, ◌+◌, ◌^◌, ◌==◌, ◌<◌, ◌≤◌, pos, true, false, not, List, [], ◌∷◌, ◌++◌, length, map, filter, remove, slice_get, slice_set, Option, Some, None}
+use Rattle.std.specs.List.{AllByRecursion}
+use Rattle.wm_keeper.specs.Keeper.{AreOfDifferentNumbers}
+use Rattle.wm_keeper.specs.declared.row.Change.{Change}
+use Rattle.wm_keeper.specs.declared.row.Change.TheVariants.{Put, Remove}
+use Rattle.wm_machine.specs.Limits.{FitsRow}
+use Rattle.wm_machine.specs.Rows.{row_of, HasNoData}
+use Rattle.wm_machine.specs.Runs.{with_out}
+use Rattle.wm_machine.specs.Step.{Legal, after}
+use Rattle.wm_machine.specs.Valid.{HasOne}
+use Rattle.wm_machine.specs.declared.event.Event.{Event}
+use Rattle.wm_machine.specs.declared.record.Record.{Record}
+use Rattle.wm_machine.specs.declared.state.Instance.{Instance}
+use Rattle.wm_machine.specs.declared.state.Run.{Run}
+use Rattle.wm_machine.specs.declared.state.State.{State}
+use Rattle.wm_table.specs.declared.table.change.Replacement.{Replacement}
+use Rattle.wm_table.specs.declared.table.change.RunChange.{RunChange}
+use Rattle.wm_table.specs.declared.table.change.RunChange.TheVariants.{Unchanged, Begin, End}
+use Rattle.wm_table.specs.declared.table.change.StepChange.{StepChange}
+
+-- ---- the state
+
+-- the records, with each of these in its place
+abbrev pub with_replaced : List Replacement → List Record → List Record
+with_replaced [] works = works
+with_replaced (replaced ∷ later) works = with_replaced later (slice_set works replaced.index replaced.work)
+
+-- the records but for the one of this number
+abbrev pub other_works : ℕ → List Record → List Record
+other_works number works = filter (λ work. not (work.seq == number)) works
+
+-- the records but for those of these numbers
+abbrev pub without : List ℕ → List Record → List Record
+without [] works = works
+without (number ∷ numbers) works = without numbers (other_works number works)
+
+-- a run begins or is over
+abbrev pub runs_by : RunChange → List Run → List Run
+runs_by Unchanged runs = runs
+runs_by (Begin run) runs = runs ++ run ∷ []
+runs_by (End index) runs = remove runs index
+
+-- the instance of a run is idle again
+abbrev pub freed : Option Run → List Instance → List Instance
+freed None instances = instances
+freed (Some run) instances = with_out false run.instance instances
+
+-- the instance of a run that begins is out, and that of a run that is over is idle
+abbrev pub instances_by : RunChange → List Run → List Instance → List Instance
+instances_by Unchanged runs instances = instances
+instances_by (Begin run) runs instances = with_out true run.instance instances
+instances_by (End index) runs instances = freed (slice_get runs index) instances
+
+-- the number after those of the runs
+abbrev pub next_run_by : RunChange → ℕ → ℕ
+next_run_by Unchanged next = next
+next_run_by (Begin run) next = next + 1
+next_run_by (End index) next = next
+
+-- the state after a change: works without the removed ones, with the replaced ones in place and the placed ones at the end
+abbrev pub changed_by : StepChange → State → State
+changed_by change s = record s {
+  works = without change.removed (with_replaced change.replaced s.works) ++ change.placed;
+  runs = runs_by change.run s.runs;
+  instances = instances_by change.run s.runs s.instances;
+  next = s.next + length change.placed;
+  next_run = next_run_by change.run s.next_run;
+}
+
+-- ---- the rows
+
+abbrev pub put_replaced : Replacement → Change
+put_replaced replaced = Put (row_of replaced.work)
+
+abbrev pub remove_numbered : ℕ → Change
+remove_numbered number = Remove (pos number)
+
+abbrev pub put_work : Record → Change
+put_work work = Put (row_of work)
+
+-- what the keeper changes: the rows of the records that are replaced, removed and placed
+abbrev pub row_changes : StepChange → List Change
+row_changes change = map put_replaced change.replaced ++ map remove_numbered change.removed ++ map put_work change.placed
+
+-- ---- when it fits
+
+abbrev pub seqs_of : List Record → List ℕ
+seqs_of works = map (λ work. work.seq) works
+
+-- a record takes the place of one of its number
+abbrev pub KeepsNumber : List Record → Replacement → Type 0
+KeepsNumber works replaced = slice_get (seqs_of works) replaced.index ≡ Some replaced.work.seq
+
+-- the records have the next numbers, in order
+abbrev pub AreNumberedFrom : ℕ → List Record → Type 0
+AreNumberedFrom next [] = Unit {0}
+AreNumberedFrom next (work ∷ works) = (work.seq ≡ next) × AreNumberedFrom (next + 1) works
+
+-- a record has a row
+pub record HasRow (work : Record) : Type 0 where
+  pub fits : FitsRow work
+  pub no_data : HasNoData work
+
+-- a run that is over was there
+abbrev pub IsOfRuns : RunChange → List Run → Type 0
+IsOfRuns Unchanged runs = Unit {0}
+IsOfRuns (Begin run) runs = Unit {0}
+IsOfRuns (End index) runs = index < length runs
+
+pub record Fits (s : State) (change : StepChange) : Type 0 where
+  pub replaced : AllByRecursion (KeepsNumber s.works) change.replaced
+  -- the records removed are there
+  pub removed : AllByRecursion (λ number. HasOne (λ work. work.seq ≡ number) s.works) change.removed
+  pub placed : AreNumberedFrom s.next change.placed
+  pub numbers : s.next + length change.placed ≤ 2 ^ 53
+  pub replaced_rows : AllByRecursion (λ replaced. HasRow replaced.work) change.replaced
+  pub placed_rows : AllByRecursion HasRow change.placed
+  -- no row is changed twice
+  pub apart : AreOfDifferentNumbers (row_changes change)
+  pub run : IsOfRuns change.run s.runs
+
+-- the change is that of a legal step
+pub record IsStepOf (s : State) (change : StepChange) : Type 0 where
+  pub fits : Fits s change
+  pub legal : Legal s change.event
+  pub state : changed_by change s ≡ after s change.event
+
+-- ---- changes
+
+-- only the log changes
+abbrev pub telling : Event → StepChange
+telling event = record { replaced = []; removed = []; placed = []; run = Unchanged; event = event }
+
+-- one record is replaced
+abbrev pub replacing : ℕ → Record → RunChange → Event → StepChange
+replacing index work run event = record { replaced = record { index = index; work = work } ∷ []; removed = []; placed = []; run = run; event = event }
+
+-- one record is placed
+abbrev pub placing : Record → Event → StepChange
+placing work event = record { replaced = []; removed = []; placed = work ∷ []; run = Unchanged; event = event }

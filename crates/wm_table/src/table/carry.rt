@@ -1,0 +1,282 @@
+//! How the change of a step is carried out: first all that takes memory, then the commit of the
+//! rows, and the state last.
+ghost use Rattle.std.specs.Prelude.{◌≡◌, ◌≢◌, ◌+◌, ◌^◌, ◌<◌, ◌≤◌, ◌∷◌, ◌++◌, [], length, vec_len, vec_capacity, option_map, Err, OnOk, OnErr};
+ghost use Rattle.std.specs.List.{AllByRecursion};
+ghost use Rattle.wm_keeper.specs.Keeper.{changed, AreOfDifferentNumbers};
+ghost use Rattle.wm_machine.specs.Runs.{with_out};
+ghost use Rattle.wm_machine.specs.Valid.{Valid};
+ghost use Rattle.wm_table.specs.StepChanges.{changed_by, instances_by, next_run_by, other_works, row_changes, runs_by, with_replaced, without, Fits, HasRow, IsOfRuns};
+ghost use Rattle.wm_table.specs.Table.{TroubleCause};
+
+use crate::table::Trouble;
+use crate::table::change::{Replacement, RunChange, StepChange};
+use crate::table::row_changes::row_changes;
+use std::alloc::{AllocError, Global};
+use std::mem;
+use wm_collections::Items;
+use wm_keeper::{Change, Keeper};
+use wm_machine::{Event, Instance, Record, Run, State};
+
+/// The lists that a step adds to, while their room counts.
+#[derive(Drop)]
+struct Lists {
+    works: Vec<Record>,
+    runs: Vec<Run>,
+    log: Vec<Event>,
+}
+
+impl Lists {
+    /// Takes the lists out of a state and its log.
+    fn take(alloc: Global, state: &mut State, log: &mut Items<Event>) -> Lists
+        ensures works { result.works.items ≡ state.old.works }
+        ensures runs { result.runs.items ≡ state.old.runs }
+        ensures log { result.log.items ≡ log.old }
+        ensures state { state.new ≡ record state.old { works = []; runs = [] } }
+    {
+        Lists {
+            works: mem::replace(&mut state.works, Items::new(alloc)).into_vec(),
+            runs: mem::replace(&mut state.runs, Items::new(alloc)).into_vec(),
+            log: mem::replace(log, Items::new(alloc)).into_vec(),
+        }
+    }
+
+    /// Puts the lists back.
+    fn put_back(self, state: &mut State, log: &mut Items<Event>)
+        ensures state { state.new ≡ record state.old { works = self.works.items; runs = self.runs.items } }
+        ensures log { log.new ≡ self.log.items }
+    {
+        state.works = Items::from_vec(self.works);
+        state.runs = Items::from_vec(self.runs);
+        *log = Items::from_vec(self.log);
+    }
+
+    /// Makes room for so many works, for a run and for an event.
+    fn reserve(&mut self, works: usize) -> Result<(), AllocError>
+        ensures works { self.new.works.items ≡ self.old.works.items }
+        ensures runs { self.new.runs.items ≡ self.old.runs.items }
+        ensures log { self.new.log.items ≡ self.old.log.items }
+        ensures works_room { OnOk result (vec_len self.new.works + works ≤ vec_capacity self.new.works) }
+        ensures run_room { OnOk result (vec_len self.new.runs < vec_capacity self.new.runs) }
+        ensures log_room { OnOk result (vec_len self.new.log < vec_capacity self.new.log) }
+    {
+        self.works.reserve(works)?;
+        self.runs.reserve(1)?;
+        self.log.reserve(1)
+    }
+
+    /// Makes the change, for which there is room.
+    fn change(&mut self, alloc: Global, state: &mut State, change: StepChange)
+        requires replaced { AllByRecursion (λ replaced. replaced.index < vec_len self.old.works) change.replaced }
+        requires run { IsOfRuns change.run self.old.runs.items }
+        requires next { state.old.next + length change.placed ≤ 2 ^ 53 }
+        requires few_runs { state.old.next_run ≤ vec_len self.old.log + 1 }
+        requires works_room { vec_len self.old.works + length change.placed ≤ vec_capacity self.old.works }
+        requires run_room { vec_len self.old.runs < vec_capacity self.old.runs }
+        requires log_room { vec_len self.old.log < vec_capacity self.old.log }
+        ensures works { self.new.works.items ≡ without change.removed (with_replaced change.replaced self.old.works.items) ++ change.placed }
+        ensures runs { self.new.runs.items ≡ runs_by change.run self.old.runs.items }
+        ensures log { self.new.log.items ≡ self.old.log.items ++ change.event ∷ [] }
+        ensures state { state.new ≡ record state.old {
+          instances = instances_by change.run self.old.runs.items state.old.instances;
+          next = state.old.next + length change.placed;
+          next_run = next_run_by change.run state.old.next_run;
+        } }
+    {
+        let StepChange {
+            replaced,
+            removed,
+            placed,
+            run,
+            event,
+        } = change;
+        let next_run = number_after(state.next_run, self.log.as_slice());
+        state.next += placed.len() as u64;
+        replace_works(&mut self.works, replaced.into_vec());
+        remove_works(&mut self.works, removed.as_slice());
+        append(&mut self.works, placed);
+        change_runs(alloc, &mut self.runs, state, run, next_run);
+        self.log.push_reserved(event);
+    }
+}
+
+/// The number after that of a run: there are no more runs than events.
+fn number_after(next_run: u64, log: &[Event]) -> u64
+    requires { next_run ≤ length log.now + 1 }
+    ensures { result ≡ next_run + 1 }
+{
+    let _events = log.len() + 1;
+    next_run + 1
+}
+
+/// Puts records in the places of others.
+fn replace_works(works: &mut Vec<Record>, replaced: Vec<Replacement>)
+    requires { AllByRecursion (λ replaced. replaced.index < vec_len works.old) replaced.items }
+    ensures works { works.new.items ≡ with_replaced replaced.items works.old.items }
+    ensures len { vec_len works.new ≡ vec_len works.old }
+    ensures capacity { vec_capacity works.new ≡ vec_capacity works.old }
+{
+    for replacement in replaced {
+        let Replacement { index, work } = replacement;
+        works[index] = work;
+    }
+}
+
+/// Takes the records of these numbers out.
+fn remove_works(works: &mut Vec<Record>, numbers: &[u64])
+    ensures works { works.new.items ≡ without numbers.now works.old.items }
+    ensures len { vec_len works.new ≤ vec_len works.old }
+    ensures capacity { vec_capacity works.new ≡ vec_capacity works.old }
+{
+    for number in numbers {
+        remove_work(works, *number);
+    }
+}
+
+/// Takes the record of this number out.
+fn remove_work(works: &mut Vec<Record>, number: u64)
+    ensures works { works.new.items ≡ other_works number works.old.items }
+    ensures len { vec_len works.new ≤ vec_len works.old }
+    ensures capacity { vec_capacity works.new ≡ vec_capacity works.old }
+{
+    works.retain(|work| work.seq != number);
+}
+
+/// Adds values at the end. There is room for them.
+fn append<T: Drop>(values: &mut Vec<T>, more: Items<T>)
+    requires { vec_len values.old + length more ≤ vec_capacity values.old }
+    ensures { values.new.items ≡ values.old.items ++ more }
+{
+    let mut more = more.into_vec();
+    values.append(&mut more).unwrap();
+}
+
+/// Changes the runs and their instances. There is room for a run.
+fn change_runs(
+    alloc: Global,
+    runs: &mut Vec<Run>,
+    state: &mut State,
+    change: RunChange,
+    next_run: u64,
+)
+    requires run { IsOfRuns change runs.old.items }
+    requires room { vec_len runs.old < vec_capacity runs.old }
+    requires next { next_run ≡ state.old.next_run + 1 }
+    ensures runs { runs.new.items ≡ runs_by change runs.old.items }
+    ensures state { state.new ≡ record state.old {
+      instances = instances_by change runs.old.items state.old.instances;
+      next_run = next_run_by change state.old.next_run;
+    } }
+{
+    match change {
+        RunChange::Unchanged => {}
+        RunChange::Begin(run) => {
+            set_out(alloc, &mut state.instances, run.instance, true);
+            runs.push_reserved(run);
+            state.next_run = next_run;
+        }
+        RunChange::End { index } => {
+            let run = runs.remove(index);
+            set_out(alloc, &mut state.instances, run.instance, false);
+        }
+    }
+}
+
+/// Has the instance of this number out or not. It takes no memory.
+fn set_out(alloc: Global, instances: &mut Items<Instance>, number: u32, out: bool)
+    ensures { instances.new ≡ with_out out number instances.old }
+{
+    let mut elements = mem::replace(instances, Items::new(alloc)).into_vec();
+    set_each_out(elements.as_mut_slice(), number, out);
+    *instances = Items::from_vec(elements);
+}
+
+/// Has the instance of this number out or not.
+fn set_each_out(instances: &mut [Instance], number: u32, out: bool)
+    ensures { instances.new ≡ with_out out number instances.old }
+{
+    for instance in instances.iter_mut() {
+        if instance.number == number {
+            instance.out = out;
+        }
+    }
+}
+
+/// Commits changes of rows, in one commit, and none where there are none.
+fn commit<K: Keeper>(keeper: &mut K, changes: &[Change]) -> Result<(), Trouble>
+    requires { AreOfDifferentNumbers changes.now }
+    ensures ok { OnOk result (K.held keeper.new ≡ option_map (changed changes.now) (K.held keeper.old)) }
+    ensures err { OnErr result (K.held keeper.new ≡ K.held keeper.old) }
+    ensures cause { TroubleCause result (K.faults keeper.old) (K.faults keeper.new) }
+    ensures untouched_keeper { changes.now ≡ [] → keeper.new ≡ keeper.old }
+    ensures no_keeper_fault { changes.now ≡ [] → result ≢ Err Trouble.KeeperFault }
+{
+    if !changes.is_empty() {
+        keeper.commit(changes)?;
+    }
+    Ok(())
+}
+
+/// Takes all memory that a change needs, and then commits its rows.
+fn store<K: Keeper>(
+    alloc: Global,
+    lists: &mut Lists,
+    keeper: &mut K,
+    change: &StepChange,
+) -> Result<(), Trouble>
+    requires replaced { AllByRecursion (λ replaced. HasRow replaced.work) change.now.replaced }
+    requires removed { AllByRecursion (λ number. number < 2 ^ 53) change.now.removed }
+    requires placed { AllByRecursion HasRow change.now.placed }
+    requires apart { AreOfDifferentNumbers (row_changes change.now) }
+    ensures works { lists.new.works.items ≡ lists.old.works.items }
+    ensures runs { lists.new.runs.items ≡ lists.old.runs.items }
+    ensures log { lists.new.log.items ≡ lists.old.log.items }
+    ensures works_room { OnOk result (vec_len lists.new.works + length change.now.placed ≤ vec_capacity lists.new.works) }
+    ensures run_room { OnOk result (vec_len lists.new.runs < vec_capacity lists.new.runs) }
+    ensures log_room { OnOk result (vec_len lists.new.log < vec_capacity lists.new.log) }
+    ensures ok { OnOk result (K.held keeper.new ≡ option_map (changed (row_changes change.now)) (K.held keeper.old)) }
+    ensures err { OnErr result (K.held keeper.new ≡ K.held keeper.old) }
+    ensures cause { TroubleCause result (K.faults keeper.old) (K.faults keeper.new) }
+    ensures untouched_keeper { row_changes change.now ≡ [] → keeper.new ≡ keeper.old }
+    ensures no_keeper_fault { row_changes change.now ≡ [] → result ≢ Err Trouble.KeeperFault }
+{
+    let changes = row_changes(alloc, change)?;
+    lists.reserve(change.placed.len())?;
+    commit(keeper, &changes)
+}
+
+/// Carries a change out: the event is appended, the rows that change are committed at once, and the
+/// state is changed. Where there is trouble, nothing has changed.
+pub fn carry_out<K: Keeper>(
+    alloc: Global,
+    state: &mut State,
+    log: &mut Items<Event>,
+    keeper: &mut K,
+    change: StepChange,
+) -> Result<(), Trouble>
+    requires valid { Valid state.old }
+    requires fits { Fits state.old change }
+    requires few_runs { state.old.next_run ≤ length log.old + 1 }
+    ensures state { OnOk result (state.new ≡ changed_by change state.old) }
+    ensures log { OnOk result (log.new ≡ log.old ++ change.event ∷ []) }
+    ensures rows { OnOk result (K.held keeper.new ≡ option_map (changed (row_changes change)) (K.held keeper.old)) }
+    ensures state_err { OnErr result (state.new ≡ state.old) }
+    ensures log_err { OnErr result (log.new ≡ log.old) }
+    ensures rows_err { OnErr result (K.held keeper.new ≡ K.held keeper.old) }
+    ensures cause { TroubleCause result (K.faults keeper.old) (K.faults keeper.new) }
+    ensures untouched_keeper { row_changes change ≡ [] → keeper.new ≡ keeper.old }
+    ensures no_keeper_fault { row_changes change ≡ [] → result ≢ Err Trouble.KeeperFault }
+{
+    let mut lists = Lists::take(alloc, state, log);
+    match store(alloc, &mut lists, keeper, &change) {
+        Ok(()) => {
+            lists.change(alloc, state, change);
+            lists.put_back(state, log);
+            Ok(())
+        }
+        Err(trouble) => {
+            drop(change);
+            lists.put_back(state, log);
+            Err(trouble)
+        }
+    }
+}

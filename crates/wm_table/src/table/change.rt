@@ -1,0 +1,91 @@
+//! What a step is about to do.
+ghost use Rattle.std.specs.Prelude.{◌≡◌, IfOk};
+ghost use Rattle.wm_table.specs.StepChanges.{placing, replacing, telling};
+
+use crate::table::joins::{one, with};
+use std::alloc::{AllocError, Global};
+use wm_collections::Items;
+use wm_machine::{Event, Record, Run};
+
+/// A record that takes the place of the one at an index.
+#[derive(Drop)]
+pub struct Replacement {
+    pub index: usize,
+    pub work: Record,
+}
+
+/// What becomes of runs and instances in a step.
+#[derive(Drop)]
+pub enum RunChange {
+    /// They stay as they are.
+    Unchanged,
+    /// This run begins, and its instance is out.
+    Begin(Run),
+    /// The run at this index is over, and its instance is idle.
+    End { index: usize },
+}
+
+/// All that one step is about to do, with its memory taken.
+#[derive(Drop)]
+pub struct StepChange {
+    /// The records that take the place of others of their numbers.
+    pub replaced: Items<Replacement>,
+    /// The numbers of the records that are removed.
+    pub removed: Items<u64>,
+    /// The new records, which go to the end under the next numbers.
+    pub placed: Items<Record>,
+    /// What becomes of runs and instances.
+    pub run: RunChange,
+    /// The event of the step.
+    pub event: Event,
+}
+
+impl StepChange {
+    /// A change of the log alone.
+    pub fn telling(alloc: Global, event: Event) -> StepChange
+        ensures { result ≡ telling event }
+    {
+        StepChange {
+            replaced: Items::new(alloc),
+            removed: Items::new(alloc),
+            placed: Items::new(alloc),
+            run: RunChange::Unchanged,
+            event,
+        }
+    }
+
+    /// The change of the record at an index to this one, and of the runs.
+    pub fn replacing(
+        alloc: Global,
+        index: usize,
+        work: Record,
+        run: RunChange,
+        event: Event,
+    ) -> Result<StepChange, AllocError>
+        ensures { IfOk result (λ change. change ≡ replacing index work run event) }
+    {
+        let replaced = one(alloc, Replacement { index, work });
+        let ((run, event), replaced) = with((run, event), replaced)?;
+        Ok(StepChange {
+            replaced,
+            removed: Items::new(alloc),
+            placed: Items::new(alloc),
+            run,
+            event,
+        })
+    }
+
+    /// The change by one record more.
+    pub fn placing(alloc: Global, work: Record, event: Event) -> Result<StepChange, AllocError>
+        ensures { IfOk result (λ change. change ≡ placing work event) }
+    {
+        let (event, placed) = with(event, one(alloc, work))?;
+        Ok(StepChange {
+            replaced: Items::new(alloc),
+            removed: Items::new(alloc),
+            placed,
+            run: RunChange::Unchanged,
+            event,
+        })
+    }
+}
