@@ -3,9 +3,10 @@ use Rattle.std.proofs.Common.{◌≡◌, ℕ, refl, sym, ◌∙◌, arith, inr}
 use Rattle.std.specs.List.{AllByRecursion}
 use Rattle.wm_machine.proofs.Lists.{All-map}
 use Rattle.wm_machine.specs.Built.{IsWritten, TellsNoData}
+use Rattle.wm_machine.specs.Narrow.{IsNarrow, IsNarrowRecord}
 use Rattle.wm_machine.specs.Shown.{info_of, infos_of}
 use Rattle.wm_machine.specs.Step.{Legal, after}
-use Rattle.wm_machine.specs.Valid.{IsValidRecord, Valid}
+use Rattle.wm_machine.specs.Valid.{Valid}
 use Rattle.wm_machine.specs.declared.command.Command.{Command}
 use Rattle.wm_machine.specs.declared.event.Event.{Event}
 use Rattle.wm_machine.specs.declared.event.Event.TheVariants as event
@@ -18,7 +19,7 @@ use Rattle.wm_table.specs.StepChanges.{telling, IsStepOf}
 -- the step of an event that changes the log alone
 pub telling-step : (s : State) (e : Event) → Valid s → Legal s e → after s e ≡ s → IsStepOf s (telling e)
 telling-step s e valid legal same = record {
-  fits = record { replaced = tt; removed = tt; placed = tt; numbers = omega (arith, valid.next); replaced_rows = tt; placed_rows = tt; apart = tt; run = tt };
+  fits = record { replaced = tt; removed = tt; placed = tt; numbers = omega (arith, valid.next); replaced_rows = tt; placed_rows = tt; apart = tt };
   legal = legal;
   state = unplaced s s.works s.works refl ∙ sym same;
 }
@@ -33,7 +34,7 @@ answering-executed s line asked answer valid legal same text = record {
 }
 
 -- nothing is told of data, since no record has any
-pub infos-tell : (s : State) → Valid s → AllByRecursion TellsNoData (infos_of s)
+pub infos-tell : (s : State) → IsNarrow s → AllByRecursion TellsNoData (infos_of s)
 unfolding infos_of
-infos-tell s valid =
-    All-map IsValidRecord TellsNoData (info_of s.works) s.works (λ work is. record { output = is.no_data.output; progress = is.no_progress }) valid.records
+infos-tell s narrow =
+    All-map IsNarrowRecord TellsNoData (info_of s.works) s.works (λ work is. record { output = is.no_output; progress = is.no_progress }) narrow.records

@@ -1,26 +1,26 @@
 -- The step by which a run is over.
-use Rattle.std.proofs.Common.{◌≡◌, ℕ, ◌<◌, true, false, eqb, List, [], ◌++◌, Option, Some, set, slice_get, refl, sym, ◌∙◌, ap, subst}
-use Rattle.std.specs.Prelude.{IsSomeAnd, remove}
+use Rattle.std.proofs.Common.{◌≡◌, ℕ, eqb, List, [], Option, Some, slice_get, refl, sym, ◌∙◌, ap, subst}
 use Rattle.std.proofs.lemmas.Bool.{eqb-true}
-use Rattle.std.proofs.lemmas.Option.{slice_get_within}
 use Rattle.wm_data.specs.declared.data.DataEntry.{DataEntry}
 use Rattle.wm_machine.proofs.Lists.{find-passes}
-use Rattle.wm_machine.proofs.States.{run_kind}
-use Rattle.wm_machine.specs.Runs.{changed_work, other_runs, run_numbered, succeeded, success_of, with_out}
-use Rattle.wm_machine.specs.Valid.{IsValidRecord, IsValidRun, IsWorkOf, Valid}
+use Rattle.wm_machine.proofs.Narrows.{found_narrow, found_valid, run_kind, with_success}
+use Rattle.wm_machine.proofs.Records.{IsRecord-succeeded}
+use Rattle.wm_machine.proofs.States.{after_finish}
+use Rattle.wm_machine.specs.Ends.{succeeded}
+use Rattle.wm_machine.specs.Narrow.{IsNarrow, IsNarrowRecord, IsNarrowRun}
+use Rattle.wm_machine.specs.Runs.{changed_work, other_runs, run_numbered, with_out}
+use Rattle.wm_machine.specs.Step.{IsEnd}
+use Rattle.wm_machine.specs.Valid.{IsRecord, IsWorkOf, Valid}
 use Rattle.wm_machine.specs.declared.event.End.TheVariants as end
 use Rattle.wm_machine.specs.declared.event.Event.TheVariants as event
-use Rattle.wm_machine.specs.declared.record.How.TheVariants as how
-use Rattle.wm_machine.specs.declared.record.Phase.TheVariants as phase
 use Rattle.wm_machine.specs.declared.record.Record.{Record}
-use Rattle.wm_machine.specs.declared.state.Instance.{Instance}
 use Rattle.wm_machine.specs.declared.state.Run.{Run}
 use Rattle.wm_machine.specs.declared.state.State.{State}
-use Rattle.wm_table.proofs.Lookups.{All-at, at-some, remove-run}
-use Rattle.wm_table.proofs.StepRows.{Fits-replacing, HasRow-moved, state-replacing}
-use Rattle.wm_table.specs.Builds.{CountsAt, IsFinish}
-use Rattle.wm_table.specs.StepChanges.{freed, replacing}
-use Rattle.wm_table.specs.Table.{Counts}
+use Rattle.wm_table.proofs.Lookups.{All-at}
+use Rattle.wm_table.proofs.StepRows.{Fits-replacing, state-replacing}
+use Rattle.wm_table.specs.Builds.{IsFinish}
+use Rattle.wm_table.specs.StepChanges.{replacing}
+use Rattle.wm_table.specs.Table.{Counts, CountsIn}
 use Rattle.wm_table.specs.declared.table.change.RunChange.TheVariants.{End}
 use Rattle.wm_worker.specs.Answers.{MayGive}
 use Rattle.wm_worker.specs.Told.{Report}
@@ -29,27 +29,26 @@ use Rattle.wm_worker.specs.declared.answer.Given.TheVariants as given
 use Rattle.wm_worker.specs.declared.kind.Kind.{Kind}
 use Rattle.wm_worker.specs.declared.kind.Kind.TheVariants.{Echo}
 
--- the run at a place, for which a report counts
-pub record Counted (s : State) (number place : ℕ) (told : Report) (run : Run) : Type 0 where
-  pub at : slice_get s.runs place ≡ Some run
-  pub counts : Counts run told
+-- the run of a number, for which a report counts
+pub record Counted (s : State) (number : ℕ) (told : Report) (run : Run) : Type 0 where
   pub found : run_numbered number s.runs ≡ Some run
-  pub valid : IsValidRun s run
+  pub narrow : IsNarrowRun run
+  pub on_echo : run.kind ≡ Echo
   pub echo : told.kind ≡ Echo
   pub nothing : told.input ≡ []
 
-pub counted : (s : State) (number place : ℕ) (told : Report) (run : Run) → Valid s → CountsAt s number told place → slice_get s.runs place ≡ Some run
-    → Counted s number place told run
-counted s number place told run valid counts at =
-    let is = at-some (λ r. Counts r told × (run_numbered number s.runs ≡ Some r)) s.runs place run at counts in
-    let fine = All-at (IsValidRun s) s.runs place run valid.runs at in
+pub counted : (s : State) (number : ℕ) (told : Report) (run : Run) → Valid s → IsNarrow s → CountsIn s number told → run_numbered number s.runs ≡ Some run
+    → Counted s number told run
+counted s number told run valid narrow counts found =
+    let of : Counts run told = subst (λ (o : Option Run). IsSomeAnd o (λ r. Counts r told)) found counts in
+    let plain = found_narrow s number run narrow found in
+    let echo = run_kind s run narrow (found_valid s number run valid found) in
     record {
-      at = at;
-      counts = is.0;
-      found = is.1;
-      valid = fine;
-      echo = is.0.about.same_kind ∙ run_kind s run valid fine;
-      nothing = is.0.about.same_input ∙ fine.no_input;
+      found = found;
+      narrow = plain;
+      on_echo = echo;
+      echo = of.about.same_kind ∙ echo;
+      nothing = of.about.same_input ∙ plain.no_input;
     }
 
 -- an Echo that took nothing may give nothing
@@ -59,36 +58,35 @@ echo-gives kind input output attempt turn echo none nothing =
     subst (λ k. MayGive k input attempt turn (given.Success output)) (sym echo) (ap (λ (d : List DataEntry). given.Success d) (nothing ∙ sym none))
 
 -- the run is over, and its work has succeeded
-pub finish-step : (s : State) (number place i : ℕ) (told : Report) (run : Run) (work : Record) (output : List DataEntry) → Valid s
-    → Counted s number place told run → slice_get s.works i ≡ Some work → IsWorkOf run work → told.answer ≡ answer.Success output → output ≡ told.input
-    → IsFinish s number told (replacing i (succeeded output work) (End place) (event.Finish run.run (end.Success output)))
-finish-step s number place i told run work output valid is at of told_is output_is =
+pub finish-step : (s : State) (number i : ℕ) (told : Report) (run : Run) (work : Record) (output : List DataEntry) → Valid s → IsNarrow s
+    → Counted s number told run → slice_get s.works i ≡ Some work → IsWorkOf run work → told.answer ≡ answer.Success output → output ≡ told.input
+    → IsFinish s number told (replacing i (succeeded output work) (End run.run run.instance) (event.Finish run.run (end.Success output)))
+finish-step s number i told run work output valid narrow is at of told_is output_is =
     let none = output_is ∙ is.nothing in
     let named : run.run ≡ number = eqb-true run.run number (find-passes (λ r. eqb r.run number) s.runs run is.found) in
-    let found : run_numbered run.run s.runs ≡ Some run = ap (λ n. run_numbered n s.runs) named ∙ is.found in
+    let legal : IsEnd s run.run (end.Success output) = record {
+      run = run;
+      is_running = ap (λ n. run_numbered n s.runs) named ∙ is.found;
+      is_current = is.narrow.current;
+      may_give = echo-gives run.kind run.input output run.attempt run.turn is.on_echo is.narrow.no_input none;
+    } in
+    let gone : State = record s { runs = other_runs run.run s.runs; instances = with_out false run.instance s.instances } in
     record {
       output = output;
       told_is = told_is;
       event = ap (λ n. event.Finish n (end.Success output)) named;
       step = record {
         fits =
-            let fine = All-at IsValidRecord s.works i work valid.records at in
-            Fits-replacing s i work (succeeded output work) (End place) (event.Finish run.run (end.Success output)) valid at refl
-            (HasRow-moved work (phase.Done how.Succeeded) work.attempt output [] none fine) (slice_get_within s.runs place run is.at);
-        legal = record {
-          run = run;
-          is_running = found;
-          is_current = is.valid.current;
-          may_give = echo-gives run.kind run.input output run.attempt run.turn (run_kind s run valid is.valid) is.valid.no_input none;
-        };
+            let plain = All-at IsNarrowRecord s.works i work narrow.records at in
+            let fine = All-at IsRecord s.works i work valid.records at in
+            Fits-replacing s i work (succeeded output work) (End run.run run.instance) (event.Finish run.run (end.Success output)) valid at refl
+            (subst (λ (data : List DataEntry). IsRecord (succeeded data work)) (sym none) (IsRecord-succeeded work of.running plain fine))
+            plain.no_input none;
+        legal = legal;
         state =
-            let gone : State = record s { runs = remove s.runs place; instances = freed (slice_get s.runs place) s.instances } in
             state-replacing s gone i work (succeeded output) valid at
-            ∙ ap (λ number. record gone { works = changed_work (succeeded output) number s.works }) of.seq
-            ∙ ap (λ (runs : List Run). record gone { works = changed_work (succeeded output) run.seq s.works; runs = runs })
-            (remove-run s.runs place run valid.apart is.at)
-            ∙ ap (λ (o : Option Run). record s
-            { works = changed_work (succeeded output) run.seq s.works; runs = other_runs run.run s.runs; instances = freed o s.instances }) is.at
-            ∙ sym (ap (λ (o : Option Run). success_of s o output) found);
+            ∙ ap (λ n. record gone { works = changed_work (succeeded output) n s.works }) of.seq
+            ∙ ap (with_success s run) none
+            ∙ sym (after_finish s run.run (end.Success output) (record { valid = valid; narrow = narrow }) legal);
       };
     }

@@ -1,13 +1,14 @@
 -- One record or run of a list, found by its number and changed at its index.
-use Rattle.std.proofs.Common.{◌≡◌, ℕ, zero, suc, ◌+◌, ◌<◌, Bool, true, false, cond, eqb, ltb, List, [], ◌∷◌, ◌++◌, length, find, set, slice_get, Option, Some, None, MatchOption, refl, sym, ◌∙◌, ap, subst, arith, inl, inr}
-use Rattle.std.specs.Prelude.{IsSomeAnd, remove}
+use Rattle.std.proofs.Common.{◌≡◌, ℕ, zero, suc, ◌<◌, Bool, true, false, cond, eqb, ltb, List, [], ◌∷◌, ◌++◌, length, find, set, slice_get, Option, Some, None, MatchOption, refl, sym, ◌∙◌, ap, subst, arith, inl, inr}
+use Rattle.std.specs.Prelude.{IsSomeAnd}
 use Rattle.std.specs.List.{AllByRecursion, position, position_or_len}
 use Rattle.std.proofs.lemmas.Bool.{eq-eqb, ltb-true, ltb-false, ne_eqb}
 use Rattle.std.proofs.lemmas.List.Folds.{find_at}
 use Rattle.std.proofs.lemmas.Option.{cond_some, none-some, same_Some, slice_get_past}
-use Rattle.wm_machine.proofs.Lists.{All-weaker, one_gives}
-use Rattle.wm_machine.specs.Runs.{changed_work, other_runs, run_numbered}
-use Rattle.wm_machine.specs.Valid.{AllAreApart, AreApart, HasOne, IsValidRun, IsWorkOf, Valid, WorksAscend}
+use Rattle.wm_machine.proofs.Lists.{one_gives}
+use Rattle.wm_machine.proofs.Runnings.{WorksAscend, WorksAscend-in_order}
+use Rattle.wm_machine.specs.Runs.{changed_work, run_numbered}
+use Rattle.wm_machine.specs.Valid.{HasOne, IsValidRun, IsWorkOf, Valid}
 use Rattle.wm_machine.specs.declared.record.Record.{Record}
 use Rattle.wm_machine.specs.declared.state.Run.{Run}
 use Rattle.wm_machine.specs.declared.state.State.{State}
@@ -87,34 +88,16 @@ find-work run (first ∷ works) ascend (inr one) =
     rw miss (find-work run works ascend.1 one)
 
 -- a search by a run's work number gives the run's work
-pub work-searched : (s : State) (run : Run) (found : Option ℕ) → Valid s → IsValidRun s run → found ≡ position (λ w. eqb w.seq run.seq) s.works
-    → MatchOption found ⊥ (λ i. IsSomeAnd (slice_get s.works i) (IsWorkOf run))
-work-searched s run None valid is at =
-    subst (λ (o : Option Record). IsSomeAnd o (IsWorkOf run)) (searched (λ w. eqb w.seq run.seq) s.works None at) (find-work run s.works valid.ascending is.work)
-work-searched s run (Some i) valid is at =
+pub work-searched : (s : State) (run : Run) (found : Option ℕ) → Valid s → IsValidRun s run → run.current ≡ true
+    → found ≡ position (λ w. eqb w.seq run.seq) s.works → MatchOption found ⊥ (λ i. IsSomeAnd (slice_get s.works i) (IsWorkOf run))
+work-searched s run None valid is current at =
+    subst (λ (o : Option Record). IsSomeAnd o (IsWorkOf run)) (searched (λ w. eqb w.seq run.seq) s.works None at)
+    (find-work run s.works (WorksAscend-in_order s.works valid.in_order) (is.work current))
+work-searched s run (Some i) valid is current at =
     subst (λ (o : Option Record). IsSomeAnd o (IsWorkOf run)) (searched (λ w. eqb w.seq run.seq) s.works (Some i) at).1
-    (find-work run s.works valid.ascending is.work)
+    (find-work run s.works (WorksAscend-in_order s.works valid.in_order) (is.work current))
 
 -- ---- runs
-
--- runs of other numbers stay
-other_runs-apart : (number : ℕ) (runs : List Run) → AllByRecursion (λ other. eqb other.run number ≡ false) runs → other_runs number runs ≡ runs
-other_runs-apart number [] apart = refl
-other_runs-apart number (run ∷ runs) apart = rw apart.0 (ap (λ rest. run ∷ rest) (other_runs-apart number runs apart.1))
-
--- the runs but for the one at an index are the others
-pub remove-run : (runs : List Run) (i : ℕ) (run : Run) → AllAreApart runs → slice_get runs i ≡ Some run → remove runs i ≡ other_runs run.run runs
-remove-run [] i run apart is = absurd (none-some run is)
-remove-run (first ∷ runs) zero run apart is =
-    let same : first ≡ run = same_Some first run is in
-    let hit = eq-eqb run.run run.run refl in
-    rw (same, hit)
-    (sym (other_runs-apart run.run runs (All-weaker (AreApart first) (λ other. eqb other.run run.run ≡ false) runs
-    (λ other differs. ne_eqb other.run run.run (λ e. differs.runs (ap (λ (r : Run). r.run) same ∙ sym e))) apart.0)))
-remove-run (first ∷ runs) (suc i) run apart is =
-    let differs = All-at (AreApart first) runs i run apart.0 is in
-    let miss = ne_eqb first.run run.run differs.runs in
-    rw miss (ap (λ rest. first ∷ rest) (remove-run runs i run apart.1 is))
 
 -- the run of a new number is found where it was added
 pub run_numbered-push : (number : ℕ) (runs : List Run) (run : Run) → AllByRecursion (λ other. other.run < number) runs → run.run ≡ number

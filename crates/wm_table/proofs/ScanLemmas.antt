@@ -1,34 +1,17 @@
 -- Looking through the records and the instances of a state.
-use Rattle.std.proofs.Common.{◌≡◌, ℕ, zero, suc, ◌+◌, ◌<◌, ◌≤◌, true, ltb, List, ◌∷◌, drop, filter, find, get_or, length, position, slice_get, Option, Some, None, IfSome, MatchOption, refl, ◌∙◌, arith}
-use Rattle.std.specs.List.{position_or_len}
+use Rattle.std.proofs.Common.{◌≡◌, ℕ, zero, suc, ◌+◌, ◌<◌, ◌≤◌, true, List, ◌∷◌, drop, filter, get_or, length, slice_get, Option, Some, None, IfSome, MatchOption, refl, arith}
 use Rattle.std.specs.Option.{option_and_then}
-use Rattle.std.proofs.lemmas.Bool.{cond_both, ltb-true, ltb-false}
 use Rattle.std.proofs.lemmas.List.{drop_more}
-use Rattle.std.proofs.lemmas.List.Folds.{find_at}
-use Rattle.std.proofs.lemmas.Option.{slice_get_past}
 use Rattle.wm_machine.specs.Due.{due_of}
-use Rattle.wm_machine.specs.First.{earlier_of, first_of, idle_instance, is_idle, is_startable, least}
+use Rattle.wm_machine.specs.First.{earlier_of, first_of, is_startable, least}
 use Rattle.wm_machine.specs.Narrow.{IsNarrowRecord}
 use Rattle.wm_machine.specs.declared.record.Record.{Record}
-use Rattle.wm_machine.specs.declared.state.Instance.{Instance}
 use Rattle.wm_machine.specs.declared.state.State.{State}
 
 -- a one-time work that isn't retried is due after its initial delay
 pub due_of-narrow : (work : Record) → IsNarrowRecord work → due_of work ≡ work.enqueued_at + work.request.initial_delay
 unfolding due_of
 due_of-narrow work narrow = rw (narrow.no_retry) (rw (narrow.one_time) refl)
-
--- the idle instance is the one at the place of the first that is idle
-pub idle_instance-at : (instances : List Instance) (class : List ℕ) (index : Option ℕ) → index ≡ position (is_idle class) instances
-    → MatchOption index (idle_instance instances class ≡ None) (λ i. (i < length instances) × (idle_instance instances class ≡ slice_get instances i))
-unfolding idle_instance
-idle_instance-at instances class index is =
-    let place = position_or_len (is_idle class) instances in
-    let found = find_at (is_idle class) instances in
-    rw is
-    (cond_both (ltb place (length instances)) (Some place) None (λ (o : Option ℕ). MatchOption o (find (is_idle class) instances ≡ None)
-    (λ i. (i < length instances) × (find (is_idle class) instances ≡ slice_get instances i))) (λ e. (ltb-true _ _ e, found)) (λ e. found
-    ∙ slice_get_past instances place (ltb-false _ _ e)))
 
 -- the startable work from an index on that starts next
 abbrev pub first_from : State → ℕ → Option Record

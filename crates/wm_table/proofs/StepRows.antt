@@ -1,26 +1,25 @@
 -- The rows that a step changes are those of the state that it gives, and so its change is one step of the machine.
 use Rattle.std.proofs.Common.{◌≡◌, ℕ, zero, suc, ◌+◌, ◌^◌, ◌<◌, ◌≤◌, Bool, true, not, eqb, pos, List, [], ◌∷◌, ◌++◌, append_assoc, filter, length, map, set, slice_get, Option, Some, None, option_map, refl, sym, ◌∙◌, ap, subst, arith, inl, inr}
 use Rattle.std.specs.List.{AllByRecursion}
-use Rattle.std.proofs.lemmas.Bool.{cases_order, cond_both, eq-eqb, ne_eqb}
+use Rattle.std.proofs.lemmas.Bool.{cases_order, eq-eqb, ne_eqb}
 use Rattle.std.proofs.lemmas.Int.{ints}
 use Rattle.std.proofs.lemmas.List.{append-nil, length-map}
 use Rattle.std.proofs.lemmas.Option.{none-some, same_Some, slice_get-map, slice_get_within}
-use Rattle.wm_data.specs.declared.data.DataEntry.{DataEntry}
 use Rattle.wm_keeper.proofs.Ascending.{int_lt-true, int_lt-false, put_row-above}
 use Rattle.wm_keeper.specs.Keeper.{changed, changed_by as row_changed, put_row, remove_row}
 use Rattle.wm_keeper.specs.declared.row.Change.{Change}
 use Rattle.wm_keeper.specs.declared.row.Row.{Row}
-use Rattle.wm_machine.proofs.Lists.{All-filter, All-push, All-weaker, one_gives}
+use Rattle.wm_machine.proofs.Lists.{All-filter, All-push, All-weaker, AllLater-filter, one_gives}
+use Rattle.wm_machine.proofs.Runnings.{WorksAscend, WorksAscend-in_order}
 use Rattle.wm_machine.proofs.States.{map-push, rows_below}
 use Rattle.wm_machine.specs.Rows.{row_of, rows_of}
 use Rattle.wm_machine.specs.Runs.{changed_work}
-use Rattle.wm_machine.specs.Valid.{HasOne, IsValidRecord, Valid, WorksAscend}
+use Rattle.wm_machine.specs.Valid.{HasOne, IsRecord, Valid}
 use Rattle.wm_machine.specs.declared.event.Event.{Event}
-use Rattle.wm_machine.specs.declared.record.Phase.{Phase}
 use Rattle.wm_machine.specs.declared.record.Record.{Record}
 use Rattle.wm_machine.specs.declared.state.State.{State}
 use Rattle.wm_table.proofs.Lookups.{changed_work-at}
-use Rattle.wm_table.specs.StepChanges.{changed_by, next_run_by, other_works, put_replaced, put_work, remove_numbered, replacing, row_changes, seqs_of, with_replaced, without, AreNumberedFrom, Fits, HasRow, IsOfRuns, IsStepOf, KeepsNumber}
+use Rattle.wm_table.specs.StepChanges.{changed_by, next_run_by, other_works, put_replaced, put_work, remove_numbered, replacing, row_changes, seqs_of, with_replaced, without, AreNumberedFrom, Fits, IsStepOf, KeepsNumber}
 use Rattle.wm_table.specs.Table.{HoldsRowsOf, IsOneStep}
 use Rattle.wm_table.specs.TableState.{TableState}
 use Rattle.wm_table.specs.declared.table.change.Replacement.{Replacement}
@@ -85,9 +84,10 @@ AreBelow-replaced : (next : ℕ) (replaced : List Replacement) (works : List Rec
     → AreBelow next (with_replaced replaced works)
 AreBelow-replaced next [] works keep below = below
 AreBelow-replaced next (replaced ∷ later) works keep below =
-    AreBelow-replaced next later (set works replaced.index replaced.work) (still_keep works replaced later keep)
-    (WorksAscend-set works replaced.index replaced.work keep.0 below.0,
-    All-set (λ number. number < next) works replaced.index replaced.work keep.0 below.1)
+    AreBelow-replaced next later (set works replaced.index replaced.work) (still_keep works replaced later keep) (
+      WorksAscend-set works replaced.index replaced.work keep.0 below.0,
+      All-set (λ number. number < next) works replaced.index replaced.work keep.0 below.1,
+    )
 
 rows-replaced : (replaced : List Replacement) (works : List Record) → AllByRecursion (KeepsNumber works) replaced → WorksAscend works
     → changed (map put_replaced replaced) (map row_of works) ≡ map row_of (with_replaced replaced works)
@@ -103,11 +103,7 @@ All-kept : (P : Record → Type 0) (keep : Record → Bool) (works : List Record
 All-kept P keep works all = All-filter P keep works (All-weaker P (λ work. keep work ≡ true → P work) works (λ work is e. is) all)
 
 WorksAscend-filter : (keep : Record → Bool) (works : List Record) → WorksAscend works → WorksAscend (filter keep works)
-WorksAscend-filter keep [] ascend = tt
-WorksAscend-filter keep (work ∷ works) ascend =
-    let rest = WorksAscend-filter keep works ascend.1 in
-    cond_both (keep work) (work ∷ filter keep works) (filter keep works) WorksAscend
-    (λ e. (All-kept (λ later. work.seq < later.seq) keep works ascend.0, rest)) (λ e. rest)
+WorksAscend-filter keep works ascend = AllLater-filter (λ one other. one.seq < other.seq) keep works ascend
 
 -- records above a number stay
 other_works-above : (number : ℕ) (works : List Record) → AllByRecursion (λ later. number < later.seq) works → other_works number works ≡ works
@@ -179,11 +175,11 @@ rows-changed s change valid fits =
     let removes = map remove_numbered change.removed in
     let placed = map put_work change.placed in
     let replaced = with_replaced change.replaced s.works in
-    let below = AreBelow-replaced s.next change.replaced s.works fits.replaced (valid.ascending, valid.numbers) in
+    let below = AreBelow-replaced s.next change.replaced s.works fits.replaced ((WorksAscend-in_order s.works valid.in_order), valid.numbers) in
     changed-append (puts ++ removes) placed (rows_of s)
     ∙ ap (changed placed)
     (changed-append puts removes (rows_of s)
-    ∙ ap (changed removes) (rows-replaced change.replaced s.works fits.replaced valid.ascending)
+    ∙ ap (changed removes) (rows-replaced change.replaced s.works fits.replaced (WorksAscend-in_order s.works valid.in_order))
     ∙ rows-removed change.removed replaced below.0)
     ∙ rows-placed s.next change.placed (without change.removed replaced) fits.placed (AreBelow-removed s.next change.removed replaced below).1
 
@@ -217,7 +213,7 @@ pub next_run-changed : (s : State) (change : StepChange) → (changed_by change 
 next_run-changed s change = elim change.run as (λ run. next_run_by run s.next_run ≤ s.next_run + 1) [
   | Unchanged ↦ omega arith
   | Begin run ↦ omega arith
-  | End index ↦ omega arith
+  | End run instance ↦ omega arith
 ]
 
 -- ---- what fits
@@ -236,35 +232,18 @@ replaced_within works replaced keep =
     All-weaker (KeepsNumber works) (λ r. r.index < length works) replaced (λ r is.
     omega (arith, slice_get_within (seqs_of works) r.index r.work.seq is, length-map works (λ (work : Record). work.seq))) keep
 
--- a record has a row whatever its phase, its attempt and its progress
-pub HasRow-moved : (work : Record) (phase : Phase) (attempt : ℕ) (output progress : List DataEntry) → output ≡ [] → IsValidRecord work
-    → HasRow (record work { phase = phase; attempt = attempt; output = output; progress = progress })
-HasRow-moved work phase attempt output progress none valid = record {
-  fits = record {
-    seq = valid.fits.seq;
-    prior = valid.fits.prior;
-    generation = valid.fits.generation;
-    enqueued_at = valid.fits.enqueued_at;
-    delay = valid.fits.delay;
-    wait = valid.fits.wait;
-    period = valid.fits.period;
-  };
-  no_data = record { input = valid.no_data.input; output = none };
-}
-
--- one record that is replaced by one of its number
+-- one record that is replaced by one of its number, without data
 pub Fits-replacing : (s : State) (i : ℕ) (work new : Record) (run : RunChange) (e : Event) → Valid s → slice_get s.works i ≡ Some work → new.seq ≡ work.seq
-    → HasRow new → IsOfRuns run s.runs → Fits s (replacing i new run e)
-Fits-replacing s i work new run e valid at keeps row of_runs = record {
+    → IsRecord new → new.request.input ≡ [] → new.output ≡ [] → Fits s (replacing i new run e)
+Fits-replacing s i work new run e valid at keeps is no_input no_output = record {
   replaced =
       (slice_get-map (λ (w : Record). w.seq) s.works i ∙ ap (option_map (λ (w : Record). w.seq)) at ∙ ap (λ number. Some number) (sym keeps), tt);
   removed = tt;
   placed = tt;
   numbers = omega (arith, valid.next);
-  replaced_rows = (row, tt);
+  replaced_rows = (record { fits = is.fits; no_data = record { input = no_input; output = no_output } }, tt);
   placed_rows = tt;
   apart = (tt, tt);
-  run = of_runs;
 }
 
 -- where nothing is placed, the works have their end and the next number stays
@@ -278,4 +257,4 @@ unplaced s works changed same =
 pub state-replacing : (s t : State) (i : ℕ) (work : Record) (change : Record → Record) → Valid s → slice_get s.works i ≡ Some work
     → record t { works = set s.works i (change work) ++ []; next = t.next + 0 } ≡ record t { works = changed_work change work.seq s.works }
 state-replacing s t i work change valid at =
-    unplaced t (set s.works i (change work)) (changed_work change work.seq s.works) (sym (changed_work-at change s.works i work valid.ascending at))
+    unplaced t (set s.works i (change work)) (changed_work change work.seq s.works) (sym (changed_work-at change s.works i work (WorksAscend-in_order s.works valid.in_order) at))

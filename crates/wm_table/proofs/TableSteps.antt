@@ -1,36 +1,24 @@
 -- What the calls of the table make is one step, and what a table keeps is kept by one step.
-use Rattle.std.proofs.Common.{◌≡◌, ℕ, zero, suc, ◌+◌, ◌-◌, ◌<◌, ◌≤◌, Bool, true, false, not, List, [], ◌∷◌, ◌++◌, length, length-append, slice_get, Option, Some, None, option_map, refl, sym, ◌∙◌, ap, subst, arith}
+use Rattle.std.proofs.Common.{◌≡◌, ℕ, zero, suc, ◌+◌, ◌-◌, ◌<◌, ◌≤◌, Bool, true, false, not, List, [], ◌∷◌, length, length-append, slice_get, Option, Some, None, option_map, refl, sym, ◌∙◌, ap, subst, arith}
 use Rattle.std.specs.Prelude.{◌↔◌, is_some, IfSome, IsTrue, MatchOption}
-use Rattle.std.specs.List.{AllByRecursion}
 use Rattle.std.proofs.lemmas.Bool.{true≢false}
 use Rattle.std.proofs.lemmas.Option.{none-some}
-use Rattle.wm_data.specs.declared.data.DataEntry.{DataEntry}
 use Rattle.wm_keeper.specs.declared.row.Row.{Row}
 use Rattle.wm_machine.proofs.Lists.{All-weaker}
 use Rattle.wm_machine.proofs.Logs.{Replay-push}
-use Rattle.wm_machine.proofs.States.{Valid-after}
-use Rattle.wm_machine.specs.Enqueued.{placed, placed_record, refusal_of, state_by, with_work}
-use Rattle.wm_machine.specs.First.{first_of, idle_instance}
+use Rattle.wm_machine.proofs.States.{IsNarrow-after, Valid-after}
+use Rattle.wm_machine.specs.First.{first_of}
+use Rattle.wm_machine.specs.Narrow.{IsNarrow}
 use Rattle.wm_machine.specs.Opened.{opening_state}
 use Rattle.wm_machine.specs.Quiet.{IsQuiet}
-use Rattle.wm_machine.specs.Replay.{Replay}
 use Rattle.wm_machine.specs.Rows.{rows_of}
-use Rattle.wm_machine.specs.Runs.{run_numbered, start_on, success_of}
-use Rattle.wm_machine.specs.Step.{after, after_command, start_of}
-use Rattle.wm_machine.specs.Valid.{IsValidInstance, Valid}
-use Rattle.wm_machine.specs.declared.command.Command.{Command}
-use Rattle.wm_machine.specs.declared.command.Command.TheVariants as command
-use Rattle.wm_machine.specs.declared.event.End.TheVariants as end
+use Rattle.wm_machine.specs.Valid.{IsOutForRun, Valid}
 use Rattle.wm_machine.specs.declared.event.Event.{Event}
-use Rattle.wm_machine.specs.declared.event.Event.TheVariants as event
-use Rattle.wm_machine.specs.declared.record.Record.{Record}
-use Rattle.wm_machine.specs.declared.reply.Refusal.{Refusal}
-use Rattle.wm_machine.specs.declared.request.Node.{Node}
 use Rattle.wm_machine.specs.declared.state.Instance.{Instance}
-use Rattle.wm_machine.specs.declared.state.Run.{Run}
 use Rattle.wm_machine.specs.declared.state.State.{State}
 use Rattle.wm_table.specs.Table.{last_of, AreFresh, HoldsRowsOf, IsFresh, IsOneStep, IsTableKept, IsUntouched}
 use Rattle.wm_table.specs.TableState.{TableState}
+use Rattle.wm_worker.specs.declared.kind.Kind.TheVariants.{Echo}
 
 -- ---- the rows held
 
@@ -56,23 +44,30 @@ pub empty-from_first : {T : Type 0} (xs : List T) → None ≡ slice_get xs 0 �
 empty-from_first [] none = refl
 empty-from_first (x ∷ xs) none = absurd (none-some x none)
 
--- fresh instances are those of a valid state without runs
-fresh_instances : (instances : List Instance) → AllByRecursion IsFresh instances → AllByRecursion (IsValidInstance []) instances
-fresh_instances instances fresh = All-weaker IsFresh (IsValidInstance []) instances (λ instance is. record { out = is.out; kind = is.kind }) fresh
-
+-- the state that an empty store opens to, with fresh instances
 pub Valid-opening : (instances : List Instance) → AreFresh instances → Valid (opening_state [] instances)
 Valid-opening instances fresh = record {
   numbers = tt;
-  ascending = tt;
+  first = omega arith;
+  next = omega arith;
+  few_works = omega arith;
   records = tt;
+  in_order = tt;
+  sound = tt;
   running = tt;
   runs = tt;
   apart = tt;
-  instances = fresh_instances instances fresh.all;
-  in_order = fresh.in_order;
-  next = omega arith;
+  instances = All-weaker IsFresh (IsOutForRun []) instances (λ instance is. is.out) fresh.all;
+  numbered = fresh.in_order;
+  few_observers = omega arith;
   now = omega arith;
-  works = omega arith;
+}
+
+pub IsNarrow-opening : (instances : List Instance) → AreFresh instances → IsNarrow (opening_state [] instances)
+IsNarrow-opening instances fresh = record {
+  records = tt;
+  runs = tt;
+  echoes = All-weaker IsFresh (λ instance. instance.kind ≡ Echo) instances (λ instance is. is.kind) fresh.all;
 }
 
 holds_none : (held : Option (List Row)) → IfSome held (λ rows. [] ≡ rows) → held ≡ option_map (λ _. []) held
@@ -88,6 +83,7 @@ kept-opening instances rows held first s log fresh told none first_is s_is log_i
     rw (first_is, s_is, log_is) (record {
       replay = refl;
       valid = Valid-opening instances fresh;
+      narrow = IsNarrow-opening instances fresh;
       rows = holds_none held stored;
       few_runs = omega arith;
     })
@@ -99,29 +95,20 @@ module _ {K : Type 0} (held : K → Option (List Row)) (old new : TableState K) 
   pub kept-step : (e : Event) → IsTableKept old.first old.state old.log (held old.keeper) → IsOneStep held e old new
       → new.state.next_run ≤ old.state.next_run + 1 → IsTableKept new.first new.state new.log (held new.keeper)
   kept-step e kept step more =
-      let reached : Replay old.first (old.log ++ e ∷ []) (after old.state e) = Replay-push old.first old.log old.state e kept.replay step.legal in
+      let longer : length new.log ≡ length old.log + 1 = ap length step.appended ∙ length-append old.log (e ∷ []) in
+      let few : new.state.next_run ≤ length new.log + 1 = omega (arith, kept.few_runs) in
+      let rows : HoldsRowsOf new.state (held new.keeper) = HoldsRowsOf-told new.state (held old.keeper) (held new.keeper) step.rows in
       record {
-        replay = subst (λ (first : State). Replay first new.log new.state) (sym step.first)
-            (subst (λ (log : List Event). Replay old.first log new.state) (sym step.appended)
-            (subst (λ (s : State). Replay old.first (old.log ++ e ∷ []) s) (sym step.state) reached));
-        valid = subst Valid (sym step.state) (Valid-after old.state e kept.valid step.legal);
-        rows = HoldsRowsOf-told new.state (held old.keeper) (held new.keeper) step.rows;
-        few_runs =
-            let longer : length new.log ≡ length old.log + 1 = ap length step.appended ∙ length-append old.log (e ∷ []) in
-            omega (arith, kept.few_runs);
+        replay = rw (step.first, step.state, step.appended) (Replay-push old.first old.log old.state e kept.replay step.legal);
+        valid = rw step.state (Valid-after old.state e kept.valid kept.narrow step.legal);
+        narrow = rw step.state (IsNarrow-after old.state e kept.valid kept.narrow step.legal);
+        rows = rows;
+        few_runs = few;
       }
 
   pub kept-untouched : IsTableKept old.first old.state old.log (held old.keeper) → IsUntouched held old new
       → IsTableKept new.first new.state new.log (held new.keeper)
-  kept-untouched kept same = record {
-    replay = subst (λ (first : State). Replay first new.log new.state) (sym same.first)
-        (subst (λ (log : List Event). Replay old.first log new.state) (sym same.log)
-        (subst (λ (s : State). Replay old.first old.log s) (sym same.state) kept.replay));
-    valid = subst Valid (sym same.state) kept.valid;
-    rows = subst (λ (rows : Option (List Row)). HoldsRowsOf new.state rows) (sym same.rows)
-        (subst (λ (s : State). HoldsRowsOf s (held old.keeper)) (sym same.state) kept.rows);
-    few_runs = omega (arith, kept.few_runs, ap (λ (s : State). s.next_run) same.state, ap length same.log);
-  }
+  kept-untouched kept same = rw (same.first, same.state, same.log, same.rows) kept
 
 -- ---- rest
 

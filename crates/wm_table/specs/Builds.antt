@@ -1,9 +1,8 @@
 -- What is built for an event: the change of its step, and what is answered. This project's own choice.
-use Rattle.std.specs.Prelude.{◌≡◌, ◌⊎◌, ℕ, List, [], Option, Some, None, IsSomeAnd, slice_get}
+use Rattle.std.specs.Prelude.{◌≡◌, ◌⊎◌, ℕ, List, [], Some, slice_get}
 use Rattle.wm_data.specs.declared.data.DataEntry.{DataEntry}
 use Rattle.wm_machine.specs.Built.{IsWritten}
 use Rattle.wm_machine.specs.First.{first_of}
-use Rattle.wm_machine.specs.Runs.{run_numbered}
 use Rattle.wm_machine.specs.Step.{after}
 use Rattle.wm_machine.specs.declared.command.Command.{Command}
 use Rattle.wm_machine.specs.declared.event.End.TheVariants.{Success}
@@ -13,7 +12,7 @@ use Rattle.wm_machine.specs.declared.record.Record.{Record}
 use Rattle.wm_machine.specs.declared.reply.Reply.{Reply}
 use Rattle.wm_machine.specs.declared.state.State.{State}
 use Rattle.wm_table.specs.StepChanges.{row_changes, telling, IsStepOf}
-use Rattle.wm_table.specs.Table.{ChangesRows, Counts, IsTicketIn}
+use Rattle.wm_table.specs.Table.{ChangesRows, IsTicketIn}
 use Rattle.wm_table.specs.declared.table.Claim.{Claim}
 use Rattle.wm_table.specs.declared.table.Claim.TheVariants as claim
 use Rattle.wm_table.specs.declared.table.change.StepChange.{StepChange}
@@ -53,10 +52,6 @@ pub record IsClaiming (s : State) (claiming : Claiming) : Type 0 where
   pub claim : IsClaimOf (after s claiming.change.event) claiming.change.event claiming.claim
 
 -- ---- the end of a run
-
--- the run of this number stands at this place, and the report counts for it
-abbrev pub CountsAt : State → ℕ → Report → ℕ → Type 0
-CountsAt s number told place = IsSomeAnd (slice_get s.runs place) (λ run. Counts run told × (run_numbered number s.runs ≡ Some run))
 
 -- the step by which the run of this number is over: its work succeeded with the output that was told
 pub record IsFinish (s : State) (number : ℕ) (told : Report) (change : StepChange) : Type 0 where

@@ -1,12 +1,12 @@
 -- What the change of a step makes of a state and of the rows held, and when it fits a state. This project's own choice.
-use Rattle.std.specs.Prelude.{◌≡◌, ℕ, ◌+◌, ◌^◌, ◌==◌, ◌<◌, ◌≤◌, pos, true, false, not, List, [], ◌∷◌, ◌++◌, length, map, filter, remove, slice_get, slice_set, Option, Some, None}
+use Rattle.std.specs.Prelude.{◌≡◌, ℕ, ◌+◌, ◌^◌, ◌==◌, ◌≤◌, pos, true, false, not, List, [], ◌∷◌, ◌++◌, length, map, filter, slice_get, slice_set, Some}
 use Rattle.std.specs.List.{AllByRecursion}
 use Rattle.wm_keeper.specs.Keeper.{AreOfDifferentNumbers}
 use Rattle.wm_keeper.specs.declared.row.Change.{Change}
 use Rattle.wm_keeper.specs.declared.row.Change.TheVariants.{Put, Remove}
 use Rattle.wm_machine.specs.Limits.{FitsRow}
 use Rattle.wm_machine.specs.Rows.{row_of, HasNoData}
-use Rattle.wm_machine.specs.Runs.{with_out}
+use Rattle.wm_machine.specs.Runs.{other_runs, with_out}
 use Rattle.wm_machine.specs.Step.{Legal, after}
 use Rattle.wm_machine.specs.Valid.{HasOne}
 use Rattle.wm_machine.specs.declared.event.Event.{Event}
@@ -39,31 +39,26 @@ without (number ∷ numbers) works = without numbers (other_works number works)
 abbrev pub runs_by : RunChange → List Run → List Run
 runs_by Unchanged runs = runs
 runs_by (Begin run) runs = runs ++ run ∷ []
-runs_by (End index) runs = remove runs index
-
--- the instance of a run is idle again
-abbrev pub freed : Option Run → List Instance → List Instance
-freed None instances = instances
-freed (Some run) instances = with_out false run.instance instances
+runs_by (End run instance) runs = other_runs run runs
 
 -- the instance of a run that begins is out, and that of a run that is over is idle
-abbrev pub instances_by : RunChange → List Run → List Instance → List Instance
-instances_by Unchanged runs instances = instances
-instances_by (Begin run) runs instances = with_out true run.instance instances
-instances_by (End index) runs instances = freed (slice_get runs index) instances
+abbrev pub instances_by : RunChange → List Instance → List Instance
+instances_by Unchanged instances = instances
+instances_by (Begin run) instances = with_out true run.instance instances
+instances_by (End run instance) instances = with_out false instance instances
 
 -- the number after those of the runs
 abbrev pub next_run_by : RunChange → ℕ → ℕ
 next_run_by Unchanged next = next
 next_run_by (Begin run) next = next + 1
-next_run_by (End index) next = next
+next_run_by (End run instance) next = next
 
 -- the state after a change: works without the removed ones, with the replaced ones in place and the placed ones at the end
 abbrev pub changed_by : StepChange → State → State
 changed_by change s = record s {
   works = without change.removed (with_replaced change.replaced s.works) ++ change.placed;
   runs = runs_by change.run s.runs;
-  instances = instances_by change.run s.runs s.instances;
+  instances = instances_by change.run s.instances;
   next = s.next + length change.placed;
   next_run = next_run_by change.run s.next_run;
 }
@@ -102,12 +97,6 @@ pub record HasRow (work : Record) : Type 0 where
   pub fits : FitsRow work
   pub no_data : HasNoData work
 
--- a run that is over was there
-abbrev pub IsOfRuns : RunChange → List Run → Type 0
-IsOfRuns Unchanged runs = Unit {0}
-IsOfRuns (Begin run) runs = Unit {0}
-IsOfRuns (End index) runs = index < length runs
-
 pub record Fits (s : State) (change : StepChange) : Type 0 where
   pub replaced : AllByRecursion (KeepsNumber s.works) change.replaced
   -- the records removed are there
@@ -118,7 +107,6 @@ pub record Fits (s : State) (change : StepChange) : Type 0 where
   pub placed_rows : AllByRecursion HasRow change.placed
   -- no row is changed twice
   pub apart : AreOfDifferentNumbers (row_changes change)
-  pub run : IsOfRuns change.run s.runs
 
 -- the change is that of a legal step
 pub record IsStepOf (s : State) (change : StepChange) : Type 0 where

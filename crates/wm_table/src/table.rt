@@ -2,14 +2,14 @@
 ghost use Rattle.std.specs.Prelude.{◌≡◌, ◌≢◌, ◌↔◌, [], Err, IsTrue, IfOk, IfErr, IfSome, OnOk, OnErr};
 ghost use Rattle.std.specs.Option.{option_copied};
 ghost use Rattle.wm_machine.specs.Built.{IsBuilt, IsWritten};
+ghost use Rattle.wm_machine.specs.Narrow.{IsNarrow};
 ghost use Rattle.wm_machine.specs.Opened.{opening_state, Opened};
 ghost use Rattle.wm_machine.specs.Quiet.{IsQuiet};
 ghost use Rattle.wm_machine.specs.Replay.{Replay};
 ghost use Rattle.wm_machine.specs.Valid.{Valid};
 ghost use Rattle.wm_machine.specs.declared.event.Event.TheVariants as event;
-ghost use Rattle.wm_table.specs.Builds.{CountsAt};
 ghost use Rattle.wm_table.specs.StepChanges.{row_changes, IsStepOf};
-ghost use Rattle.wm_table.specs.Table.{last_of, AreFresh, BeginCause, ChangesNoRow, ChangesRows, HoldsRowsOf, IsClaimed, IsFinished, IsOneStep, IsTurned, IsUntouched, Stands, TroubleCause, TurnCause};
+ghost use Rattle.wm_table.specs.Table.{last_of, AreFresh, BeginCause, ChangesNoRow, ChangesRows, CountsIn, HoldsRowsOf, IsClaimed, IsFinished, IsOneStep, IsTurned, IsUntouched, Stands, TroubleCause, TurnCause};
 
 mod carry;
 mod change;
@@ -237,11 +237,11 @@ impl<K: Keeper> Table<K> {
         ensures answer { IsTurned K.held ticket told result self.old self.new }
         ensures cause { TurnCause result (K.faults self.old.keeper) (K.faults self.new.keeper) }
     {
-        let Some(place) = finishing::counting(&self.state, &ticket, &told) else {
+        if !finishing::counts_in(&self.state, &ticket, &told) {
             drop(told);
             return TurnAnswer::Again(ticket);
-        };
-        match self.finish(&ticket, place, &told) {
+        }
+        match self.finish(&ticket, &told) {
             Ok(()) => {
                 drop(told);
                 ticket.spend();
@@ -296,6 +296,7 @@ impl<K: Keeper> Table<K> {
         ensures keeper { result.keeper ≡ self.keeper }
         ensures replay { Replay result.first result.log result.last }
         ensures valid { Valid result.last }
+        ensures narrow { IsNarrow result.last }
         ensures rows { HoldsRowsOf result.last (K.held result.keeper) }
     {
         let Table {
@@ -315,14 +316,14 @@ impl<K: Keeper> Table<K> {
 }
 
 impl<K: Keeper> Table<K> {
-    /// Ends a ticket's run, which stands at a place and for which the report counts.
-    fn finish(&mut self, ticket: &Ticket, place: usize, told: &Told) -> Result<(), Trouble>
-        requires { CountsAt self.old.state ticket.now.task.run told.now place }
+    /// Ends a ticket's run, for which the report counts.
+    fn finish(&mut self, ticket: &Ticket, told: &Told) -> Result<(), Trouble>
+        requires { CountsIn self.old.state ticket.now.task.run told.now }
         ensures ok { OnOk result (IsFinished K.held ticket.now.task.run told.now self.old self.new) }
         ensures err { OnErr result (IsUntouched K.held self.old self.new) }
         ensures cause { TroubleCause result (K.faults self.old.keeper) (K.faults self.new.keeper) }
     {
-        let change = finishing::finish(self.alloc, &self.state, ticket, place, told)?;
+        let change = finishing::finish(self.alloc, &self.state, ticket, told)?;
         self.make(change)
     }
 

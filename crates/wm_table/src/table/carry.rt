@@ -3,9 +3,9 @@
 ghost use Rattle.std.specs.Prelude.{◌≡◌, ◌≢◌, ◌+◌, ◌^◌, ◌<◌, ◌≤◌, ◌∷◌, ◌++◌, [], length, vec_len, vec_capacity, option_map, Err, OnOk, OnErr};
 ghost use Rattle.std.specs.List.{AllByRecursion};
 ghost use Rattle.wm_keeper.specs.Keeper.{changed, AreOfDifferentNumbers};
-ghost use Rattle.wm_machine.specs.Runs.{with_out};
+ghost use Rattle.wm_machine.specs.Runs.{other_runs, with_out};
 ghost use Rattle.wm_machine.specs.Valid.{Valid};
-ghost use Rattle.wm_table.specs.StepChanges.{changed_by, instances_by, next_run_by, other_works, row_changes, runs_by, with_replaced, without, Fits, HasRow, IsOfRuns};
+ghost use Rattle.wm_table.specs.StepChanges.{changed_by, instances_by, next_run_by, other_works, row_changes, runs_by, with_replaced, without, Fits, HasRow};
 ghost use Rattle.wm_table.specs.Table.{TroubleCause};
 
 use crate::table::Trouble;
@@ -67,7 +67,6 @@ impl Lists {
     /// Makes the change, for which there is room.
     fn change(&mut self, alloc: Global, state: &mut State, change: StepChange)
         requires replaced { AllByRecursion (λ replaced. replaced.index < vec_len self.old.works) change.replaced }
-        requires run { IsOfRuns change.run self.old.runs.items }
         requires next { state.old.next + length change.placed ≤ 2 ^ 53 }
         requires few_runs { state.old.next_run ≤ vec_len self.old.log + 1 }
         requires works_room { vec_len self.old.works + length change.placed ≤ vec_capacity self.old.works }
@@ -77,7 +76,7 @@ impl Lists {
         ensures runs { self.new.runs.items ≡ runs_by change.run self.old.runs.items }
         ensures log { self.new.log.items ≡ self.old.log.items ++ change.event ∷ [] }
         ensures state { state.new ≡ record state.old {
-          instances = instances_by change.run self.old.runs.items state.old.instances;
+          instances = instances_by change.run state.old.instances;
           next = state.old.next + length change.placed;
           next_run = next_run_by change.run state.old.next_run;
         } }
@@ -158,12 +157,11 @@ fn change_runs(
     change: RunChange,
     next_run: u64,
 )
-    requires run { IsOfRuns change runs.old.items }
     requires room { vec_len runs.old < vec_capacity runs.old }
     requires next { next_run ≡ state.old.next_run + 1 }
     ensures runs { runs.new.items ≡ runs_by change runs.old.items }
     ensures state { state.new ≡ record state.old {
-      instances = instances_by change runs.old.items state.old.instances;
+      instances = instances_by change state.old.instances;
       next_run = next_run_by change state.old.next_run;
     } }
 {
@@ -174,11 +172,18 @@ fn change_runs(
             runs.push_reserved(run);
             state.next_run = next_run;
         }
-        RunChange::End { index } => {
-            let run = runs.remove(index);
-            set_out(alloc, &mut state.instances, run.instance, false);
+        RunChange::End { run, instance } => {
+            remove_run(runs, run);
+            set_out(alloc, &mut state.instances, instance, false);
         }
     }
+}
+
+/// Takes the run of this number out.
+fn remove_run(runs: &mut Vec<Run>, number: u64)
+    ensures { runs.new.items ≡ other_runs number runs.old.items }
+{
+    runs.retain(|run| run.run != number);
 }
 
 /// Has the instance of this number out or not. It takes no memory.

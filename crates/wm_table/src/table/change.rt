@@ -21,8 +21,8 @@ pub enum RunChange {
     Unchanged,
     /// This run begins, and its instance is out.
     Begin(Run),
-    /// The run at this index is over, and its instance is idle.
-    End { index: usize },
+    /// The run of this number is over, and this instance is idle.
+    End { run: u64, instance: u32 },
 }
 
 /// All that one step is about to do, with its memory taken.

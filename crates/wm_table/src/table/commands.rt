@@ -2,6 +2,7 @@
 //! own.
 ghost use Rattle.std.specs.Prelude.{◌≡◌, IfOk};
 ghost use Rattle.wm_machine.specs.Built.{IsBuilt};
+ghost use Rattle.wm_machine.specs.Narrow.{IsNarrow};
 ghost use Rattle.wm_machine.specs.Valid.{Valid};
 ghost use Rattle.wm_table.specs.Builds.{answering, IsExecuted};
 
@@ -52,6 +53,7 @@ pub fn execute(
     command: Command,
 ) -> Result<Executed, AllocError>
     requires valid { Valid state.now }
+    requires narrow { IsNarrow state.now }
     requires built { IsBuilt command }
     ensures { IfOk result (IsExecuted state.entry.now line command) }
 {

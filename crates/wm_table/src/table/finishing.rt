@@ -1,9 +1,11 @@
 //! How a run ends by the report of its worker.
-ghost use Rattle.std.specs.Prelude.{◌≡◌, ◌↔◌, ◌==◌, ◌<◌, [], None, length, slice_get, IfNone, IfOk, IfSome, IsSome, IsSomeAnd, IsTrue, MatchOption};
+ghost use Rattle.std.specs.Prelude.{◌≡◌, ◌↔◌, ◌==◌, ◌<◌, [], true, None, length, slice_get, IfNone, IfOk, IfSome, IsSome, IsSomeAnd, IsTrue, MatchOption};
 ghost use Rattle.std.specs.List.{position};
+ghost use Rattle.std.specs.Option.{option_copied};
+ghost use Rattle.wm_machine.specs.Narrow.{IsNarrow};
 ghost use Rattle.wm_machine.specs.Runs.{run_numbered};
 ghost use Rattle.wm_machine.specs.Valid.{IsValidRun, IsWorkOf, Valid};
-ghost use Rattle.wm_table.specs.Builds.{CountsAt, IsFinish};
+ghost use Rattle.wm_table.specs.Builds.{IsFinish};
 ghost use Rattle.wm_table.specs.Table.{Counts, CountsIn};
 ghost use Rattle.wm_worker.specs.Answers.{given_of};
 
@@ -17,12 +19,11 @@ use wm_data::Data;
 use wm_machine::{End, Event, Kind, Record, Run, State};
 use wm_worker::{Answer, Told};
 
-/// The place of the run of this number.
-fn run_place(runs: &[Run], number: u64) -> Option<usize>
-    ensures { MatchOption result (run_numbered number runs.now ≡ None)
-        (λ place. (place < length runs.now) × (run_numbered number runs.now ≡ slice_get runs.now place)) }
+/// The run of this number.
+fn run_numbered(runs: &[Run], number: u64) -> Option<&Run>
+    ensures { option_copied result ≡ run_numbered number runs.now }
 {
-    runs.iter().position(|run| run.run == number)
+    runs.iter().find(|run| run.run == number)
 }
 
 /// The index of the work of this number.
@@ -36,6 +37,7 @@ fn work_index(works: &[Record], seq: u64) -> Option<usize>
 fn work_of(state: &State, run: &Run) -> usize
     requires valid { Valid state.now }
     requires run { IsValidRun state.now run.now }
+    requires current { run.now.current ≡ true }
     ensures { IsSomeAnd (slice_get state.entry.now.works result) (IsWorkOf run.entry.now) }
 {
     let Some(index) = work_index(state.works.as_slice(), run.seq) else {
@@ -64,17 +66,14 @@ fn counts(run: &Run, told: &Told) -> bool
         && is_given(told.answer())
 }
 
-/// The place of a ticket's run, where the report counts for it.
-pub fn counting(state: &State, ticket: &Ticket, told: &Told) -> Option<usize>
-    requires { Valid state.now }
-    ensures none { IfNone result (CountsIn state.entry.now ticket.now.task.run told.now → ⊥) }
-    ensures some { IfSome result (CountsAt state.entry.now ticket.now.task.run told.now) }
+/// Whether a report counts for the run of a ticket.
+pub fn counts_in(state: &State, ticket: &Ticket, told: &Told) -> bool
+    requires { IsNarrow state.now }
+    ensures { IsTrue result ↔ CountsIn state.entry.now ticket.now.task.run told.now }
 {
-    let place = run_place(state.runs.as_slice(), ticket.task().run)?;
-    if counts(at(state.runs.as_slice(), place), told) {
-        Some(place)
-    } else {
-        None
+    match run_numbered(state.runs.as_slice(), ticket.task().run) {
+        Some(run) => counts(run, told),
+        None => false,
     }
 }
 
@@ -91,26 +90,32 @@ fn output_of(told: &Told) -> &Data
     }
 }
 
-/// The end of a ticket's run, which stands at a place and for which the report counts.
+/// The end of a ticket's run, for which the report counts.
 pub fn finish(
     alloc: Global,
     state: &State,
     ticket: &Ticket,
-    place: usize,
     told: &Told,
 ) -> Result<StepChange, AllocError>
     requires valid { Valid state.now }
-    requires counts { CountsAt state.now ticket.now.task.run told.now place }
+    requires narrow { IsNarrow state.now }
+    requires counts { CountsIn state.now ticket.now.task.run told.now }
     ensures { IfOk result (IsFinish state.entry.now ticket.now.task.run told.now) }
 {
-    let run = at(state.runs.as_slice(), place);
+    let Some(run) = run_numbered(state.runs.as_slice(), ticket.task().run) else {
+        unreachable!();
+    };
     let index = work_of(state, run);
     let work = at(state.works.as_slice(), index);
     let output = output_of(told);
     let changed = lifecycle::succeeded(alloc, work, output)?;
     let event = finish_event(alloc, run.run, output);
     let (changed, event) = with(changed, event)?;
-    StepChange::replacing(alloc, index, changed, RunChange::End { index: place }, event)
+    let end = RunChange::End {
+        run: run.run,
+        instance: run.instance,
+    };
+    StepChange::replacing(alloc, index, changed, end, event)
 }
 
 /// The event by which a run succeeds with an output.

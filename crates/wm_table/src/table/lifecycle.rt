@@ -14,7 +14,6 @@ const MAX_ATTEMPT: u32 = 1_000_000;
 
 /// The record of a work whose run begins.
 pub fn started(alloc: Global, work: &Record) -> Result<Record, AllocError>
-    requires { work.now.phase ≡ Phase.Waiting }
     ensures { IfOk result (λ changed. changed ≡ started work.entry.now) }
 {
     let mut changed = work.replica(alloc)?;
@@ -26,7 +25,6 @@ pub fn started(alloc: Global, work: &Record) -> Result<Record, AllocError>
 
 /// The record of a one-time work that couldn't start.
 pub fn not_started(alloc: Global, work: &Record) -> Result<Record, AllocError>
-    requires { work.now.phase ≡ Phase.Waiting }
     ensures { IfOk result (λ changed. changed ≡ closed How.Failed work.entry.now) }
 {
     let mut changed = work.replica(alloc)?;
@@ -37,7 +35,6 @@ pub fn not_started(alloc: Global, work: &Record) -> Result<Record, AllocError>
 
 /// The record of a one-time work whose run succeeded with this output.
 pub fn succeeded(alloc: Global, work: &Record, output: &Data) -> Result<Record, AllocError>
-    requires { work.now.phase ≡ Phase.Running }
     ensures { IfOk result (λ changed. changed ≡ succeeded output.now work.entry.now) }
 {
     let mut changed = work.replica(alloc)?;

@@ -50,11 +50,7 @@ fn remove_numbered(changes: &mut Vec<Change>, numbers: &[u64]) -> Result<(), All
 }
 
 /// Adds the rows of new records.
-fn put_placed(
-    alloc: Global,
-    changes: &mut Vec<Change>,
-    works: &[Record],
-) -> Result<(), AllocError>
+fn put_placed(alloc: Global, changes: &mut Vec<Change>, works: &[Record]) -> Result<(), AllocError>
     requires { AllByRecursion HasRow works.now }
     ensures { OnOk result (changes.new.items ≡ changes.old.items ++ map put_work works.now) }
 {

@@ -1,6 +1,7 @@
 //! How the work that is first starts: its run begins, or it can't start.
 ghost use Rattle.std.specs.Prelude.{◌≡◌, Some, None, IfOk, MatchOption};
 ghost use Rattle.wm_machine.specs.First.{first_of, idle_instance};
+ghost use Rattle.wm_machine.specs.Narrow.{IsNarrow};
 ghost use Rattle.wm_machine.specs.Runs.{one_attempt_more, run_on};
 ghost use Rattle.wm_machine.specs.Valid.{Valid};
 ghost use Rattle.wm_table.specs.Builds.{IsClaiming, IsFirstAt};
@@ -23,7 +24,8 @@ pub struct Claiming {
 
 /// The start of the work that is first; none where nothing is startable.
 pub fn claim_first(alloc: Global, state: &State) -> Result<Option<Claiming>, AllocError>
-    requires { Valid state.now }
+    requires valid { Valid state.now }
+    requires narrow { IsNarrow state.now }
     ensures { IfOk result (λ found. MatchOption found (first_of state.entry.now ≡ None) (IsClaiming state.entry.now)) }
 {
     let Some(index) = scan::first_index(state) else {
@@ -45,6 +47,7 @@ fn start(
     idle: &Instance,
 ) -> Result<Claiming, AllocError>
     requires valid { Valid state.now }
+    requires narrow { IsNarrow state.now }
     requires first { IsFirstAt state.now index work.now }
     requires idle { idle_instance state.now.instances work.now.request.class ≡ Some idle.now }
     ensures { IfOk result (IsClaiming state.entry.now) }
@@ -68,13 +71,9 @@ fn start(
 }
 
 /// The failure of a work whose class has no worker.
-fn fail(
-    alloc: Global,
-    state: &State,
-    index: usize,
-    work: &Record,
-) -> Result<Claiming, AllocError>
+fn fail(alloc: Global, state: &State, index: usize, work: &Record) -> Result<Claiming, AllocError>
     requires valid { Valid state.now }
+    requires narrow { IsNarrow state.now }
     requires first { IsFirstAt state.now index work.now }
     requires no_worker { idle_instance state.now.instances work.now.request.class ≡ None }
     ensures { IfOk result (IsClaiming state.entry.now) }
@@ -101,7 +100,8 @@ fn run_on(
     instance: &Instance,
 ) -> Result<Run, AllocError>
     requires { attempt ≡ one_attempt_more work.now.attempt }
-    ensures { IfOk result (λ run. run ≡ run_on state.entry.now work.entry.now instance.entry.now) }
+    ensures { IfOk result (λ run. run
+        ≡ run_on state.entry.now work.entry.now instance.entry.now work.entry.now.request.input) }
 {
     Ok(Run {
         run: state.next_run,

@@ -90,7 +90,7 @@ fn number_twice(alloc: Global, number: u64) -> Result<(Items<u64>, Items<u64>), 
 fn place(alloc: Global, state: &State, line: u32, batch: Batch) -> Result<Executed, AllocError>
     requires valid { Valid state.now }
     requires plain { IsPlain batch.works }
-    requires accepted { refusal_of state.now batch.works ≡ None }
+    requires accepted { refusal_of state.now None batch.works ≡ None }
     ensures { IfOk result (IsExecuted state.entry.now line (Command.Enqueue None batch)) }
 {
     let [work] = batch.works.as_slice() else {

@@ -1,4 +1,4 @@
-use Rattle.std.proofs.Common.{◌≡◌, eqb, List, position, slice_get, ◌∙◌, ap}
+use Rattle.std.proofs.Common.{eqb, List, position, slice_get, ◌∙◌, ap}
 use Rattle.std.specs.Prelude.{IsSomeAnd}
 use Rattle.std.proofs.lemmas.Option.{MatchOption-at_none, MatchOption-at_some}
 use Rattle.wm_machine.specs.Valid.{IsWorkOf}
@@ -11,7 +11,7 @@ unreachable-requires c =
     let s = c.args.state.now in
     let run = c.args.run.now in
     MatchOption-at_none ⊥ (λ i. IsSomeAnd (slice_get s.works i) (IsWorkOf run)) c.in_default.is
-    (work-searched s run c.work_index.result c.requires.valid c.requires.run
+    (work-searched s run c.work_index.result c.requires.valid c.requires.run c.requires.current
     (c.work_index.ensures ∙ ap (λ (works : List Record). position (λ w. eqb w.seq run.seq) works) c.as_slice.ensures))
 
 pub returns : goal.returns
@@ -19,5 +19,5 @@ returns c =
     let s = c.args.state.now in
     let run = c.args.run.now in
     MatchOption-at_some ⊥ (λ i. IsSomeAnd (slice_get s.works i) (IsWorkOf run)) c.in-Some.index c.in-Some.is
-    (work-searched s run c.work_index.result c.requires.valid c.requires.run
+    (work-searched s run c.work_index.result c.requires.valid c.requires.run c.requires.current
     (c.work_index.ensures ∙ ap (λ (works : List Record). position (λ w. eqb w.seq run.seq) works) c.as_slice.ensures))

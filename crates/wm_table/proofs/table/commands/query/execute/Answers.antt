@@ -1,6 +1,7 @@
-use Rattle.std.proofs.Common.{◌≡◌, List, refl, sym, ap, subst}
+use Rattle.std.proofs.Common.{◌≡◌, List, refl, sym, ◌∙◌, ap, subst}
 use Rattle.std.specs.List.{AllByRecursion}
 use Rattle.std.proofs.lemmas.Result.{IfOk-weaker}
+use Rattle.wm_machine.proofs.Queries.{answer_to-all}
 use Rattle.wm_machine.specs.Built.{TellsNoData}
 use Rattle.wm_machine.specs.declared.command.Command.TheVariants as command
 use Rattle.wm_machine.specs.declared.reply.Reply.TheVariants as reply
@@ -16,5 +17,8 @@ returns c =
     let answer = reply.Query c.in_ok-works.works in
     IfOk-weaker c.answering.result (λ executed. executed ≡ answering c.args.line asked answer) (IsExecuted s c.args.line asked)
     (λ executed is. subst (IsExecuted s c.args.line asked) (sym is)
-    (answering-executed s c.args.line asked answer c.requires.valid (c.requires.all, ap (λ (works : List WorkInfo). reply.Query works) c.in_ok-works.ensures) refl
-    (subst (AllByRecursion TellsNoData) (sym c.in_ok-works.ensures) (infos-tell s c.requires.valid)))) c.answering.ensures
+    (answering-executed s c.args.line asked answer c.requires.valid (
+      c.requires.all,
+      ap (λ (works : List WorkInfo). reply.Query works) (c.in_ok-works.ensures ∙ sym (answer_to-all s c.args.query c.requires.all)),
+    ) refl
+    (subst (AllByRecursion TellsNoData) (sym c.in_ok-works.ensures) (infos-tell s c.requires.narrow)))) c.answering.ensures
