@@ -2,7 +2,7 @@
 use Rattle.std.proofs.Common.{◌≡◌, ℕ, List, [], ◌∷◌, length, length-append, None, refl, sym, ◌∙◌, ap, subst, arith, inl}
 use Rattle.std.proofs.lemmas.List.{length-map}
 use Rattle.wm_machine.proofs.Records.{IsRecord-placed, plain_node}
-use Rattle.wm_machine.proofs.States.{room}
+use Rattle.wm_machine.proofs.Enqueues.{room}
 use Rattle.wm_machine.specs.Built.{IsBuilt, IsPlain}
 use Rattle.wm_machine.specs.Enqueued.{enqueued, outcome_by, placed_record, refusal_of, with_work}
 use Rattle.wm_machine.specs.Replied.{Outcome}

@@ -1,5 +1,5 @@
 -- The step by which a run is over.
-use Rattle.std.proofs.Common.{◌≡◌, ℕ, eqb, List, [], Option, Some, slice_get, refl, sym, ◌∙◌, ap, subst}
+use Rattle.std.proofs.Common.{◌≡◌, ℕ, eqb, List, [], Option, Some, slice_get, refl, sym, ◌∙◌, ap, subst, false, None, IfSome, IsSomeAnd}
 use Rattle.std.proofs.lemmas.Bool.{eqb-true}
 use Rattle.wm_data.specs.declared.data.DataEntry.{DataEntry}
 use Rattle.wm_machine.proofs.Lists.{find-passes}
@@ -10,7 +10,7 @@ use Rattle.wm_machine.specs.Ends.{succeeded}
 use Rattle.wm_machine.specs.Narrow.{IsNarrow, IsNarrowRecord, IsNarrowRun}
 use Rattle.wm_machine.specs.Runs.{changed_work, other_runs, run_numbered, with_out}
 use Rattle.wm_machine.specs.Step.{IsEnd}
-use Rattle.wm_machine.specs.Valid.{IsRecord, IsWorkOf, Valid}
+use Rattle.wm_machine.specs.Valid.{IsRecord, IsValidRun, IsWorkOf, Valid}
 use Rattle.wm_machine.specs.declared.event.End.TheVariants as end
 use Rattle.wm_machine.specs.declared.event.Event.TheVariants as event
 use Rattle.wm_machine.specs.declared.record.Record.{Record}
@@ -36,6 +36,12 @@ pub record Counted (s : State) (number : ℕ) (told : Report) (run : Run) : Type
   pub on_echo : run.kind ≡ Echo
   pub echo : told.kind ≡ Echo
   pub nothing : told.input ≡ []
+
+-- a run that is found is as all are
+pub found-fine : (s : State) (number : ℕ) (found : Option Run) → Valid s → IsNarrow s → found ≡ run_numbered number s.runs
+    → IfSome found (λ run. IsValidRun s run × IsNarrowRun run)
+found-fine s number None valid narrow is = tt
+found-fine s number (Some run) valid narrow is = (found_valid s number run valid (sym is), found_narrow s number run narrow (sym is))
 
 pub counted : (s : State) (number : ℕ) (told : Report) (run : Run) → Valid s → IsNarrow s → CountsIn s number told → run_numbered number s.runs ≡ Some run
     → Counted s number told run
@@ -80,7 +86,7 @@ finish-step s number i told run work output valid narrow is at of told_is output
             let plain = All-at IsNarrowRecord s.works i work narrow.records at in
             let fine = All-at IsRecord s.works i work valid.records at in
             Fits-replacing s i work (succeeded output work) (End run.run run.instance) (event.Finish run.run (end.Success output)) valid at refl
-            (subst (λ (data : List DataEntry). IsRecord (succeeded data work)) (sym none) (IsRecord-succeeded work of.running plain fine))
+            (subst (λ (given : List DataEntry). IsRecord (succeeded given work)) (sym none) (IsRecord-succeeded work of.running plain fine))
             plain.no_input none;
         legal = legal;
         state =

@@ -25,12 +25,6 @@ All-at P (y ∷ xs) (suc i) x all is = All-at P xs i x all.1 is
 pub at-some : {T : Type 0} (P : T → Type 0) (xs : List T) (i : ℕ) (x : T) → slice_get xs i ≡ Some x → IsSomeAnd (slice_get xs i) P → P x
 at-some {T} P xs i x at some = subst (λ (o : Option T). IsSomeAnd o P) at some
 
--- and it is one of those that stand there
-pub within : {T : Type 0} (P : T → Type 0) (xs : List T) (i : ℕ) → IsSomeAnd (slice_get xs i) P → i < length xs
-within P [] i some = absurd some
-within P (x ∷ xs) zero some = omega arith
-within P (x ∷ xs) (suc i) some = let below = within P xs i some in omega arith
-
 -- where a search gives none, none is found
 find-none : {T : Type 0} (test : T → Bool) (xs : List T) → position test xs ≡ None → find test xs ≡ None
 find-none test xs none =
@@ -89,13 +83,16 @@ find-work run (first ∷ works) ascend (inr one) =
 
 -- a search by a run's work number gives the run's work
 pub work-searched : (s : State) (run : Run) (found : Option ℕ) → Valid s → IsValidRun s run → run.current ≡ true
-    → found ≡ position (λ w. eqb w.seq run.seq) s.works → MatchOption found ⊥ (λ i. IsSomeAnd (slice_get s.works i) (IsWorkOf run))
+    → found ≡ position (λ w. eqb w.seq run.seq) s.works → MatchOption found ⊥ (λ i. (i < length s.works) × IsSomeAnd (slice_get s.works i) (IsWorkOf run))
 work-searched s run None valid is current at =
     subst (λ (o : Option Record). IsSomeAnd o (IsWorkOf run)) (searched (λ w. eqb w.seq run.seq) s.works None at)
     (find-work run s.works (WorksAscend-in_order s.works valid.in_order) (is.work current))
 work-searched s run (Some i) valid is current at =
-    subst (λ (o : Option Record). IsSomeAnd o (IsWorkOf run)) (searched (λ w. eqb w.seq run.seq) s.works (Some i) at).1
-    (find-work run s.works (WorksAscend-in_order s.works valid.in_order) (is.work current))
+    let there = searched (λ (w : Record). eqb w.seq run.seq) s.works (Some i) at in (
+      there.0,
+      subst (λ (o : Option Record). IsSomeAnd o (IsWorkOf run)) there.1
+          (find-work run s.works (WorksAscend-in_order s.works valid.in_order) (is.work current)),
+    )
 
 -- ---- runs
 

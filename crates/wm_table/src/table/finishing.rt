@@ -1,8 +1,7 @@
 //! How a run ends by the report of its worker.
 ghost use Rattle.std.specs.Prelude.{◌≡◌, ◌↔◌, ◌==◌, ◌<◌, [], true, None, length, slice_get, IfNone, IfOk, IfSome, IsSome, IsSomeAnd, IsTrue, MatchOption};
-ghost use Rattle.std.specs.List.{position};
 ghost use Rattle.std.specs.Option.{option_copied};
-ghost use Rattle.wm_machine.specs.Narrow.{IsNarrow};
+ghost use Rattle.wm_machine.specs.Narrow.{IsNarrow, IsNarrowRun};
 ghost use Rattle.wm_machine.specs.Runs.{run_numbered};
 ghost use Rattle.wm_machine.specs.Valid.{IsValidRun, IsWorkOf, Valid};
 ghost use Rattle.wm_table.specs.Builds.{IsFinish};
@@ -26,24 +25,28 @@ fn run_numbered(runs: &[Run], number: u64) -> Option<&Run>
     runs.iter().find(|run| run.run == number)
 }
 
-/// The index of the work of this number.
-fn work_index(works: &[Record], seq: u64) -> Option<usize>
-    ensures { result ≡ position (λ work. work.seq == seq) works.now }
+/// The run of this number, which is as all of a state are.
+fn run_of(state: &State, number: u64) -> Option<&Run>
+    requires valid { Valid state.now }
+    requires narrow { IsNarrow state.now }
+    ensures found { option_copied result ≡ run_numbered number state.entry.now.runs }
+    ensures run { IfSome (option_copied result)
+        (λ run. IsValidRun state.entry.now run × IsNarrowRun run) }
 {
-    works.iter().position(|work| work.seq == seq)
+    run_numbered(state.runs.as_slice(), number)
 }
 
-/// The index of a run's work.
-fn work_of(state: &State, run: &Run) -> usize
+/// The index of a run's work, which is there.
+fn work_index(state: &State, run: &Run) -> Option<usize>
     requires valid { Valid state.now }
     requires run { IsValidRun state.now run.now }
     requires current { run.now.current ≡ true }
-    ensures { IsSomeAnd (slice_get state.entry.now.works result) (IsWorkOf run.entry.now) }
+    ensures { MatchOption result ⊥
+        (λ index. (index < length state.entry.now.works)
+        × IsSomeAnd (slice_get state.entry.now.works index) (IsWorkOf run.entry.now)) }
 {
-    let Some(index) = work_index(state.works.as_slice(), run.seq) else {
-        unreachable!();
-    };
-    index
+    let works = state.works.as_slice();
+    works.iter().position(|work| work.seq == run.seq)
 }
 
 /// Whether a worker came to an answer by itself.
@@ -68,10 +71,11 @@ fn counts(run: &Run, told: &Told) -> bool
 
 /// Whether a report counts for the run of a ticket.
 pub fn counts_in(state: &State, ticket: &Ticket, told: &Told) -> bool
-    requires { IsNarrow state.now }
+    requires valid { Valid state.now }
+    requires narrow { IsNarrow state.now }
     ensures { IsTrue result ↔ CountsIn state.entry.now ticket.now.task.run told.now }
 {
-    match run_numbered(state.runs.as_slice(), ticket.task().run) {
+    match run_of(state, ticket.task().run) {
         Some(run) => counts(run, told),
         None => false,
     }
@@ -102,10 +106,12 @@ pub fn finish(
     requires counts { CountsIn state.now ticket.now.task.run told.now }
     ensures { IfOk result (IsFinish state.entry.now ticket.now.task.run told.now) }
 {
-    let Some(run) = run_numbered(state.runs.as_slice(), ticket.task().run) else {
+    let Some(run) = run_of(state, ticket.task().run) else {
         unreachable!();
     };
-    let index = work_of(state, run);
+    let Some(index) = work_index(state, run) else {
+        unreachable!();
+    };
     let work = at(state.works.as_slice(), index);
     let output = output_of(told);
     let changed = lifecycle::succeeded(alloc, work, output)?;
