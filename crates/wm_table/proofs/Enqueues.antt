@@ -1,5 +1,5 @@
 -- The step that places a plain work.
-use Rattle.std.proofs.Common.{◌≡◌, ℕ, List, [], ◌∷◌, length, length-append, None, refl, sym, ◌∙◌, ap, subst, arith, inl}
+use Rattle.std.proofs.Common.{◌≡◌, ℕ, List, [], ◌∷◌, length, length-append, None, refl, sym, ◌∙◌, ap, subst, arith, inl, inr}
 use Rattle.std.proofs.lemmas.List.{length-map}
 use Rattle.wm_machine.proofs.Records.{IsRecord-placed, plain_node}
 use Rattle.wm_machine.proofs.Enqueues.{room}
@@ -17,8 +17,9 @@ use Rattle.wm_machine.specs.declared.request.Batch.{Batch}
 use Rattle.wm_machine.specs.declared.request.Node.{Node}
 use Rattle.wm_machine.specs.declared.state.State.{State}
 use Rattle.wm_table.specs.Builds.{IsExecuted}
-use Rattle.wm_table.specs.StepChanges.{placing}
+use Rattle.wm_table.specs.StepChanges.{placing, row_changes}
 use Rattle.wm_table.specs.Table.{ChangesNoRow, ChangesRows}
+use Rattle.wm_table.specs.declared.table.commands.Executed.{Executed}
 
 -- the event by which a work is placed
 abbrev pub placed_by : State → ℕ → Batch → Event
@@ -38,6 +39,14 @@ changes-apart s (command.Enqueue None batch) plain accepted same =
     absurd (omega (arith, simp (length-map, length-append) at (ap length longer)))
 changes-apart s (command.Enqueue named batch) built changes same = absurd built
 changes-apart s _ built changes same = absurd changes
+
+-- so one that leaves the rows has no row to commit
+pub no-row-changes : (s t : State) (line : ℕ) (asked : Command) (executed : Executed) → IsBuilt asked → t ≡ s → IsExecuted s line asked executed
+    → ChangesNoRow t asked → row_changes executed.change ≡ []
+no-row-changes s t line asked executed built state_is is same = elim is.rows [
+  | inl changes ↦ absurd (changes-apart s asked built changes (subst (λ (s : State). ChangesNoRow s asked) state_is same))
+  | inr none ↦ none
+]
 
 -- the step of its only work
 pub placing-executed : (s : State) (line : ℕ) (batch : Batch) (plain : IsPlain batch.works) → Valid s → refusal_of s None batch.works ≡ None

@@ -2,7 +2,7 @@
 use Rattle.std.proofs.Common.{◌≡◌, ℕ, refl, sym, ◌∙◌, arith, inr}
 use Rattle.std.specs.List.{AllByRecursion}
 use Rattle.wm_machine.proofs.Lists.{All-map}
-use Rattle.wm_machine.specs.Built.{IsWritten, TellsNoData}
+use Rattle.wm_machine.specs.Built.{ReplyTellsNoData, TellsNoData}
 use Rattle.wm_machine.specs.Narrow.{IsNarrow, IsNarrowRecord}
 use Rattle.wm_machine.specs.Shown.{info_of, infos_of}
 use Rattle.wm_machine.specs.Step.{Legal, after}
@@ -25,7 +25,7 @@ telling-step s e valid legal same = record {
 }
 
 pub answering-executed : (s : State) (line : ℕ) (asked : Command) (answer : Reply) → Valid s → Legal s (event.Command line asked answer)
-    → after s (event.Command line asked answer) ≡ s → IsWritten answer → IsExecuted s line asked (answering line asked answer)
+    → after s (event.Command line asked answer) ≡ s → ReplyTellsNoData answer → IsExecuted s line asked (answering line asked answer)
 answering-executed s line asked answer valid legal same text = record {
   event = refl;
   step = telling-step s (event.Command line asked answer) valid legal same;

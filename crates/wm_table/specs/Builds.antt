@@ -1,7 +1,7 @@
 -- What is built for an event: the change of its step, and what is answered. This project's own choice.
 use Rattle.std.specs.Prelude.{◌≡◌, ◌⊎◌, ℕ, List, [], Some, slice_get}
 use Rattle.wm_data.specs.declared.data.DataEntry.{DataEntry}
-use Rattle.wm_machine.specs.Built.{IsWritten}
+use Rattle.wm_machine.specs.Built.{ReplyTellsNoData}
 use Rattle.wm_machine.specs.First.{first_of}
 use Rattle.wm_machine.specs.Step.{after}
 use Rattle.wm_machine.specs.declared.command.Command.{Command}
@@ -27,7 +27,7 @@ use Rattle.wm_worker.specs.declared.answer.Answer.TheVariants as answer
 pub record IsExecuted (s : State) (line : ℕ) (asked : Command) (executed : Executed) : Type 0 where
   pub event : executed.change.event ≡ event.Command line asked executed.reply
   pub step : IsStepOf s executed.change
-  pub text : IsWritten executed.reply
+  pub text : ReplyTellsNoData executed.reply
   pub rows : ChangesRows s asked ⊎ (row_changes executed.change ≡ [])
 
 -- a command that only has a reply

@@ -1,7 +1,7 @@
 //! The table: the state, the log of the events that led to it, and the keeper of its rows.
 ghost use Rattle.std.specs.Prelude.{◌≡◌, ◌≢◌, ◌↔◌, [], Err, IsTrue, IfOk, IfErr, IfSome, OnOk, OnErr};
 ghost use Rattle.std.specs.Option.{option_copied};
-ghost use Rattle.wm_machine.specs.Built.{IsBuilt, IsWritten};
+ghost use Rattle.wm_machine.specs.Built.{IsBuilt, ReplyTellsNoData};
 ghost use Rattle.wm_machine.specs.Narrow.{IsNarrow};
 ghost use Rattle.wm_machine.specs.Opened.{opening_state, Opened};
 ghost use Rattle.wm_machine.specs.Quiet.{IsQuiet};
@@ -192,7 +192,7 @@ impl<K: Keeper> Table<K> {
         requires no_run { self.old.state.runs ≡ [] }
         ensures ok { IfOk result (λ reply.
             IsOneStep K.held (event.Command line command reply) self.old self.new) }
-        ensures text { IfOk result IsWritten }
+        ensures text { IfOk result ReplyTellsNoData }
         ensures err { OnErr result (IsUntouched K.held self.old self.new) }
         ensures cause { TroubleCause result (K.faults self.old.keeper) (K.faults self.new.keeper) }
         ensures untouched_keeper { ChangesNoRow self.old.state command
