@@ -203,7 +203,7 @@ module _ {K W B : Type 0} (held : K → Option (List Row)) (kind_of : B → Kind
 
   pub GoesInOrder-halted : IsAtRest old → IsClaimed held kind_of job.Stopped old new → (lines : List Command) → GoesInOrder lines old → GoesInOrder lines new
   GoesInOrder-halted rest (inl stopped, places) lines = GoesInOrder-stopped held lines old new stopped.table stopped.status
-  GoesInOrder-halted rest (inr untold, places) = GoesInOrder-claimed held old new rest untold.before untold.made untold.claimed
+  GoesInOrder-halted rest (inr untold, places) lines = GoesInOrder-claimed held old new rest untold.before untold.made untold.claimed lines
 
 -- ---- a run under way
 
