@@ -257,4 +257,5 @@ unplaced s works changed same =
 pub state-replacing : (s t : State) (i : ℕ) (work : Record) (change : Record → Record) → Valid s → slice_get s.works i ≡ Some work
     → record t { works = set s.works i (change work) ++ []; next = t.next + 0 } ≡ record t { works = changed_work change work.seq s.works }
 state-replacing s t i work change valid at =
-    unplaced t (set s.works i (change work)) (changed_work change work.seq s.works) (sym (changed_work-at change s.works i work (WorksAscend-in_order s.works valid.in_order) at))
+    let ascend = WorksAscend-in_order s.works valid.in_order in
+    unplaced t (set s.works i (change work)) (changed_work change work.seq s.works) (sym (changed_work-at change s.works i work ascend at))

@@ -111,6 +111,7 @@ fn place(alloc: Global, state: &State, line: u32, batch: Batch) -> Result<Execut
     })
 }
 
+/// What the enqueue of a batch comes to.
 pub fn execute(
     alloc: Global,
     state: &State,

@@ -7,6 +7,7 @@ use crate::table::joins::copied;
 use std::alloc::{AllocError, Global};
 use wm_machine::{Command, LineFault, Refusal, Reply};
 
+/// What a line that isn't built comes to, in every state.
 pub fn execute(alloc: Global, line: u32, fault: LineFault) -> Result<Executed, AllocError>
     ensures { IfOk result (λ executed. executed
         ≡ answering line (Command.Faulty fault) (Reply.Refused (Refusal.Line fault))) }

@@ -10,6 +10,7 @@ use crate::table::infos::infos_of;
 use std::alloc::{AllocError, Global};
 use wm_machine::{Command, Reply, State, WorkQuery};
 
+/// What a query comes to.
 pub fn execute(
     alloc: Global,
     state: &State,
