@@ -80,30 +80,19 @@ still_keep : (works : List Record) (replaced : Replacement) (later : List Replac
 still_keep works replaced later keep =
     subst (λ numbers. AllByRecursion (λ r. slice_get numbers r.index ≡ Some r.work.seq) later) (sym (seqs-set works replaced.index replaced.work keep.0)) keep.1
 
-AreBelow-replaced : (next : ℕ) (replaced : List Replacement) (works : List Record) → AllByRecursion (KeepsNumber works) replaced → AreBelow next works
-    → AreBelow next (with_replaced replaced works)
-AreBelow-replaced next [] works keep below = below
-AreBelow-replaced next (replaced ∷ later) works keep below =
-    AreBelow-replaced next later (set works replaced.index replaced.work) (still_keep works replaced later keep) (
-      WorksAscend-set works replaced.index replaced.work keep.0 below.0,
-      All-set (λ number. number < next) works replaced.index replaced.work keep.0 below.1,
-    )
-
-rows-replaced : (replaced : List Replacement) (works : List Record) → AllByRecursion (KeepsNumber works) replaced → WorksAscend works
-    → changed (map put_replaced replaced) (map row_of works) ≡ map row_of (with_replaced replaced works)
-rows-replaced [] works keep ascend = refl
-rows-replaced (replaced ∷ later) works keep ascend =
-    ap (changed (map put_replaced later)) (put_row-at works replaced.index replaced.work keep.0 ascend)
-    ∙ rows-replaced later (set works replaced.index replaced.work) (still_keep works replaced later keep)
-    (WorksAscend-set works replaced.index replaced.work keep.0 ascend)
+rows-replaced : (next : ℕ) (replaced : List Replacement) (works : List Record) → AllByRecursion (KeepsNumber works) replaced → AreBelow next works
+    → (changed (map put_replaced replaced) (map row_of works) ≡ map row_of (with_replaced replaced works)) × AreBelow next (with_replaced replaced works)
+rows-replaced next [] works keep below = (refl, below)
+rows-replaced next (replaced ∷ later) works keep below =
+    let ascend = WorksAscend-set works replaced.index replaced.work keep.0 below.0 in
+    let all = All-set (λ number. number < next) works replaced.index replaced.work keep.0 below.1 in
+    let rest = rows-replaced next later (set works replaced.index replaced.work) (still_keep works replaced later keep) (ascend, all) in
+    (ap (changed (map put_replaced later)) (put_row-at works replaced.index replaced.work keep.0 below.0) ∙ rest.0, rest.1)
 
 -- ---- records that are removed
 
 All-kept : (P : Record → Type 0) (keep : Record → Bool) (works : List Record) → AllByRecursion P works → AllByRecursion P (filter keep works)
 All-kept P keep works all = All-filter P keep works (All-weaker P (λ work. keep work ≡ true → P work) works (λ work is e. is) all)
-
-WorksAscend-filter : (keep : Record → Bool) (works : List Record) → WorksAscend works → WorksAscend (filter keep works)
-WorksAscend-filter keep works ascend = AllLater-filter (λ one other. one.seq < other.seq) keep works ascend
 
 -- records above a number stay
 other_works-above : (number : ℕ) (works : List Record) → AllByRecursion (λ later. number < later.seq) works → other_works number works ≡ works
@@ -133,19 +122,14 @@ remove_row-at number (work ∷ works) ascend = elim (cases_order number work.seq
       rw (up, down, miss) (ap (λ (rest : List Row). row_of work ∷ rest) (remove_row-at number works ascend.1))
 ]
 
-AreBelow-removed : (next : ℕ) (numbers : List ℕ) (works : List Record) → AreBelow next works → AreBelow next (without numbers works)
-AreBelow-removed next [] works below = below
-AreBelow-removed next (number ∷ numbers) works below =
+rows-removed : (next : ℕ) (numbers : List ℕ) (works : List Record) → AreBelow next works
+    → (changed (map remove_numbered numbers) (map row_of works) ≡ map row_of (without numbers works)) × AreBelow next (without numbers works)
+rows-removed next [] works below = (refl, below)
+rows-removed next (number ∷ numbers) works below =
     let keep : Record → Bool = λ work. not (eqb work.seq number) in
-    AreBelow-removed next numbers (other_works number works)
-    (WorksAscend-filter keep works below.0, All-kept (λ work. work.seq < next) keep works below.1)
-
-rows-removed : (numbers : List ℕ) (works : List Record) → WorksAscend works
-    → changed (map remove_numbered numbers) (map row_of works) ≡ map row_of (without numbers works)
-rows-removed [] works ascend = refl
-rows-removed (number ∷ numbers) works ascend =
-    ap (changed (map remove_numbered numbers)) (remove_row-at number works ascend)
-    ∙ rows-removed numbers (other_works number works) (WorksAscend-filter (λ work. not (eqb work.seq number)) works ascend)
+    let ascend = AllLater-filter (λ one other. one.seq < other.seq) keep works below.0 in
+    let rest = rows-removed next numbers (other_works number works) (ascend, All-kept (λ work. work.seq < next) keep works below.1) in
+    (ap (changed (map remove_numbered numbers)) (remove_row-at number works below.0) ∙ rest.0, rest.1)
 
 -- ---- records that are placed
 
@@ -174,14 +158,11 @@ rows-changed s change valid fits =
     let puts = map put_replaced change.replaced in
     let removes = map remove_numbered change.removed in
     let placed = map put_work change.placed in
-    let replaced = with_replaced change.replaced s.works in
-    let below = AreBelow-replaced s.next change.replaced s.works fits.replaced ((WorksAscend-in_order s.works valid.in_order), valid.numbers) in
+    let replaced = rows-replaced s.next change.replaced s.works fits.replaced (WorksAscend-in_order s.works valid.in_order, valid.numbers) in
+    let left = rows-removed s.next change.removed (with_replaced change.replaced s.works) replaced.1 in
     changed-append (puts ++ removes) placed (rows_of s)
-    ∙ ap (changed placed)
-    (changed-append puts removes (rows_of s)
-    ∙ ap (changed removes) (rows-replaced change.replaced s.works fits.replaced (WorksAscend-in_order s.works valid.in_order))
-    ∙ rows-removed change.removed replaced below.0)
-    ∙ rows-placed s.next change.placed (without change.removed replaced) fits.placed (AreBelow-removed s.next change.removed replaced below).1
+    ∙ ap (changed placed) (changed-append puts removes (rows_of s) ∙ ap (changed removes) replaced.0 ∙ left.0)
+    ∙ rows-placed s.next change.placed (without change.removed (with_replaced change.replaced s.works)) fits.placed left.1.1
 
 -- what makes the rows of one state those of another does so to rows that are held
 rows-held : (s t : State) (change : List Row → List Row) (held : Option (List Row)) → HoldsRowsOf s held → change (rows_of s) ≡ rows_of t
