@@ -1,5 +1,5 @@
 -- What writing a text gives to its sink. This project's own choice.
-use Rattle.std.specs.Prelude.{◌≡◌, ℕ, Bool, true, false, List, ◌++◌, Option, option_map, Result, Ok, Err}
+use Rattle.std.specs.Prelude.{◌≡◌, ℕ, Bool, true, false, List, ◌++◌, Option, option_map, Result, Err}
 use Rattle.wm_session.specs.declared.writing.WriteFault.{WriteFault}
 use Rattle.wm_session.specs.declared.writing.WriteFault.TheVariants.{Failed}
 use Rattle.wm_faults.specs.Faults as faults

@@ -1,4 +1,4 @@
-use Rattle.std.proofs.Common.{Some, refl, sym, ◌∙◌, ap, subst, inr, rules}
+use Rattle.std.proofs.Common.{Some, refl, ◌∙◌, ap, rules}
 use Rattle.wm_machine.specs.declared.event.Event.TheVariants as event
 use Rattle.wm_session.proofs.BookParts.{claimed_failed, claimed_in, claimed_run, claimed_tells, IsUntold-claimed}
 use Rattle.wm_session.proofs.Books.{claimed_idle, IsBookKept-begun, IsBookKept-start_failed, IsBookKept-untold, IsBegun-taken, IsStartFailed-kept, IsTold-all, IsTold-cut}
