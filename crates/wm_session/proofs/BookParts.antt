@@ -11,7 +11,6 @@ use Rattle.wm_machine.specs.Replay.{Replay}
 use Rattle.wm_machine.specs.Rows.{rows_of}
 use Rattle.wm_machine.specs.Runs.{run_numbered}
 use Rattle.wm_machine.specs.declared.command.Command.{Command}
-use Rattle.wm_machine.specs.declared.event.Cause.{Cause}
 use Rattle.wm_machine.specs.declared.event.Event.TheVariants as event
 use Rattle.wm_machine.specs.declared.event.Event.{Event}
 use Rattle.wm_machine.specs.declared.state.Run.{Run}
@@ -22,7 +21,7 @@ use Rattle.wm_session.specs.Book as book
 use Rattle.wm_session.specs.BookState.{BookState}
 use Rattle.wm_session.specs.Causes.{stop_by_fault, stop_by_trouble, StopCause}
 use Rattle.wm_session.specs.Kept.{AreAwayKept, AreLinesKept, AreTextsKept}
-use Rattle.wm_table.specs.Table.{last_of, IsClaimed, IsOneStep, IsTicketIn, IsUntouched, TurnCause}
+use Rattle.wm_table.specs.Table.{last_of, IsClaimed, IsOneStep, IsUntouched, TurnCause}
 use Rattle.wm_table.specs.TableState.{TableState, TicketState, ticket_of}
 use Rattle.wm_session.specs.Writing.{WriteCause}
 use Rattle.wm_session.specs.declared.book.Stop.{Stop}
@@ -111,15 +110,6 @@ last_of-push (y ∷ z ∷ xs) x = last_of-push (z ∷ xs) x
 -- the last event is that of the step
 pub last_of-step : {K : Type 0} (held : K → Option (List Row)) (e : Event) (old new : TableState K) → IsOneStep held e old new → last_of new.log ≡ Some e
 last_of-step held e old new step = ap last_of step.appended ∙ last_of-push old.log e
-
-pub claimed_run : {K : Type 0} (held : K → Option (List Row)) (claimed : Option Claim) (ticket : TicketState) (old new : TableState K)
-    → claimed ≡ Some (claim.Run ticket) → IsClaimed held claimed old new
-    → IsOneStep held (event.Start ticket.task.run ticket.seq ticket.instance ticket.task.input) old new × IsTicketIn new.state ticket
-claimed_run held claimed ticket old new is done = subst (λ (c : Option Claim). IsClaimed held c old new) is done
-
-pub claimed_failed : {K : Type 0} (held : K → Option (List Row)) (claimed : Option Claim) (seq : ℕ) (cause : Cause) (old new : TableState K)
-    → claimed ≡ Some (claim.Failed seq cause) → IsClaimed held claimed old new → IsOneStep held (event.StartFailed seq cause) old new
-claimed_failed held claimed seq cause old new is done = subst (λ (c : Option Claim). IsClaimed held c old new) is done
 
 -- a claim's event, which is no line
 pub claimed_step : {K : Type 0} (held : K → Option (List Row)) (claimed : Claim) (old new : TableState K) → IsClaimed held (Some claimed) old new

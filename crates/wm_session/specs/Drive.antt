@@ -70,7 +70,8 @@ pub record IsGivenUp {K W B : Type 0} (held : K → Option (List Row)) (ticket :
   pub stopped : HasStopped held old new
   pub places : new.places ≡ changed_at (made_idle back) ticket.instance old.places
 
--- the run goes on with this ticket, which is at the next turn of at most 1,000, and this seat, whose worker has written down what it gave
+-- The run goes on with this ticket, which is at the next turn of at most 1,000, and this seat, whose worker has written down what it gave.
+-- No turn that is built is so yet.
 pub record IsOtherTurn {K W B : Type 0} (held : K → Option (List Row)) (kind_of : B → Kind) (diary_of : B → Option (List Entry)) (ticket : TicketState)
     (worker : B) (next : TicketState) (seat : Seat B) (old new : BookState K W B) : Type 0 where
   pub progress : Option (List DataEntry)

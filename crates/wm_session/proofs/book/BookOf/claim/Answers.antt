@@ -1,6 +1,6 @@
-use Rattle.std.proofs.Common.{Some, refl, ◌∙◌, ap, rules}
+use Rattle.std.proofs.Common.{refl, rules}
 use Rattle.wm_machine.specs.declared.event.Event.TheVariants as event
-use Rattle.wm_session.proofs.BookParts.{claimed_failed, claimed_in, claimed_run, claimed_tells, IsUntold-claimed}
+use Rattle.wm_session.proofs.BookParts.{claimed_in, claimed_tells, IsUntold-claimed}
 use Rattle.wm_session.proofs.Books.{claimed_idle, IsBookKept-begun, IsBookKept-start_failed, IsBookKept-untold, IsBegun-taken, IsStartFailed-kept, IsTold-all, IsTold-cut}
 use Rattle.wm_session.proofs.book.BookOf.claim.Goals as goal
 
@@ -29,9 +29,7 @@ invariant_of-self-in-Err-tell_last g c =
 pub unreachable-requires : goal.unreachable-requires
 unreachable-requires g c =
     let ticket = c.in-Run.ticket in
-    let run =
-    claimed_run g.K.Keeper.held c.in-Ok-Some.field-0 ticket c.self.inside.table c.claim.new.self
-    (c.in-Ok-Some.field-0-is ∙ ap Some c.in-Run.is) c.in-Ok-Some.ensures.ok in
+    let run = rw (c.in-Ok-Some.field-0-is, c.in-Run.is) at c.in-Ok-Some.ensures.ok in
     claimed_idle c.claim.new.self ticket.task.run ticket.seq ticket.instance c.instance.result ticket.task.input c.self.invariant
     (search rules) run.0 c.instance.ensures c.in_default.ensures.seat
 
@@ -40,9 +38,7 @@ invariant_of-self-in-Run g c =
     let ticket = c.in-Run.ticket in
     let told = c.tell_last.new in
     let e = event.Start ticket.task.run ticket.seq ticket.instance ticket.task.input in
-    let run =
-    claimed_run g.K.Keeper.held c.in-Ok-Some.field-0 ticket c.self.inside.table c.claim.new.self
-    (c.in-Ok-Some.field-0-is ∙ ap Some c.in-Run.is) c.in-Ok-Some.ensures.ok in
+    let run = rw (c.in-Ok-Some.field-0-is, c.in-Run.is) at c.in-Ok-Some.ensures.ok in
     IsBookKept-begun c.claim.new.self c.take.new.self told.pending.items told.sink ticket.task.run ticket.seq ticket.instance c.instance.result
     ticket.task.input c.self.invariant (search rules) run.0 c.instance.ensures c.in-Some.ensures.taken
     (IsTold-all e c.claim.new.self told.pending.items told.sink c.self.invariant (search rules) run.0
@@ -53,9 +49,7 @@ pub invariant_of-self-in-Failed : goal.invariant_of-self-in-Failed
 invariant_of-self-in-Failed g c =
     let failed = c.in-Failed in
     let told = c.tell_last.new in
-    let step =
-    claimed_failed g.K.Keeper.held c.in-Ok-Some.field-0 failed.seq failed.cause c.self.inside.table c.claim.new.self
-    (c.in-Ok-Some.field-0-is ∙ ap Some failed.is) c.in-Ok-Some.ensures.ok in
+    let step = rw (c.in-Ok-Some.field-0-is, failed.is) at c.in-Ok-Some.ensures.ok in
     IsBookKept-start_failed c.claim.new.self told.pending.items told.sink failed.seq failed.cause c.self.invariant (search rules) step
     (IsTold-all (event.StartFailed failed.seq failed.cause) c.claim.new.self told.pending.items told.sink c.self.invariant (search rules) step
     c.in-Ok.ensures.ok c.in-Ok.ensures.cause)
@@ -75,9 +69,7 @@ pub returns-in-Some : goal.returns-in-Some
 returns-in-Some g c =
     let ticket = c.in-Run.ticket in
     let told = c.tell_last.new in
-    let run =
-    claimed_run g.K.Keeper.held c.in-Ok-Some.field-0 ticket c.self.inside.table c.claim.new.self
-    (c.in-Ok-Some.field-0-is ∙ ap Some c.in-Run.is) c.in-Ok-Some.ensures.ok in
+    let run = rw (c.in-Ok-Some.field-0-is, c.in-Run.is) at c.in-Ok-Some.ensures.ok in
     rw (← c.self.view_is)
     (IsBegun-taken c.claim.new.self c.take.new.self told.pending.items told.sink ticket c.instance.result c.in-Some.seat c.never-signal.result
     c.self.invariant (search rules) run.0 run.1 c.instance.ensures c.in-Some.ensures.seat c.in-Some.ensures.taken (cc))
@@ -86,8 +78,6 @@ pub returns-in-Failed : goal.returns-in-Failed
 returns-in-Failed g c =
     let failed = c.in-Failed in
     let told = c.tell_last.new in
-    let step =
-    claimed_failed g.K.Keeper.held c.in-Ok-Some.field-0 failed.seq failed.cause c.self.inside.table c.claim.new.self
-    (c.in-Ok-Some.field-0-is ∙ ap Some failed.is) c.in-Ok-Some.ensures.ok in
+    let step = rw (c.in-Ok-Some.field-0-is, failed.is) at c.in-Ok-Some.ensures.ok in
     rw (← c.self.view_is)
     (IsStartFailed-kept c.claim.new.self told.pending.items told.sink failed.seq failed.cause c.self.invariant (search rules) step)

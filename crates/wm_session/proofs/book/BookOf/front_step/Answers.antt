@@ -9,7 +9,7 @@ use Rattle.wm_session.proofs.book.BookOf.front_step.Goals as goal
 pub tell_last-requires : goal.tell_last-requires
 tell_last-requires g c =
     let done = c.in_default-execute.ensures.ok in
-    let last = last_of-step g.K.Keeper.held (event.Command (c.self.inside.line + 1) c.in-Some.command done.0) c.self.inside.table c.execute.new.table done.2 in
+    let last = last_of-step g.K.Keeper.held _ c.self.inside.table c.execute.new.table done.2 in
     subst (λ event. IfSome event EventTellsNoData) (sym last) done.1
 
 pub invariant_of-self-in-Ok : goal.invariant_of-self-in-Ok
