@@ -6,7 +6,7 @@ ghost use Rattle.wm_session.specs.Hands.{AreEchoes};
 use crate::diarist::{Diarist, told_runs};
 use std::alloc::{AllocError, Global};
 use std::test::Fail;
-use wm_bench::{Hand, HandOf};
+use wm_bench::Hand;
 use wm_cli::{Status, run};
 use wm_collections::Text;
 use wm_io::{MemorySink, MemorySource, StdSink, StdSource};
@@ -132,15 +132,15 @@ fn words(alloc: Global, words: &[&str]) -> Result<Vec<String>, AllocError> {
 }
 
 /// A worker of class Echo.
-fn echo(alloc: Global) -> Result<HandOf<Echo>, AllocError> {
-    Ok(HandOf {
+fn echo(alloc: Global) -> Result<Hand<Echo>, AllocError> {
+    Ok(Hand {
         class: Text::from_str(alloc, "Echo")?,
         worker: Echo::new(),
     })
 }
 
 /// Two workers of class Echo.
-fn echoes(alloc: Global) -> Result<Vec<HandOf<Echo>>, AllocError>
+fn echoes(alloc: Global) -> Result<Vec<Hand<Echo>>, AllocError>
     ensures few { IfOk result (λ hands. vec_len hands ≤ MAX_HANDS) }
     ensures echoes { IfOk result (λ hands. AreEchoes ⟦<Echo as Worker>⟧.kind_of hands.items) }
 {
@@ -175,7 +175,7 @@ fn one_hand(alloc: Global, worker: Box<dyn Worker + Send>) -> Result<Vec<Hand>, 
         (λ hands. AreEchoes ⟦<Box<dyn Worker + Send> as Worker>⟧.kind_of hands.items) }
 {
     let mut hands = Vec::new(alloc);
-    hands.push(HandOf {
+    hands.push(Hand {
         class: Text::from_str(alloc, "Echo")?,
         worker,
     })?;

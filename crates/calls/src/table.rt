@@ -1,6 +1,6 @@
 //! The table of `wm_session`, over a keeper that fails at the commits that it is told to.
 ghost use Rattle.std.specs.Prelude.{◌≡◌, [], IfOk};
-ghost use Rattle.wm_machine.specs.Built.{IsBuilt};
+ghost use Rattle.wm_machine.specs.Outcome.{IsBuilt};
 ghost use Rattle.wm_table.specs.Table.{AreFresh, Stands};
 
 use std::alloc::{AllocError, Global};

@@ -6,7 +6,7 @@ use crate::diarist::{Diarist, Noted, told_runs};
 use std::alloc::{AllocError, Global};
 use std::process::Abort;
 use std::test::Fail;
-use wm_bench::{Bench, BenchOf, Hand, HandOf};
+use wm_bench::{Bench, Hand};
 use wm_collections::Text;
 use wm_data::{Data, Value};
 use wm_stock::Echo;
@@ -92,8 +92,8 @@ fn a_raised_signal_is_seen_in_its_shares(rt: HostRuntime) -> Result<(), Fail> {
 }
 
 /// A hand of this class.
-fn hand<B: Drop>(alloc: Global, class: &str, worker: B) -> Result<HandOf<B>, AllocError> {
-    Ok(HandOf {
+fn hand<B: Drop>(alloc: Global, class: &str, worker: B) -> Result<Hand<B>, AllocError> {
+    Ok(Hand {
         class: Text::from_str(alloc, class)?,
         worker,
     })
@@ -103,7 +103,7 @@ fn hand<B: Drop>(alloc: Global, class: &str, worker: B) -> Result<HandOf<B>, All
 fn drive<B: Worker>(
     rt: &impl Abort,
     alloc: Global,
-    bench: &mut BenchOf<B>,
+    bench: &mut Bench<B>,
     number: u32,
     run: u64,
 ) -> Result<(), Fail> {

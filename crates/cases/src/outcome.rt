@@ -7,8 +7,8 @@ use crate::event::event_words;
 use crate::part::{Failing, Part};
 use crate::row::row_text;
 use std::alloc::{AllocError, Global};
-use wm_bench::{Hand, HandOf};
-use wm_cli::{EndedOf, Status};
+use wm_bench::Hand;
+use wm_cli::{Ended, Status};
 use wm_collections::{Replica, Text};
 use wm_io::{MemorySink, MemorySource};
 use wm_keeper::{Change, Keeper, MemoryKeeper, Row, SureKeeper};
@@ -97,7 +97,7 @@ fn tell_run_of<B: Worker>(
     part: &Part,
     failing: &Failing,
     store: &mut SureKeeper,
-    hands: Vec<HandOf<B>>,
+    hands: Vec<Hand<B>>,
 ) -> Result<SureKeeper, AllocError>
     requires few_hands { vec_len hands ≤ MAX_HANDS }
     requires echoes { AreEchoes B.kind_of hands.items }
@@ -148,7 +148,7 @@ fn keeper_of(
 fn tell_ended<B: Worker>(
     alloc: Global,
     told: &mut String,
-    ended: &EndedOf<MemoryKeeper, MemorySink, B>,
+    ended: &Ended<MemoryKeeper, MemorySink, B>,
 ) -> Result<(), AllocError> {
     told.push_str(status_line(alloc, &ended.status)?.as_str())?;
     told.push_str(if ended.began {

@@ -1,14 +1,14 @@
 -- The places of a bench, numbered from 0 in order: which instances are idle there, and what taking
 -- and giving leave. This project's own choice.
 use Rattle.std.specs.Prelude.{◌≡◌, ℕ, zero, suc, false, List, [], ◌∷◌, slice_get, filter_map, Option, Some, None, option_map, option_and_then, IsSomeAnd}
-use Rattle.wm_bench.specs.declared.hand.HandOf.{HandOf}
+use Rattle.wm_bench.specs.declared.hand.Hand.{Hand}
 use Rattle.wm_bench.specs.declared.place.Place.{Place}
 use Rattle.wm_bench.specs.declared.place.Presence.{Presence}
 use Rattle.wm_bench.specs.declared.place.Presence.TheVariants.{Idle, Away}
 use Rattle.wm_worker.specs.declared.kind.Kind.{Kind}
 
 -- the place of a hand that is idle
-abbrev pub place_of : {B : Type 0} → HandOf B → Place B
+abbrev pub place_of : {B : Type 0} → Hand B → Place B
 place_of hand = record { class = hand.class; retired = false; presence = Idle hand.worker }
 
 abbrev pub idle_in : {B : Type 0} → Presence B → Option B
@@ -46,9 +46,9 @@ changed_at change zero (place ∷ places) = change place ∷ places
 changed_at change (suc number) (place ∷ places) = place ∷ changed_at change number places
 
 -- the hand of the instance that is idle at a place
-abbrev pub idle_hand : {B : Type 0} → Place B → Option (HandOf B)
+abbrev pub idle_hand : {B : Type 0} → Place B → Option (Hand B)
 idle_hand place = option_map (λ worker. record { class = place.class; worker = worker }) (idle_worker place)
 
 -- the hands of the instances that are idle, in order
-abbrev pub idle_hands : {B : Type 0} → List (Place B) → List (HandOf B)
+abbrev pub idle_hands : {B : Type 0} → List (Place B) → List (Hand B)
 idle_hands places = filter_map idle_hand places

@@ -1,8 +1,8 @@
 ghost use Rattle.std.specs.Prelude.{◌≡◌, ◌≤◌, map, vec_len, IfOk, IfErr, IfSome, IfNone, OnSome, option_map};
 
-use crate::hand::HandOf;
+use crate::hand::Hand;
 use crate::place::{Place, give_at, take_at};
-use crate::seat::SeatedOf;
+use crate::seat::Seated;
 use std::alloc::{AllocFailed, Global};
 use std::marker::Model;
 use wm_worker::Worker;
@@ -13,16 +13,13 @@ pub const MAX_HANDS: usize = 10_000;
 /// The instances of a run, numbered from 0, each idle at its place or out with a seat. A contract
 /// sees the list of the places.
 #[derive(Drop)]
-pub struct BenchOf<B> {
+pub struct Bench<B = Box<dyn Worker + Send>> {
     places: Vec<Place<B>>,
     /// Empty, with room for each instance.
-    room: Vec<HandOf<B>>,
+    room: Vec<Hand<B>>,
 }
 
-/// A bench of boxed workers.
-pub type Bench = BenchOf<Box<dyn Worker + Send>>;
-
-impl<B> Model for BenchOf<B> {
+impl<B> Model for Bench<B> {
     ghost use Rattle.std.specs.Prelude.{◌≡◌, ◌≤◌, List, [], vec_len, vec_capacity};
     ghost use Rattle.wm_bench.specs.declared.place.Place.{Place};
 
@@ -33,15 +30,15 @@ impl<B> Model for BenchOf<B> {
     ghost invariant = { λ b. (b.room.items ≡ []) × (vec_len b.places ≤ vec_capacity b.room) };
 }
 
-impl<B: Worker> BenchOf<B> {
+impl<B: Worker> Bench<B> {
     ghost use Rattle.wm_bench.specs.Places.{place_of, idle_at, idle_hands, changed_at, made_away, made_idle, IsAwayAt};
 
     /// A bench of these hands, all idle, numbered from 0 in order. Where memory is refused the hands
     /// come back.
     pub fn new(
         alloc: Global,
-        mut hands: Vec<HandOf<B>>,
-    ) -> Result<BenchOf<B>, AllocFailed<Vec<HandOf<B>>>>
+        mut hands: Vec<Hand<B>>,
+    ) -> Result<Bench<B>, AllocFailed<Vec<Hand<B>>>>
         requires { vec_len hands ≤ MAX_HANDS }
         ensures places { IfOk result (λ bench. bench ≡ map place_of hands.items) }
         ensures hands { IfErr result (λ failed. failed.value.items ≡ hands.items) }
@@ -52,14 +49,14 @@ impl<B: Worker> BenchOf<B> {
         'hands: for hand in hands.drain(..) {
             places.push_reserved(Place::of(hand));
         }
-        Ok(BenchOf {
+        Ok(Bench {
             places,
             room: hands,
         })
     }
 
     /// Takes the instance of this number out, if it is idle on the bench.
-    pub fn take(&mut self, number: u32) -> Option<SeatedOf<B>>
+    pub fn take(&mut self, number: u32) -> Option<Seated<B>>
         ensures seat { result ≡ option_map (λ worker. record { number = number; worker = worker }) (idle_at number self.old) }
         ensures taken { OnSome result (self.new ≡ changed_at (made_away B.kind_of) number self.old) }
         ensures none { IfNone result (self.new ≡ self.old) }
@@ -68,23 +65,23 @@ impl<B: Worker> BenchOf<B> {
         ensures away { IfSome result (λ seat. IsAwayAt number (B.kind_of seat.worker) self.new) }
     {
         let worker = take_at(&mut self.places, number as usize)?;
-        Some(SeatedOf { number, worker })
+        Some(Seated { number, worker })
     }
 
     /// Puts a worker back at its place, which it was taken from: it is idle there again.
-    pub fn give(&mut self, seat: SeatedOf<B>)
+    pub fn give(&mut self, seat: Seated<B>)
         requires { IsAwayAt seat.number (B.kind_of seat.worker) self.old }
         ensures { self.new ≡ changed_at (made_idle seat.worker) seat.number self.old }
     {
-        let SeatedOf { number, worker } = seat;
+        let Seated { number, worker } = seat;
         give_at(&mut self.places, number as usize, worker);
     }
 
     /// The instances that are on the bench, in order of their numbers.
-    pub fn back(self) -> Vec<HandOf<B>>
+    pub fn back(self) -> Vec<Hand<B>>
         ensures { result.items ≡ idle_hands self }
     {
-        let BenchOf { places, mut room } = self;
+        let Bench { places, mut room } = self;
         'places: for place in places {
             if let Some(hand) = place.into_hand() {
                 room.push_reserved(hand);

@@ -1,13 +1,11 @@
 use wm_collections::Text;
 use wm_worker::Worker;
 
-/// A worker that a run is given, and the class of works that it is for.
+/// A worker that a run is given, and the class of works that it is for. The worker is boxed where
+/// nothing else is said.
 #[derive(Drop)]
-pub struct HandOf<B> {
+pub struct Hand<B = Box<dyn Worker + Send>> {
     /// The name of the class.
     pub class: Text,
     pub worker: B,
 }
-
-/// A boxed worker that a run is given.
-pub type Hand = HandOf<Box<dyn Worker + Send>>;

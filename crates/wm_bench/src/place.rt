@@ -1,7 +1,7 @@
 ghost use Rattle.std.specs.Prelude.{◌≡◌, ◌<◌, length, IfSome, IfNone};
 ghost use Rattle.wm_bench.specs.Places.{IsAwayAt, changed_at, idle_at, made_away, made_idle};
 
-use crate::hand::HandOf;
+use crate::hand::Hand;
 use std::mem;
 use wm_collections::Text;
 use wm_worker::{Kind, Worker};
@@ -29,10 +29,10 @@ impl<B> Place<B> {
     ghost use Rattle.wm_bench.specs.Places.{place_of};
 
     /// The place of an instance that is idle.
-    pub(crate) fn of(hand: HandOf<B>) -> Place<B>
+    pub(crate) fn of(hand: Hand<B>) -> Place<B>
         ensures { result ≡ place_of hand }
     {
-        let HandOf { class, worker } = hand;
+        let Hand { class, worker } = hand;
         Place {
             class,
             retired: false,
@@ -45,7 +45,7 @@ impl<B: Drop> Place<B> {
     ghost use Rattle.wm_bench.specs.Places.{idle_hand};
 
     /// The hand of the instance, where it is idle here.
-    pub(crate) fn into_hand(self) -> Option<HandOf<B>>
+    pub(crate) fn into_hand(self) -> Option<Hand<B>>
         ensures { result ≡ idle_hand self }
     {
         let Place {
@@ -54,7 +54,7 @@ impl<B: Drop> Place<B> {
             ..
         } = self;
         match presence {
-            Presence::Idle(worker) => Some(HandOf { class, worker }),
+            Presence::Idle(worker) => Some(Hand { class, worker }),
             Presence::Away(_) => None,
         }
     }

@@ -11,15 +11,12 @@ use wm_worker::{Kind, Signal, Task, Told, Worker};
 /// A worker that was taken from its place on a bench, with the number of that place. A contract
 /// sees both.
 #[derive(Drop)]
-pub struct SeatedOf<B> {
+pub struct Seated<B = Box<dyn Worker + Send>> {
     pub(crate) number: u32,
     pub(crate) worker: B,
 }
 
-/// A boxed worker that was taken from a bench.
-pub type Seated = SeatedOf<Box<dyn Worker + Send>>;
-
-impl<B> Model for SeatedOf<B> {
+impl<B> Model for Seated<B> {
     ghost use Rattle.wm_bench.specs.Seat.{Seat};
 
     ghost Value = { Seat B };
@@ -27,7 +24,7 @@ impl<B> Model for SeatedOf<B> {
     ghost view = { λ s. record { number = s.number; worker = s.worker } };
 }
 
-impl<B> SeatedOf<B> {
+impl<B> Seated<B> {
     /// The number of its place.
     pub fn number(&self) -> u32
         ensures { result ≡ self.now.number }
@@ -36,7 +33,7 @@ impl<B> SeatedOf<B> {
     }
 }
 
-impl<B: Worker> SeatedOf<B> {
+impl<B: Worker> Seated<B> {
     /// The kind of the worker.
     pub fn kind(&self) -> Kind
         ensures { result ≡ B.kind_of self.now.worker }

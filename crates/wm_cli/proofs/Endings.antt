@@ -1,10 +1,10 @@
 -- How a run ends that has made no event.
 use Rattle.std.proofs.Common.{◌≡◌, ℕ, List, [], ◌++◌, Option, Some, None, refl, sym, ◌∙◌, ap, subst}
 use Rattle.wm_cli.specs.Ended.{ForScript}
-use Rattle.wm_session.specs.Ended.{HasCommands, IsTextGiven}
-use Rattle.wm_session.proofs.Pieces.{IsGiven-nothing}
+use Rattle.wm_session.specs.Ended.{HasCommands, IsTextWritten}
+use Rattle.wm_session.proofs.Pieces.{IsAppended-nothing}
 use Rattle.wm_cli.specs.Reading.{IsReadStatus}
-use Rattle.wm_session.specs.Writing.{IsGiven, IsPartGiven}
+use Rattle.wm_session.specs.Writing.{IsAppended, IsPartAppended}
 use Rattle.wm_session.specs.declared.status.Status.{Status}
 use Rattle.wm_session.specs.declared.status.Status.TheVariants as status
 use Rattle.wm_machine.specs.Log.{commands_of, AreNumberedFrom}
@@ -14,14 +14,14 @@ use Rattle.wm_machine.specs.declared.event.Event.{Event}
 use Rattle.wm_machine.specs.declared.state.State.{State}
 
 -- no event has no text
-pub IsTextGiven-nothing : (before now : Option (List ℕ)) (ended : Status) (first : State) (log : List Event) → now ≡ before → log ≡ []
-    → IsTextGiven before now ended first log
-IsTextGiven-nothing before now ended first log same none =
+pub IsTextWritten-nothing : (before now : Option (List ℕ)) (ended : Status) (first : State) (log : List Event) → now ≡ before → log ≡ []
+    → IsTextWritten before now ended first log
+IsTextWritten-nothing before now ended first log same none =
     let empty : log_text first log ≡ [] = ap (log_text first) none in
-    let given : IsGiven before now [] = same ∙ IsGiven-nothing before in
+    let given : IsAppended before now [] = same ∙ IsAppended-nothing before in
     record {
-      front = subst (IsPartGiven before now) (sym empty) ([], ([], refl), given);
-      all = λ done. subst (IsGiven before now) (sym empty) given;
+      front = subst (IsPartAppended before now) (sym empty) ([], ([], refl), given);
+      all = λ done. subst (IsAppended before now) (sym empty) given;
     }
 
 -- no event is a front of any commands

@@ -2,7 +2,7 @@
 use Rattle.std.proofs.Common.{◌≡◌, ℕ, ◌+◌, false, not, List, [], ◌∷◌, ◌++◌, length, map, refl, sym, ◌∙◌, ap, arith}
 use Rattle.std.specs.List.{AllByRecursion, filter}
 use Rattle.wm_bench.specs.Places.{place_of, idle_hands}
-use Rattle.wm_bench.specs.declared.hand.HandOf.{HandOf}
+use Rattle.wm_bench.specs.declared.hand.Hand.{Hand}
 use Rattle.wm_machine.specs.Valid.{AreNumberedInOrder}
 use Rattle.wm_machine.specs.Opened.{opening_state}
 use Rattle.wm_machine.specs.declared.state.Instance.{Instance}
@@ -16,7 +16,7 @@ use Rattle.wm_worker.specs.declared.kind.Kind.{Kind}
 use Rattle.std.proofs.Common.{Option}
 
 module _ {B : Type 0} (kind_of : B → Kind) where
-  pub instances_from-push : (number : ℕ) (hands : List (HandOf B)) (hand : HandOf B)
+  pub instances_from-push : (number : ℕ) (hands : List (Hand B)) (hand : Hand B)
       → instances_from kind_of number (hands ++ hand ∷ []) ≡ instances_from kind_of number hands ++ instance_of kind_of (number + length hands) hand ∷ []
   instances_from-push number [] hand = ap (λ n. instance_of kind_of n hand ∷ []) (omega arith)
   instances_from-push number (first ∷ hands) hand =
@@ -24,37 +24,37 @@ module _ {B : Type 0} (kind_of : B → Kind) where
       (instances_from-push (number + 1) hands hand
       ∙ ap (λ n. instances_from kind_of (number + 1) hands ++ instance_of kind_of n hand ∷ []) (omega arith))
 
-  in_order : (number : ℕ) (hands : List (HandOf B)) → AreNumberedInOrder number (instances_from kind_of number hands)
+  in_order : (number : ℕ) (hands : List (Hand B)) → AreNumberedInOrder number (instances_from kind_of number hands)
   in_order number [] = tt
   in_order number (hand ∷ hands) = (refl, in_order (number + 1) hands)
 
-  fresh : (number : ℕ) (hands : List (HandOf B)) → AreEchoes kind_of hands → AllByRecursion IsFresh (instances_from kind_of number hands)
+  fresh : (number : ℕ) (hands : List (Hand B)) → AreEchoes kind_of hands → AllByRecursion IsFresh (instances_from kind_of number hands)
   fresh number [] echoes = tt
   fresh number (hand ∷ hands) echoes = (record { out = refl; retired = refl; kind = echoes.0 }, fresh (number + 1) hands echoes.1)
 
   -- workers that are each an Echo are fresh instances
-  pub AreFresh-instances_from : (hands : List (HandOf B)) → AreEchoes kind_of hands → AreFresh (instances_from kind_of 0 hands)
+  pub AreFresh-instances_from : (hands : List (Hand B)) → AreEchoes kind_of hands → AreFresh (instances_from kind_of 0 hands)
   AreFresh-instances_from hands echoes = record { in_order = in_order 0 hands; all = fresh 0 hands echoes }
 
   -- none of them is out
-  pub all_in : (number : ℕ) (hands : List (HandOf B)) → AllByRecursion (λ (instance : Instance). instance.out ≡ false) (instances_from kind_of number hands)
+  pub all_in : (number : ℕ) (hands : List (Hand B)) → AllByRecursion (λ (instance : Instance). instance.out ≡ false) (instances_from kind_of number hands)
   all_in number [] = tt
   all_in number (hand ∷ hands) = (refl, all_in (number + 1) hands)
 
   -- their places are those of the instances
-  pub traits-places : (number : ℕ) (hands : List (HandOf B))
+  pub traits-places : (number : ℕ) (hands : List (Hand B))
       → map (place_traits kind_of) (map place_of hands) ≡ map instance_traits (instances_from kind_of number hands)
   traits-places number [] = refl
   traits-places number (hand ∷ hands) = ap (λ rest. place_traits kind_of (place_of hand) ∷ rest) (traits-places (number + 1) hands)
 
   -- they are those of the instances that aren't retired
-  pub traits-hands : (number : ℕ) (hands : List (HandOf B))
+  pub traits-hands : (number : ℕ) (hands : List (Hand B))
       → map (hand_traits kind_of) hands ≡ map instance_traits (filter (λ instance. not instance.retired) (instances_from kind_of number hands))
   traits-hands number [] = refl
   traits-hands number (hand ∷ hands) = ap (λ rest. hand_traits kind_of hand ∷ rest) (traits-hands (number + 1) hands)
 
   -- where nothing has happened since an empty store was opened, they come back
-  pub AreHandsBack-opened : (last : State) (hands back : List (HandOf B)) → last ≡ opening_state [] (instances_from kind_of 0 hands) → back ≡ hands
+  pub AreHandsBack-opened : (last : State) (hands back : List (Hand B)) → last ≡ opening_state [] (instances_from kind_of 0 hands) → back ≡ hands
       → AreHandsBack kind_of last back
   AreHandsBack-opened last hands back is same =
       ap (map (hand_traits kind_of)) same
@@ -62,11 +62,11 @@ module _ {B : Type 0} (kind_of : B → Kind) where
       ∙ sym (ap (λ (s : State). map instance_traits (filter (λ instance. not instance.retired) s.instances)) is)
 
 -- at their places they are the hands
-pub idle_hands-places : {B : Type 0} (hands : List (HandOf B)) → idle_hands (map place_of hands) ≡ hands
+pub idle_hands-places : {B : Type 0} (hands : List (Hand B)) → idle_hands (map place_of hands) ≡ hands
 idle_hands-places [] = refl
 idle_hands-places (hand ∷ hands) = ap (λ rest. hand ∷ rest) (idle_hands-places hands)
 
-pub place_diaries-places : {B : Type 0} (diary_of : B → Option (List Entry)) (hands : List (HandOf B))
+pub place_diaries-places : {B : Type 0} (diary_of : B → Option (List Entry)) (hands : List (Hand B))
     → place_diaries diary_of (map place_of hands) ≡ hand_diaries diary_of hands
 place_diaries-places diary_of [] = refl
 place_diaries-places diary_of (hand ∷ hands) = ap (λ rest. diary_of hand.worker ∷ rest) (place_diaries-places diary_of hands)

@@ -2,7 +2,7 @@
 use Rattle.std.proofs.Common.{◌≡◌, List, [], ◌∷◌, refl, arith}
 use Rattle.std.specs.List.{AllByRecursion}
 use Rattle.wm_machine.proofs.Serials.{BeginsSerial-goes-on}
-use Rattle.wm_machine.specs.Built.{IsBuilt}
+use Rattle.wm_machine.specs.Outcome.{IsBuilt}
 use Rattle.wm_machine.specs.Opened.{opening_state}
 use Rattle.wm_machine.specs.Serial.{BeginsSerial}
 use Rattle.wm_machine.specs.declared.command.Command.{Command}

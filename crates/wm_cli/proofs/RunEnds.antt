@@ -2,8 +2,8 @@
 use Rattle.std.proofs.Common.{◌≡◌, ℕ, Bool, true, false, List, [], ◌∷◌, Option, map, Some, None, option_map, IfSome, Vec, Global, Err, refl, sym, ◌∙◌, ap, subst, inl, inr}
 use Rattle.std.specs.List.{AllByRecursion}
 use Rattle.wm_bench.specs.Places.{place_of}
-use Rattle.wm_bench.specs.declared.hand.HandOf.{HandOf}
-use Rattle.wm_cli.proofs.Endings.{HasCommands-nothing, IsTextGiven-nothing}
+use Rattle.wm_bench.specs.declared.hand.Hand.{Hand}
+use Rattle.wm_cli.proofs.Endings.{HasCommands-nothing, IsTextWritten-nothing}
 use Rattle.wm_cli.proofs.Hands.{AreFresh-instances_from, AreHandsBack-opened, place_diaries-places}
 use Rattle.wm_cli.proofs.Opening.{BeginsSerial-nothing, IsSerialRun-early, IsSerialRun-unopened}
 use Rattle.wm_cli.specs.Benched.{HasJustBegun}
@@ -14,7 +14,7 @@ use Rattle.wm_keeper.specs.Keeper.{KeepCause}
 use Rattle.wm_keeper.specs.declared.keeper.KeepFault.{KeepFault}
 use Rattle.wm_keeper.specs.declared.keeper.KeepFault.TheVariants as keep
 use Rattle.wm_keeper.specs.declared.row.Row.{Row}
-use Rattle.wm_machine.specs.Built.{IsBuilt}
+use Rattle.wm_machine.specs.Outcome.{IsBuilt}
 use Rattle.wm_machine.specs.Opened.{opening_state}
 use Rattle.wm_machine.specs.Replay.{Replay}
 use Rattle.wm_machine.specs.Rows.{rows_of}
@@ -23,10 +23,10 @@ use Rattle.wm_machine.specs.declared.state.State.{State}
 use Rattle.wm_session.specs.Bench.{place_diaries}
 use Rattle.wm_session.specs.Causes.{status_by_begin, status_by_keeper}
 use Rattle.wm_session.specs.Ended.{HaveTold, IsSerialEnd, IsSessionStatus, IsUnbegun}
-use Rattle.wm_session.specs.Given.{given_to}
+use Rattle.wm_session.specs.Inputs.{inputs_of}
 use Rattle.wm_session.specs.Hands.{instances_from, AreEchoes}
 use Rattle.wm_session.specs.Tells.{Tells}
-use Rattle.wm_session.specs.declared.ended.EndedOf.{EndedOf}
+use Rattle.wm_session.specs.declared.ended.Ended.{Ended}
 use Rattle.wm_session.specs.declared.status.Status.{Status}
 use Rattle.wm_session.specs.declared.status.Status.TheVariants as status
 use Rattle.wm_table.specs.Table.{BeginCause}
@@ -41,11 +41,11 @@ other_status : (ended other : Status) → ended ≡ status.Memory → (status.Me
 other_status ended other is differs same = differs (sym is ∙ same)
 
 -- where an empty store was opened with these workers, a run that ended for want of memory is a serial session that is over
-pub IsSerialEnd-at_once : {K W B : Type 0} (tells : Tells K W B) (commands : List Command) (hands : List (HandOf B)) (had : List (Option (List Entry)))
-    (table : TableState K) (sink : W) (back : Vec (HandOf B) Global) (ended : EndedOf K W B)
+pub IsSerialEnd-at_once : {K W B : Type 0} (tells : Tells K W B) (commands : List Command) (hands : List (Hand B)) (had : List (Option (List Entry)))
+    (table : TableState K) (sink : W) (back : Vec (Hand B) Global) (ended : Ended K W B)
     → IsEndedAtOnce table sink back ended → HasJustBegun tells.held table → AllByRecursion IsBuilt commands → AreEchoes tells.kind_of hands
     → table.first ≡ opening_state [] (instances_from tells.kind_of 0 hands) → back.items ≡ hands
-    → IsSerialEnd tells (given_to tells table commands sink) had ended
+    → IsSerialEnd tells (inputs_of tells table commands sink) had ended
 IsSerialEnd-at_once tells commands hands had table sink back ended at begun built echoes opened same =
     let instances = instances_from tells.kind_of 0 hands in
     let first : ended.first ≡ opening_state [] instances = at.first ∙ opened in
@@ -58,7 +58,7 @@ IsSerialEnd-at_once tells commands hands had table sink back ended at begun buil
         first = at.first;
         replay = subst (λ log. Replay ended.first log ended.last) (sym none) (at.last ∙ begun.state ∙ sym at.first);
         commands = HasCommands-nothing commands ended.status ended.log none (λ done. absurd (early done));
-        bytes = IsTextGiven-nothing (tells.given sink) (tells.given ended.sink) ended.status ended.first ended.log (ap tells.given at.sink_is) none;
+        bytes = IsTextWritten-nothing (tells.given sink) (tells.given ended.sink) ended.status ended.first ended.log (ap tells.given at.sink_is) none;
         rows = ap tells.held at.keeper_is
             ∙ begun.rows
             ∙ ap (λ (s : State). option_map (λ _. rows_of s) (tells.held table.keeper)) (sym at.last);
@@ -106,9 +106,9 @@ session_store (status.ScriptTooLong limit) held session = tt
 session_store (status.BadStore seq bad_row) held session = absurd session
 
 -- a serial session that is over ends its run, whose store was empty
-pub IsRunEnd-begun : {K W B : Type 0} (tells : Tells K W B) (commands : List Command) (hands : List (HandOf B)) (keeper : K) (sink : W)
-    (table : TableState K) (ended : EndedOf K W B)
-    → IsSerialEnd tells (given_to tells table commands sink) (place_diaries tells.diary_of (map place_of hands)) ended
+pub IsRunEnd-begun : {K W B : Type 0} (tells : Tells K W B) (commands : List Command) (hands : List (Hand B)) (keeper : K) (sink : W)
+    (table : TableState K) (ended : Ended K W B)
+    → IsSerialEnd tells (inputs_of tells table commands sink) (place_diaries tells.diary_of (map place_of hands)) ended
     → table.first ≡ opening_state [] (instances_from tells.kind_of 0 hands)
     → IsOpenedFrom (tells.held keeper) (instances_from tells.kind_of 0 hands) table.first → tells.held table.keeper ≡ tells.held keeper
     → tells.keeper_faults table.keeper ≡ tells.keeper_faults keeper
@@ -211,8 +211,8 @@ is_early status.SourceFault before now held cause = absurd cause
 is_early (status.ScriptTooLong limit) before now held cause = absurd cause
 
 -- a run that ended before its table was begun, with its keeper as it was told before
-pub IsRunEnd-unbegun : {K W B : Type 0} (tells : Tells K W B) (commands : List Command) (why : Status) (hands : Vec (HandOf B) Global) (keeper now : K)
-    (sink : W) (ended : EndedOf K W B)
+pub IsRunEnd-unbegun : {K W B : Type 0} (tells : Tells K W B) (commands : List Command) (why : Status) (hands : Vec (Hand B) Global) (keeper now : K)
+    (sink : W) (ended : Ended K W B)
     → IsUnbegun why now sink hands ended → AllByRecursion IsBuilt commands → tells.held now ≡ tells.held keeper
     → EarlyCause why (tells.keeper_faults keeper) (tells.keeper_faults now) (tells.held keeper)
     → IsRunEnd tells commands hands.items keeper sink ended
@@ -232,7 +232,7 @@ IsRunEnd-unbegun tells commands why hands keeper now sink ended unbegun built sa
       not_begun_keeps = λ same. unbegun.sink_is;
       rows = subst (λ began. AreRowsKept began ended.last held (tells.held ended.keeper)) (sym unbegun.began) (ap tells.held unbegun.keeper_is ∙ same);
       has_commands = HasCommands-nothing commands ended.status ended.log unbegun.log (λ done. absurd (is.early done));
-      bytes = IsTextGiven-nothing (tells.given sink) (tells.given ended.sink) ended.status ended.first ended.log (ap tells.given unbegun.sink_is) unbegun.log;
+      bytes = IsTextWritten-nothing (tells.given sink) (tells.given ended.sink) ended.status ended.first ended.log (ap tells.given unbegun.sink_is) unbegun.log;
       end = λ done. absurd (is.early done);
       hands_back = subst (λ began. AreHandsOf tells.kind_of began ended.last hands.items ended.hands.items) (sym unbegun.began)
           (ap (λ v. v.items) unbegun.hands_are);

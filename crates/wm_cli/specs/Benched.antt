@@ -1,7 +1,7 @@
 -- The table and the workers that a run begins with. This project's own choice.
 use Rattle.std.specs.Prelude.{◌≡◌, List, [], map, Option}
 use Rattle.wm_bench.specs.Places.{place_of}
-use Rattle.wm_bench.specs.declared.hand.HandOf.{HandOf}
+use Rattle.wm_bench.specs.declared.hand.Hand.{Hand}
 use Rattle.wm_bench.specs.declared.place.Place.{Place}
 use Rattle.wm_keeper.specs.declared.row.Row.{Row}
 use Rattle.wm_machine.specs.Opened.{opening_state}
@@ -13,7 +13,7 @@ use Rattle.wm_worker.specs.declared.kind.Kind.{Kind}
 
 -- some workers, each an Echo, are at these places, and an empty store opened to this state with them
 pub record AreBenched {B : Type 0} (kind_of : B → Kind) (places : List (Place B)) (first : State) : Type 0 where
-  pub hands : List (HandOf B)
+  pub hands : List (Hand B)
   pub echoes : AreEchoes kind_of hands
   pub at_places : places ≡ map place_of hands
   pub opened : first ≡ opening_state [] (instances_from kind_of 0 hands)

@@ -2,7 +2,7 @@
 -- choice.
 use Rattle.std.specs.Prelude.{◌≡◌, ℕ, Bool, true, false, List, [], ◌∷◌, Option, Some, IfSome, MatchBool, option_map, Vec}
 use Rattle.std.specs.declared.alloc.Global.{Global}
-use Rattle.wm_bench.specs.declared.hand.HandOf.{HandOf}
+use Rattle.wm_bench.specs.declared.hand.Hand.{Hand}
 use Rattle.wm_cli.specs.Causes.{IsOpeningStatus, IsUnlessMemory, StoreCause}
 use Rattle.wm_faults.specs.Faults.{Failed}
 use Rattle.wm_keeper.specs.declared.row.Row.{Row}
@@ -16,10 +16,10 @@ use Rattle.wm_machine.specs.declared.event.Event.{Event}
 use Rattle.wm_machine.specs.declared.state.Instance.{Instance}
 use Rattle.wm_machine.specs.declared.state.State.{State}
 use Rattle.wm_session.specs.Bench.{hand_diaries}
-use Rattle.wm_session.specs.Ended.{AreHandsBack, HasCommands, HaveTold, IsSerialRun, IsTextGiven}
+use Rattle.wm_session.specs.Ended.{AreHandsBack, HasCommands, HaveTold, IsSerialRun, IsTextWritten}
 use Rattle.wm_session.specs.Hands.{instances_from}
 use Rattle.wm_session.specs.Tells.{Tells}
-use Rattle.wm_session.specs.declared.ended.EndedOf.{EndedOf}
+use Rattle.wm_session.specs.declared.ended.Ended.{Ended}
 use Rattle.wm_session.specs.declared.status.Status.{Status}
 use Rattle.wm_session.specs.declared.status.Status.TheVariants as status
 use Rattle.wm_table.specs.TableState.{TableState}
@@ -83,17 +83,17 @@ IsQuietOnDone ended last = ended ≡ status.Done → IsQuiet last
 -- ---- the workers
 
 -- the workers that come back are those of the instances that aren't retired, and those given where the table wasn't begun
-abbrev pub AreHandsOf : {B : Type 0} → (B → Kind) → Bool → State → List (HandOf B) → List (HandOf B) → Type 0
+abbrev pub AreHandsOf : {B : Type 0} → (B → Kind) → Bool → State → List (Hand B) → List (Hand B) → Type 0
 AreHandsOf kind_of began last hands back = MatchBool began (AreHandsBack kind_of last back) (back ≡ hands)
 
 -- on `Done` each worker that tells a diary has written down its part of the log, after what it had written down before
-abbrev pub HaveToldOnDone : {B : Type 0} → (B → Option (List Entry)) → Status → List (HandOf B) → State → List Event → List (HandOf B) → Type 0
+abbrev pub HaveToldOnDone : {B : Type 0} → (B → Option (List Entry)) → Status → List (Hand B) → State → List Event → List (Hand B) → Type 0
 HaveToldOnDone diary_of ended hands first log back = ended ≡ status.Done → HaveTold diary_of (hand_diaries diary_of hands) first log back
 
 -- ---- what is handed back
 
 -- a run that ended for want of memory before its first event: it hands back what this table held, and these
-pub record IsEndedAtOnce {K W B : Type 0} (table : TableState K) (sink : W) (hands : Vec (HandOf B) Global) (ended : EndedOf K W B) : Type 0 where
+pub record IsEndedAtOnce {K W B : Type 0} (table : TableState K) (sink : W) (hands : Vec (Hand B) Global) (ended : Ended K W B) : Type 0 where
   pub status_is : ended.status ≡ status.Memory
   pub began : ended.began ≡ true
   pub first : ended.first ≡ table.first
@@ -105,15 +105,15 @@ pub record IsEndedAtOnce {K W B : Type 0} (table : TableState K) (sink : W) (han
 
 -- A run that is over whose commands, these, were read, and that was given these workers, this keeper and this sink. Each fact is the promise
 -- of `run` of that name.
-pub record IsRunEnd {K W B : Type 0} (tells : Tells K W B) (commands : List Command) (hands : List (HandOf B)) (keeper : K) (sink : W)
-    (ended : EndedOf K W B) : Type 0 where
+pub record IsRunEnd {K W B : Type 0} (tells : Tells K W B) (commands : List Command) (hands : List (Hand B)) (keeper : K) (sink : W)
+    (ended : Ended K W B) : Type 0 where
   pub replay : IsReplayed (tells.held keeper) (instances_from tells.kind_of 0 hands) ended.began ended.first ended.log ended.last
   pub begun : IsBegunBy ended.status ended.began
   pub begins_empty : ended.began ≡ true → ended.first ≡ opening_state [] (instances_from tells.kind_of 0 hands)
   pub not_begun_keeps : ended.began ≡ false → ended.sink ≡ sink
   pub rows : AreRowsKept ended.began ended.last (tells.held keeper) (tells.held ended.keeper)
   pub has_commands : HasCommands commands ended.status ended.log
-  pub bytes : IsTextGiven (tells.given sink) (tells.given ended.sink) ended.status ended.first ended.log
+  pub bytes : IsTextWritten (tells.given sink) (tells.given ended.sink) ended.status ended.first ended.log
   pub end : IsQuietOnDone ended.status ended.last
   pub hands_back : AreHandsOf tells.kind_of ended.began ended.last hands ended.hands.items
   pub diaries : HaveToldOnDone tells.diary_of ended.status hands ended.first ended.log ended.hands.items

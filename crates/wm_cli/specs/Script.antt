@@ -32,10 +32,10 @@ IsPieceOf (Ok false) before now script longer room =
     (piece : List ℕ) × IsTakenFrom before now piece × (longer ≡ script ++ piece) × (0 < length piece) × (length piece ≤ room)
 IsPieceOf (Err fault) before now script longer room = IsTakenWithin room before now
 
-abbrev pub is_failed : {T : Type 0} → Result T ReadFault → Bool
-is_failed (Err Failed) = true
-is_failed _ = false
+abbrev pub is_read_failed : {T : Type 0} → Result T ReadFault → Bool
+is_read_failed (Err Failed) = true
+is_read_failed _ = false
 
 -- `Failed` comes only where the count rose, and any other answer leaves it
 abbrev pub ReadCause : {T : Type 0} → Result T ReadFault → ℕ → ℕ → Type 0
-ReadCause result before now = faults.HasCause (is_failed result) before now
+ReadCause result before now = faults.HasCause (is_read_failed result) before now

@@ -2,7 +2,7 @@ ghost use Rattle.std.specs.Prelude.{◌≡◌, ◌^◌, ◌<◌, length, IfOk};
 ghost use Rattle.wm_session.specs.Hands.{instances_from};
 
 use std::alloc::{AllocError, Global};
-use wm_bench::HandOf;
+use wm_bench::Hand;
 use wm_collections::{Items, Replica};
 use wm_machine::Instance;
 use wm_worker::Worker;
@@ -10,7 +10,7 @@ use wm_worker::Worker;
 /// The instances that these workers are, numbered from 0 in order.
 pub fn instances_of<B: Worker>(
     alloc: Global,
-    hands: &[HandOf<B>],
+    hands: &[Hand<B>],
 ) -> Result<Items<Instance>, AllocError>
     requires { length hands.now < 2 ^ 32 }
     ensures { IfOk result (λ instances. instances ≡ instances_from B.kind_of 0 hands.now) }

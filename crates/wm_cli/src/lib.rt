@@ -11,4 +11,4 @@ mod script;
 mod words;
 
 pub use program::run;
-pub use wm_session::{Ended, EndedOf, Status};
+pub use wm_session::{Ended, Status};

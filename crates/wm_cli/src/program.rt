@@ -10,13 +10,13 @@ ghost use Rattle.wm_cli.specs.Script.{IsTakenWithin};
 ghost use Rattle.wm_cli.specs.Words.{store_named};
 ghost use Rattle.wm_faults.specs.Faults.{Failed};
 ghost use Rattle.wm_keeper.specs.declared.row.Row.{Row};
-ghost use Rattle.wm_machine.specs.Built.{IsBuilt};
+ghost use Rattle.wm_machine.specs.Outcome.{IsBuilt};
 ghost use Rattle.wm_machine.specs.Opened.{opening_state};
 ghost use Rattle.wm_script.specs.declared.lines.Limit.{Limit};
 ghost use Rattle.wm_script.specs.declared.lines.TheConstants.{MAX_SCRIPT_BYTES};
 ghost use Rattle.wm_session.specs.Bench.{place_diaries};
-ghost use Rattle.wm_session.specs.Given.{given_to};
-ghost use Rattle.wm_session.specs.Ended.{IsSerialEnd, IsTextGiven};
+ghost use Rattle.wm_session.specs.Inputs.{inputs_of};
+ghost use Rattle.wm_session.specs.Ended.{IsSerialEnd, IsTextWritten};
 ghost use Rattle.wm_session.specs.Hands.{instances_from, AreEchoes};
 ghost use Rattle.wm_session.specs.Tells.{tells_of};
 
@@ -25,13 +25,13 @@ use crate::script::{ReadFault, read_script};
 use crate::words::store_named;
 use std::alloc::{AllocFailed, Global};
 use std::marker::Brand;
-use wm_bench::{BenchOf, HandOf};
+use wm_bench::{Bench, Hand};
 use wm_collections::Items;
 use wm_io::{Sink, Source};
 use wm_keeper::{Keeper, Row};
 use wm_machine::Command;
 use wm_script::{Limit, ScriptFault, read_lines};
-use wm_session::{BookOf, EndedOf, Mark, Status, run_serial};
+use wm_session::{Book, Ended, Mark, Status, run_serial};
 use wm_table::{Table, TableEnd};
 use wm_worker::Worker;
 
@@ -62,10 +62,10 @@ fn run_commands<W: Sink, K: Keeper, B: Worker>(
     alloc: Global,
     store: &str,
     commands: Items<Command>,
-    hands: Vec<HandOf<B>>,
+    hands: Vec<Hand<B>>,
     sink: W,
     mut keeper: K,
-) -> EndedOf<K, W, B>
+) -> Ended<K, W, B>
     requires few_hands { vec_len hands ≤ MAX_HANDS }
     requires echoes { AreEchoes B.kind_of hands.items }
     requires built { AllByRecursion IsBuilt commands }
@@ -76,17 +76,17 @@ fn run_commands<W: Sink, K: Keeper, B: Worker>(
     let rows = match keeper.load(store) {
         Ok(rows) => rows,
         Err(fault) => {
-            return EndedOf::before_begin(alloc, Status::from(fault), keeper, sink, hands);
+            return Ended::before_begin(alloc, Status::from(fault), keeper, sink, hands);
         }
     };
     let Ok(instances) = instances_of(alloc, &hands) else {
-        return EndedOf::before_begin(alloc, Status::Memory, keeper, sink, hands);
+        return Ended::before_begin(alloc, Status::Memory, keeper, sink, hands);
     };
     match Table::begin(alloc, keeper, &rows, instances) {
         Ok(table) => run_begun(alloc, table, commands, hands, sink),
         Err(refused) => {
             let (keeper, fault) = refused;
-            EndedOf::before_begin(alloc, Status::from(fault), keeper, sink, hands)
+            Ended::before_begin(alloc, Status::from(fault), keeper, sink, hands)
         }
     }
 }
@@ -96,9 +96,9 @@ fn run_begun<W: Sink, K: Keeper, B: Worker>(
     alloc: Global,
     table: Table<K>,
     commands: Items<Command>,
-    hands: Vec<HandOf<B>>,
+    hands: Vec<Hand<B>>,
     sink: W,
-) -> EndedOf<K, W, B>
+) -> Ended<K, W, B>
     requires few_hands { vec_len hands ≤ MAX_HANDS }
     requires echoes { AreEchoes B.kind_of hands.items }
     requires built { AllByRecursion IsBuilt commands }
@@ -106,10 +106,10 @@ fn run_begun<W: Sink, K: Keeper, B: Worker>(
     requires first { table.first ≡ opening_state [] (instances_from B.kind_of 0 hands.items) }
     requires begun { HasJustBegun K.held table }
     ensures { let tells = tells_of K.held K.faults W.given W.faults B.kind_of B.diary_of in
-        IsSerialEnd tells (given_to tells table commands sink)
+        IsSerialEnd tells (inputs_of tells table commands sink)
         (place_diaries B.diary_of (map place_of hands.items)) result }
 {
-    match BenchOf::new(alloc, hands) {
+    match Bench::new(alloc, hands) {
         Ok(bench) => run_marked::<W, K, B, Brand>(alloc, table, bench, commands, sink),
         Err(failed) => {
             let AllocFailed { value } = failed;
@@ -122,20 +122,20 @@ fn run_begun<W: Sink, K: Keeper, B: Worker>(
 fn run_marked<W: Sink, K: Keeper, B: Worker, M: Mark>(
     alloc: Global,
     table: Table<K>,
-    bench: BenchOf<B>,
+    bench: Bench<B>,
     commands: Items<Command>,
     sink: W,
-) -> EndedOf<K, W, B>
-    requires given { M.given ≡ given_to (tells_of K.held K.faults W.given W.faults B.kind_of B.diary_of)
+) -> Ended<K, W, B>
+    requires inputs { M.inputs ≡ inputs_of (tells_of K.held K.faults W.given W.faults B.kind_of B.diary_of)
         table commands sink }
     requires benched { AreBenched B.kind_of bench table.first }
     requires built { AllByRecursion IsBuilt commands }
     requires few { length commands < 2 ^ 32 }
     requires begun { HasJustBegun K.held table }
     ensures { IsSerialEnd (tells_of K.held K.faults W.given W.faults B.kind_of B.diary_of)
-        M.given (place_diaries B.diary_of bench) result }
+        M.inputs (place_diaries B.diary_of bench) result }
 {
-    match BookOf::<K, W, B, M>::new(alloc, table, bench, commands, sink) {
+    match Book::<K, W, B, M>::new(alloc, table, bench, commands, sink) {
         Ok(book) => run_serial(alloc, book),
         Err(parts) => {
             let (table, bench, sink) = parts;
@@ -147,9 +147,9 @@ fn run_marked<W: Sink, K: Keeper, B: Worker, M: Mark>(
 /// Ends a run for want of memory whose table was begun, before its first event.
 fn end_at_once<W: Sink, K: Keeper, B: Worker>(
     table: Table<K>,
-    hands: Vec<HandOf<B>>,
+    hands: Vec<Hand<B>>,
     sink: W,
-) -> EndedOf<K, W, B>
+) -> Ended<K, W, B>
     ensures { IsEndedAtOnce table sink hands result }
 {
     let TableEnd {
@@ -158,7 +158,7 @@ fn end_at_once<W: Sink, K: Keeper, B: Worker>(
         log,
         keeper,
     } = table.end();
-    EndedOf {
+    Ended {
         status: Status::Memory,
         began: true,
         first,
@@ -181,11 +181,11 @@ fn end_at_once<W: Sink, K: Keeper, B: Worker>(
 pub fn run<S: Source, W: Sink + Send, K: Keeper + Send, B: Worker>(
     alloc: Global,
     words: &[String],
-    hands: Vec<HandOf<B>>,
+    hands: Vec<Hand<B>>,
     source: &mut S,
     sink: W,
     keeper: K,
-) -> EndedOf<K, W, B>
+) -> Ended<K, W, B>
     requires few_hands { vec_len hands ≤ MAX_HANDS }
     requires echoes { AreEchoes B.kind_of hands.items }
 
@@ -202,7 +202,7 @@ pub fn run<S: Source, W: Sink + Send, K: Keeper + Send, B: Worker>(
     // The log has the script's commands, a front of them, and on `Done` all.
     ensures commands { HasCommandsOf (S.left source.old) result.status result.log }
     // The bytes written are the log's text, a front of it, and on `Done` all.
-    ensures bytes { IsTextGiven (W.given sink) (W.given result.sink)
+    ensures bytes { IsTextWritten (W.given sink) (W.given result.sink)
         result.status result.first result.log }
     // On `Done` nothing is startable and no run is unreturned.
     ensures end { IsQuietOnDone result.status result.last }
@@ -255,10 +255,10 @@ pub fn run<S: Source, W: Sink + Send, K: Keeper + Send, B: Worker>(
         → IsUnlessMemory result.status Status.Done }
 {
     let Some(store) = store_named(words) else {
-        return EndedOf::before_begin(alloc, Status::Usage, keeper, sink, hands);
+        return Ended::before_begin(alloc, Status::Usage, keeper, sink, hands);
     };
     match read_commands(alloc, source) {
         Ok(commands) => run_commands(alloc, store, commands, hands, sink, keeper),
-        Err(status) => EndedOf::before_begin(alloc, status, keeper, sink, hands),
+        Err(status) => Ended::before_begin(alloc, status, keeper, sink, hands),
     }
 }

@@ -6,10 +6,10 @@ use Rattle.wm_io.specs.declared.source.Got.{Got}
 use Rattle.wm_io.specs.declared.source.Got.TheVariants as got
 
 -- a count is at least one, and at most the length of the slice
-abbrev pub CountFits : Got → ℕ → Type 0
-CountFits (got.Some count) len = (0 < count) × (count ≤ len)
-CountFits got.End len = Unit {0}
-CountFits got.Failed len = Unit {0}
+abbrev pub FitsSlice : Got → ℕ → Type 0
+FitsSlice (got.Some count) len = (0 < count) × (count ≤ len)
+FitsSlice got.End len = Unit {0}
+FitsSlice got.Failed len = Unit {0}
 
 -- Where the source tells what it has left: the bytes read stood in front of what is left now, the
 -- end comes only where nothing is left, and a failed read takes nothing.
@@ -18,10 +18,10 @@ Reads (got.Some count) before now slice = before ≡ option_map (λ rest. take c
 Reads got.End before now slice = IfSome before (λ rest. rest ≡ []) × (now ≡ before)
 Reads got.Failed before now slice = now ≡ before
 
-abbrev pub is_failed : Got → Bool
-is_failed got.Failed = true
-is_failed _ = false
+abbrev pub is_got_failed : Got → Bool
+is_got_failed got.Failed = true
+is_got_failed _ = false
 
 -- a failed read raised the count, and any other left it
-abbrev pub ReadCause : Got → ℕ → ℕ → Type 0
-ReadCause answer before now = HasCause (is_failed answer) before now
+abbrev pub GotCause : Got → ℕ → ℕ → Type 0
+GotCause answer before now = HasCause (is_got_failed answer) before now

@@ -108,7 +108,7 @@ impl MemorySource {
 }
 
 impl Source for MemorySource {
-    ghost use Rattle.wm_io.specs.Source.{CountFits, Reads, ReadCause};
+    ghost use Rattle.wm_io.specs.Source.{FitsSlice, Reads, GotCause};
     ghost use Rattle.wm_io.specs.Memory.{GivesMost, KeepsTail};
 
     ghost left = { λ s. Some s.left };
@@ -119,9 +119,9 @@ impl Source for MemorySource {
     /// otherwise as many bytes as are left, the slice holds and the cut allows.
     fn read(&mut self, into: &mut [u8]) -> Got
         requires { 0 < length into.old }
-        ensures count { CountFits result (length into.new) }
+        ensures count { FitsSlice result (length into.new) }
         ensures bytes { Reads result (Some self.old.left) (Some self.new.left) into.new }
-        ensures cause { ReadCause result self.old.faults self.new.faults }
+        ensures cause { GotCause result self.old.faults self.new.faults }
 
         ensures failed { (result ≡ Got.Failed) ↔ Contains self.old.failing (self.old.calls + 1) }
         ensures raised { result ≡ Got.Failed → self.new.faults ≡ one_more self.old.faults }
@@ -202,7 +202,7 @@ impl MemorySink {
 }
 
 impl Sink for MemorySink {
-    ghost use Rattle.wm_io.specs.Sink.{CountFits, Writes, WriteCause};
+    ghost use Rattle.wm_io.specs.Sink.{FitsPiece, Writes, PutCause};
     ghost use Rattle.wm_io.specs.Memory.{TakesMost};
 
     ghost given = { λ s. Some s.given };
@@ -213,9 +213,9 @@ impl Sink for MemorySink {
     /// has and the cut allows, unless memory is refused.
     fn write(&mut self, piece: &[u8]) -> Put
         requires { 0 < length piece.now }
-        ensures count { CountFits result (length piece.now) }
+        ensures count { FitsPiece result (length piece.now) }
         ensures bytes { Writes result (Some self.old.given) (Some self.new.given) piece.now }
-        ensures cause { WriteCause result self.old.faults self.new.faults }
+        ensures cause { PutCause result self.old.faults self.new.faults }
 
         ensures failed { (result ≡ Put.Failed) ↔ Contains self.old.failing (self.old.calls + 1) }
         ensures raised { result ≡ Put.Failed → self.new.faults ≡ one_more self.old.faults }

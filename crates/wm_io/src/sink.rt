@@ -13,7 +13,7 @@ pub enum Put {
 
 /// Where bytes go.
 pub trait Sink {
-    ghost use Rattle.wm_io.specs.Sink.{CountFits, Writes, WriteCause};
+    ghost use Rattle.wm_io.specs.Sink.{FitsPiece, Writes, PutCause};
 
     /// The bytes that it was given, where it tells them.
     ghost given: { Self → Option (List ℕ) };
@@ -24,7 +24,7 @@ pub trait Sink {
     /// Gives it bytes from the front of a piece, which isn't empty.
     fn write(&mut self, piece: &[u8]) -> Put
         requires { 0 < length piece.now }
-        ensures count { CountFits result (length piece.now) }
+        ensures count { FitsPiece result (length piece.now) }
         ensures bytes { Writes result (given self.old) (given self.new) piece.now }
-        ensures cause { WriteCause result (faults self.old) (faults self.new) };
+        ensures cause { PutCause result (faults self.old) (faults self.new) };
 }

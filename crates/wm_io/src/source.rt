@@ -13,7 +13,7 @@ pub enum Got {
 
 /// Where bytes come from.
 pub trait Source {
-    ghost use Rattle.wm_io.specs.Source.{CountFits, Reads, ReadCause};
+    ghost use Rattle.wm_io.specs.Source.{FitsSlice, Reads, GotCause};
 
     /// The bytes that are left, where it tells them.
     ghost left: { Self → Option (List ℕ) };
@@ -24,7 +24,7 @@ pub trait Source {
     /// Reads bytes into the front of a slice, which isn't empty.
     fn read(&mut self, into: &mut [u8]) -> Got
         requires { 0 < length into.old }
-        ensures count { CountFits result (length into.new) }
+        ensures count { FitsSlice result (length into.new) }
         ensures bytes { Reads result (left self.old) (left self.new) into.new }
-        ensures cause { ReadCause result (faults self.old) (faults self.new) };
+        ensures cause { GotCause result (faults self.old) (faults self.new) };
 }

@@ -45,7 +45,7 @@ impl<R: Read> StdSource<R> {
 }
 
 impl<R: Read> Source for StdSource<R> {
-    ghost use Rattle.wm_io.specs.Source.{CountFits, Reads, ReadCause};
+    ghost use Rattle.wm_io.specs.Source.{FitsSlice, Reads, GotCause};
     ghost use Rattle.wm_io.specs.Standard.{ReadsKnown};
 
     ghost left = { λ _. None };
@@ -55,9 +55,9 @@ impl<R: Read> Source for StdSource<R> {
     /// Reads once. An error is a fault.
     fn read(&mut self, into: &mut [u8]) -> Got
         requires { 0 < length into.old }
-        ensures count { CountFits result (length into.new) }
+        ensures count { FitsSlice result (length into.new) }
         ensures bytes { Reads result None None into.new }
-        ensures cause { ReadCause result self.old.faults self.new.faults }
+        ensures cause { GotCause result self.old.faults self.new.faults }
         ensures known { ReadsKnown result self.old.known self.new.known into.new }
     {
         'tries: for _ in 0..TRIES {
@@ -109,7 +109,7 @@ impl<W: Write> StdSink<W> {
 }
 
 impl<W: Write> Sink for StdSink<W> {
-    ghost use Rattle.wm_io.specs.Sink.{CountFits, Writes, WriteCause};
+    ghost use Rattle.wm_io.specs.Sink.{FitsPiece, Writes, PutCause};
     ghost use Rattle.wm_io.specs.Standard.{WritesKnown};
 
     ghost given = { λ _. None };
@@ -120,9 +120,9 @@ impl<W: Write> Sink for StdSink<W> {
     /// nothing. Where the flush failed, the writer may hold some of the bytes.
     fn write(&mut self, piece: &[u8]) -> Put
         requires { 0 < length piece.now }
-        ensures count { CountFits result (length piece.now) }
+        ensures count { FitsPiece result (length piece.now) }
         ensures bytes { Writes result None None piece.now }
-        ensures cause { WriteCause result self.old.faults self.new.faults }
+        ensures cause { PutCause result self.old.faults self.new.faults }
         ensures known { WritesKnown result self.old.known self.new.known piece.now }
     {
         'tries: for _ in 0..TRIES {

@@ -41,19 +41,19 @@ changed [] rows = rows
 changed (change ∷ changes) rows = changed changes (changed_by change rows)
 
 -- the number that a change is about
-abbrev pub number_of : Change → ℤ
-number_of (Put row) = row.seq
-number_of (Remove seq) = seq
+abbrev pub changed_number : Change → ℤ
+changed_number (Put row) = row.seq
+changed_number (Remove seq) = seq
 
 -- no number occurs in two changes
 abbrev pub AreOfDifferentNumbers : List Change → Type 0
 AreOfDifferentNumbers [] = Unit {0}
-AreOfDifferentNumbers (change ∷ changes) = AllByRecursion (λ later. number_of change ≢ number_of later) changes × AreOfDifferentNumbers changes
+AreOfDifferentNumbers (change ∷ changes) = AllByRecursion (λ later. changed_number change ≢ changed_number later) changes × AreOfDifferentNumbers changes
 
-abbrev pub is_failed : {T : Type 0} → Result T KeepFault → Bool
-is_failed (Err Failed) = true
-is_failed _ = false
+abbrev pub is_keep_failed : {T : Type 0} → Result T KeepFault → Bool
+is_keep_failed (Err Failed) = true
+is_keep_failed _ = false
 
 -- `Failed` comes only where the count rose, and any other answer leaves it
 abbrev pub KeepCause : {T : Type 0} → Result T KeepFault → ℕ → ℕ → Type 0
-KeepCause result before now = faults.HasCause (is_failed result) before now
+KeepCause result before now = faults.HasCause (is_keep_failed result) before now

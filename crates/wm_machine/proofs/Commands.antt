@@ -1,7 +1,7 @@
 -- What holds of every command: it has one reply, keeps what holds of the states, and changes neither runs nor instances.
 use Rattle.std.proofs.Common.{◌≡◌, ℕ, [], ◌∷◌, Some, None, refl}
 use Rattle.wm_machine.proofs.Enqueues.{frame-outcome, reached-enqueue}
-use Rattle.wm_machine.specs.Built.{IsBuilt}
+use Rattle.wm_machine.specs.Outcome.{IsBuilt}
 use Rattle.wm_machine.specs.Enqueued.{enqueued, refusal_of}
 use Rattle.wm_machine.specs.Frame.{frame_of, untouched}
 use Rattle.wm_machine.specs.Narrow.{IsReached}

@@ -10,7 +10,7 @@ use Rattle.wm_machine.proofs.Narrows.{found_narrow, found_valid, run_kind, with_
 use Rattle.wm_machine.proofs.Runnings.{IsAlone-stored}
 use Rattle.wm_machine.proofs.States.{after_finish, after_start_failed, IsReached-after}
 use Rattle.wm_machine.proofs.Waitings.{left_to_drain-started, left_to_drain-succeeded}
-use Rattle.wm_machine.specs.Built.{IsBuilt}
+use Rattle.wm_machine.specs.Outcome.{IsBuilt}
 use Rattle.wm_machine.specs.Closed.{closed}
 use Rattle.wm_machine.specs.First.{first_of, idle_instance}
 use Rattle.wm_machine.specs.Frame.{Frame}

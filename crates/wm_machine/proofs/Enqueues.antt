@@ -5,7 +5,7 @@ use Rattle.std.proofs.lemmas.Bool.{and_from, eq-eqb, ltb-false, true≢false}
 use Rattle.wm_machine.proofs.Lists.{All-both, All-push, All-weaker, AllLater-push, HasOne-front, none_pass}
 use Rattle.wm_machine.proofs.Records.{IsNarrowRecord-placed, IsRecord-placed, plain_node, sound-narrow}
 use Rattle.wm_machine.specs.Built.{IsPlain}
-use Rattle.wm_machine.specs.Enqueued.{enqueued, first_of, id_in_use, is_stored, numbers_spent, outcome_by, placed, placed_record, refusal_of, too_many_works, with_work}
+use Rattle.wm_machine.specs.Enqueued.{enqueued, first_refusal, id_in_use, is_stored, numbers_spent, outcome_by, placed, placed_record, refusal_of, too_many_works, with_work}
 use Rattle.wm_machine.specs.Frame.{Frame, untouched}
 use Rattle.wm_machine.specs.Limits.{IsShortText}
 use Rattle.wm_machine.specs.Narrow.{IsNarrow, IsNarrowRecord, IsReached}
@@ -67,9 +67,9 @@ IsNarrow-with_work s work narrow is = record {
   echoes = narrow.echoes;
 }
 
-first_of-none : (check : Option Refusal) (checks : List (Option Refusal)) → first_of (check ∷ checks) ≡ None → (check ≡ None) × (first_of checks ≡ None)
-first_of-none (Some found) checks none = absurd (cc)
-first_of-none None checks none = (refl, none)
+first_refusal-none : (check : Option Refusal) (checks : List (Option Refusal)) → first_refusal (check ∷ checks) ≡ None → (check ≡ None) × (first_refusal checks ≡ None)
+first_refusal-none (Some found) checks none = absurd (cc)
+first_refusal-none None checks none = (refl, none)
 
 not_found : (test : Bool) (found : Refusal) → cond test (Some found) None ≡ None → test ≡ false
 not_found true found none = absurd (cc)
@@ -78,8 +78,8 @@ not_found false found none = refl
 -- where no check refuses a batch, there is room for it
 pub room : (s : State) (works : List Node) → refusal_of s None works ≡ None → (length s.works + length works ≤ 100000) × (s.next + length works ≤ 2 ^ 53)
 room s works none =
-    let first = first_of-none (too_many_works s works) (numbers_spent s works ∷ id_in_use s works ∷ []) none in
-    let second = first_of-none (numbers_spent s works) (id_in_use s works ∷ []) first.1 in (
+    let first = first_refusal-none (too_many_works s works) (numbers_spent s works ∷ id_in_use s works ∷ []) none in
+    let second = first_refusal-none (numbers_spent s works) (id_in_use s works ∷ []) first.1 in (
       ltb-false 100000 (length s.works + length works) (not_found (ltb 100000 (length s.works + length works)) (TooManyWorks (length s.works)) first.0),
       ltb-false (2 ^ 53) (s.next + length works) (not_found (ltb (2 ^ 53) (s.next + length works)) (NumbersSpent s.next) second.0),
     )
@@ -88,9 +88,9 @@ room s works none =
 new_id : (s : State) (work : Node) → refusal_of s None (work ∷ []) ≡ None → is_stored s.works work.request.id ≡ false
 new_id s work none =
     let works = work ∷ [] in
-    let first = first_of-none (too_many_works s works) (numbers_spent s works ∷ id_in_use s works ∷ []) none in
-    let second = first_of-none (numbers_spent s works) (id_in_use s works ∷ []) first.1 in
-    let third = first_of-none (id_in_use s works) [] second.1 in
+    let first = first_refusal-none (too_many_works s works) (numbers_spent s works ∷ id_in_use s works ∷ []) none in
+    let second = first_refusal-none (numbers_spent s works) (id_in_use s works ∷ []) first.1 in
+    let third = first_refusal-none (id_in_use s works) [] second.1 in
     not_found (is_stored s.works work.request.id) (IdInUse work.request.id) third.0
 
 Valid-outcome : (s : State) (id class : List ℕ) (found : Option Refusal) → refusal_of s None (plain_node id class ∷ []) ≡ found

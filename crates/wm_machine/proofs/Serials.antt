@@ -5,7 +5,7 @@ use Rattle.wm_machine.proofs.Commands.{answered}
 use Rattle.wm_machine.proofs.Drains.{AreInTurn-append, commands_of-append, goes_on, Replay-append}
 use Rattle.wm_machine.proofs.Frames.{frame-command}
 use Rattle.wm_machine.proofs.States.{IsReached-after}
-use Rattle.wm_machine.specs.Built.{IsBuilt}
+use Rattle.wm_machine.specs.Outcome.{IsBuilt}
 use Rattle.wm_machine.specs.Frame.{Frame}
 use Rattle.wm_machine.specs.Log.{commands_of}
 use Rattle.wm_machine.specs.Narrow.{IsNarrow, IsReached}

@@ -1,10 +1,8 @@
--- Which commands are built, and that no reply tells of data yet. Each command that joins the grammar joins them.
+-- What is built of the commands, and that no reply tells of data yet.
 use Rattle.std.specs.Prelude.{◌≡◌, ℕ, List, [], ◌∷◌, length, None}
 use Rattle.std.specs.List.{AllByRecursion}
 use Rattle.wm_machine.specs.Limits.{IsShortText}
 use Rattle.wm_machine.specs.Requests.{plain_request}
-use Rattle.wm_machine.specs.declared.command.Command.{Command}
-use Rattle.wm_machine.specs.declared.command.Command.TheVariants as command
 use Rattle.wm_machine.specs.declared.event.Event.{Event}
 use Rattle.wm_machine.specs.declared.event.Event.TheVariants as event
 use Rattle.wm_machine.specs.declared.reply.Reply.{Reply}
@@ -27,13 +25,6 @@ pub record NamesNothing (query : WorkQuery) : Type 0 where
   pub names : query.names ≡ []
   pub states : query.states ≡ []
   pub tags : query.tags ≡ []
-
--- the command is one of those that are built
-abbrev pub IsBuilt : Command → Type 0
-IsBuilt (command.Enqueue None batch) = IsPlain batch.works
-IsBuilt (command.Query query) = NamesNothing query
-IsBuilt (command.Faulty fault) = Unit {0}
-IsBuilt _ = ⊥
 
 -- nothing is told of a work's data
 pub record TellsNoData (info : WorkInfo) : Type 0 where

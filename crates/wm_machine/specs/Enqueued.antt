@@ -35,14 +35,14 @@ abbrev pub id_in_use : State → List Node → Option Refusal
 id_in_use s [] = None
 id_in_use s (work ∷ works) = if is_stored s.works work.request.id then Some (refusal.IdInUse work.request.id) else id_in_use s works
 
-abbrev pub first_of : List (Option Refusal) → Option Refusal
-first_of [] = None
-first_of (Some found ∷ checks) = Some found
-first_of (None ∷ checks) = first_of checks
+abbrev pub first_refusal : List (Option Refusal) → Option Refusal
+first_refusal [] = None
+first_refusal (Some found ∷ checks) = Some found
+first_refusal (None ∷ checks) = first_refusal checks
 
 -- the first check that refuses the batch
 abbrev pub refusal_of : State → Option UniqueName → List Node → Option Refusal
-refusal_of s named works = first_of
+refusal_of s named works = first_refusal
     (too_many_works s works
     ∷ numbers_spent s works
     ∷ id_in_use s works

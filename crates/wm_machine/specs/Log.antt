@@ -21,5 +21,5 @@ AreNumberedFrom line (event.Command number asked reply ∷ log) = (number ≡ li
 AreNumberedFrom line (_ ∷ log) = AreNumberedFrom line log
 
 -- the whole begins with the front
-abbrev pub BeginsWith : {T : Type 0} → List T → List T → Type 0
-BeginsWith {T} whole front = (rest : List T) × (whole ≡ front ++ rest)
+abbrev pub HasPrefix : {T : Type 0} → List T → List T → Type 0
+HasPrefix {T} whole front = (rest : List T) × (whole ≡ front ++ rest)

@@ -1,5 +1,7 @@
--- What a command does: the one reply to it in a state, and the state after it. Each command has its rule in a file of its own.
+-- What a command does: the one reply to it in a state, and the state after it; and which commands are built. Each has its rule in a file of
+-- its own.
 use Rattle.std.specs.Prelude.{Option, Some, None}
+use Rattle.wm_machine.specs.Built.{IsPlain, NamesNothing}
 use Rattle.wm_machine.specs.Enqueued.{enqueued}
 use Rattle.wm_machine.specs.Queried.{answer_to}
 use Rattle.wm_machine.specs.Replied.{Outcome, unchanged}
@@ -15,3 +17,10 @@ outcome s (command.Enqueue None batch) = Some (enqueued s None batch.works)
 outcome s (command.Query query) = Some (unchanged s (reply.Query (answer_to s query)))
 outcome s (command.Faulty fault) = Some (unchanged s (reply.Refused (Line fault)))
 outcome s _ = None
+
+-- the command is one of those that are built
+abbrev pub IsBuilt : Command → Type 0
+IsBuilt (command.Enqueue None batch) = IsPlain batch.works
+IsBuilt (command.Query query) = NamesNothing query
+IsBuilt (command.Faulty fault) = Unit {0}
+IsBuilt _ = ⊥

@@ -2,10 +2,9 @@
 -- Only the events that are built are legal. Each row is a rule of the machine, whose file says where it comes from.
 use Rattle.std.specs.Prelude.{◌≡◌, ℕ, true, List, Option, Some, None, Ok, IsSomeAnd}
 use Rattle.wm_data.specs.declared.data.DataEntry.{DataEntry}
-use Rattle.wm_machine.specs.Built.{IsBuilt}
+use Rattle.wm_machine.specs.Outcome.{IsBuilt, outcome}
 use Rattle.wm_machine.specs.Ends.{end_of, given_by, with_start_failed}
 use Rattle.wm_machine.specs.First.{first_of, idle_instance}
-use Rattle.wm_machine.specs.Outcome.{outcome}
 use Rattle.wm_machine.specs.Replied.{Outcome}
 use Rattle.wm_machine.specs.Runs.{input_of, run_numbered, start_on, start_refusal}
 use Rattle.wm_machine.specs.declared.command.Command.{Command}

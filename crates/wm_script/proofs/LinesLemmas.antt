@@ -15,7 +15,8 @@ use Rattle.serde_json.specs.Find.{as_object, as_str, get, get_member}
 use Rattle.serde_json.specs.Read.{read}
 use Rattle.serde_json.specs.View.{items_view, members_view}
 use Rattle.serde_json.specs.declared.value.Value.{Value}
-use Rattle.wm_machine.specs.Built.{IsBuilt, NamesNothing}
+use Rattle.wm_machine.specs.Built.{NamesNothing}
+use Rattle.wm_machine.specs.Outcome.{IsBuilt}
 use Rattle.uuid.specs.Text.{by_index, byte_of_digits, close_brace, digits_of, has_urn_prefix, open_brace, parsed, parsed_braced, parsed_hyphenated, parsed_simple, parsed_urn}
 use Rattle.wm_machine.specs.Limits.{IsShortText}
 use Rattle.wm_machine.specs.Requests.{plain_request}

@@ -4,7 +4,7 @@ ghost use Rattle.std.specs.List.{AllByRecursion};
 ghost use Rattle.serde_json.specs.Find.{as_str};
 ghost use Rattle.serde_json.specs.View.{view, items_view};
 ghost use Rattle.uuid.specs.Text.{parsed};
-ghost use Rattle.wm_machine.specs.Built.{IsBuilt};
+ghost use Rattle.wm_machine.specs.Outcome.{IsBuilt};
 ghost use Rattle.wm_machine.specs.Requests.{plain_request};
 ghost use Rattle.wm_script.specs.Lines.{asked_by, both, class_of, command_of, commands_in, cut, enqueue_command, enqueue_of, only, query_of, query_of_all, single, value_of, work_of, IsFaultOf};
 

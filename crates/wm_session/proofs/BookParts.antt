@@ -6,7 +6,7 @@ use Rattle.wm_keeper.specs.declared.row.Row.{Row}
 use Rattle.std.specs.Option.{IfSome}
 use Rattle.wm_machine.proofs.Logs.{Replay-push}
 use Rattle.wm_machine.specs.Built.{EventTellsNoData}
-use Rattle.wm_machine.specs.Log.{command_in, BeginsWith}
+use Rattle.wm_machine.specs.Log.{command_in, HasPrefix}
 use Rattle.wm_machine.specs.Replay.{Replay}
 use Rattle.wm_machine.specs.Rows.{rows_of}
 use Rattle.wm_machine.specs.Runs.{run_numbered}
@@ -15,12 +15,12 @@ use Rattle.wm_machine.specs.declared.event.Event.TheVariants as event
 use Rattle.wm_machine.specs.declared.event.Event.{Event}
 use Rattle.wm_machine.specs.declared.state.Run.{Run}
 use Rattle.wm_machine.specs.declared.state.State.{State}
-use Rattle.wm_session.proofs.Pieces.{AreTextsKept-front}
+use Rattle.wm_session.proofs.Pieces.{TextsInvariant-front}
 use Rattle.wm_session.specs.Bench.{is_away}
 use Rattle.wm_session.specs.Book as book
 use Rattle.wm_session.specs.BookState.{BookState}
 use Rattle.wm_session.specs.Causes.{stop_by_fault, stop_by_trouble, StopCause}
-use Rattle.wm_session.specs.Kept.{AreAwayKept, AreLinesKept, AreTextsKept}
+use Rattle.wm_session.specs.Invariant.{AwayInvariant, LinesInvariant, TextsInvariant}
 use Rattle.wm_table.specs.Table.{last_of, IsClaimed, IsOneStep, IsUntouched, TurnCause}
 use Rattle.wm_table.specs.TableState.{TableState, TicketState, ticket_of}
 use Rattle.wm_session.specs.Writing.{WriteCause}
@@ -40,27 +40,27 @@ pub rows_then : (old new : State) (stored held kept : Option (List Row)) → hel
 rows_then old new None held kept is then = then ∙ ap (option_map (λ _. rows_of new)) is
 rows_then old new (Some rows) held kept is then = then ∙ ap (option_map (λ _. rows_of new)) is
 
-pub AreLinesKept-from : (status : Option Stop) (lines done left : List Command) → lines ≡ done ++ left → AreLinesKept status lines done left
-AreLinesKept-from None lines done left is = is
-AreLinesKept-from (Some why) lines done left is = (left, is)
+pub LinesInvariant-from : (status : Option Stop) (lines done left : List Command) → lines ≡ done ++ left → LinesInvariant status lines done left
+LinesInvariant-from None lines done left is = is
+LinesInvariant-from (Some why) lines done left is = (left, is)
 
-pub AreLinesKept-front : (status : Option Stop) (lines done left : List Command) → AreLinesKept status lines done left → BeginsWith lines done
-AreLinesKept-front None lines done left kept = (left, kept)
-AreLinesKept-front (Some why) lines done left kept = kept
+pub LinesInvariant-front : (status : Option Stop) (lines done left : List Command) → LinesInvariant status lines done left → HasPrefix lines done
+LinesInvariant-front None lines done left kept = (left, kept)
+LinesInvariant-front (Some why) lines done left kept = kept
 
-pub AreTextsKept-stopped : (status : Option Stop) (why : Stop) (before now : Option (List ℕ)) (text pending : List ℕ)
-    → AreTextsKept status before now text pending → AreTextsKept (Some why) before now text pending
-AreTextsKept-stopped None why before now text pending kept = AreTextsKept-front why before now text pending kept
-AreTextsKept-stopped (Some other) why before now text pending kept = record { written = kept.written; given = kept.given; kept = kept.kept }
+pub TextsInvariant-stopped : (status : Option Stop) (why : Stop) (before now : Option (List ℕ)) (text pending : List ℕ)
+    → TextsInvariant status before now text pending → TextsInvariant (Some why) before now text pending
+TextsInvariant-stopped None why before now text pending kept = TextsInvariant-front why before now text pending kept
+TextsInvariant-stopped (Some other) why before now text pending kept = record { written = kept.written; given = kept.given; kept = kept.kept }
 
-pub AreAwayKept-stopped : {K W B : Type 0} (status : Option Stop) (book : BookState K W B) → IsSome status → AreAwayKept status book
-AreAwayKept-stopped (Some why) book stopped = tt
-AreAwayKept-stopped None book stopped = absurd cc
+pub AwayInvariant-stopped : {K W B : Type 0} (status : Option Stop) (book : BookState K W B) → IsSome status → AwayInvariant status book
+AwayInvariant-stopped (Some why) book stopped = tt
+AwayInvariant-stopped None book stopped = absurd cc
 
-pub AreAwayKept-from : {K W B : Type 0} (status : Option Stop) (book : BookState K W B)
-    → map (λ place. is_away place.presence) book.places ≡ map (λ instance. instance.out) book.table.state.instances → AreAwayKept status book
-AreAwayKept-from None book same = same
-AreAwayKept-from (Some why) book same = tt
+pub AwayInvariant-from : {K W B : Type 0} (status : Option Stop) (book : BookState K W B)
+    → map (λ place. is_away place.presence) book.places ≡ map (λ instance. instance.out) book.table.state.instances → AwayInvariant status book
+AwayInvariant-from None book same = same
+AwayInvariant-from (Some why) book same = tt
 
 -- ---- why a session stops
 

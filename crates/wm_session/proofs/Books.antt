@@ -10,9 +10,9 @@ use Rattle.wm_machine.proofs.Frames.{frame-command, frame-finish, frame-start}
 use Rattle.wm_machine.proofs.Logs.{commands_of-push, AreNumberedFrom-push}
 use Rattle.wm_script.proofs.LogTexts.{log_text-push}
 use Rattle.wm_machine.proofs.States.{IsReached-after}
-use Rattle.wm_machine.specs.Built.{IsBuilt}
+use Rattle.wm_machine.specs.Outcome.{IsBuilt}
 use Rattle.wm_machine.specs.Frame.{Frame}
-use Rattle.wm_machine.specs.Log.{command_in, commands_of, AreNumberedFrom, BeginsWith}
+use Rattle.wm_machine.specs.Log.{command_in, commands_of, AreNumberedFrom, HasPrefix}
 use Rattle.wm_machine.specs.Narrow.{IsNarrow, IsReached}
 use Rattle.wm_machine.specs.Replay.{Replay}
 use Rattle.wm_machine.specs.Rows.{rows_of}
@@ -28,14 +28,14 @@ use Rattle.wm_machine.specs.declared.reply.Reply.{Reply}
 use Rattle.wm_machine.specs.declared.state.State.{State}
 use Rattle.wm_session.proofs.Benches.{all_here, away-changed, away-taken, idle_at-in, kind-Echo, no_seat, seat_is, traits-given, traits-taken, traits-with_out}
 use Rattle.wm_session.proofs.BookEvents.{AreNumberedFrom-silent, failed_fewer, finished_no_more, started_fewer, ticket_kind}
-use Rattle.wm_session.proofs.BookParts.{AreAwayKept-from, AreAwayKept-stopped, AreLinesKept-from, AreLinesKept-front, AreTextsKept-stopped, IsUntouched-same, StopCause-turn, StopCause-write, claimed_step, last_of-step, Replay-same, Replay-step, rows_then}
-use Rattle.wm_session.proofs.Pieces.{AreTextsKept-more, AreTextsKept-unwritten}
+use Rattle.wm_session.proofs.BookParts.{AwayInvariant-from, AwayInvariant-stopped, LinesInvariant-from, LinesInvariant-front, TextsInvariant-stopped, IsUntouched-same, StopCause-turn, StopCause-write, claimed_step, last_of-step, Replay-same, Replay-step, rows_then}
+use Rattle.wm_session.proofs.Pieces.{TextsInvariant-more, TextsInvariant-unwritten}
 use Rattle.wm_session.specs.Bench.{instance_traits, is_away, place_traits, AreIdle}
 use Rattle.wm_session.specs.Book as book
 use Rattle.wm_session.specs.BookState.{BookState}
 use Rattle.wm_session.specs.Causes.{stop_by_fault, stop_by_trouble, StopCause}
-use Rattle.wm_session.specs.Given.{Given}
-use Rattle.wm_session.specs.Kept.{AreAwayKept, AreLinesKept, AreTextsKept, IsBookKept, IsLastTold}
+use Rattle.wm_session.specs.Inputs.{Inputs}
+use Rattle.wm_session.specs.Invariant.{AwayInvariant, LinesInvariant, TextsInvariant, BookInvariant, IsLastTold}
 use Rattle.wm_session.specs.Tells.{Tells}
 use Rattle.wm_table.specs.Table.{CountsIn, IsClaimed, IsFinished, IsOneStep, IsTicketIn, IsUntouched, Stands, TurnCause}
 use Rattle.wm_table.specs.TableState.{TableState, TicketState}
@@ -61,25 +61,25 @@ record IsStep {K W B : Type 0} (tells : Tells K W B) (e : Event) (old new : Book
   no_fault : tells.keeper_faults new.table.keeper ≡ tells.keeper_faults old.table.keeper
 
 -- what telling an event made of what is pending and of the sink, and why the session stopped, where it did
-pub record IsTold {K W B : Type 0} (run : Given) (tells : Tells K W B) (e : Event) (old : BookState K W B) (table : TableState K) (pending : List ℕ)
+pub record IsTold {K W B : Type 0} (run : Inputs) (tells : Tells K W B) (e : Event) (old : BookState K W B) (table : TableState K) (pending : List ℕ)
     (sink : W) (status : Option Stop) : Type 0 where
-  pub texts : AreTextsKept status (tells.given old.sink) (tells.given sink) (old.pending ++ event_text old.table.state e table.state) pending
+  pub texts : TextsInvariant status (tells.given old.sink) (tells.given sink) (old.pending ++ event_text old.table.state e table.state) pending
   pub later : tells.sink_faults old.sink ≤ tells.sink_faults sink
   pub cause : StopCause status run.keeper_faults (tells.keeper_faults table.keeper) run.sink_faults (tells.sink_faults sink)
 
 -- the workers that are away are those of the instances that are out
-away_now : {K W B : Type 0} (old : BookState K W B) → old.status ≡ None → AreAwayKept old.status old
+away_now : {K W B : Type 0} (old : BookState K W B) → old.status ≡ None → AwayInvariant old.status old
     → map (λ place. is_away place.presence) old.places ≡ map (λ instance. instance.out) old.table.state.instances
-away_now old going kept = subst (λ status. AreAwayKept status old) going kept
+away_now old going kept = subst (λ status. AwayInvariant status old) going kept
 
-module _ {K W B : Type 0} {run : Given} {tells : Tells K W B} where
-  reached : {book : BookState K W B} → IsBookKept run tells book → IsReached book.table.state
+module _ {K W B : Type 0} {run : Inputs} {tells : Tells K W B} where
+  reached : {book : BookState K W B} → BookInvariant run tells book → IsReached book.table.state
   reached kept = record { valid = kept.valid; narrow = kept.narrow }
 
-  reached_after : (e : Event) (old new : BookState K W B) → IsBookKept run tells old → IsOneStep tells.held e old.table new.table → IsReached new.table.state
+  reached_after : (e : Event) (old new : BookState K W B) → BookInvariant run tells old → IsOneStep tells.held e old.table new.table → IsReached new.table.state
   reached_after e old new kept step = rw step.state (IsReached-after old.table.state e (reached kept) step.legal)
 
-  text_is : (e : Event) (old new : BookState K W B) → IsBookKept run tells old → IsOneStep tells.held e old.table new.table
+  text_is : (e : Event) (old new : BookState K W B) → BookInvariant run tells old → IsOneStep tells.held e old.table new.table
       → log_text new.table.first new.table.log ≡ log_text old.table.first old.table.log ++ event_text old.table.state e new.table.state
   text_is e old new kept step =
       ap (λ first. log_text first new.table.log) step.first
@@ -87,36 +87,36 @@ module _ {K W B : Type 0} {run : Given} {tells : Tells K W B} where
       ∙ log_text-push old.table.first old.table.log old.table.state e kept.replay
       ∙ ap (λ s. log_text old.table.first old.table.log ++ event_text old.table.state e s) (sym step.state)
 
-  IsBookKept-step : (e : Event) (old new : BookState K W B) → IsBookKept run tells old
+  BookInvariant-step : (e : Event) (old new : BookState K W B) → BookInvariant run tells old
       → IsStep tells e old new → AreNumberedFrom 1 (old.table.log ++ e ∷ [])
-      → IsTold run tells e old new.table new.pending new.sink new.status → AreAwayKept new.status new → IsBookKept run tells new
-  IsBookKept-step e old new kept more numbered told away =
+      → IsTold run tells e old new.table new.pending new.sink new.status → AwayInvariant new.status new → BookInvariant run tells new
+  BookInvariant-step e old new kept more numbered told away =
       let step = more.step in
       let done = commands_of old.table.log in
       let commands : commands_of new.table.log ≡ done ++ command_in e = ap commands_of step.appended ∙ commands_of-push old.table.log e in
-      let lines : run.lines ≡ done ++ old.left = subst (λ status. AreLinesKept status run.lines done old.left) more.going kept.lines in
+      let lines : run.lines ≡ done ++ old.left = subst (λ status. LinesInvariant status run.lines done old.left) more.going kept.lines in
       let few : old.line + length old.left < 2 ^ 32 = kept.few_lines in
       let left_is : length old.left ≡ length (command_in e) + length new.left = ap length more.left ∙ length-append (command_in e) new.left in
       let line_is : new.line ≡ old.line + length (command_in e) = more.line in
       let sink_before : run.sink_faults ≤ tells.sink_faults old.sink = kept.sink_later in
       let keeper_before : run.keeper_faults ≤ tells.keeper_faults old.table.keeper = kept.keeper_later in
       let later : tells.sink_faults old.sink ≤ tells.sink_faults new.sink = told.later in
-      let before : AreTextsKept None run.written (tells.given old.sink) (log_text old.table.first old.table.log) old.pending =
-      subst (λ status. AreTextsKept status run.written (tells.given old.sink) (log_text old.table.first old.table.log) old.pending) more.going kept.texts in
+      let before : TextsInvariant None run.written (tells.given old.sink) (log_text old.table.first old.table.log) old.pending =
+      subst (λ status. TextsInvariant status run.written (tells.given old.sink) (log_text old.table.first old.table.log) old.pending) more.going kept.texts in
       record {
         first = step.first ∙ kept.first;
         replay = Replay-step tells.held e old.table new.table kept.replay step;
         valid = (reached_after e old new kept step).valid;
         narrow = (reached_after e old new kept step).narrow;
-        lines = AreLinesKept-from new.status run.lines (commands_of new.table.log) new.left
+        lines = LinesInvariant-from new.status run.lines (commands_of new.table.log) new.left
             (lines ∙ ap (λ (l : List Command). done ++ l) more.left ∙ sym (append_assoc done (command_in e) new.left) ∙ ap (λ (l : List Command). l ++ new.left)
             (sym commands));
         built = more.built;
         numbered = subst (AreNumberedFrom 1) (sym step.appended) numbered;
         line = more.line ∙ ap (λ n. n + length (command_in e)) kept.line ∙ sym (length-append done (command_in e)) ∙ ap length (sym commands);
         few_lines = omega arith;
-        texts = subst (λ text. AreTextsKept new.status run.written (tells.given new.sink) text new.pending) (sym (text_is e old new kept step))
-            (AreTextsKept-more new.status run.written (tells.given old.sink) (tells.given new.sink) (log_text old.table.first old.table.log)
+        texts = subst (λ text. TextsInvariant new.status run.written (tells.given new.sink) text new.pending) (sym (text_is e old new kept step))
+            (TextsInvariant-more new.status run.written (tells.given old.sink) (tells.given new.sink) (log_text old.table.first old.table.log)
             (event_text old.table.state e new.table.state) old.pending new.pending before told.texts);
         rows = rows_then old.table.state new.table.state run.rows (tells.held old.table.keeper) (tells.held new.table.keeper) kept.rows step.rows;
         workers = more.workers;
@@ -128,13 +128,13 @@ module _ {K W B : Type 0} {run : Given} {tells : Tells K W B} where
 
   -- the text was told, and all that was pending written
   pub IsTold-all : {old : BookState K W B} (e : Event) (table : TableState K) (pending : List ℕ) (sink : W)
-      → IsBookKept run tells old → old.status ≡ None → IsOneStep tells.held e old.table table
+      → BookInvariant run tells old → old.status ≡ None → IsOneStep tells.held e old.table table
       → IsLastTold None table (tells.given old.sink) (tells.given sink) old.pending pending
       → tells.sink_faults sink ≡ tells.sink_faults old.sink
       → IsTold run tells e old table pending sink old.status
   IsTold-all {old = old} e table pending sink kept going step last no_sink_fault = record {
     texts = subst
-        (λ status. AreTextsKept status (tells.given old.sink) (tells.given sink) (old.pending ++ event_text old.table.state e table.state) pending)
+        (λ status. TextsInvariant status (tells.given old.sink) (tells.given sink) (old.pending ++ event_text old.table.state e table.state) pending)
         (sym going) (last old.table.state e (last_of-step tells.held e old.table table step));
     later = omega arith;
     cause = subst (λ status. StopCause status run.keeper_faults (tells.keeper_faults table.keeper) run.sink_faults (tells.sink_faults sink)) (sym going) tt;
@@ -142,7 +142,7 @@ module _ {K W B : Type 0} {run : Given} {tells : Tells K W B} where
 
   -- the session stopped while the text was told
   pub IsTold-cut : {old : BookState K W B} (e : Event) (table : TableState K) (pending : List ℕ) (sink : W) (refused : WriteFault) (stop : Stop)
-      → IsBookKept run tells old → IsOneStep tells.held e old.table table
+      → BookInvariant run tells old → IsOneStep tells.held e old.table table
       → IsLastTold (Some (stop_by_fault refused)) table (tells.given old.sink) (tells.given sink) old.pending pending
       → WriteCause {T = Unit {0}} (Err refused) (tells.sink_faults old.sink) (tells.sink_faults sink) → stop ≡ stop_by_fault refused
       → IsTold run tells e old table pending sink (Some stop)
@@ -151,7 +151,7 @@ module _ {K W B : Type 0} {run : Given} {tells : Tells K W B} where
       StopCause-write refused run.keeper_faults (tells.keeper_faults table.keeper) (tells.sink_faults old.sink)
       (tells.sink_faults sink) run.sink_faults trouble kept.sink_later in record {
         texts = subst
-            (λ why. AreTextsKept (Some why) (tells.given old.sink) (tells.given sink) (old.pending ++ event_text old.table.state e table.state) pending)
+            (λ why. TextsInvariant (Some why) (tells.given old.sink) (tells.given sink) (old.pending ++ event_text old.table.state e table.state) pending)
             (sym stop_is) (last old.table.state e (last_of-step tells.held e old.table table step));
         later = cause.0;
         cause = subst (λ s. StopCause (Some s) run.keeper_faults (tells.keeper_faults table.keeper) run.sink_faults (tells.sink_faults sink))
@@ -159,17 +159,17 @@ module _ {K W B : Type 0} {run : Given} {tells : Tells K W B} where
       }
 
   -- an event that is no line, and its text told or not
-  IsBookKept-event : (e : Event) (old : BookState K W B) (table : TableState K) (places : List (Place B)) (pending : List ℕ) (sink : W)
+  BookInvariant-event : (e : Event) (old : BookState K W B) (table : TableState K) (places : List (Place B)) (pending : List ℕ) (sink : W)
       (status : Option Stop)
-      → IsBookKept run tells old → old.status ≡ None → IsOneStep tells.held e old.table table → command_in e ≡ []
+      → BookInvariant run tells old → old.status ≡ None → IsOneStep tells.held e old.table table → command_in e ≡ []
       → IsTold run tells e old table pending sink status
       → map (place_traits tells.kind_of) places ≡ map instance_traits table.state.instances
-      → AreAwayKept status (record old { table = table; places = places; pending = pending; sink = sink; status = status })
+      → AwayInvariant status (record old { table = table; places = places; pending = pending; sink = sink; status = status })
       → tells.keeper_faults table.keeper ≡ tells.keeper_faults old.table.keeper
-      → IsBookKept run tells (record old { table = table; places = places; pending = pending; sink = sink; status = status })
-  IsBookKept-event e old table places pending sink status kept going step none told workers away no_fault =
+      → BookInvariant run tells (record old { table = table; places = places; pending = pending; sink = sink; status = status })
+  BookInvariant-event e old table places pending sink status kept going step none told workers away no_fault =
       let new : BookState K W B = record old { table = table; places = places; pending = pending; sink = sink; status = status } in
-      IsBookKept-step e old new kept (record {
+      BookInvariant-step e old new kept (record {
         going = going;
         step = step;
         left = ap (λ (l : List Command). l ++ old.left) (sym none);
@@ -185,7 +185,7 @@ module _ {K W B : Type 0} {run : Given} {tells : Tells K W B} where
 
   -- the worker of the instance that starts is at its place
   pub claimed_idle : {old : BookState K W B} (table : TableState K) (number seq instance place : ℕ) (input : List DataEntry)
-      → IsBookKept run tells old → old.status ≡ None
+      → BookInvariant run tells old → old.status ≡ None
       → IsOneStep tells.held (event.Start number seq instance input) old.table table → place ≡ instance
       → None ≡ option_map (λ worker. let made : Seat B = record { number = place; worker = worker } in made) (idle_at place old.places) → ⊥
   claimed_idle {old = old} table number seq instance place input kept going step same none =
@@ -198,24 +198,24 @@ module _ {K W B : Type 0} {run : Given} {tells : Tells K W B} where
       (no_seat place (idle_at place old.places) none)
 
   -- a run began and was told
-  pub IsBookKept-begun : {old : BookState K W B} (table : TableState K) (places : List (Place B)) (pending : List ℕ) (sink : W)
+  pub BookInvariant-begun : {old : BookState K W B} (table : TableState K) (places : List (Place B)) (pending : List ℕ) (sink : W)
       (number seq instance place : ℕ) (input : List DataEntry)
-      → IsBookKept run tells old → old.status ≡ None
+      → BookInvariant run tells old → old.status ≡ None
       → IsOneStep tells.held (event.Start number seq instance input) old.table table → place ≡ instance
       → places ≡ changed_at (made_away tells.kind_of) place old.places
       → IsTold run tells (event.Start number seq instance input) old table pending sink old.status
       → tells.keeper_faults table.keeper ≡ tells.keeper_faults old.table.keeper
-      → IsBookKept run tells (record old { table = table; places = places; pending = pending; sink = sink })
-  IsBookKept-begun {old = old} table places pending sink number seq instance place input kept going step same there told no_fault =
+      → BookInvariant run tells (record old { table = table; places = places; pending = pending; sink = sink })
+  BookInvariant-begun {old = old} table places pending sink number seq instance place input kept going step same there told no_fault =
       let s = old.table.state in
       let instances : table.state.instances ≡ with_out true instance s.instances =
       ap (λ (t : State). t.instances) step.state ∙ ap (λ (f : Frame). f.instances) (frame-start s number seq instance input step.legal) in
       let from_zero : 0 + instance ≡ instance = omega arith in
       let are : places ≡ changed_at (made_away tells.kind_of) instance old.places = there ∙ ap (λ n. changed_at (made_away tells.kind_of) n old.places) same in
-      IsBookKept-event (event.Start number seq instance input) old table places pending sink old.status kept going step refl told
+      BookInvariant-event (event.Start number seq instance input) old table places pending sink old.status kept going step refl told
       (ap (map (place_traits tells.kind_of)) are ∙ traits-taken tells.kind_of instance old.places ∙ kept.workers
       ∙ sym (traits-with_out true instance s.instances) ∙ ap (map instance_traits) (sym instances))
-      (AreAwayKept-from old.status (record old { table = table; places = places; pending = pending; sink = sink })
+      (AwayInvariant-from old.status (record old { table = table; places = places; pending = pending; sink = sink })
       (ap (map (λ place. is_away place.presence)) are
       ∙ away-changed (made_away tells.kind_of) true instance 0 old.places s.instances (away-taken tells.kind_of) kept.valid.numbered
       (away_now old going kept.away)
@@ -225,7 +225,7 @@ module _ {K W B : Type 0} {run : Given} {tells : Tells K W B} where
 
   pub IsBegun-taken : {old : BookState K W B} (table : TableState K) (places : List (Place B)) (pending : List ℕ) (sink : W) (ticket : TicketState)
       (place : ℕ) (seat : Seat B) (signal : SignalState)
-      → IsBookKept run tells old → old.status ≡ None
+      → BookInvariant run tells old → old.status ≡ None
       → IsOneStep tells.held (event.Start ticket.task.run ticket.seq ticket.instance ticket.task.input) old.table table → IsTicketIn table.state ticket
       → place ≡ ticket.instance → Some seat ≡ option_map (λ worker. record { number = place; worker = worker }) (idle_at place old.places)
       → places ≡ changed_at (made_away tells.kind_of) place old.places → signal ≡ record { run = ticket.task.run; never = true }
@@ -253,21 +253,21 @@ module _ {K W B : Type 0} {run : Given} {tells : Tells K W B} where
 
   -- ---- a work that couldn't start
 
-  pub IsBookKept-start_failed : {old : BookState K W B} (table : TableState K) (pending : List ℕ) (sink : W) (seq : ℕ) (cause : Cause)
-      → IsBookKept run tells old → old.status ≡ None → IsOneStep tells.held (event.StartFailed seq cause) old.table table
+  pub BookInvariant-start_failed : {old : BookState K W B} (table : TableState K) (pending : List ℕ) (sink : W) (seq : ℕ) (cause : Cause)
+      → BookInvariant run tells old → old.status ≡ None → IsOneStep tells.held (event.StartFailed seq cause) old.table table
       → IsTold run tells (event.StartFailed seq cause) old table pending sink old.status
       → tells.keeper_faults table.keeper ≡ tells.keeper_faults old.table.keeper
-      → IsBookKept run tells (record old { table = table; pending = pending; sink = sink })
-  IsBookKept-start_failed {old = old} table pending sink seq cause kept going step told no_fault =
+      → BookInvariant run tells (record old { table = table; pending = pending; sink = sink })
+  BookInvariant-start_failed {old = old} table pending sink seq cause kept going step told no_fault =
       let instances : table.state.instances ≡ old.table.state.instances = ap (λ (t : State). t.instances) step.state in
-      IsBookKept-event (event.StartFailed seq cause) old table old.places pending sink old.status kept going step refl told
+      BookInvariant-event (event.StartFailed seq cause) old table old.places pending sink old.status kept going step refl told
       (kept.workers ∙ ap (map instance_traits) (sym instances))
-      (AreAwayKept-from old.status (record old { table = table; pending = pending; sink = sink })
+      (AwayInvariant-from old.status (record old { table = table; pending = pending; sink = sink })
       (away_now old going kept.away ∙ ap (map (λ instance. instance.out)) (sym instances)))
       no_fault
 
   pub IsStartFailed-kept : {old : BookState K W B} (table : TableState K) (pending : List ℕ) (sink : W) (seq : ℕ) (cause : Cause)
-      → IsBookKept run tells old → old.status ≡ None → IsOneStep tells.held (event.StartFailed seq cause) old.table table
+      → BookInvariant run tells old → old.status ≡ None → IsOneStep tells.held (event.StartFailed seq cause) old.table table
       → book.IsStartFailed tells.held old (record old { table = table; pending = pending; sink = sink })
   IsStartFailed-kept {old = old} table pending sink seq cause kept going step = record {
     seq = seq;
@@ -281,7 +281,7 @@ module _ {K W B : Type 0} {run : Given} {tells : Tells K W B} where
 
   -- ---- a claim that couldn't be told
 
-  untold_traits : (claimed : Claim) (old : BookState K W B) (table : TableState K) → IsBookKept run tells old
+  untold_traits : (claimed : Claim) (old : BookState K W B) (table : TableState K) → BookInvariant run tells old
       → IsClaimed tells.held (Some claimed) old.table table
       → map (place_traits tells.kind_of) old.places ≡ map instance_traits table.state.instances
   untold_traits (claim.Run ticket) old table kept (step, stands) =
@@ -294,22 +294,22 @@ module _ {K W B : Type 0} {run : Given} {tells : Tells K W B} where
       kept.workers ∙ ap (λ (t : State). map instance_traits t.instances) (sym step.state)
 
   -- the session stopped while the claim was told, and its ticket was taken back
-  pub IsBookKept-untold : {old : BookState K W B} (claimed : Claim) (between table : TableState K) (pending : List ℕ) (sink : W) (stop : Stop)
-      → IsBookKept run tells old → old.status ≡ None → IsClaimed tells.held (Some claimed) old.table between → table ≡ between
+  pub BookInvariant-untold : {old : BookState K W B} (claimed : Claim) (between table : TableState K) (pending : List ℕ) (sink : W) (stop : Stop)
+      → BookInvariant run tells old → old.status ≡ None → IsClaimed tells.held (Some claimed) old.table between → table ≡ between
       → ((e : Event) → IsOneStep tells.held e old.table between → IsTold run tells e old between pending sink (Some stop))
       → tells.keeper_faults between.keeper ≡ tells.keeper_faults old.table.keeper
-      → IsBookKept run tells (record old { table = table; pending = pending; sink = sink; status = Some stop })
-  IsBookKept-untold {old = old} claimed between table pending sink stop kept going done same told no_fault =
+      → BookInvariant run tells (record old { table = table; pending = pending; sink = sink; status = Some stop })
+  BookInvariant-untold {old = old} claimed between table pending sink stop kept going done same told no_fault =
       let step = claimed_step tells.held claimed old.table between done in
-      subst (λ t. IsBookKept run tells (record old { table = t; pending = pending; sink = sink; status = Some stop })) (sym same)
-      (IsBookKept-event step.0 old between old.places pending sink (Some stop) kept going step.1 step.2 (told step.0 step.1)
+      subst (λ t. BookInvariant run tells (record old { table = t; pending = pending; sink = sink; status = Some stop })) (sym same)
+      (BookInvariant-event step.0 old between old.places pending sink (Some stop) kept going step.1 step.2 (told step.0 step.1)
       (untold_traits claimed old between kept done) tt no_fault)
 
   -- ---- the end of a run
 
   pub IsOver-finished : {old : BookState K W B} (table : TableState K) (places : List (Place B)) (pending : List ℕ) (sink : W) (ticket : TicketState)
       (seat : Seat B) (told : Report)
-      → IsBookKept run tells old → old.status ≡ None → CountsIn old.table.state ticket.task.run told
+      → BookInvariant run tells old → old.status ≡ None → CountsIn old.table.state ticket.task.run told
       → IsFinished tells.held ticket.task.run told old.table table → places ≡ changed_at (made_idle seat.worker) seat.number old.places
       → book.IsOver tells.held ticket seat told old (record old { table = table; places = places; pending = pending; sink = sink })
   IsOver-finished {old = old} table places pending sink ticket seat told kept going counts finished are = record {
@@ -325,7 +325,7 @@ module _ {K W B : Type 0} {run : Given} {tells : Tells K W B} where
   -- the session stopped while that was told
   pub IsEndUntold-finished : {old : BookState K W B} (table : TableState K) (places : List (Place B)) (pending : List ℕ) (sink : W) (stop : Stop)
       (ticket : TicketState) (told : Report)
-      → IsBookKept run tells old → old.status ≡ None → CountsIn old.table.state ticket.task.run told
+      → BookInvariant run tells old → old.status ≡ None → CountsIn old.table.state ticket.task.run told
       → IsFinished tells.held ticket.task.run told old.table table
       → book.IsEndUntold tells.held ticket told old
       (record old { table = table; places = places; pending = pending; sink = sink; status = Some stop })
@@ -340,15 +340,15 @@ module _ {K W B : Type 0} {run : Given} {tells : Tells K W B} where
   }
 
   -- a run is over, and its text told or not
-  pub IsBookKept-over : {old : BookState K W B} (table : TableState K) (places : List (Place B)) (pending : List ℕ) (sink : W) (status : Option Stop)
+  pub BookInvariant-over : {old : BookState K W B} (table : TableState K) (places : List (Place B)) (pending : List ℕ) (sink : W) (status : Option Stop)
       (ticket : TicketState) (place : ℕ) (output : List DataEntry) (worker : B)
-      → IsBookKept run tells old → old.status ≡ None
+      → BookInvariant run tells old → old.status ≡ None
       → IsOneStep tells.held (event.Finish ticket.task.run (Success output)) old.table table → Stands old.table.state ticket → place ≡ ticket.instance
       → IsAwayAt place (tells.kind_of worker) old.places → places ≡ changed_at (made_idle worker) place old.places
       → IsTold run tells (event.Finish ticket.task.run (Success output)) old table pending sink status
       → tells.keeper_faults table.keeper ≡ tells.keeper_faults old.table.keeper
-      → IsBookKept run tells (record old { table = table; places = places; pending = pending; sink = sink; status = status })
-  IsBookKept-over {old = old} table places pending sink status ticket place output worker kept going step stands same away are told no_fault =
+      → BookInvariant run tells (record old { table = table; places = places; pending = pending; sink = sink; status = status })
+  BookInvariant-over {old = old} table places pending sink status ticket place output worker kept going step stands same away are told no_fault =
       let s = old.table.state in
       let on = subst (λ found. IsSomeAnd found (λ run. (run.instance ≡ ticket.instance) × (run.kind ≡ ticket.kind))) step.legal.is_running stands in
       let instances : table.state.instances ≡ with_out false ticket.instance s.instances =
@@ -356,10 +356,10 @@ module _ {K W B : Type 0} {run : Given} {tells : Tells K W B} where
       ∙ ap (λ (f : Frame). f.instances) (frame-finish s ticket.task.run (Success output) step.legal)
       ∙ ap (λ number. with_out false number s.instances) on.0 in
       let from_zero : 0 + place ≡ ticket.instance = omega arith ∙ same in
-      IsBookKept-event (event.Finish ticket.task.run (Success output)) old table places pending sink status kept going step refl told
+      BookInvariant-event (event.Finish ticket.task.run (Success output)) old table places pending sink status kept going step refl told
       (ap (map (place_traits tells.kind_of)) are ∙ traits-given tells.kind_of worker place old.places away ∙ kept.workers ∙ sym
       (traits-with_out false ticket.instance s.instances) ∙ ap (map instance_traits) (sym instances))
-      (AreAwayKept-from status (record old { table = table; places = places; pending = pending; sink = sink; status = status })
+      (AwayInvariant-from status (record old { table = table; places = places; pending = pending; sink = sink; status = status })
       (ap (map (λ place. is_away place.presence)) are
       ∙ away-changed (made_idle worker) false place 0 old.places s.instances (λ place. refl) kept.valid.numbered (away_now old going kept.away)
       ∙ ap (λ n. map (λ instance. instance.out) (with_out false n s.instances)) from_zero
@@ -368,13 +368,13 @@ module _ {K W B : Type 0} {run : Given} {tells : Tells K W B} where
 
   -- ---- a session that stops
 
-  pub IsBookKept-stopped : {old : BookState K W B} (table : TableState K) (places : List (Place B)) (left : List Command) (why : Stop)
-      → IsBookKept run tells old → IsUntouched tells.held old.table table
+  pub BookInvariant-stopped : {old : BookState K W B} (table : TableState K) (places : List (Place B)) (left : List Command) (why : Stop)
+      → BookInvariant run tells old → IsUntouched tells.held old.table table
       → map (place_traits tells.kind_of) places ≡ map (place_traits tells.kind_of) old.places → AllByRecursion IsBuilt left → length left ≤ length old.left
       → tells.keeper_faults old.table.keeper ≤ tells.keeper_faults table.keeper
       → StopCause (Some why) run.keeper_faults (tells.keeper_faults table.keeper) run.sink_faults (tells.sink_faults old.sink)
-      → IsBookKept run tells (record old { table = table; places = places; left = left; status = Some why })
-  IsBookKept-stopped {old = old} table places left why kept same workers built fewer later cause =
+      → BookInvariant run tells (record old { table = table; places = places; left = left; status = Some why })
+  BookInvariant-stopped {old = old} table places left why kept same workers built fewer later cause =
       let keeper_before : run.keeper_faults ≤ tells.keeper_faults old.table.keeper = kept.keeper_later in
       let few : old.line + length old.left < 2 ^ 32 = kept.few_lines in
       record {
@@ -382,15 +382,15 @@ module _ {K W B : Type 0} {run : Given} {tells : Tells K W B} where
         replay = Replay-same tells.held old.table table kept.replay same;
         valid = subst Valid (sym same.state) kept.valid;
         narrow = subst IsNarrow (sym same.state) kept.narrow;
-        lines = subst (λ log. BeginsWith run.lines (commands_of log)) (sym same.log)
-            (AreLinesKept-front old.status run.lines (commands_of old.table.log) old.left kept.lines);
+        lines = subst (λ log. HasPrefix run.lines (commands_of log)) (sym same.log)
+            (LinesInvariant-front old.status run.lines (commands_of old.table.log) old.left kept.lines);
         built = built;
         numbered = subst (AreNumberedFrom 1) (sym same.log) kept.numbered;
         line = kept.line ∙ ap (λ log. length (commands_of log)) (sym same.log);
         few_lines = omega arith;
-        texts = subst (λ first. AreTextsKept (Some why) run.written (tells.given old.sink) (log_text first table.log) old.pending) (sym same.first)
-            (subst (λ log. AreTextsKept (Some why) run.written (tells.given old.sink) (log_text old.table.first log) old.pending) (sym same.log)
-            (AreTextsKept-stopped old.status why run.written (tells.given old.sink) (log_text old.table.first old.table.log) old.pending kept.texts));
+        texts = subst (λ first. TextsInvariant (Some why) run.written (tells.given old.sink) (log_text first table.log) old.pending) (sym same.first)
+            (subst (λ log. TextsInvariant (Some why) run.written (tells.given old.sink) (log_text old.table.first log) old.pending) (sym same.log)
+            (TextsInvariant-stopped old.status why run.written (tells.given old.sink) (log_text old.table.first old.table.log) old.pending kept.texts));
         rows = same.rows ∙ kept.rows ∙ ap (λ (s : State). option_map (λ _. rows_of s) run.rows) (sym same.state);
         workers = workers ∙ kept.workers ∙ ap (λ (s : State). map instance_traits s.instances) (sym same.state);
         away = tt;
@@ -400,42 +400,42 @@ module _ {K W B : Type 0} {run : Given} {tells : Tells K W B} where
       }
 
   -- the session stops where the table is as it was
-  pub IsBookKept-memory : {old : BookState K W B} (table : TableState K) (places : List (Place B))
-      → IsBookKept run tells old → table ≡ old.table
+  pub BookInvariant-memory : {old : BookState K W B} (table : TableState K) (places : List (Place B))
+      → BookInvariant run tells old → table ≡ old.table
       → map (place_traits tells.kind_of) places ≡ map (place_traits tells.kind_of) old.places
-      → IsBookKept run tells (record old { table = table; places = places; status = Some why.Memory })
-  IsBookKept-memory {old = old} table places kept same workers =
-      IsBookKept-stopped table places old.left why.Memory kept (IsUntouched-same tells.held old.table table same) workers kept.built (omega arith)
+      → BookInvariant run tells (record old { table = table; places = places; status = Some why.Memory })
+  BookInvariant-memory {old = old} table places kept same workers =
+      BookInvariant-stopped table places old.left why.Memory kept (IsUntouched-same tells.held old.table table same) workers kept.built (omega arith)
       (let faults : tells.keeper_faults table.keeper ≡ tells.keeper_faults old.table.keeper = ap (λ (t : TableState K). tells.keeper_faults t.keeper) same in
       omega arith) tt
 
   -- the session stops where the table had trouble at the end of a turn
-  pub IsBookKept-refused : {old : BookState K W B} (between table : TableState K) (places : List (Place B)) (ticket : TicketState) (told : Report)
+  pub BookInvariant-refused : {old : BookState K W B} (between table : TableState K) (places : List (Place B)) (ticket : TicketState) (told : Report)
       (why : Trouble) (stop : Stop)
-      → IsBookKept run tells old → IsUntouched tells.held old.table between → table ≡ between
+      → BookInvariant run tells old → IsUntouched tells.held old.table between → table ≡ between
       → TurnCause (turn.Refused ticket told why) (tells.keeper_faults old.table.keeper) (tells.keeper_faults between.keeper) → stop ≡ stop_by_trouble why
       → map (place_traits tells.kind_of) places ≡ map (place_traits tells.kind_of) old.places
-      → IsBookKept run tells (record old { table = table; places = places; status = Some stop })
-  IsBookKept-refused {old = old} between table places ticket told why stop kept untouched same trouble stop_is workers =
+      → BookInvariant run tells (record old { table = table; places = places; status = Some stop })
+  BookInvariant-refused {old = old} between table places ticket told why stop kept untouched same trouble stop_is workers =
       let cause =
       StopCause-turn ticket told why (tells.keeper_faults old.table.keeper) (tells.keeper_faults between.keeper) run.keeper_faults run.sink_faults
       (tells.sink_faults old.sink) trouble kept.keeper_later in
       let later : tells.keeper_faults old.table.keeper ≤ tells.keeper_faults between.keeper = cause.0 in
       let faults : tells.keeper_faults between.keeper ≡ tells.keeper_faults table.keeper =
       ap (λ (t : TableState K). tells.keeper_faults t.keeper) (sym same) in
-      IsBookKept-stopped table places old.left stop kept (subst (IsUntouched tells.held old.table) (sym same) untouched) workers kept.built (omega arith)
+      BookInvariant-stopped table places old.left stop kept (subst (IsUntouched tells.held old.table) (sym same) untouched) workers kept.built (omega arith)
       (omega arith)
       (subst (λ n. StopCause (Some stop) run.keeper_faults n run.sink_faults (tells.sink_faults old.sink)) faults
       (subst (λ s. StopCause (Some s) run.keeper_faults (tells.keeper_faults between.keeper) run.sink_faults (tells.sink_faults old.sink))
       (sym stop_is) cause.1))
 
   -- a worker comes back after the session has stopped
-  pub IsBookKept-placed : {old : BookState K W B} (table : TableState K) (places : List (Place B))
-      → IsBookKept run tells old → IsSome old.status → table ≡ old.table
+  pub BookInvariant-placed : {old : BookState K W B} (table : TableState K) (places : List (Place B))
+      → BookInvariant run tells old → IsSome old.status → table ≡ old.table
       → map (place_traits tells.kind_of) places ≡ map (place_traits tells.kind_of) old.places
-      → IsBookKept run tells (record old { table = table; places = places })
-  IsBookKept-placed {old = old} table places kept stopped same workers =
-      subst (λ t. IsBookKept run tells (record old { table = t; places = places })) (sym same) (record {
+      → BookInvariant run tells (record old { table = table; places = places })
+  BookInvariant-placed {old = old} table places kept stopped same workers =
+      subst (λ t. BookInvariant run tells (record old { table = t; places = places })) (sym same) (record {
         first = kept.first;
         replay = kept.replay;
         valid = kept.valid;
@@ -448,7 +448,7 @@ module _ {K W B : Type 0} {run : Given} {tells : Tells K W B} where
         texts = kept.texts;
         rows = kept.rows;
         workers = workers ∙ kept.workers;
-        away = AreAwayKept-stopped old.status (record old { places = places }) stopped;
+        away = AwayInvariant-stopped old.status (record old { places = places }) stopped;
         keeper_later = kept.keeper_later;
         sink_later = kept.sink_later;
         cause = kept.cause;
@@ -457,22 +457,22 @@ module _ {K W B : Type 0} {run : Given} {tells : Tells K W B} where
   -- ---- a line
 
   -- a line was executed, and its text told or not
-  pub IsBookKept-line : {old : BookState K W B} (table : TableState K) (left : List Command) (pending : List ℕ) (sink : W) (status : Option Stop)
+  pub BookInvariant-line : {old : BookState K W B} (table : TableState K) (left : List Command) (pending : List ℕ) (sink : W) (status : Option Stop)
       (command : Command) (reply : Reply)
-      → IsBookKept run tells old → old.status ≡ None
+      → BookInvariant run tells old → old.status ≡ None
       → IsOneStep tells.held (event.Command (old.line + 1) command reply) old.table table → old.left ≡ command ∷ left
       → tells.keeper_faults table.keeper ≡ tells.keeper_faults old.table.keeper
       → IsTold run tells (event.Command (old.line + 1) command reply) old table pending sink status
-      → IsBookKept run tells
+      → BookInvariant run tells
       (record old { table = table; left = left; line = old.line + 1; pending = pending; sink = sink; status = status })
-  IsBookKept-line {old = old} table left pending sink status command reply kept going step next no_fault told =
+  BookInvariant-line {old = old} table left pending sink status command reply kept going step next no_fault told =
       let new : BookState K W B = record old { table = table; left = left; line = old.line + 1; pending = pending; sink = sink; status = status } in
       let e = event.Command (old.line + 1) command reply in
       let built : AllByRecursion IsBuilt (command ∷ left) = subst (AllByRecursion IsBuilt) next kept.built in
       let number : old.line + 1 ≡ 1 + length (commands_of old.table.log) = ap (λ n. n + 1) kept.line ∙ omega arith in
       let instances : table.state.instances ≡ old.table.state.instances =
       ap (λ (t : State). t.instances) step.state ∙ ap (λ (f : Frame). f.instances) (frame-command old.table.state (old.line + 1) command reply) in
-      IsBookKept-step e old new kept (record {
+      BookInvariant-step e old new kept (record {
         going = going;
         step = step;
         left = next;
@@ -483,11 +483,11 @@ module _ {K W B : Type 0} {run : Given} {tells : Tells K W B} where
       })
       (AreNumberedFrom-push 1 old.table.log (old.line + 1) command reply kept.numbered number)
       told
-      (AreAwayKept-from status new (away_now old going kept.away ∙ ap (map (λ instance. instance.out)) (sym instances)))
+      (AwayInvariant-from status new (away_now old going kept.away ∙ ap (map (λ instance. instance.out)) (sym instances)))
 
 -- ---- the begin
 
-pub IsBookKept-new : {K W B : Type 0} (run : Given) (tells : Tells K W B) (table : TableState K) (places : List (Place B)) (left : List Command)
+pub BookInvariant-new : {K W B : Type 0} (run : Inputs) (tells : Tells K W B) (table : TableState K) (places : List (Place B)) (left : List Command)
     (pending : List ℕ) (sink : W)
     → table.log ≡ [] → left ≡ run.lines → pending ≡ [] → map (place_traits tells.kind_of) places ≡ map instance_traits table.state.instances → AreIdle places
     → AllByRecursion (λ instance. instance.out ≡ false) table.state.instances → Valid table.state → IsNarrow table.state
@@ -495,9 +495,9 @@ pub IsBookKept-new : {K W B : Type 0} (run : Given) (tells : Tells K W B) (table
     → table.state ≡ table.first → table.first ≡ run.first → tells.held table.keeper ≡ option_map (λ _. rows_of table.state) run.rows
     → tells.given sink ≡ run.written
     → run.keeper_faults ≤ tells.keeper_faults table.keeper → run.sink_faults ≤ tells.sink_faults sink
-    → IsBookKept run tells
+    → BookInvariant run tells
     (record { table = table; places = places; left = left; line = 0; pending = pending; sink = sink; status = None })
-IsBookKept-new run tells table places left pending sink empty lines none workers idle all_in valid narrow few built begun first
+BookInvariant-new run tells table places left pending sink empty lines none workers idle all_in valid narrow few built begun first
     rows written keeper sink_later =
     record {
       first = first;
@@ -509,9 +509,9 @@ IsBookKept-new run tells table places left pending sink empty lines none workers
       numbered = subst (AreNumberedFrom 1) (sym empty) tt;
       line = ap (λ log. length (commands_of log)) (sym empty);
       few_lines = few;
-      texts = subst (λ log. AreTextsKept None run.written (tells.given sink) (log_text table.first log) pending) (sym empty)
-          (subst (λ l. AreTextsKept None run.written (tells.given sink) [] l) (sym none)
-          (subst (λ now. AreTextsKept None run.written now [] []) (sym written) (AreTextsKept-unwritten run.written [])));
+      texts = subst (λ log. TextsInvariant None run.written (tells.given sink) (log_text table.first log) pending) (sym empty)
+          (subst (λ l. TextsInvariant None run.written (tells.given sink) [] l) (sym none)
+          (subst (λ now. TextsInvariant None run.written now [] []) (sym written) (TextsInvariant-unwritten run.written [])));
       rows = rows;
       workers = workers;
       away = all_here tells.kind_of places table.state.instances workers idle all_in;

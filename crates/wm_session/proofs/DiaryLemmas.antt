@@ -23,7 +23,7 @@ use Rattle.wm_session.specs.Bench.{diary_in, place_diaries}
 use Rattle.wm_session.specs.Book.{GoesOn, IsBegun}
 use Rattle.wm_session.specs.BookState.{BookState}
 use Rattle.wm_session.specs.Drive.{IsLastTurn, IsUnderWay, KeepDiariesWith}
-use Rattle.wm_session.specs.Rest.{IsAtRest, KeepDiaries}
+use Rattle.wm_session.specs.BetweenRuns.{IsBetweenRuns, KeepDiaries}
 use Rattle.wm_table.specs.Table.{IsOneStep}
 use Rattle.wm_table.specs.TableState.{TableState, TicketState, ticket_of}
 use Rattle.wm_worker.specs.Diary.{diary_with}
@@ -139,7 +139,7 @@ no_longer status stopped going = absurd (false≢true (subst IsSome going stoppe
 
 -- an event of which no worker writes anything down
 pub KeepDiaries-same : {K W B : Type 0} {held : K → Option (List Row)} {e : Event} {old new : BookState K W B} (diary_of : B → Option (List Entry))
-    (diaries : List (Option (List Entry))) → IsAtRest old → GoesOn old new → IsOneStep held e old.table new.table → new.places ≡ old.places
+    (diaries : List (Option (List Entry))) → IsBetweenRuns old → GoesOn old new → IsOneStep held e old.table new.table → new.places ≡ old.places
     → ((number : ℕ) → event_entries number old.table.state e ≡ []) → KeepDiaries diary_of diaries old → KeepDiaries diary_of diaries new
 KeepDiaries-same {held = held} {e = e} {old = old} {new = new} diary_of diaries rest goes step places none keep going =
     let before = diaries_after 0 old.table.first old.table.log diaries in
@@ -151,7 +151,7 @@ KeepDiaries-same {held = held} {e = e} {old = old} {new = new} diary_of diaries 
 -- a run starts, whose worker is to write down that it began
 pub KeepDiaries-begun : {K W B : Type 0} {held : K → Option (List Row)} {kind_of : B → Kind} {ticket : TicketState} {seat : Seat B} {signal : SignalState}
     {old new : BookState K W B} (diary_of : B → Option (List Entry)) (diaries : List (Option (List Entry)))
-    → IsAtRest old → IsBegun held kind_of ticket seat signal old new → KeepDiaries diary_of diaries old
+    → IsBetweenRuns old → IsBegun held kind_of ticket seat signal old new → KeepDiaries diary_of diaries old
     → KeepDiariesWith diary_of ticket.instance (diary_with (Begun ticket.task.run ∷ []) (diary_of seat.worker)) diaries new
 KeepDiaries-begun {held = held} {kind_of = kind_of} {ticket = ticket} {seat = seat} {old = old} {new = new} diary_of diaries rest begun keep going =
     let start = event.Start ticket.task.run ticket.seq ticket.instance ticket.task.input in

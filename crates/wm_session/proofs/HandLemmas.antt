@@ -1,7 +1,7 @@
 -- The places of a bench whose workers are all there.
 use Rattle.std.proofs.Common.{◌≡◌, ℕ, zero, suc, Bool, false, not, List, [], ◌∷◌, map, filter, Option, Some, refl, sym, ◌∙◌, ap}
 use Rattle.wm_bench.specs.Places.{IsAwayAt, away_from, changed_at, idle_at, idle_hands, idle_in, made_away, made_idle, place_of}
-use Rattle.wm_bench.specs.declared.hand.HandOf.{HandOf}
+use Rattle.wm_bench.specs.declared.hand.Hand.{Hand}
 use Rattle.wm_bench.specs.declared.place.Place.{Place}
 use Rattle.wm_bench.specs.declared.place.Presence.{Presence}
 use Rattle.wm_bench.specs.declared.place.Presence.TheVariants.{Idle, Away}
@@ -9,19 +9,19 @@ use Rattle.wm_machine.specs.declared.state.Instance.{Instance}
 use Rattle.wm_machine.specs.declared.state.State.{State}
 use Rattle.wm_session.specs.Bench.{AreIdle, Traits, hand_diaries, hand_traits, instance_traits, is_away, place_diaries, place_traits}
 use Rattle.wm_session.specs.Ended.{AreHandsBack}
-use Rattle.wm_session.specs.Rest.{NoneRetired}
+use Rattle.wm_session.specs.BetweenRuns.{NoneRetired}
 use Rattle.wm_worker.specs.declared.answer.Entry.{Entry}
 use Rattle.wm_worker.specs.declared.kind.Kind.{Kind}
 
 -- ---- hands that are given
 
 -- every worker that was given is at its place
-pub AreIdle-hands : {B : Type 0} (hands : List (HandOf B)) → AreIdle (map place_of hands)
+pub AreIdle-hands : {B : Type 0} (hands : List (Hand B)) → AreIdle (map place_of hands)
 AreIdle-hands [] = tt
 AreIdle-hands (hand ∷ hands) = (refl, AreIdle-hands hands)
 
 -- and none is retired
-pub NoneRetired-hands : {B : Type 0} (hands : List (HandOf B)) → NoneRetired (map place_of hands)
+pub NoneRetired-hands : {B : Type 0} (hands : List (Hand B)) → NoneRetired (map place_of hands)
 NoneRetired-hands [] = tt
 NoneRetired-hands (hand ∷ hands) = (refl, NoneRetired-hands hands)
 
@@ -56,7 +56,7 @@ IsAwayAt-taken kind_of worker (suc number) (place ∷ places) idle = IsAwayAt-ta
 -- ---- all hands
 
 -- the hands of a place in front
-hands-cons : {B T : Type 0} (of_hand : HandOf B → T) (of_place : Place B → T) (class : List ℕ) (retired : Bool) (presence : Presence B)
+hands-cons : {B T : Type 0} (of_hand : Hand B → T) (of_place : Place B → T) (class : List ℕ) (retired : Bool) (presence : Presence B)
     (places : List (Place B))
     → is_away presence ≡ false
     → ((worker : B) → of_hand (record { class = class; worker = worker }) ≡ of_place (record { class = class; retired = retired; presence = Idle worker }))

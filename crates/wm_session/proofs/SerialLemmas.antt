@@ -9,7 +9,7 @@ use Rattle.wm_data.specs.declared.data.DataEntry.{DataEntry}
 use Rattle.wm_keeper.specs.declared.row.Row.{Row}
 use Rattle.wm_machine.proofs.Frames.{frame-command, frame-finish, frame-start}
 use Rattle.wm_machine.proofs.Serials.{AreInOrder-push, BeginsSerial-goes-on}
-use Rattle.wm_machine.specs.Built.{IsBuilt}
+use Rattle.wm_machine.specs.Outcome.{IsBuilt}
 use Rattle.wm_machine.specs.Frame.{Frame}
 use Rattle.wm_machine.specs.Log.{commands_of}
 use Rattle.wm_machine.specs.Narrow.{IsNarrow}
@@ -33,7 +33,7 @@ use Rattle.wm_session.specs.Book.{HasStopped, IsBegun, IsClaimed, IsFronted, IsL
 use Rattle.wm_session.specs.BookState.{BookState}
 use Rattle.wm_session.specs.Drive.{HasWritten, IsDriven, IsGivenUp, IsLastTurn, IsUnderWay}
 use Rattle.wm_session.specs.Ended.{HasCommands, IsSerialRun}
-use Rattle.wm_session.specs.Rest.{GoesInOrder, IsAtBegin, IsAtRest, IsInOrder, IsReady, KeepDiaries}
+use Rattle.wm_session.specs.BetweenRuns.{GoesInOrder, IsAtBegin, IsBetweenRuns, IsInOrder, IsReady, KeepDiaries}
 use Rattle.wm_table.specs.Table as table
 use Rattle.wm_table.specs.Table.{IsFinished, IsOneStep, IsUntouched}
 use Rattle.wm_table.specs.TableState.{TicketState}
@@ -137,12 +137,12 @@ GoesInOrder-ready lines book none ready = record {
 -- ---- a start
 
 -- a book is at rest again
-rest_again : {K W B : Type 0} {old new : BookState K W B} → IsAtRest old → Replay new.table.first new.table.log new.table.state
-    → (new.status ≡ None → new.table.state.runs ≡ []) → new.places ≡ old.places → IsAtRest new
+rest_again : {K W B : Type 0} {old new : BookState K W B} → IsBetweenRuns old → Replay new.table.first new.table.log new.table.state
+    → (new.status ≡ None → new.table.state.runs ≡ []) → new.places ≡ old.places → IsBetweenRuns new
 rest_again rest replays none places =
     record { replay = replays; no_run = none; idle = rw places rest.idle; not_retired = rw places rest.not_retired }
 
-module _ {K W B : Type 0} (held : K → Option (List Row)) (old new : BookState K W B) (rest : IsAtRest old) (going : old.status ≡ None) where
+module _ {K W B : Type 0} (held : K → Option (List Row)) (old new : BookState K W B) (rest : IsBetweenRuns old) (going : old.status ≡ None) where
   -- where a run began, it alone is unreturned
   begun_alone : (run seq instance : ℕ) (input : List DataEntry) (step : IsOneStep held (event.Start run seq instance input) old.table new.table)
       → new.table.state.runs ≡ run_on old.table.state step.legal.work step.legal.idle input ∷ []
@@ -165,7 +165,7 @@ module _ {K W B : Type 0} (held : K → Option (List Row)) (old new : BookState 
 
 -- a run that starts in a book at rest is under way
 pub IsUnderWay-begun : {K W B : Type 0} {held : K → Option (List Row)} {kind_of : B → Kind} {ticket : TicketState} {seat : Seat B} {signal : SignalState}
-    {old new : BookState K W B} → IsAtRest old → IsBegun held kind_of ticket seat signal old new → IsUnderWay ticket new
+    {old new : BookState K W B} → IsBetweenRuns old → IsBegun held kind_of ticket seat signal old new → IsUnderWay ticket new
 IsUnderWay-begun {held = held} {kind_of = kind_of} {ticket = ticket} {seat = seat} {old = old} {new = new} rest begun =
     let task = ticket.task in
     let one = begun_alone held old new rest begun.goes_on.before task.run ticket.seq ticket.instance task.input begun.step in
@@ -179,8 +179,8 @@ IsUnderWay-begun {held = held} {kind_of = kind_of} {ticket = ticket} {seat = sea
     }
 
 -- a work that couldn't start
-pub IsAtRest-failed : {K W B : Type 0} {held : K → Option (List Row)} {old new : BookState K W B} → IsAtRest old → IsStartFailed held old new → IsAtRest new
-IsAtRest-failed {held = held} {old = old} {new = new} rest failed =
+pub IsBetweenRuns-failed : {K W B : Type 0} {held : K → Option (List Row)} {old new : BookState K W B} → IsBetweenRuns old → IsStartFailed held old new → IsBetweenRuns new
+IsBetweenRuns-failed {held = held} {old = old} {new = new} rest failed =
     rest_again rest (Replay-step held (event.StartFailed failed.seq failed.cause) old.table new.table rest.replay failed.step)
     (λ going. failed_none held old new rest failed.goes_on.before failed.seq failed.cause failed.step) failed.places
 
@@ -194,14 +194,14 @@ module _ {K W B : Type 0} (held : K → Option (List Row)) (kind_of : B → Kind
   left-halted (inl stopped, places) = stopped.left
   left-halted (inr untold, places) = untold.left
 
-  pub IsAtRest-halted : IsAtRest old → IsClaimed held kind_of job.Stopped old new → IsAtRest new
-  IsAtRest-halted rest (inl stopped, places) =
+  pub IsBetweenRuns-halted : IsBetweenRuns old → IsClaimed held kind_of job.Stopped old new → IsBetweenRuns new
+  IsBetweenRuns-halted rest (inl stopped, places) =
       rest_again rest (Replay-same held old.table new.table rest.replay stopped.table) (no_longer new.status stopped.status) places
-  IsAtRest-halted rest (inr untold, places) =
+  IsBetweenRuns-halted rest (inr untold, places) =
       let step = claimed_step held untold.made old.table new.table untold.claimed in
       rest_again rest (Replay-step held step.0 old.table new.table rest.replay step.1) (no_longer new.status untold.status) places
 
-  pub GoesInOrder-halted : IsAtRest old → IsClaimed held kind_of job.Stopped old new → (lines : List Command) → GoesInOrder lines old → GoesInOrder lines new
+  pub GoesInOrder-halted : IsBetweenRuns old → IsClaimed held kind_of job.Stopped old new → (lines : List Command) → GoesInOrder lines old → GoesInOrder lines new
   GoesInOrder-halted rest (inl stopped, places) lines = GoesInOrder-stopped held lines old new stopped.table stopped.status
   GoesInOrder-halted rest (inr untold, places) lines = GoesInOrder-claimed held old new rest untold.before untold.made untold.claimed lines
 
@@ -210,7 +210,7 @@ module _ {K W B : Type 0} (held : K → Option (List Row)) (kind_of : B → Kind
 -- its worker is back
 rest_back : {K W B : Type 0} {ticket : TicketState} {old new : BookState K W B} (back : B) → IsUnderWay ticket old
     → Replay new.table.first new.table.log new.table.state → (new.status ≡ None → new.table.state.runs ≡ [])
-    → new.places ≡ changed_at (made_idle back) ticket.instance old.places → IsAtRest new
+    → new.places ≡ changed_at (made_idle back) ticket.instance old.places → IsBetweenRuns new
 rest_back {ticket = ticket} {old = old} back under_way replays none places = record {
   replay = replays;
   no_run = none;
@@ -259,7 +259,7 @@ module _ {K W B : Type 0} {held : K → Option (List Row)} {diary_of : B → Opt
 
 -- ---- a line
 
-module _ {K W B : Type 0} {held : K → Option (List Row)} {old new : BookState K W B} (rest : IsAtRest old) where
+module _ {K W B : Type 0} {held : K → Option (List Row)} {old new : BookState K W B} (rest : IsBetweenRuns old) where
   line_none : old.status ≡ None → IsLineDone held old new → new.table.state.runs ≡ []
   line_none going done =
       ap (λ (t : State). t.runs) done.step.state
@@ -267,8 +267,8 @@ module _ {K W B : Type 0} {held : K → Option (List Row)} {old new : BookState 
       ∙ rest.no_run going
 
   -- a line was executed
-  pub IsAtRest-line : old.status ≡ None → IsLineDone held old new → new.places ≡ old.places → IsAtRest new
-  IsAtRest-line going done =
+  pub IsBetweenRuns-line : old.status ≡ None → IsLineDone held old new → new.places ≡ old.places → IsBetweenRuns new
+  IsBetweenRuns-line going done =
       rest_again rest (Replay-step held (event.Command (old.line + 1) done.command done.reply) old.table new.table rest.replay done.step)
       (λ still. line_none going done)
 
@@ -283,10 +283,10 @@ module _ {K W B : Type 0} {held : K → Option (List Row)} {old new : BookState 
       ])
 
   -- the session has stopped early, with or without a line
-  pub IsAtRest-front : IsFronted held front.Stopped old new → IsAtRest new
-  IsAtRest-front (stopped, inl same, places, stays) =
+  pub IsBetweenRuns-front : IsFronted held front.Stopped old new → IsBetweenRuns new
+  IsBetweenRuns-front (stopped, inl same, places, stays) =
       rest_again rest (Replay-same held old.table new.table rest.replay same) (no_longer new.status stopped) places
-  IsAtRest-front (stopped, inr done, places, stays) = IsAtRest-line done.1 done.0 places
+  IsBetweenRuns-front (stopped, inr done, places, stays) = IsBetweenRuns-line done.1 done.0 places
 
   pub IsReady-front : (lines : List Command) → IsFronted held front.Stopped old new → IsReady lines old → IsReady lines new
   IsReady-front lines (stopped, inl same, places, stays) ready =
@@ -301,8 +301,8 @@ AreInOrder-nothing [] first = tt
 AreInOrder-nothing (asked ∷ lines) first = tt
 
 -- a session that begins is at rest
-pub IsAtRest-begin : {K W B : Type 0} {lines : List Command} {book : BookState K W B} → IsAtBegin lines book → IsAtRest book
-IsAtRest-begin begins =
+pub IsBetweenRuns-begin : {K W B : Type 0} {lines : List Command} {book : BookState K W B} → IsAtBegin lines book → IsBetweenRuns book
+IsBetweenRuns-begin begins =
     record { replay = rw begins.log begins.begun; no_run = λ going. begins.no_run; idle = begins.idle; not_retired = begins.not_retired }
 
 -- and in order, for its lines

@@ -1,7 +1,7 @@
 -- How the bench of a session agrees with the instances of its state. This project's own choice.
 use Rattle.std.specs.Prelude.{◌≡◌, ℕ, Bool, true, false, List, map, Option, None}
 use Rattle.std.specs.List.{AllByRecursion}
-use Rattle.wm_bench.specs.declared.hand.HandOf.{HandOf}
+use Rattle.wm_bench.specs.declared.hand.Hand.{Hand}
 use Rattle.wm_bench.specs.declared.place.Place.{Place}
 use Rattle.wm_bench.specs.declared.place.Presence.{Presence}
 use Rattle.wm_bench.specs.declared.place.Presence.TheVariants.{Idle, Away}
@@ -25,7 +25,7 @@ kind_at kind_of (Away kind) = kind
 abbrev pub place_traits : {B : Type 0} → (B → Kind) → Place B → Traits
 place_traits kind_of place = record { class = place.class; kind = kind_at kind_of place.presence; retired = place.retired }
 
-abbrev pub hand_traits : {B : Type 0} → (B → Kind) → HandOf B → Traits
+abbrev pub hand_traits : {B : Type 0} → (B → Kind) → Hand B → Traits
 hand_traits kind_of hand = record { class = hand.class; kind = kind_of hand.worker; retired = false }
 
 -- whether the worker of a place is away
@@ -47,5 +47,5 @@ abbrev pub place_diaries : {B : Type 0} → (B → Option (List Entry)) → List
 place_diaries diary_of places = map (λ place. diary_in diary_of place.presence) places
 
 -- the diaries of workers
-abbrev pub hand_diaries : {B : Type 0} → (B → Option (List Entry)) → List (HandOf B) → List (Option (List Entry))
+abbrev pub hand_diaries : {B : Type 0} → (B → Option (List Entry)) → List (Hand B) → List (Option (List Entry))
 hand_diaries diary_of hands = map (λ hand. diary_of hand.worker) hands

@@ -16,7 +16,7 @@ use Rattle.wm_machine.specs.declared.event.Event.TheVariants as event
 use Rattle.wm_session.specs.Bench.{AreIdle, place_diaries}
 use Rattle.wm_session.specs.Book.{GoesOn, HasStopped}
 use Rattle.wm_session.specs.BookState.{BookState}
-use Rattle.wm_session.specs.Rest.{GoesInOrder, IsAtRest, KeepDiaries, NoneRetired}
+use Rattle.wm_session.specs.BetweenRuns.{GoesInOrder, IsBetweenRuns, KeepDiaries, NoneRetired}
 use Rattle.wm_table.specs.Table.{IsOneStep, IsTicketIn}
 use Rattle.wm_table.specs.TableState.{TicketState}
 use Rattle.wm_worker.specs.Diary.{diary_with, turn_entries}
@@ -99,7 +99,7 @@ IsTurned held kind_of diary_of ticket worker (Some run) old new = IsOtherTurn he
 -- no more works are left to drain, and order and diaries are kept.
 pub record IsDriven {K W B : Type 0} (diary_of : B → Option (List Entry)) (number : ℕ) (diary : Option (List Entry)) (old new : BookState K W B)
     : Type 0 where
-  pub rest : IsAtRest new
+  pub rest : IsBetweenRuns new
   pub left : new.left ≡ old.left
   pub no_more : left_to_drain new.table.state ≤ left_to_drain old.table.state
   pub order : (lines : List Command) → GoesInOrder lines old → GoesInOrder lines new

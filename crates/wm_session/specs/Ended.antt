@@ -2,10 +2,10 @@
 use Rattle.std.specs.Prelude.{◌≡◌, ℕ, true, false, not, List, [], map, filter, Option, option_map, Vec}
 use Rattle.std.specs.declared.alloc.Global.{Global}
 use Rattle.wm_bench.specs.Places.{idle_hands}
-use Rattle.wm_bench.specs.declared.hand.HandOf.{HandOf}
+use Rattle.wm_bench.specs.declared.hand.Hand.{Hand}
 use Rattle.wm_faults.specs.Faults.{Failed}
 use Rattle.wm_machine.specs.Diaries.{diaries_after}
-use Rattle.wm_machine.specs.Log.{commands_of, AreNumberedFrom, BeginsWith}
+use Rattle.wm_machine.specs.Log.{commands_of, AreNumberedFrom, HasPrefix}
 use Rattle.wm_machine.specs.Narrow.{IsNarrow}
 use Rattle.wm_machine.specs.Opened.{opening_state}
 use Rattle.wm_machine.specs.Quiet.{IsQuiet}
@@ -19,10 +19,10 @@ use Rattle.wm_machine.specs.declared.event.Event.{Event}
 use Rattle.wm_machine.specs.declared.state.State.{State}
 use Rattle.wm_session.specs.Bench.{hand_diaries, hand_traits, instance_traits, place_traits}
 use Rattle.wm_session.specs.BookState.{BookState}
-use Rattle.wm_session.specs.Given.{Given}
+use Rattle.wm_session.specs.Inputs.{Inputs}
 use Rattle.wm_session.specs.Tells.{Tells}
-use Rattle.wm_session.specs.Writing.{IsGiven, IsPartGiven}
-use Rattle.wm_session.specs.declared.ended.EndedOf.{EndedOf}
+use Rattle.wm_session.specs.Writing.{IsAppended, IsPartAppended}
+use Rattle.wm_session.specs.declared.ended.Ended.{Ended}
 use Rattle.wm_session.specs.declared.status.Status.{Status}
 use Rattle.wm_session.specs.declared.status.Status.TheVariants as status
 use Rattle.wm_worker.specs.declared.answer.Entry.{Entry}
@@ -38,14 +38,14 @@ IsSessionStatus _ = ⊥
 
 -- the log has a front of these commands, one line each, and all of them on `Done`
 pub record HasCommands (commands : List Command) (ended : Status) (log : List Event) : Type 0 where
-  pub front : BeginsWith commands (commands_of log)
+  pub front : HasPrefix commands (commands_of log)
   pub numbered : AreNumberedFrom 1 log
   pub all : ended ≡ status.Done → commands_of log ≡ commands
 
 -- the sink was given a front of the log's text, and all of it on `Done`
-pub record IsTextGiven (before now : Option (List ℕ)) (ended : Status) (first : State) (log : List Event) : Type 0 where
-  pub front : IsPartGiven before now (log_text first log)
-  pub all : ended ≡ status.Done → IsGiven before now (log_text first log)
+pub record IsTextWritten (before now : Option (List ℕ)) (ended : Status) (first : State) (log : List Event) : Type 0 where
+  pub front : IsPartAppended before now (log_text first log)
+  pub all : ended ≡ status.Done → IsAppended before now (log_text first log)
 
 -- the log is that of a serial run over these lines on `Done`, and else a front of one
 abbrev pub IsSerialRun : List Command → Status → State → List Event → State → Type 0
@@ -53,30 +53,30 @@ IsSerialRun lines status.Done first log last = IsSerial lines first log last
 IsSerialRun lines _ first log last = BeginsSerial lines first log
 
 -- the workers are those of the instances that aren't retired, in order, of their class and kind
-abbrev pub AreHandsBack : {B : Type 0} → (B → Kind) → State → List (HandOf B) → Type 0
+abbrev pub AreHandsBack : {B : Type 0} → (B → Kind) → State → List (Hand B) → Type 0
 AreHandsBack kind_of last hands = map (hand_traits kind_of) hands ≡ map instance_traits (filter (λ instance. not instance.retired) last.instances)
 
 -- each worker that tells a diary has written down its part of the log after these
-abbrev pub HaveTold : {B : Type 0} → (B → Option (List Entry)) → List (Option (List Entry)) → State → List Event → List (HandOf B) → Type 0
+abbrev pub HaveTold : {B : Type 0} → (B → Option (List Entry)) → List (Option (List Entry)) → State → List Event → List (Hand B) → Type 0
 HaveTold diary_of diaries first log hands = hand_diaries diary_of hands ≡ diaries_after 0 first log diaries
 
 -- ---- what is handed back
 
 -- A session that is over, of what its run was given: the log replays from the first state, has a front of the lines and on `Done` all;
 -- its text was written, a front of it and on `Done` all; the rows kept are the last state's; and a fault is answered where one was met.
-pub record IsSessionEnd {K W B : Type 0} (tells : Tells K W B) (run : Given) (ended : EndedOf K W B) : Type 0 where
+pub record IsSessionEnd {K W B : Type 0} (tells : Tells K W B) (run : Inputs) (ended : Ended K W B) : Type 0 where
   pub status_is : IsSessionStatus ended.status
   pub began : ended.began ≡ true
   pub first : ended.first ≡ run.first
   pub replay : Replay ended.first ended.log ended.last
   pub commands : HasCommands run.lines ended.status ended.log
-  pub bytes : IsTextGiven run.written (tells.given ended.sink) ended.status ended.first ended.log
+  pub bytes : IsTextWritten run.written (tells.given ended.sink) ended.status ended.first ended.log
   pub rows : tells.held ended.keeper ≡ option_map (λ _. rows_of ended.last) run.rows
   pub keeper_fault : ended.status ≡ status.KeeperFault → Failed run.keeper_faults (tells.keeper_faults ended.keeper)
   pub sink_fault : ended.status ≡ status.SinkFault → Failed run.sink_faults (tells.sink_faults ended.sink)
 
 -- what a book that is over hands back: its states, its log, and the workers of its bench, which are the instances
-pub record IsHandedBack {K W B : Type 0} (kind_of : B → Kind) (book : BookState K W B) (ended : EndedOf K W B) : Type 0 where
+pub record IsHandedBack {K W B : Type 0} (kind_of : B → Kind) (book : BookState K W B) (ended : Ended K W B) : Type 0 where
   pub first : ended.first ≡ book.table.first
   pub log : ended.log ≡ book.table.log
   pub last : ended.last ≡ book.table.state
@@ -87,7 +87,7 @@ pub record IsHandedBack {K W B : Type 0} (kind_of : B → Kind) (book : BookStat
 
 -- A serial session that is over, whose workers had these diaries: on `Done` nothing is left to do, and the workers have written down their
 -- part of the log; they come back; and the log is that of a serial run, or a front of one.
-pub record IsSerialEnd {K W B : Type 0} (tells : Tells K W B) (run : Given) (had : List (Option (List Entry))) (ended : EndedOf K W B) : Type 0 where
+pub record IsSerialEnd {K W B : Type 0} (tells : Tells K W B) (run : Inputs) (had : List (Option (List Entry))) (ended : Ended K W B) : Type 0 where
   pub session : IsSessionEnd tells run ended
   pub quiet : ended.status ≡ status.Done → IsQuiet ended.last
   pub hands : AreHandsBack tells.kind_of ended.last ended.hands.items
@@ -95,7 +95,7 @@ pub record IsSerialEnd {K W B : Type 0} (tells : Tells K W B) (run : Given) (had
   pub serial : IsSerialRun run.lines ended.status ended.first ended.log ended.last
 
 -- a run that ended with this status before its table was begun: nothing has happened, and keeper, sink and workers are these
-pub record IsUnbegun {K W B : Type 0} (why : Status) (keeper : K) (sink : W) (hands : Vec (HandOf B) Global) (ended : EndedOf K W B) : Type 0 where
+pub record IsUnbegun {K W B : Type 0} (why : Status) (keeper : K) (sink : W) (hands : Vec (Hand B) Global) (ended : Ended K W B) : Type 0 where
   pub status_is : ended.status ≡ why
   pub began : ended.began ≡ false
   pub first : ended.first ≡ opening_state [] []

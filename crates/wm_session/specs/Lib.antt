@@ -1,13 +1,13 @@
 pub mod Bench
+pub mod BetweenRuns
 pub mod Book
 pub mod BookState
 pub mod Causes
 pub mod Drive
 pub mod Ended
-pub mod Given
 pub mod Hands
-pub mod Kept
-pub mod Rest
+pub mod Inputs
+pub mod Invariant
 pub mod Status
 pub mod Tells
 pub mod Writing

@@ -3,20 +3,20 @@ use Rattle.std.specs.Prelude.{◌≡◌, ℕ, Bool, true, false, List, ◌++◌,
 use Rattle.wm_session.specs.declared.writing.WriteFault.{WriteFault}
 use Rattle.wm_session.specs.declared.writing.WriteFault.TheVariants.{Failed}
 use Rattle.wm_faults.specs.Faults as faults
-use Rattle.wm_machine.specs.Log.{BeginsWith}
+use Rattle.wm_machine.specs.Log.{HasPrefix}
 
 -- where the sink tells what it was given, this came to its end
-abbrev pub IsGiven : Option (List ℕ) → Option (List ℕ) → List ℕ → Type 0
-IsGiven before now text = now ≡ option_map (λ given. given ++ text) before
+abbrev pub IsAppended : Option (List ℕ) → Option (List ℕ) → List ℕ → Type 0
+IsAppended before now text = now ≡ option_map (λ given. given ++ text) before
 
 -- a front of the text came to its end
-abbrev pub IsPartGiven : Option (List ℕ) → Option (List ℕ) → List ℕ → Type 0
-IsPartGiven before now text = (front : List ℕ) × BeginsWith text front × IsGiven before now front
+abbrev pub IsPartAppended : Option (List ℕ) → Option (List ℕ) → List ℕ → Type 0
+IsPartAppended before now text = (front : List ℕ) × HasPrefix text front × IsAppended before now front
 
-abbrev pub is_failed : {T : Type 0} → Result T WriteFault → Bool
-is_failed (Err Failed) = true
-is_failed _ = false
+abbrev pub is_write_failed : {T : Type 0} → Result T WriteFault → Bool
+is_write_failed (Err Failed) = true
+is_write_failed _ = false
 
 -- `Failed` comes only where the count rose, and any other answer leaves it
 abbrev pub WriteCause : {T : Type 0} → Result T WriteFault → ℕ → ℕ → Type 0
-WriteCause result before now = faults.HasCause (is_failed result) before now
+WriteCause result before now = faults.HasCause (is_write_failed result) before now

@@ -3,7 +3,7 @@
 ghost use Rattle.std.specs.Prelude.{◌≡◌, ◌↔◌, ◌^◌, ◌<◌, ◌≤◌, ◌+◌, [], None, Some, length, map, option_map, IsSome, IsNone, IfSome, IfOk, IfErr, false};
 ghost use Rattle.std.specs.List.{AllByRecursion};
 ghost use Rattle.wm_bench.specs.Places.{IsAwayAt};
-ghost use Rattle.wm_machine.specs.Built.{IsBuilt};
+ghost use Rattle.wm_machine.specs.Outcome.{IsBuilt};
 ghost use Rattle.wm_machine.specs.Narrow.{IsNarrow};
 ghost use Rattle.wm_machine.specs.Quiet.{IsQuiet};
 ghost use Rattle.wm_machine.specs.Rows.{rows_of};
@@ -15,7 +15,7 @@ ghost use Rattle.wm_session.specs.Ended.{IsHandedBack, IsSessionEnd};
 ghost use Rattle.wm_session.specs.Tells.{tells_of};
 ghost use Rattle.wm_table.specs.Table.{IsTicketIn, Stands};
 
-use crate::ended::EndedOf;
+use crate::ended::Ended;
 use crate::mark::Mark;
 use crate::status::Status;
 use crate::steps::{execute, give_back, give_up, status_after, tell_last, write_pending};
@@ -23,7 +23,7 @@ use crate::writing::WriteFault;
 use std::alloc::{AllocError, Global};
 use std::collections::VecDeque;
 use std::marker::{Model, PhantomData};
-use wm_bench::{BenchOf, SeatedOf};
+use wm_bench::{Bench, Seated};
 use wm_collections::Items;
 use wm_io::Sink;
 use wm_keeper::Keeper;
@@ -95,7 +95,7 @@ pub enum Front {
 /// What there is to drive.
 pub enum Job<B> {
     /// A run began: its ticket, its worker and its signal.
-    Run(Ticket, SeatedOf<B>, Signal),
+    Run(Ticket, Seated<B>, Signal),
     /// A work couldn't start.
     Failed,
     /// Nothing is startable.
@@ -109,7 +109,7 @@ pub enum After<B> {
     /// It is over, and its worker is back on the bench.
     Over,
     /// What was told isn't a report on the run's turn: ticket and seat are as they were.
-    Again(Ticket, SeatedOf<B>),
+    Again(Ticket, Seated<B>),
     /// The session has ended early, and the worker is back on the bench.
     Stopped,
 }
@@ -119,12 +119,12 @@ const PENDING_BYTES: usize = 4096;
 
 /// A session under way: the table with the bench, the lines that are left, what is still to be
 /// written and where, and why it ended early, where it did. Its type keeps the facts that a run's
-/// promises rest on (`specs/Kept.antt`), of what its run was given: see [`Mark`]. A contract sees
+/// promises rest on (`specs/Invariant.antt`), of what its run was given: see [`Mark`]. A contract sees
 /// all that it holds.
-pub struct BookOf<K: Keeper, W: Sink, B: Worker, M: Mark> {
+pub struct Book<K: Keeper, W: Sink, B: Worker, M: Mark> {
     alloc: Global,
     table: Table<K>,
-    bench: BenchOf<B>,
+    bench: Bench<B>,
     left: VecDeque<Command>,
     line: u32,
     pending: Vec<u8>,
@@ -133,29 +133,29 @@ pub struct BookOf<K: Keeper, W: Sink, B: Worker, M: Mark> {
     of: PhantomData<M>,
 }
 
-impl<K: Keeper, W: Sink, B: Worker, M: Mark> Model for BookOf<K, W, B, M> {
+impl<K: Keeper, W: Sink, B: Worker, M: Mark> Model for Book<K, W, B, M> {
     ghost use Rattle.wm_session.specs.BookState.{BookState};
 
     ghost Value = { BookState K W B };
 
-    ghost use Rattle.wm_session.specs.Kept.{IsBookKept};
+    ghost use Rattle.wm_session.specs.Invariant.{BookInvariant};
     ghost use Rattle.wm_session.specs.Tells.{tells_of};
 
     ghost view = { λ b. record { table = b.table; places = b.bench; left = b.left.items; line = b.line; pending = b.pending.items; sink = b.sink; status = b.status } };
 
-    ghost invariant = { λ b. IsBookKept M.given (tells_of K.held K.faults W.given W.faults B.kind_of B.diary_of) (record { table = b.table; places = b.bench; left = b.left.items; line = b.line; pending = b.pending.items; sink = b.sink; status = b.status }) };
+    ghost invariant = { λ b. BookInvariant M.inputs (tells_of K.held K.faults W.given W.faults B.kind_of B.diary_of) (record { table = b.table; places = b.bench; left = b.left.items; line = b.line; pending = b.pending.items; sink = b.sink; status = b.status }) };
 }
 
-impl<K: Keeper, W: Sink, B: Worker, M: Mark> BookOf<K, W, B, M> {
+impl<K: Keeper, W: Sink, B: Worker, M: Mark> Book<K, W, B, M> {
     /// A session that begins with this table and its workers. Where memory is refused the table, the
     /// bench and the sink come back.
     pub fn new(
         alloc: Global,
         table: Table<K>,
-        bench: BenchOf<B>,
+        bench: Bench<B>,
         lines: Items<Command>,
         sink: W,
-    ) -> Result<BookOf<K, W, B, M>, (Table<K>, BenchOf<B>, W)>
+    ) -> Result<Book<K, W, B, M>, (Table<K>, Bench<B>, W)>
         requires log { table.log ≡ [] }
         requires no_run { table.state.runs ≡ [] }
         requires workers { map (place_traits B.kind_of) bench
@@ -169,12 +169,12 @@ impl<K: Keeper, W: Sink, B: Worker, M: Mark> BookOf<K, W, B, M> {
 
         // These are what the run was given.
         requires begun { table.state ≡ table.first }
-        requires first { table.first ≡ M.given.first }
-        requires lines { lines ≡ M.given.lines }
-        requires rows { K.held table.keeper ≡ option_map (λ _. rows_of table.state) M.given.rows }
-        requires written { W.given sink ≡ M.given.written }
-        requires keeper_faults { M.given.keeper_faults ≤ K.faults table.keeper }
-        requires sink_faults { M.given.sink_faults ≤ W.faults sink }
+        requires first { table.first ≡ M.inputs.first }
+        requires lines { lines ≡ M.inputs.lines }
+        requires rows { K.held table.keeper ≡ option_map (λ _. rows_of table.state) M.inputs.rows }
+        requires written { W.given sink ≡ M.inputs.written }
+        requires keeper_faults { M.inputs.keeper_faults ≤ K.faults table.keeper }
+        requires sink_faults { M.inputs.sink_faults ≤ W.faults sink }
 
         ensures table { IfOk result (λ book. book.table ≡ table) }
         ensures places { IfOk result (λ book. book.places ≡ bench) }
@@ -184,7 +184,7 @@ impl<K: Keeper, W: Sink, B: Worker, M: Mark> BookOf<K, W, B, M> {
             (parts.0 ≡ table) × (parts.1 ≡ bench) × (parts.2 ≡ sink)) }
     {
         match Vec::with_capacity(alloc, PENDING_BYTES) {
-            Ok(pending) => Ok(BookOf {
+            Ok(pending) => Ok(Book {
                 alloc,
                 table,
                 bench,
@@ -266,7 +266,7 @@ impl<K: Keeper, W: Sink, B: Worker, M: Mark> BookOf<K, W, B, M> {
     pub fn report(
         &mut self,
         ticket: Ticket,
-        seat: SeatedOf<B>,
+        seat: Seated<B>,
         told: Result<Told, AllocError>,
     ) -> After<B>
         requires stands { Stands self.old.table.state ticket }
@@ -320,17 +320,17 @@ impl<K: Keeper, W: Sink, B: Worker, M: Mark> BookOf<K, W, B, M> {
 
     /// Writes what is pending, and hands everything back. No worker is away, and while the session
     /// goes on no line is left and nothing to do.
-    pub fn finish(self) -> EndedOf<K, W, B>
+    pub fn finish(self) -> Ended<K, W, B>
         requires idle { AreIdle self.places }
         requires lines { self.status ≡ None → self.left ≡ [] }
         requires quiet { self.status ≡ None → IsQuiet self.table.state }
         ensures session { IsSessionEnd (tells_of K.held K.faults W.given W.faults B.kind_of B.diary_of)
-            M.given result }
+            M.inputs result }
         ensures back { IsHandedBack B.kind_of self result }
         ensures done { result.status ≡ Status.Done → self.status ≡ None }
         ensures stopped { IfSome self.status (λ why. result.status ≡ status_by_stop why) }
     {
-        let BookOf {
+        let Book {
             alloc: _,
             table,
             bench,
@@ -349,7 +349,7 @@ impl<K: Keeper, W: Sink, B: Worker, M: Mark> BookOf<K, W, B, M> {
             log,
             keeper,
         } = table.end();
-        EndedOf {
+        Ended {
             status,
             began: true,
             first,

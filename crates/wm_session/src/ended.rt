@@ -2,7 +2,7 @@ ghost use Rattle.wm_session.specs.Ended.{IsUnbegun};
 
 use crate::status::Status;
 use std::alloc::Global;
-use wm_bench::HandOf;
+use wm_bench::Hand;
 use wm_collections::Items;
 use wm_machine::{Event, State};
 use wm_table::opening_state;
@@ -10,7 +10,7 @@ use wm_worker::Worker;
 
 /// What a run hands back.
 #[derive(Drop)]
-pub struct EndedOf<K, W, B> {
+pub struct Ended<K, W, B = Box<dyn Worker + Send>> {
     /// How it ended.
     pub status: Status,
     /// Whether the store was opened and the table begun.
@@ -25,24 +25,21 @@ pub struct EndedOf<K, W, B> {
     pub keeper: K,
     pub sink: W,
     /// The workers, in the order in which they were given.
-    pub hands: Vec<HandOf<B>>,
+    pub hands: Vec<Hand<B>>,
 }
 
-/// What a run hands back whose workers were boxed.
-pub type Ended<K, W> = EndedOf<K, W, Box<dyn Worker + Send>>;
-
-impl<K, W, B> EndedOf<K, W, B> {
+impl<K, W, B> Ended<K, W, B> {
     /// A run that ended before its table was begun.
     pub fn before_begin(
         alloc: Global,
         status: Status,
         keeper: K,
         sink: W,
-        hands: Vec<HandOf<B>>,
-    ) -> EndedOf<K, W, B>
+        hands: Vec<Hand<B>>,
+    ) -> Ended<K, W, B>
         ensures { IsUnbegun status keeper sink hands result }
     {
-        EndedOf {
+        Ended {
             status,
             began: false,
             first: opening_state(alloc, Items::new(alloc)),

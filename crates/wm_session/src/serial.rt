@@ -1,14 +1,14 @@
 //! The serial run: the lines one after another, and after each of them all that may start.
 ghost use Rattle.std.specs.Prelude.{◌≡◌, ◌<◌, ◌∷◌, [], List, Option, None, IsSome, true, IfOk};
 ghost use Rattle.std.specs.List.{AllByRecursion};
-ghost use Rattle.wm_machine.specs.Built.{IsBuilt};
+ghost use Rattle.wm_machine.specs.Outcome.{IsBuilt};
 ghost use Rattle.wm_machine.specs.Quiet.{IsQuiet};
 ghost use Rattle.wm_machine.specs.Waiting.{left_to_drain};
 ghost use Rattle.wm_machine.specs.declared.command.Command.{Command};
 ghost use Rattle.wm_session.specs.Bench.{place_diaries};
 ghost use Rattle.wm_session.specs.Drive.{HasWritten, IsDriven, IsTurned, IsUnderWay};
 ghost use Rattle.wm_session.specs.Ended.{IsSerialEnd};
-ghost use Rattle.wm_session.specs.Rest.{GoesInOrder, IsAtBegin, IsAtRest, IsReady, KeepDiaries};
+ghost use Rattle.wm_session.specs.BetweenRuns.{GoesInOrder, IsAtBegin, IsBetweenRuns, IsReady, KeepDiaries};
 ghost use Rattle.wm_session.specs.Tells.{tells_of};
 ghost use Rattle.wm_worker.specs.Answers.{given_of};
 ghost use Rattle.wm_worker.specs.Diary.{diary_with};
@@ -16,11 +16,11 @@ ghost use Rattle.wm_worker.specs.Told.{IsReportOf};
 ghost use Rattle.wm_worker.specs.declared.answer.Entry.{Entry};
 ghost use Rattle.wm_worker.specs.declared.answer.Entry.TheVariants.{Begun};
 
-use crate::book::{After, BookOf, Front, Job};
-use crate::ended::EndedOf;
+use crate::book::{After, Book, Front, Job};
+use crate::ended::Ended;
 use crate::mark::Mark;
 use std::alloc::{AllocError, Global};
-use wm_bench::SeatedOf;
+use wm_bench::Seated;
 use wm_io::Sink;
 use wm_keeper::Keeper;
 use wm_table::Ticket;
@@ -42,12 +42,12 @@ enum Progress {
 /// waits for nothing, and returns.
 pub fn run_serial<K: Keeper, W: Sink, B: Worker, M: Mark>(
     alloc: Global,
-    mut book: BookOf<K, W, B, M>,
-) -> EndedOf<K, W, B>
-    requires begins { IsAtBegin M.given.lines book }
-    requires built { AllByRecursion IsBuilt M.given.lines }
+    mut book: Book<K, W, B, M>,
+) -> Ended<K, W, B>
+    requires begins { IsAtBegin M.inputs.lines book }
+    requires built { AllByRecursion IsBuilt M.inputs.lines }
     ensures { IsSerialEnd (tells_of K.held K.faults W.given W.faults B.kind_of B.diary_of)
-        M.given (place_diaries B.diary_of book.places) result }
+        M.inputs (place_diaries B.diary_of book.places) result }
 {
     execute_lines(alloc, &mut book);
     book.finish()
@@ -57,10 +57,10 @@ pub fn run_serial<K: Keeper, W: Sink, B: Worker, M: Mark>(
 /// that may start, until there is nothing left to do.
 fn execute_lines<K: Keeper, W: Sink, B: Worker, M: Mark>(
     alloc: Global,
-    book: &mut BookOf<K, W, B, M>,
+    book: &mut Book<K, W, B, M>,
 )
-    requires { IsAtRest book.old }
-    ensures rest { IsAtRest book.new }
+    requires { IsBetweenRuns book.old }
+    ensures rest { IsBetweenRuns book.new }
     ensures done { book.new.status ≡ None → book.new.left ≡ [] }
     ensures quiet { book.new.status ≡ None → IsQuiet book.new.table.state }
     ensures order { (lines : List Command) → IsReady lines book.old → IsReady lines book.new }
@@ -81,9 +81,9 @@ fn execute_lines<K: Keeper, W: Sink, B: Worker, M: Mark>(
 
 /// Drives all that may start, until there is nothing left to do. Each start leaves fewer works that
 /// wait and are due by now or blocked, so it ends.
-fn drain<K: Keeper, W: Sink, B: Worker, M: Mark>(alloc: Global, book: &mut BookOf<K, W, B, M>)
-    requires { IsAtRest book.old }
-    ensures rest { IsAtRest book.new }
+fn drain<K: Keeper, W: Sink, B: Worker, M: Mark>(alloc: Global, book: &mut Book<K, W, B, M>)
+    requires { IsBetweenRuns book.old }
+    ensures rest { IsBetweenRuns book.new }
     ensures left { book.new.left ≡ book.old.left }
     ensures quiet { book.new.status ≡ None → IsQuiet book.new.table.state }
     ensures order { (lines : List Command)
@@ -98,10 +98,10 @@ fn drain<K: Keeper, W: Sink, B: Worker, M: Mark>(alloc: Global, book: &mut BookO
 /// Starts the work that is first, and drives its run to its end.
 fn drive_first<K: Keeper, W: Sink, B: Worker, M: Mark>(
     alloc: Global,
-    book: &mut BookOf<K, W, B, M>,
+    book: &mut Book<K, W, B, M>,
 ) -> Progress
-    requires { IsAtRest book.old }
-    ensures rest { IsAtRest book.new }
+    requires { IsBetweenRuns book.old }
+    ensures rest { IsBetweenRuns book.new }
     ensures left { book.new.left ≡ book.old.left }
     ensures fewer { result ≡ Progress.Driven
         → left_to_drain book.new.table.state < left_to_drain book.old.table.state }
@@ -128,9 +128,9 @@ fn drive_first<K: Keeper, W: Sink, B: Worker, M: Mark>(
 /// memory is refused to it as it begins, that is reported in place of a turn.
 fn drive<K: Keeper, W: Sink, B: Worker, M: Mark>(
     alloc: Global,
-    book: &mut BookOf<K, W, B, M>,
+    book: &mut Book<K, W, B, M>,
     ticket: Ticket,
-    mut seat: SeatedOf<B>,
+    mut seat: Seated<B>,
     signal: &Signal,
 )
     requires under_way { IsUnderWay ticket book.old }
@@ -153,9 +153,9 @@ fn drive<K: Keeper, W: Sink, B: Worker, M: Mark>(
 /// session has ended early. A run has at most 1,000 turns, so it ends.
 fn take_turns<K: Keeper, W: Sink, B: Worker, M: Mark>(
     alloc: Global,
-    book: &mut BookOf<K, W, B, M>,
+    book: &mut Book<K, W, B, M>,
     mut ticket: Ticket,
-    mut seat: SeatedOf<B>,
+    mut seat: Seated<B>,
     signal: &Signal,
 )
     requires under_way { IsUnderWay ticket book.old }
@@ -177,11 +177,11 @@ fn take_turns<K: Keeper, W: Sink, B: Worker, M: Mark>(
 /// ticket for the next turn comes back, with the same seat.
 fn turn_once<K: Keeper, W: Sink, B: Worker, M: Mark>(
     alloc: Global,
-    book: &mut BookOf<K, W, B, M>,
+    book: &mut Book<K, W, B, M>,
     ticket: Ticket,
-    mut seat: SeatedOf<B>,
+    mut seat: Seated<B>,
     signal: &Signal,
-) -> Option<(Ticket, SeatedOf<B>)>
+) -> Option<(Ticket, Seated<B>)>
     requires under_way { IsUnderWay ticket book.old }
     requires number { seat.number ≡ ticket.instance }
     requires kind { B.kind_of seat.worker ≡ ticket.kind }
@@ -198,7 +198,7 @@ fn turn_once<K: Keeper, W: Sink, B: Worker, M: Mark>(
 /// Has the worker of a run take its turn, whose signal is never raised.
 fn turn<B: Worker>(
     alloc: Global,
-    seat: &mut SeatedOf<B>,
+    seat: &mut Seated<B>,
     ticket: &Ticket,
     signal: &Signal,
 ) -> Result<Told, AllocError>

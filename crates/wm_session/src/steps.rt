@@ -2,13 +2,14 @@
 //! worker back.
 ghost use Rattle.std.specs.Prelude.{◌≡◌, ◌++◌, [], None, Some, IsNone, IfErr, IfSome, OnOk, OnErr};
 ghost use Rattle.wm_bench.specs.Places.{changed_at, made_idle, IsAwayAt};
-ghost use Rattle.wm_machine.specs.Built.{EventTellsNoData, IsBuilt, ReplyTellsNoData};
+ghost use Rattle.wm_machine.specs.Built.{EventTellsNoData, ReplyTellsNoData};
+ghost use Rattle.wm_machine.specs.Outcome.{IsBuilt};
 ghost use Rattle.wm_script.specs.Texts.{text_of};
 ghost use Rattle.wm_machine.specs.declared.event.Event.TheVariants as event;
 ghost use Rattle.wm_machine.specs.declared.reply.Reply.{Reply};
 ghost use Rattle.wm_session.specs.Book.{IsClaimIn};
 ghost use Rattle.wm_session.specs.Causes.{status_by_stop, stop_by_fault};
-ghost use Rattle.wm_session.specs.Kept.{AreTextsKept, IsLastTold};
+ghost use Rattle.wm_session.specs.Invariant.{TextsInvariant, IsLastTold};
 ghost use Rattle.wm_table.specs.Table.{last_of, IsOneStep, IsUntouched, Stands, TroubleCause};
 ghost use Rattle.wm_session.specs.Writing.{WriteCause};
 
@@ -16,7 +17,7 @@ use crate::book::Stop;
 use crate::status::Status;
 use crate::writing::{WriteFault, write_front};
 use std::alloc::Global;
-use wm_bench::{BenchOf, SeatedOf};
+use wm_bench::{Bench, Seated};
 use wm_io::Sink;
 use wm_keeper::Keeper;
 use wm_machine::{Command, Event};
@@ -45,9 +46,9 @@ pub fn execute<K: Keeper>(table: &mut Table<K>, line: u32, command: Command) -> 
 /// Takes a ticket without an event, and puts its worker back at its place.
 pub fn give_back<K: Keeper, B: Worker>(
     table: &mut Table<K>,
-    bench: &mut BenchOf<B>,
+    bench: &mut Bench<B>,
     ticket: Ticket,
-    seat: SeatedOf<B>,
+    seat: Seated<B>,
 )
     requires stands { Stands table.old.state ticket }
     requires away { IsAwayAt seat.number (B.kind_of seat.worker) bench.old }
@@ -98,9 +99,9 @@ fn tell<W: Sink>(
     sink: &mut W,
 ) -> Result<(), WriteFault>
     requires { EventTellsNoData event.now }
-    ensures ok { OnOk result (AreTextsKept None (W.given sink.old) (W.given sink.new)
+    ensures ok { OnOk result (TextsInvariant None (W.given sink.old) (W.given sink.new)
         (pending.old.items ++ text_of event.now hushed) pending.new.items) }
-    ensures err { IfErr result (λ fault. AreTextsKept (Some (stop_by_fault fault))
+    ensures err { IfErr result (λ fault. TextsInvariant (Some (stop_by_fault fault))
         (W.given sink.old) (W.given sink.new)
         (pending.old.items ++ text_of event.now hushed) pending.new.items) }
     ensures cause { WriteCause result (W.faults sink.old) (W.faults sink.new) }
@@ -117,7 +118,7 @@ fn tell<W: Sink>(
 /// Writes what is pending, as far as the sink takes it; the rest stays pending.
 pub fn write_pending<W: Sink>(sink: &mut W, pending: &mut Vec<u8>) -> Result<(), WriteFault>
     ensures all { OnOk result (pending.new.items ≡ []) }
-    ensures kept { AreTextsKept None (W.given sink.old)
+    ensures kept { TextsInvariant None (W.given sink.old)
         (W.given sink.new) pending.old.items pending.new.items }
     ensures cause { WriteCause result (W.faults sink.old) (W.faults sink.new) }
 {

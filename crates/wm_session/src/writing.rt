@@ -1,5 +1,5 @@
 ghost use Rattle.std.specs.Prelude.{◌≡◌, ◌≤◌, length, take, OnOk};
-ghost use Rattle.wm_session.specs.Writing.{IsGiven, WriteCause};
+ghost use Rattle.wm_session.specs.Writing.{IsAppended, WriteCause};
 
 use wm_io::{Put, Sink};
 
@@ -16,7 +16,7 @@ pub enum WriteFault {
 /// the front, and whether that is all.
 pub fn write_front<W: Sink>(sink: &mut W, text: &[u8]) -> (usize, Result<(), WriteFault>)
     ensures within { result.0 ≤ length text.now }
-    ensures given { IsGiven (W.given sink.old) (W.given sink.new) (take result.0 text.now) }
+    ensures given { IsAppended (W.given sink.old) (W.given sink.new) (take result.0 text.now) }
     ensures all { OnOk result.1 (result.0 ≡ length text.now) }
     ensures cause { WriteCause result.1 (W.faults sink.old) (W.faults sink.new) }
 {

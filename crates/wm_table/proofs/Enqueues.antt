@@ -3,7 +3,8 @@ use Rattle.std.proofs.Common.{◌≡◌, ℕ, List, [], ◌∷◌, length, lengt
 use Rattle.std.proofs.lemmas.List.{length-map}
 use Rattle.wm_machine.proofs.Records.{IsRecord-placed, plain_node}
 use Rattle.wm_machine.proofs.Enqueues.{room}
-use Rattle.wm_machine.specs.Built.{IsBuilt, IsPlain}
+use Rattle.wm_machine.specs.Built.{IsPlain}
+use Rattle.wm_machine.specs.Outcome.{IsBuilt}
 use Rattle.wm_machine.specs.Enqueued.{enqueued, outcome_by, placed_record, refusal_of, with_work}
 use Rattle.wm_machine.specs.Replied.{Outcome}
 use Rattle.wm_machine.specs.Rows.{rows_of}
@@ -31,20 +32,18 @@ placed-outcome : (s : State) (batch : Batch) (plain : IsPlain batch.works) → r
 placed-outcome s batch plain accepted =
     ap (λ found. outcome_by found s None batch.works) accepted ∙ ap (outcome_by None s None) plain.one
 
--- a command that changes rows doesn't leave them as they are
-pub changes-apart : (s : State) (asked : Command) → IsBuilt asked → ChangesRows s asked → ChangesNoRow s asked → ⊥
-changes-apart s (command.Enqueue None batch) plain accepted same =
+-- there is a row more
+more_rows : (s : State) (batch : Batch) → IsPlain batch.works → refusal_of s None batch.works ≡ None → ChangesRows s (command.Enqueue None batch)
+more_rows s batch plain accepted same =
     let longer : rows_of (with_work s (placed_record s None (plain_node plain.id plain.class))) ≡ rows_of s =
     ap (λ (o : Outcome). rows_of o.state) (sym (placed-outcome s batch plain accepted)) ∙ same in
     absurd (omega (arith, simp (length-map, length-append) at (ap length longer)))
-changes-apart s (command.Enqueue named batch) built changes same = absurd built
-changes-apart s _ built changes same = absurd changes
 
--- so one that leaves the rows has no row to commit
-pub no-row-changes : (s t : State) (line : ℕ) (asked : Command) (executed : Executed) → IsBuilt asked → t ≡ s → IsExecuted s line asked executed
+-- a command that leaves the rows has no row to commit
+pub no-row-changes : (s t : State) (line : ℕ) (asked : Command) (executed : Executed) → t ≡ s → IsExecuted s line asked executed
     → ChangesNoRow t asked → row_changes executed.change ≡ []
-no-row-changes s t line asked executed built state_is is same = elim is.rows [
-  | inl changes ↦ absurd (changes-apart s asked built changes (subst (λ (s : State). ChangesNoRow s asked) state_is same))
+no-row-changes s t line asked executed state_is is same = elim is.rows [
+  | inl changes ↦ absurd (changes (subst (λ (s : State). ChangesNoRow s asked) state_is same))
   | inr none ↦ none
 ]
 
@@ -80,5 +79,5 @@ placing-executed s line batch plain valid accepted =
         state = sym (ap (λ (o : Outcome). o.state) done);
       };
       text = tt;
-      rows = inl accepted;
+      rows = inl (more_rows s batch plain accepted);
     }

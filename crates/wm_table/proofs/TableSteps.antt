@@ -16,7 +16,7 @@ use Rattle.wm_machine.specs.Valid.{IsOutForRun, Valid}
 use Rattle.wm_machine.specs.declared.event.Event.{Event}
 use Rattle.wm_machine.specs.declared.state.Instance.{Instance}
 use Rattle.wm_machine.specs.declared.state.State.{State}
-use Rattle.wm_table.specs.Table.{last_of, AreFresh, HoldsRowsOf, IsFresh, IsOneStep, IsTableKept, IsUntouched}
+use Rattle.wm_table.specs.Table.{last_of, AreFresh, HoldsRowsOf, IsFresh, IsOneStep, TableInvariant, IsUntouched}
 use Rattle.wm_table.specs.TableState.{TableState}
 use Rattle.wm_worker.specs.declared.kind.Kind.TheVariants.{Echo}
 
@@ -77,7 +77,7 @@ holds_none (Some rows) none = ap (λ (rs : List Row). Some rs) (sym none)
 -- what a table keeps when it begins
 pub kept-opening : (instances : List Instance) (rows : List Row) (held : Option (List Row)) (first s : State) (log : List Event) → AreFresh instances
     → IfSome held (λ stored. rows ≡ stored) → rows ≡ [] → first ≡ opening_state [] instances → s ≡ opening_state [] instances → log ≡ []
-    → IsTableKept first s log held
+    → TableInvariant first s log held
 kept-opening instances rows held first s log fresh told none first_is s_is log_is =
     let stored : IfSome held (λ stored. [] ≡ stored) = subst (λ (rs : List Row). IfSome held (λ stored. rs ≡ stored)) none told in
     rw (first_is, s_is, log_is) (record {
@@ -92,8 +92,8 @@ kept-opening instances rows held first s log fresh told none first_is s_is log_i
 
 module _ {K : Type 0} (held : K → Option (List Row)) (old new : TableState K) where
   -- a step that begins one run at most
-  pub kept-step : (e : Event) → IsTableKept old.first old.state old.log (held old.keeper) → IsOneStep held e old new
-      → new.state.next_run ≤ old.state.next_run + 1 → IsTableKept new.first new.state new.log (held new.keeper)
+  pub kept-step : (e : Event) → TableInvariant old.first old.state old.log (held old.keeper) → IsOneStep held e old new
+      → new.state.next_run ≤ old.state.next_run + 1 → TableInvariant new.first new.state new.log (held new.keeper)
   kept-step e kept step more =
       let longer : length new.log ≡ length old.log + 1 = ap length step.appended ∙ length-append old.log (e ∷ []) in
       let few : new.state.next_run ≤ length new.log + 1 = omega (arith, kept.few_runs) in
@@ -106,8 +106,8 @@ module _ {K : Type 0} (held : K → Option (List Row)) (old new : TableState K) 
         few_runs = few;
       }
 
-  pub kept-untouched : IsTableKept old.first old.state old.log (held old.keeper) → IsUntouched held old new
-      → IsTableKept new.first new.state new.log (held new.keeper)
+  pub kept-untouched : TableInvariant old.first old.state old.log (held old.keeper) → IsUntouched held old new
+      → TableInvariant new.first new.state new.log (held new.keeper)
   kept-untouched kept same = rw (same.first, same.state, same.log, same.rows) kept
 
 -- ---- rest

@@ -4,7 +4,6 @@ use Rattle.std.specs.List.{AllByRecursion}
 use Rattle.wm_data.specs.declared.data.DataEntry.{DataEntry}
 use Rattle.wm_faults.specs.Faults as faults
 use Rattle.wm_keeper.specs.declared.row.Row.{Row}
-use Rattle.wm_machine.specs.Enqueued.{refusal_of}
 use Rattle.wm_machine.specs.First.{first_of}
 use Rattle.wm_machine.specs.Narrow.{IsNarrow}
 use Rattle.wm_machine.specs.Replay.{Replay}
@@ -13,7 +12,6 @@ use Rattle.wm_machine.specs.Runs.{run_numbered}
 use Rattle.wm_machine.specs.Step.{Legal, after, after_command}
 use Rattle.wm_machine.specs.Valid.{Valid, AreNumberedInOrder}
 use Rattle.wm_machine.specs.declared.command.Command.{Command}
-use Rattle.wm_machine.specs.declared.command.Command.TheVariants as command
 use Rattle.wm_machine.specs.declared.event.End.TheVariants.{Success}
 use Rattle.wm_machine.specs.declared.event.Event.{Event}
 use Rattle.wm_machine.specs.declared.event.Event.TheVariants as event
@@ -84,10 +82,9 @@ BeginCause rows begin.Memory = Unit {0}
 abbrev pub ChangesNoRow : State → Command → Type 0
 ChangesNoRow s asked = rows_of (after_command s asked) ≡ rows_of s
 
--- The command is an enqueue that isn't refused. Each further command that changes rows joins it.
+-- and where they are others, as with an enqueue that isn't
 abbrev pub ChangesRows : State → Command → Type 0
-ChangesRows s (command.Enqueue named batch) = refusal_of s named batch.works ≡ None
-ChangesRows s _ = ⊥
+ChangesRows s asked = ChangesNoRow s asked → ⊥
 
 -- ---- claim
 
@@ -148,7 +145,7 @@ abbrev pub HoldsRowsOf : State → Option (List Row) → Type 0
 HoldsRowsOf s held = held ≡ option_map (λ _. rows_of s) held
 
 -- the log replays from the first state to the state now, which is valid, and whose rows are held; it is narrow for now
-pub record IsTableKept (first state : State) (log : List Event) (held : Option (List Row)) : Type 0 where
+pub record TableInvariant (first state : State) (log : List Event) (held : Option (List Row)) : Type 0 where
   pub replay : Replay first log state
   pub valid : Valid state
   pub narrow : IsNarrow state

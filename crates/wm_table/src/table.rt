@@ -1,7 +1,8 @@
 //! The table: the state, the log of the events that led to it, and the keeper of its rows.
 ghost use Rattle.std.specs.Prelude.{◌≡◌, ◌≢◌, ◌↔◌, [], Err, IsTrue, IfOk, IfErr, IfSome, OnOk, OnErr};
 ghost use Rattle.std.specs.Option.{option_copied};
-ghost use Rattle.wm_machine.specs.Built.{IsBuilt, ReplyTellsNoData};
+ghost use Rattle.wm_machine.specs.Built.{ReplyTellsNoData};
+ghost use Rattle.wm_machine.specs.Outcome.{IsBuilt};
 ghost use Rattle.wm_machine.specs.Narrow.{IsNarrow};
 ghost use Rattle.wm_machine.specs.Opened.{opening_state, Opened};
 ghost use Rattle.wm_machine.specs.Quiet.{IsQuiet};
@@ -139,11 +140,11 @@ impl<K: Keeper> Model for Table<K> {
 
     ghost Value = { TableState K };
 
-    ghost use Rattle.wm_table.specs.Table.{IsTableKept};
+    ghost use Rattle.wm_table.specs.Table.{TableInvariant};
 
     ghost view = { λ t. record { first = t.first; state = t.state; log = t.log; keeper = t.keeper } };
 
-    ghost invariant = { λ t. IsTableKept t.first t.state t.log (K.held t.keeper) };
+    ghost invariant = { λ t. TableInvariant t.first t.state t.log (K.held t.keeper) };
 }
 
 impl<K: Keeper> Table<K> {

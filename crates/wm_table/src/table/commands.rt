@@ -1,7 +1,7 @@
 //! What each command comes to: the change of its step, and its reply. A command has a file of its
 //! own.
 ghost use Rattle.std.specs.Prelude.{◌≡◌, IfOk};
-ghost use Rattle.wm_machine.specs.Built.{IsBuilt};
+ghost use Rattle.wm_machine.specs.Outcome.{IsBuilt};
 ghost use Rattle.wm_machine.specs.Narrow.{IsNarrow};
 ghost use Rattle.wm_machine.specs.Valid.{Valid};
 ghost use Rattle.wm_table.specs.Builds.{answering, IsExecuted};

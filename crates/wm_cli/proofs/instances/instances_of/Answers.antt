@@ -1,6 +1,6 @@
 use Rattle.std.proofs.Common.{◌≡◌, ◌+◌, [], ◌∷◌, ◌++◌, List, take, length, sym, ◌∙◌, ap, arith, rules}
 use Rattle.std.proofs.lemmas.List.{take_more, length-take}
-use Rattle.wm_bench.specs.declared.hand.HandOf.{HandOf}
+use Rattle.wm_bench.specs.declared.hand.Hand.{Hand}
 use Rattle.wm_cli.proofs.Hands.{instances_from-push}
 use Rattle.wm_machine.specs.declared.state.Instance.{Instance}
 use Rattle.wm_session.specs.Hands.{instance_of, instances_from}
@@ -13,7 +13,7 @@ loop-hand-preserved g c =
     let hand = c.hand-item.result in
     let index = c.loop-hand.hand-index in
     let more : take (index + 1) hands ≡ take index hands ++ hand ∷ [] =
-    take_more hands index hand c.loop-hand-test.true ∙ ap (λ (h : HandOf g.row.B.Denot). take index hands ++ h ∷ []) (sym c.hand-item.is) in
+    take_more hands index hand c.loop-hand-test.true ∙ ap (λ (h : Hand g.row.B.Denot). take index hands ++ h ∷ []) (sym c.hand-item.is) in
     let pushed : c.push.new.self ≡ c.loop-hand.instances ++ instance_of kind_of index hand ∷ [] = search rules in
     let count : index ≡ 0 + length (take index hands) = omega (arith, length-take index hands) in
     record {

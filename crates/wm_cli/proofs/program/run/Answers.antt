@@ -1,5 +1,5 @@
 use Rattle.std.proofs.Common.{◌≡◌, sym, ◌∙◌, ap}
-use Rattle.wm_cli.proofs.Endings.{IsTextGiven-nothing, HasCommands-nothing, ForScript-any, not_done}
+use Rattle.wm_cli.proofs.Endings.{IsTextWritten-nothing, HasCommands-nothing, ForScript-any, not_done}
 use Rattle.wm_cli.proofs.Opening.{IsSerialRun-unopened}
 use Rattle.wm_session.specs.Ended.{HasCommands, IsSerialRun}
 use Rattle.wm_session.specs.declared.status.Status.TheVariants.{Done, Usage}
@@ -36,7 +36,7 @@ returns-in_default-clause-commands g c =
 pub returns-in_default-clause-bytes : goal.returns-in_default-clause-bytes
 returns-in_default-clause-bytes g c =
     let ended = c.before_begin.result in
-    IsTextGiven-nothing (g.W.Sink.given c.args.sink) (g.W.Sink.given ended.sink) ended.status ended.first ended.log
+    IsTextWritten-nothing (g.W.Sink.given c.args.sink) (g.W.Sink.given ended.sink) ended.status ended.first ended.log
     (ap g.W.Sink.given c.before_begin.ensures.sink_is) c.before_begin.ensures.log
 
 pub returns-in-Err-clause-commands : goal.returns-in-Err-clause-commands
@@ -49,5 +49,5 @@ returns-in-Err-clause-commands g c =
 pub returns-in-Err-clause-bytes : goal.returns-in-Err-clause-bytes
 returns-in-Err-clause-bytes g c =
     let ended = c.before_begin-in-Err.result in
-    IsTextGiven-nothing (g.W.Sink.given c.args.sink) (g.W.Sink.given ended.sink) ended.status ended.first ended.log
+    IsTextWritten-nothing (g.W.Sink.given c.args.sink) (g.W.Sink.given ended.sink) ended.status ended.first ended.log
     (ap g.W.Sink.given c.before_begin-in-Err.ensures.sink_is) c.before_begin-in-Err.ensures.log

@@ -1,4 +1,4 @@
-use Rattle.wm_session.specs.Given.{given_to}
+use Rattle.wm_session.specs.Inputs.{inputs_of}
 use Rattle.wm_session.specs.Tells.{tells_of}
 use Rattle.wm_cli.proofs.program.run_begun.Given as goal
 
@@ -6,6 +6,6 @@ use Rattle.wm_cli.proofs.program.run_begun.Given as goal
 abbrev pub ghosts-run_marked : goal.ghosts-run_marked
 ghosts-run_marked g a =
     record {
-      given = given_to (tells_of g.K.Keeper.held g.K.Keeper.faults g.W.Sink.given g.W.Sink.faults g.B.Worker.kind_of g.B.Worker.diary_of) a.table a.commands
+      inputs = inputs_of (tells_of g.K.Keeper.held g.K.Keeper.faults g.W.Sink.given g.W.Sink.faults g.B.Worker.kind_of g.B.Worker.diary_of) a.table a.commands
           a.sink;
     }

@@ -10,7 +10,7 @@ use Rattle.wm_machine.specs.declared.state.State.{State}
 use Rattle.wm_session.specs.Bench.{instance_traits, place_diaries, place_traits, AreIdle}
 use Rattle.wm_session.specs.Ended.{IsSerialEnd}
 use Rattle.wm_session.specs.Hands.{instances_from}
-use Rattle.wm_session.specs.Rest.{NoneRetired}
+use Rattle.wm_session.specs.BetweenRuns.{NoneRetired}
 use Rattle.wm_session.specs.Tells.{tells_of}
 use Rattle.wm_session.proofs.HandLemmas.{AreIdle-hands, NoneRetired-hands}
 use Rattle.wm_table.proofs.TableSteps.{IsNarrow-opening, Valid-opening}
@@ -66,7 +66,7 @@ returns-in-Err g c =
     let at : IsEndedAtOnce c.args.table c.args.sink c.back.result ended =
     subst (λ table. IsEndedAtOnce table c.args.sink c.back.result ended) kept.0
     (subst (λ sink. IsEndedAtOnce c.in-Err.parts.0 sink c.back.result ended) kept.2 c.end_at_once.ensures) in
-    subst (λ run. IsSerialEnd tells run had ended) (sym c.requires.given)
+    subst (λ run. IsSerialEnd tells run had ended) (sym c.requires.inputs)
     (IsSerialEnd-at_once tells c.args.commands benched.hands had c.args.table c.args.sink c.back.result ended at c.requires.begun c.requires.built
     benched.echoes benched.opened
     (c.back.ensures ∙ ap idle_hands (kept.1 ∙ benched.at_places) ∙ idle_hands-places benched.hands))

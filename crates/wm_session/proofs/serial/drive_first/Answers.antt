@@ -1,6 +1,6 @@
 use Rattle.std.proofs.Common.{refl}
 use Rattle.wm_session.proofs.DiaryLemmas.{KeepDiaries-begun, KeepDiaries-same, no_longer}
-use Rattle.wm_session.proofs.SerialLemmas.{GoesInOrder-claimed, GoesInOrder-halted, IsAtRest-failed, IsAtRest-halted, IsUnderWay-begun, left-halted, status-halted}
+use Rattle.wm_session.proofs.SerialLemmas.{GoesInOrder-claimed, GoesInOrder-halted, IsBetweenRuns-failed, IsBetweenRuns-halted, IsUnderWay-begun, left-halted, status-halted}
 use Rattle.wm_table.specs.declared.table.Claim.TheVariants as claim
 use Rattle.wm_session.proofs.serial.drive_first.Goals as goal
 
@@ -19,7 +19,7 @@ returns-in-Run-clause-diaries g c diaries keep =
     c.drive.ensures.diaries diaries (KeepDiaries-begun g.B.Worker.diary_of diaries c.requires c.in-Run.ensures keep)
 
 pub returns-in-Failed-clause-rest : goal.returns-in-Failed-clause-rest
-returns-in-Failed-clause-rest g c = IsAtRest-failed c.requires c.in-Failed.ensures
+returns-in-Failed-clause-rest g c = IsBetweenRuns-failed c.requires c.in-Failed.ensures
 
 pub returns-in-Failed-clause-order : goal.returns-in-Failed-clause-order
 returns-in-Failed-clause-order g c =
@@ -33,7 +33,7 @@ returns-in-Failed-clause-diaries g c diaries =
 
 pub returns-in-Stopped-clause-rest : goal.returns-in-Stopped-clause-rest
 returns-in-Stopped-clause-rest g c =
-    IsAtRest-halted g.K.Keeper.held g.B.Worker.kind_of c.args.book.now c.claim.new.self c.requires c.in-Stopped.ensures
+    IsBetweenRuns-halted g.K.Keeper.held g.B.Worker.kind_of c.args.book.now c.claim.new.self c.requires c.in-Stopped.ensures
 
 pub returns-in-Stopped-clause-left : goal.returns-in-Stopped-clause-left
 returns-in-Stopped-clause-left g c = left-halted g.K.Keeper.held g.B.Worker.kind_of c.args.book.now c.claim.new.self c.in-Stopped.ensures

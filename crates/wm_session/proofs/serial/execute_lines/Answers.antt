@@ -1,7 +1,7 @@
 use Rattle.std.proofs.Common.{not, inl, inr, refl, sym, ◌∙◌, ap, subst}
 use Rattle.std.proofs.lemmas.Bool.{false≢true}
 use Rattle.wm_session.proofs.DiaryLemmas.{KeepDiaries-same, no_longer}
-use Rattle.wm_session.proofs.SerialLemmas.{GoesInOrder-line, GoesInOrder-ready, IsAtRest-front, IsAtRest-line, IsReady-front, IsReady-quiet}
+use Rattle.wm_session.proofs.SerialLemmas.{GoesInOrder-line, GoesInOrder-ready, IsBetweenRuns-front, IsBetweenRuns-line, IsReady-front, IsReady-quiet}
 use Rattle.wm_session.specs.Book.{IsFronted}
 use Rattle.wm_session.specs.declared.book.Front.TheVariants as front
 use Rattle.wm_session.proofs.serial.execute_lines.Goals as goal
@@ -31,7 +31,7 @@ lines-init g c =
     ]
 
 pub drain-requires-in-Moved : goal.drain-requires-in-Moved
-drain-requires-in-Moved g c = let moved = c.in-Moved.ensures in IsAtRest-line c.lines.invariant.rest moved.0.before moved.1 moved.2
+drain-requires-in-Moved g c = let moved = c.in-Moved.ensures in IsBetweenRuns-line c.lines.invariant.rest moved.0.before moved.1 moved.2
 
 pub lines-preserved : goal.lines-preserved
 lines-preserved g c =
@@ -61,7 +61,7 @@ returns-in-Ended g c =
           rw is.2 (record { rest = kept.rest; done = λ going. is.1; quiet = λ going. kept.quiet is.0 is.1; order = kept.order; diaries = kept.diaries })
       | inr stopped ↦
           let is : IsFronted held front.Stopped old new = subst (λ r. IsFronted held r old new) stopped c.front_step.ensures in record {
-            rest = IsAtRest-front kept.rest is;
+            rest = IsBetweenRuns-front kept.rest is;
             done = no_longer new.status is.0;
             quiet = no_longer new.status is.0;
             order = λ lines ready. IsReady-front kept.rest lines is (kept.order lines ready);

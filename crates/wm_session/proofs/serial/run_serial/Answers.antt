@@ -1,16 +1,16 @@
 use Rattle.wm_machine.specs.Serial.{AreInOrder}
 use Rattle.std.proofs.Common.{◌∙◌}
 use Rattle.wm_session.proofs.HandLemmas.{AreHandsBack-all, hand_diaries-places}
-use Rattle.wm_session.proofs.SerialLemmas.{IsAtRest-begin, IsReady-begin, IsSerialRun-order, KeepDiaries-begin}
+use Rattle.wm_session.proofs.SerialLemmas.{IsBetweenRuns-begin, IsReady-begin, IsSerialRun-order, KeepDiaries-begin}
 use Rattle.wm_session.specs.Bench.{place_diaries}
 use Rattle.wm_session.proofs.serial.run_serial.Goals as goal
 
 pub execute_lines-requires : goal.execute_lines-requires
-execute_lines-requires g c = IsAtRest-begin c.requires.begins
+execute_lines-requires g c = IsBetweenRuns-begin c.requires.begins
 
 pub returns : goal.returns
 returns g c =
-    let lines = g.M.Mark.given.lines in
+    let lines = g.M.Mark.inputs.lines in
     let diary_of = g.B.Worker.diary_of in
     let diaries = place_diaries diary_of c.args.book.places in
     let executed = c.execute_lines.ensures in

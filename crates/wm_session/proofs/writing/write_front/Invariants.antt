@@ -1,12 +1,12 @@
 use Rattle.std.proofs.Common.{◌≡◌, ◌-◌, ◌≤◌, length, take}
-use Rattle.wm_session.specs.Writing.{IsGiven}
+use Rattle.wm_session.specs.Writing.{IsAppended}
 use Rattle.wm_session.proofs.writing.write_front.Given as goal
 
 -- the bytes taken were given
 abbrev pub invariant-pieces : goal.invariant-pieces
 invariant-pieces g l = record {
   within : l.taken ≤ length l.text;
-  given : IsGiven (g.W.Sink.given l.fn.sink) (g.W.Sink.given l.sink) (take l.taken l.text);
+  given : IsAppended (g.W.Sink.given l.fn.sink) (g.W.Sink.given l.sink) (take l.taken l.text);
   no_fault : g.W.Sink.faults l.sink ≡ g.W.Sink.faults l.fn.sink;
 }
 

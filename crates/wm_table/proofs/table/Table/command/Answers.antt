@@ -6,10 +6,10 @@ pub returns-in-Ok-clause-untouched_keeper : goal.returns-in-Ok-clause-untouched_
 returns-in-Ok-clause-untouched_keeper g c =
     let state_is : c.args.self.now.state ≡ c.self.inside.state = cc in
     let executed = c.in_ok-change.ensures in
-    λ same. c.in-Ok.ensures.untouched_keeper (no-row-changes _ _ _ c.args.command _ c.requires.built state_is executed same)
+    λ same. c.in-Ok.ensures.untouched_keeper (no-row-changes _ _ _ c.args.command _ state_is executed same)
 
 pub returns-in-Err-clause-untouched_keeper : goal.returns-in-Err-clause-untouched_keeper
 returns-in-Err-clause-untouched_keeper g c =
     let state_is : c.args.self.now.state ≡ c.self.inside.state = cc in
     let executed = c.in_ok-change.ensures in
-    λ same. c.in-Err.ensures.untouched_keeper (no-row-changes _ _ _ c.args.command _ c.requires.built state_is executed same)
+    λ same. c.in-Err.ensures.untouched_keeper (no-row-changes _ _ _ c.args.command _ state_is executed same)

@@ -2,7 +2,7 @@ use Rattle.std.proofs.Common.{◌≡◌, ◌≤◌, ◌++◌, [], map, vec_len}
 use Rattle.std.specs.Vec.{vec_capacity}
 use Rattle.std.specs.Vec.Iter.{drain_items, drain_kept, drain_capacity}
 use Rattle.wm_bench.specs.Places.{place_of}
-use Rattle.wm_bench.proofs.bench.BenchOf.new.Given as goal
+use Rattle.wm_bench.proofs.bench.Bench.new.Given as goal
 
 -- the hands so far have their places, for which there is room, and the others are left
 abbrev pub invariant-hands : goal.invariant-hands

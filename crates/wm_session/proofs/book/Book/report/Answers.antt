@@ -6,15 +6,15 @@ use Rattle.wm_machine.specs.Built.{EventTellsNoData}
 use Rattle.wm_machine.specs.declared.event.End.TheVariants.{Success}
 use Rattle.wm_machine.specs.declared.event.Event.TheVariants as event
 use Rattle.wm_session.proofs.BookParts.{last_of-step}
-use Rattle.wm_session.proofs.Books.{IsBookKept-memory, IsBookKept-over, IsBookKept-placed, IsBookKept-refused, IsEndUntold-finished, IsOver-finished, IsTold-all, IsTold-cut}
+use Rattle.wm_session.proofs.Books.{BookInvariant-memory, BookInvariant-over, BookInvariant-placed, BookInvariant-refused, IsEndUntold-finished, IsOver-finished, IsTold-all, IsTold-cut}
 use Rattle.wm_table.specs.Table.{Stands}
-use Rattle.wm_session.proofs.book.BookOf.report.Goals as goal
+use Rattle.wm_session.proofs.book.Book.report.Goals as goal
 
 pub invariant_of-self : goal.invariant_of-self
 invariant_of-self g c =
     let seat = c.args.seat in
     let away = subst (λ book. IsAwayAt seat.number (g.B.Worker.kind_of seat.worker) book.places) (sym c.self.view_is) c.requires.away in
-    IsBookKept-placed c.give_back.new.table c.give_back.new.bench c.self.invariant (search rules) c.give_back.ensures.table
+    BookInvariant-placed c.give_back.new.table c.give_back.new.bench c.self.invariant (search rules) c.give_back.ensures.table
     (traits-back g.B.Worker.kind_of seat.worker seat.number c.self.inside.bench c.give_back.new.bench away c.give_back.ensures.places)
 
 pub invariant_of-self-in_default : goal.invariant_of-self-in_default
@@ -22,7 +22,7 @@ invariant_of-self-in_default g c =
     let seat = c.args.seat in
     let away = subst (λ book. IsAwayAt seat.number (g.B.Worker.kind_of seat.worker) book.places) (sym c.self.view_is) c.requires.away in
     let back = c.give_back-in_default in
-    IsBookKept-memory back.new.table back.new.bench c.self.invariant back.ensures.table
+    BookInvariant-memory back.new.table back.new.bench c.self.invariant back.ensures.table
     (traits-back g.B.Worker.kind_of seat.worker seat.number c.self.inside.bench back.new.bench away back.ensures.places)
 
 pub tell_last-requires : goal.tell_last-requires
@@ -40,7 +40,7 @@ invariant_of-self-in-Ok-tell_last g c =
     let e = event.Finish c.args.ticket.task.run (Success finished.output) in
     let stands = subst (λ book. Stands book.table.state c.args.ticket) (sym c.self.view_is) c.requires.stands in
     let away = subst (λ book. IsAwayAt seat.number (g.B.Worker.kind_of seat.worker) book.places) (sym c.self.view_is) c.requires.away in
-    IsBookKept-over c.turn.new.self c.give.new.self told.pending.items told.sink c.self.inside.status c.args.ticket seat.number finished.output
+    BookInvariant-over c.turn.new.self c.give.new.self told.pending.items told.sink c.self.inside.status c.args.ticket seat.number finished.output
     seat.worker c.self.invariant (search rules) finished.step stands c.requires.number away c.give.ensures
     (IsTold-all e c.turn.new.self told.pending.items told.sink c.self.invariant (search rules) finished.step c.in-Ok-tell_last.ensures.ok
     c.in-Ok-tell_last.ensures.cause)
@@ -56,7 +56,7 @@ invariant_of-self-in-Err g c =
     let e = event.Finish c.args.ticket.task.run (Success finished.output) in
     let stands = subst (λ book. Stands book.table.state c.args.ticket) (sym c.self.view_is) c.requires.stands in
     let away = subst (λ book. IsAwayAt seat.number (g.B.Worker.kind_of seat.worker) book.places) (sym c.self.view_is) c.requires.away in
-    IsBookKept-over c.turn.new.self c.give.new.self told.pending.items told.sink (Some stop.result) c.args.ticket seat.number finished.output
+    BookInvariant-over c.turn.new.self c.give.new.self told.pending.items told.sink (Some stop.result) c.args.ticket seat.number finished.output
     seat.worker c.self.invariant (search rules) finished.step stands c.requires.number away c.give.ensures
     (IsTold-cut e c.turn.new.self told.pending.items told.sink refused.fault stop.result c.self.invariant finished.step refused.ensures.err
     refused.ensures.cause stop.ensures)
@@ -68,7 +68,7 @@ invariant_of-self-in-Refused g c =
     let refused = c.in-Refused in
     let away = subst (λ book. IsAwayAt seat.number (g.B.Worker.kind_of seat.worker) book.places) (sym c.self.view_is) c.requires.away in
     let back = c.give_back-in-Refused in
-    IsBookKept-refused c.turn.new.self back.new.table back.new.bench refused.ticket refused.told refused.trouble c.from-in-Refused.result c.self.invariant
+    BookInvariant-refused c.turn.new.self back.new.table back.new.bench refused.ticket refused.told refused.trouble c.from-in-Refused.result c.self.invariant
     refused.ensures.answer.3 back.ensures.table refused.ensures.cause c.from-in-Refused.ensures
     (traits-back g.B.Worker.kind_of seat.worker seat.number c.self.inside.bench back.new.bench away back.ensures.places)
 

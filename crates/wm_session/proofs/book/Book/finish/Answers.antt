@@ -1,13 +1,13 @@
 use Rattle.std.proofs.Common.{◌≡◌, [], None, option_map, refl, sym, ◌∙◌, ap, subst}
 use Rattle.wm_machine.specs.Rows.{rows_of}
 use Rattle.wm_machine.specs.declared.state.State.{State}
-use Rattle.wm_session.proofs.BookEnds.{EndsBy, HasCommands-kept, IsSessionStatus-ends, IsTextGiven-kept, keeper_fault-ends, sink_fault-ends}
+use Rattle.wm_session.proofs.BookEnds.{EndsBy, HasCommands-kept, IsSessionStatus-ends, IsTextWritten-kept, keeper_fault-ends, sink_fault-ends}
 use Rattle.wm_session.specs.Causes.{StopCause}
-use Rattle.wm_session.proofs.book.BookOf.finish.Goals as goal
+use Rattle.wm_session.proofs.book.Book.finish.Goals as goal
 
 pub returns-clause-session : goal.returns-clause-session
 returns-clause-session g c =
-    let run = g.M.Mark.given in
+    let run = g.M.Mark.inputs in
     let stop = c.self.inside.status in
     let kept = c.self.invariant in
     let last = c.end-first in
@@ -28,7 +28,7 @@ returns-clause-session g c =
       replay = last.ensures.replay;
       commands = HasCommands-kept ended.result last.result.log kept last.ensures.log ended.ensures.stopped
           (subst (λ book. book.status ≡ None → book.left ≡ []) (sym c.self.view_is) c.requires.lines);
-      bytes = IsTextGiven-kept ended.result last.result.first last.result.log (g.W.Sink.given wrote.new.sink) wrote.new.pending.items wrote.result kept
+      bytes = IsTextWritten-kept ended.result last.result.first last.result.log (g.W.Sink.given wrote.new.sink) wrote.new.pending.items wrote.result kept
           last.ensures.first last.ensures.log wrote.ensures.kept wrote.ensures.all ended.ensures.stopped ended.ensures.refused;
       rows = ap g.K.Keeper.held last.ensures.keeper
           ∙ kept.rows

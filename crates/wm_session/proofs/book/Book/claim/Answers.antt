@@ -1,8 +1,8 @@
 use Rattle.std.proofs.Common.{refl, rules}
 use Rattle.wm_machine.specs.declared.event.Event.TheVariants as event
 use Rattle.wm_session.proofs.BookParts.{claimed_in, claimed_tells, IsUntold-claimed}
-use Rattle.wm_session.proofs.Books.{claimed_idle, IsBookKept-begun, IsBookKept-start_failed, IsBookKept-untold, IsBegun-taken, IsStartFailed-kept, IsTold-all, IsTold-cut}
-use Rattle.wm_session.proofs.book.BookOf.claim.Goals as goal
+use Rattle.wm_session.proofs.Books.{claimed_idle, BookInvariant-begun, BookInvariant-start_failed, BookInvariant-untold, IsBegun-taken, IsStartFailed-kept, IsTold-all, IsTold-cut}
+use Rattle.wm_session.proofs.book.Book.claim.Goals as goal
 
 pub tell_last-requires : goal.tell_last-requires
 tell_last-requires g c =
@@ -20,7 +20,7 @@ invariant_of-self-in-Err-tell_last g c =
     let told = c.tell_last.new in
     let refused = c.in-Err-tell_last in
     let stop = c.from-in-Err-tell_last in
-    IsBookKept-untold c.in-Ok-Some.claim c.claim.new.self c.give_up.new.table told.pending.items told.sink stop.result c.self.invariant
+    BookInvariant-untold c.in-Ok-Some.claim c.claim.new.self c.give_up.new.table told.pending.items told.sink stop.result c.self.invariant
     (search rules) done c.give_up.ensures
     (λ e step. IsTold-cut e c.claim.new.self told.pending.items told.sink refused.fault stop.result c.self.invariant step
     refused.ensures.err refused.ensures.cause stop.ensures)
@@ -39,7 +39,7 @@ invariant_of-self-in-Run g c =
     let told = c.tell_last.new in
     let e = event.Start ticket.task.run ticket.seq ticket.instance ticket.task.input in
     let run = rw (c.in-Ok-Some.field-0-is, c.in-Run.is) at c.in-Ok-Some.ensures.ok in
-    IsBookKept-begun c.claim.new.self c.take.new.self told.pending.items told.sink ticket.task.run ticket.seq ticket.instance c.instance.result
+    BookInvariant-begun c.claim.new.self c.take.new.self told.pending.items told.sink ticket.task.run ticket.seq ticket.instance c.instance.result
     ticket.task.input c.self.invariant (search rules) run.0 c.instance.ensures c.in-Some.ensures.taken
     (IsTold-all e c.claim.new.self told.pending.items told.sink c.self.invariant (search rules) run.0
     c.in-Ok.ensures.ok c.in-Ok.ensures.cause)
@@ -50,7 +50,7 @@ invariant_of-self-in-Failed g c =
     let failed = c.in-Failed in
     let told = c.tell_last.new in
     let step = rw (c.in-Ok-Some.field-0-is, failed.is) at c.in-Ok-Some.ensures.ok in
-    IsBookKept-start_failed c.claim.new.self told.pending.items told.sink failed.seq failed.cause c.self.invariant (search rules) step
+    BookInvariant-start_failed c.claim.new.self told.pending.items told.sink failed.seq failed.cause c.self.invariant (search rules) step
     (IsTold-all (event.StartFailed failed.seq failed.cause) c.claim.new.self told.pending.items told.sink c.self.invariant (search rules) step
     c.in-Ok.ensures.ok c.in-Ok.ensures.cause)
     c.in-Ok-Some.ensures.cause

@@ -2,7 +2,7 @@ use Rattle.std.proofs.Common.{◌≡◌, ◌≤◌, ◌++◌, length, vec_len}
 use Rattle.std.specs.Vec.{vec_capacity}
 use Rattle.std.specs.Vec.Iter.{into_iter_items}
 use Rattle.wm_bench.specs.Places.{idle_hands}
-use Rattle.wm_bench.proofs.bench.BenchOf.back.Given as goal
+use Rattle.wm_bench.proofs.bench.Bench.back.Given as goal
 
 -- the room has the hands of the places so far, and was made for all
 abbrev pub invariant-places : goal.invariant-places

@@ -25,7 +25,7 @@ pub record IsAtBegin {K W B : Type 0} (lines : List Command) (book : BookState K
   pub lines_are : lines ≡ book.left
 
 -- the log replays, every worker is at its place, and while the session goes on no run is unreturned
-pub record IsAtRest {K W B : Type 0} (book : BookState K W B) : Type 0 where
+pub record IsBetweenRuns {K W B : Type 0} (book : BookState K W B) : Type 0 where
   pub replay : Replay book.table.first book.table.log book.table.state
   pub no_run : book.status ≡ None → book.table.state.runs ≡ []
   pub idle : AreIdle book.places

@@ -3,8 +3,8 @@ use Rattle.std.proofs.lemmas.List.{length_push}
 use Rattle.std.specs.Vec.Iter.{into_iter_items}
 use Rattle.wm_bench.proofs.Hands.{idle_hands-away, idle_hands-idle}
 use Rattle.wm_bench.specs.declared.place.Place.{Place}
-use Rattle.wm_bench.proofs.bench.BenchOf.back.Goals as goal
-use Rattle.wm_bench.proofs.bench.BenchOf.back.Goals.{In-Some}
+use Rattle.wm_bench.proofs.bench.Bench.back.Goals as goal
+use Rattle.wm_bench.proofs.bench.Bench.back.Goals.{In-Some}
 
 -- this place is the first of those that are left
 left_with : (g : _) (c : In-Some g) → (c.places.yielded ++ c.in-Some.place ∷ []) ++ into_iter_items c.next.new.self ≡ c.args.self

@@ -1,4 +1,4 @@
--- What one run was given, by which whoever holds a part of the run knows what it is a part of. This project's own choice.
+-- The inputs of one run, by which whoever holds a part of the run knows what it is a part of. This project's own choice.
 use Rattle.std.specs.Prelude.{ℕ, List, [], Option, None}
 use Rattle.wm_keeper.specs.declared.row.Row.{Row}
 use Rattle.wm_machine.specs.Opened.{opening_state}
@@ -9,7 +9,7 @@ use Rattle.wm_table.specs.TableState.{TableState}
 
 -- the state that its store opened to, the rows that its keeper held and the bytes that its sink had been given, where they are told,
 -- its lines, and how many faults keeper and sink had met
-pub record Given : Type 0 where
+pub record Inputs : Type 0 where
   pub first : State
   pub rows : Option (List Row)
   pub written : Option (List ℕ)
@@ -18,8 +18,8 @@ pub record Given : Type 0 where
   pub sink_faults : ℕ
 
 -- a run without anything
-abbrev pub nothing_given : Given
-nothing_given = record {
+abbrev pub no_inputs : Inputs
+no_inputs = record {
   first = opening_state [] [];
   rows = None;
   written = None;
@@ -29,8 +29,8 @@ nothing_given = record {
 }
 
 -- what a run is given that begins with this table, these lines and this sink
-abbrev pub given_to : {K W B : Type 0} → Tells K W B → TableState K → List Command → W → Given
-given_to tells table lines sink = record {
+abbrev pub inputs_of : {K W B : Type 0} → Tells K W B → TableState K → List Command → W → Inputs
+inputs_of tells table lines sink = record {
   first = table.first;
   rows = tells.held table.keeper;
   written = tells.given sink;
