@@ -1,28 +1,167 @@
-//! Data and its entries, of `wm_data`.
+//! Data, its builder and its JSON, of `wm_data`.
 use std::alloc::{AllocError, Global};
+use std::process::Abort;
 use std::test::Fail;
-use wm_collections::{Items, Replica, Text};
-use wm_data::{Data, DataEntry, Value};
+use wm_collections::{Items, Text};
+use wm_data::{Data, DataBuilder, DataFault, Value};
 
-fn entry(alloc: Global, key: &str, value: Value) -> Result<DataEntry, AllocError> {
-    Ok(DataEntry {
-        key: Text::from_str(alloc, key)?,
-        value,
-    })
+/// A fault by its name, with its key or its size.
+fn fault_text(alloc: Global, fault: &DataFault) -> Result<String, AllocError> {
+    match fault {
+        DataFault::EmptyKey => String::from_str(alloc, "EmptyKey"),
+        DataFault::BadData { key } => format!(in alloc; "BadData {}", key.as_str()),
+        DataFault::TooLarge { size } => format!(in alloc; "TooLarge {size}"),
+        DataFault::Memory => String::from_str(alloc, "Memory"),
+    }
+}
+
+/// Data by its JSON.
+fn data_text(alloc: Global, told: &Data) -> Result<String, Fail> {
+    Ok(told.to_json(alloc)?.to_string(alloc)?)
+}
+
+/// What a JSON text is read as: the JSON of the Data, or its fault.
+fn read(alloc: Global, text: &str) -> Result<String, Fail> {
+    let json = serde_json::Value::from_str(alloc, text)?;
+    match Data::from_json(alloc, &json) {
+        Ok(told) => data_text(alloc, &told),
+        Err(fault) => Ok(fault_text(alloc, &fault)?),
+    }
+}
+
+/// The JSON of a text of so many letters under one key.
+fn long_text(alloc: Global, letters: usize) -> Result<String, AllocError> {
+    let mut text = String::from_str(alloc, "{\"a\":{\"text\":\"")?;
+    for _ in 0..letters {
+        text.push('x')?;
+    }
+    text.push_str("\"}}")?;
+    Ok(text)
 }
 
 #[test]
-fn data_is_copied(rt: HostRuntime) -> Result<(), Fail> {
+fn data_is_read_and_written(rt: HostRuntime) -> Result<(), Fail> {
     let alloc = rt.alloc();
-    assert!(rt; Data::empty(alloc).replica(alloc)?.is_empty());
-    let mut entries = Items::new(alloc);
-    entries.push(entry(alloc, "int", Value::Int(-7))?)?;
-    let texts = Items::from_vec(vec![in alloc; Text::from_str(alloc, "a")?]?);
-    entries.push(entry(alloc, "texts", Value::Texts(texts))?)?;
-    let copy = entries.replica(alloc)?;
-    assert!(rt; !copy.is_empty());
-    assert_eq!(rt; copy.len(), 2);
-    assert_eq!(rt; copy.as_slice()[1].key.as_str(), "texts");
-    assert!(rt; matches!(&copy.as_slice()[0].value, Value::Int(-7)));
+    let texts = [
+        "{}",
+        "{\"a\":{\"bool\":false},\"b\":{\"bool\":true}}",
+        "{\"a\":{\"byte\":-128},\"b\":{\"byte\":127},\"c\":{\"byte\":0}}",
+        "{\"a\":{\"int\":-2147483648},\"b\":{\"int\":2147483647}}",
+        "{\"a\":{\"long\":-9223372036854775808},\"b\":{\"long\":9223372036854775807}}",
+        "{\"a\":{\"text\":\"\"},\"b\":{\"text\":\"\\\"\\\\\\u0000\\u001f\\n\u{e9}\u{1f600}\"}}",
+        "{\"a\":{\"bools\":[]},\"b\":{\"bools\":[true,false]}}",
+        "{\"a\":{\"bytes\":[]},\"b\":{\"bytes\":[-128,127]}}",
+        "{\"a\":{\"ints\":[]},\"b\":{\"ints\":[-2147483648,2147483647]}}",
+        "{\"a\":{\"longs\":[]},\"b\":{\"longs\":[-9223372036854775808,9223372036854775807]}}",
+        "{\"a\":{\"texts\":[]},\"b\":{\"texts\":[\"\",\"\\\"\",\"\u{1f600}\"]}}",
+        "{\"\\n\":{\"int\":1},\"Z\":{\"int\":2},\"a\":{\"int\":3},\"aa\":{\"int\":4},\"\u{e9}\":{\"int\":5}}",
+    ];
+    for text in texts {
+        assert_eq!(rt; read(alloc, text)?.as_str(), text);
+    }
+    let largest = long_text(alloc, 10_230)?;
+    assert_eq!(rt; read(alloc, largest.as_str())?.as_str(), largest.as_str());
+    Ok(())
+}
+
+#[test]
+fn what_isnt_in_the_form_is_refused(rt: HostRuntime) -> Result<(), Fail> {
+    let alloc = rt.alloc();
+    let refused = [
+        ("null", "BadData "),
+        ("[]", "BadData "),
+        ("\"a\"", "BadData "),
+        ("1", "BadData "),
+        ("{\"\":{\"int\":1}}", "EmptyKey"),
+        ("{\"a\":1,\"\":1}", "EmptyKey"),
+        ("{\"c\":1,\"b\":2,\"a\":{\"int\":3}}", "BadData b"),
+        ("{\"a\":{\"int\":1},\"b\":null}", "BadData b"),
+        ("{\"k\":5}", "BadData k"),
+        ("{\"k\":[]}", "BadData k"),
+        ("{\"k\":{}}", "BadData k"),
+        ("{\"k\":{\"int\":1,\"long\":1}}", "BadData k"),
+        ("{\"k\":{\"Int\":1}}", "BadData k"),
+        ("{\"k\":{\"double\":1}}", "BadData k"),
+        ("{\"k\":{\"\":1}}", "BadData k"),
+        ("{\"k\":{\"bool\":0}}", "BadData k"),
+        ("{\"k\":{\"byte\":128}}", "BadData k"),
+        ("{\"k\":{\"byte\":-129}}", "BadData k"),
+        ("{\"k\":{\"int\":2147483648}}", "BadData k"),
+        ("{\"k\":{\"int\":-2147483649}}", "BadData k"),
+        ("{\"k\":{\"long\":9223372036854775808}}", "BadData k"),
+        ("{\"k\":{\"long\":-9223372036854775809}}", "BadData k"),
+        ("{\"k\":{\"int\":1.0}}", "BadData k"),
+        ("{\"k\":{\"int\":1e0}}", "BadData k"),
+        ("{\"k\":{\"int\":-0}}", "BadData k"),
+        ("{\"k\":{\"int\":\"1\"}}", "BadData k"),
+        ("{\"k\":{\"int\":[1]}}", "BadData k"),
+        ("{\"k\":{\"text\":1}}", "BadData k"),
+        ("{\"k\":{\"text\":null}}", "BadData k"),
+        ("{\"k\":{\"bools\":true}}", "BadData k"),
+        ("{\"k\":{\"bools\":[true,0]}}", "BadData k"),
+        ("{\"k\":{\"bytes\":[1,128]}}", "BadData k"),
+        ("{\"k\":{\"ints\":[1,2147483648]}}", "BadData k"),
+        ("{\"k\":{\"longs\":[1,1.5]}}", "BadData k"),
+        ("{\"k\":{\"texts\":[\"a\",null]}}", "BadData k"),
+    ];
+    for (text, fault) in refused {
+        assert_eq!(rt; read(alloc, text)?.as_str(), fault);
+    }
+    let larger = long_text(alloc, 10_231)?;
+    assert_eq!(rt; read(alloc, larger.as_str())?.as_str(), "TooLarge 10241");
+    Ok(())
+}
+
+/// Puts a value, and gives the fault where it is refused.
+fn put(
+    alloc: Global,
+    builder: &mut DataBuilder,
+    key: &str,
+    value: Value,
+) -> Result<Option<String>, AllocError> {
+    match builder.put(String::from_str(alloc, key)?, value) {
+        Ok(()) => Ok(None),
+        Err(fault) => Ok(Some(fault_text(alloc, &fault)?)),
+    }
+}
+
+/// Entries in another order than that of their keys, of which one replaces another.
+fn built(rt: &impl Abort, alloc: Global) -> Result<Data, Fail> {
+    let texts = vec![in alloc; Text::from_str(alloc, "x")?, Text::from_str(alloc, "yz")?]?;
+    let mut builder = DataBuilder::new(alloc);
+    assert!(rt;
+        put(
+            alloc,
+            &mut builder,
+            "b",
+            Value::Texts(Items::from_vec(texts))
+        )?
+        .is_none()
+    );
+    assert!(rt; put(alloc, &mut builder, "a", Value::Long(7))?.is_none());
+    let refused = put(alloc, &mut builder, "", Value::Int(1))?;
+    assert_eq!(rt; refused.as_deref(), Some("EmptyKey"));
+    assert!(rt; put(alloc, &mut builder, "a", Value::Int(1))?.is_none());
+    Ok(builder.build()?)
+}
+
+#[test]
+fn data_is_built_and_copied(rt: HostRuntime) -> Result<(), Fail> {
+    let alloc = rt.alloc();
+    let empty = Data::empty(alloc);
+    assert!(rt; empty.is_empty());
+    assert_eq!(rt; empty.copy(alloc)?.size(), 2);
+    assert!(rt; empty.get("").is_none());
+    let told = built(&rt, alloc)?;
+    assert_eq!(rt; told.size(), 29);
+    assert!(rt; !told.is_empty());
+    assert!(rt; matches!(told.get("a"), Some(Value::Int(1))));
+    assert!(rt; matches!(told.get("b"), Some(Value::Texts(_))));
+    assert!(rt; told.get("").is_none());
+    assert!(rt; told.get("aa").is_none());
+    assert!(rt; told.get("c").is_none());
+    let expected = "{\"a\":{\"int\":1},\"b\":{\"texts\":[\"x\",\"yz\"]}}";
+    assert_eq!(rt; data_text(alloc, &told)?.as_str(), expected);
+    assert_eq!(rt; data_text(alloc, &told.copy(alloc)?)?.as_str(), expected);
     Ok(())
 }

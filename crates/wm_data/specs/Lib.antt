@@ -1,2 +1,5 @@
 pub mod DataJson
+pub mod DataRead
+pub mod Entries
+pub mod InType
 pub mod Size

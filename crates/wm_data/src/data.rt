@@ -1,9 +1,16 @@
-ghost use Rattle.std.specs.Prelude.{◌≡◌, [], length, ◌==◌};
+ghost use Rattle.std.specs.Prelude.{◌≡◌, [], length, ◌==◌, option_map, IfOk, IfErr};
+ghost use Rattle.wm_data.specs.Entries.{value_at};
+ghost use Rattle.wm_data.specs.Size.{IsData, size_of};
 
+use crate::fault::DataFault;
+use crate::search::search;
 use crate::value::Value;
 use std::alloc::{AllocError, Global};
 use std::marker::Model;
 use wm_collections::{Items, Replica, Text};
+
+/// The bytes of Data without an entry.
+pub(crate) const EMPTY_SIZE: u64 = 2;
 
 /// A key and its value.
 #[derive(Debug, Drop)]
@@ -21,11 +28,13 @@ impl Replica for DataEntry {
     }
 }
 
-/// A map from keys to values. A contract sees it as the list of its entries, in ascending order of
-/// their keys.
+/// A map from keys to values, of at most 10,240 bytes. A contract sees it as the list of its
+/// entries, in ascending order of their keys.
 #[derive(Debug, Drop)]
 pub struct Data {
     entries: Items<DataEntry>,
+    /// The bytes of the entries.
+    size: u64,
 }
 
 impl Model for Data {
@@ -34,7 +43,11 @@ impl Model for Data {
 
     ghost Value = { List DataEntry };
 
+    ghost use Rattle.wm_data.specs.Entries.{IsKept};
+
     ghost view = { λ d. d.entries };
+
+    ghost invariant = { λ d. IsKept d.entries d.size };
 }
 
 impl Data {
@@ -44,7 +57,17 @@ impl Data {
     {
         Data {
             entries: Items::new(alloc),
+            size: EMPTY_SIZE,
         }
+    }
+
+    /// Entries that are Data, of a size.
+    pub(crate) fn from_entries(entries: Items<DataEntry>, size: u64) -> Data
+        requires is_data { IsData entries }
+        requires sized { size ≡ size_of entries }
+        ensures { result ≡ entries }
+    {
+        Data { entries, size }
     }
 
     /// Whether it has no entry.
@@ -53,12 +76,48 @@ impl Data {
     {
         self.entries.is_empty()
     }
+
+    /// Its bytes.
+    pub fn size(&self) -> u64
+        ensures size { result ≡ size_of self.now }
+        ensures is_data { IsData self.now }
+    {
+        self.size
+    }
+
+    /// The entries, in ascending order of their keys.
+    pub(crate) fn entries(&self) -> &[DataEntry]
+        ensures entries { result.now ≡ self.now }
+        ensures is_data { IsData self.now }
+    {
+        self.entries.as_slice()
+    }
+
+    /// The value of a key, found without a look at every entry.
+    pub fn get(&self, key: &str) -> Option<&Value>
+        ensures { option_map (λ value. value.now) result ≡ value_at key.now self.now }
+    {
+        let entries = self.entries.as_slice();
+        match search(entries, key) {
+            Ok(index) => Some(&entries[index].value),
+            Err(_) => None,
+        }
+    }
+
+    /// A copy, in memory of its own.
+    pub fn copy(&self, alloc: Global) -> Result<Data, DataFault>
+        ensures ok { IfOk result (λ copy. copy ≡ self.now) }
+        ensures err { IfErr result (λ fault. fault ≡ DataFault.Memory) }
+    {
+        Ok(self.replica(alloc)?)
+    }
 }
 
 impl Replica for Data {
     fn replica(&self, alloc: Global) -> Result<Data, AllocError> {
         Ok(Data {
             entries: self.entries.replica(alloc)?,
+            size: self.size,
         })
     }
 }

@@ -4,10 +4,20 @@
 //! [`Data`] as the list of its entries, in ascending order of their keys.
 #![tactic(auto)]
 
+pub mod builder;
 pub mod data;
+mod element;
+pub mod fault;
+pub mod laws;
 pub mod merger;
+mod reading;
+mod search;
+mod size;
 pub mod value;
+mod written;
 
+pub use builder::{DataBuilder, MAX_DATA_BYTES};
 pub use data::{Data, DataEntry};
+pub use fault::DataFault;
 pub use merger::Merger;
 pub use value::Value;

@@ -1,0 +1,90 @@
+//! Data as JSON.
+ghost use Rattle.std.specs.Prelude.{◌≡◌, map, Ok, IfOk, IfErr, OnOk};
+ghost use Rattle.std.specs.List.{AllByRecursion};
+ghost use Rattle.serde_json.specs.View.{view, members_view};
+ghost use Rattle.wm_collections.specs.Lists.{AscendByBytes};
+ghost use Rattle.wm_data.specs.DataJson.{data_json, entries_json, list_of, typed, value_json};
+ghost use Rattle.wm_data.specs.DataRead.{read_data};
+ghost use Rattle.wm_data.specs.InType.{AreInType, IsInType};
+
+use crate::data::{Data, DataEntry};
+use crate::element::{Element, list_to_json};
+use crate::fault::DataFault;
+use crate::value::Value;
+use serde_json::{Map, put};
+use std::alloc::{AllocError, Global};
+use wm_collections::Items;
+
+impl Data {
+    /// It as a JSON object: under each key an object, whose one key is the name of the value's type.
+    pub fn to_json(&self, alloc: Global) -> Result<serde_json::Value, DataFault>
+        ensures ok { IfOk result (λ value. view value ≡ data_json self.now) }
+        ensures reads_back { IfOk result (λ value. read_data (view value) ≡ Ok self.now) }
+        ensures err { IfErr result (λ fault. fault ≡ DataFault.Memory) }
+    {
+        Ok(entries_to_json(alloc, self.entries())?)
+    }
+}
+
+fn entries_to_json(alloc: Global, entries: &[DataEntry]) -> Result<serde_json::Value, AllocError>
+    requires { AscendByBytes (map (λ entry. entry.key) entries.now) }
+    ensures form { IfOk result (λ value. view value ≡ data_json entries.now) }
+    ensures in_type { OnOk result (AreInType entries.now) }
+{
+    let mut members = Map::new(alloc);
+    for entry in entries {
+        let value = value_to_json(alloc, &entry.value)?;
+        put(&mut members, alloc, entry.key.as_str(), value)?;
+    }
+    Ok(serde_json::Value::Object(members))
+}
+
+/// A value, under the name of its type.
+fn value_to_json(alloc: Global, value: &Value) -> Result<serde_json::Value, AllocError>
+    ensures form { IfOk result (λ json. view json ≡ value_json value.now) }
+    ensures in_type { OnOk result (IsInType value.now) }
+{
+    match value {
+        Value::Bool(value) => one(alloc, "bool", value),
+        Value::Byte(value) => one(alloc, "byte", value),
+        Value::Int(value) => one(alloc, "int", value),
+        Value::Long(value) => one(alloc, "long", value),
+        Value::Text(text) => one(alloc, "text", text),
+        Value::Bools(values) => many(alloc, "bools", values),
+        Value::Bytes(values) => many(alloc, "bytes", values),
+        Value::Ints(values) => many(alloc, "ints", values),
+        Value::Longs(values) => many(alloc, "longs", values),
+        Value::Texts(texts) => many(alloc, "texts", texts),
+    }
+}
+
+fn one<T: Element>(alloc: Global, name: &str, element: &T) -> Result<serde_json::Value, AllocError>
+    ensures form { IfOk result (λ json. view json ≡ typed name.now (T.form element.now)) }
+    ensures in_type { OnOk result (T.is_in_type element.now) }
+{
+    named(alloc, name, element.to_json(alloc)?)
+}
+
+fn many<T: Element>(
+    alloc: Global,
+    name: &str,
+    elements: &Items<T>,
+) -> Result<serde_json::Value, AllocError>
+    ensures form { IfOk result (λ json. view json ≡ typed name.now (list_of T.form elements.now)) }
+    ensures in_type { OnOk result (AllByRecursion T.is_in_type elements.now) }
+{
+    named(alloc, name, list_to_json(alloc, elements)?)
+}
+
+/// An object whose one key is the name.
+fn named(
+    alloc: Global,
+    name: &str,
+    content: serde_json::Value,
+) -> Result<serde_json::Value, AllocError>
+    ensures { IfOk result (λ json. view json ≡ typed name.now (view content)) }
+{
+    let mut members = Map::new(alloc);
+    put(&mut members, alloc, name, content)?;
+    Ok(serde_json::Value::Object(members))
+}
