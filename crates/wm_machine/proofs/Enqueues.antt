@@ -67,7 +67,8 @@ IsNarrow-with_work s work narrow is = record {
   echoes = narrow.echoes;
 }
 
-first_refusal-none : (check : Option Refusal) (checks : List (Option Refusal)) → first_refusal (check ∷ checks) ≡ None → (check ≡ None) × (first_refusal checks ≡ None)
+first_refusal-none : (check : Option Refusal) (checks : List (Option Refusal)) → first_refusal (check ∷ checks) ≡ None
+    → (check ≡ None) × (first_refusal checks ≡ None)
 first_refusal-none (Some found) checks none = absurd (cc)
 first_refusal-none None checks none = (refl, none)
 

@@ -179,7 +179,8 @@ IsUnderWay-begun {held = held} {kind_of = kind_of} {ticket = ticket} {seat = sea
     }
 
 -- a work that couldn't start
-pub IsBetweenRuns-failed : {K W B : Type 0} {held : K → Option (List Row)} {old new : BookState K W B} → IsBetweenRuns old → IsStartFailed held old new → IsBetweenRuns new
+pub IsBetweenRuns-failed : {K W B : Type 0} {held : K → Option (List Row)} {old new : BookState K W B} → IsBetweenRuns old → IsStartFailed held old new
+    → IsBetweenRuns new
 IsBetweenRuns-failed {held = held} {old = old} {new = new} rest failed =
     rest_again rest (Replay-step held (event.StartFailed failed.seq failed.cause) old.table new.table rest.replay failed.step)
     (λ going. failed_none held old new rest failed.goes_on.before failed.seq failed.cause failed.step) failed.places
@@ -201,7 +202,8 @@ module _ {K W B : Type 0} (held : K → Option (List Row)) (kind_of : B → Kind
       let step = claimed_step held untold.made old.table new.table untold.claimed in
       rest_again rest (Replay-step held step.0 old.table new.table rest.replay step.1) (no_longer new.status untold.status) places
 
-  pub GoesInOrder-halted : IsBetweenRuns old → IsClaimed held kind_of job.Stopped old new → (lines : List Command) → GoesInOrder lines old → GoesInOrder lines new
+  pub GoesInOrder-halted : IsBetweenRuns old → IsClaimed held kind_of job.Stopped old new → (lines : List Command) → GoesInOrder lines old
+      → GoesInOrder lines new
   GoesInOrder-halted rest (inl stopped, places) lines = GoesInOrder-stopped held lines old new stopped.table stopped.status
   GoesInOrder-halted rest (inr untold, places) lines = GoesInOrder-claimed held old new rest untold.before untold.made untold.claimed lines
 

@@ -17,7 +17,8 @@ invariant_of-self-in-Ok g c =
     let done = c.in_default-execute.ensures.ok in
     let e = event.Command (c.self.inside.line + 1) c.in-Some.command done.0 in
     let told = c.tell_last.new in
-    BookInvariant-line c.execute.new.table c.pop_front.new.self.items told.pending.items told.sink c.self.inside.status c.in-Some.command done.0 c.self.invariant
+    BookInvariant-line c.execute.new.table c.pop_front.new.self.items told.pending.items told.sink c.self.inside.status c.in-Some.command done.0
+    c.self.invariant
     (search rules) done.2 c.in-Some.ensures.items c.in_default-execute.ensures.cause
     (IsTold-all e c.execute.new.table told.pending.items told.sink c.self.invariant (search rules) done.2 c.in-Ok.ensures.ok c.in-Ok.ensures.cause)
 
