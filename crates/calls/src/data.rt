@@ -39,10 +39,9 @@ fn long_text(alloc: Global, letters: usize) -> Result<String, AllocError> {
     Ok(text)
 }
 
-#[test]
-fn data_is_read_and_written(rt: HostRuntime) -> Result<(), Fail> {
-    let alloc = rt.alloc();
-    let texts = [
+/// Every form of a value at its ends, and keys in the order of their bytes.
+fn texts_of_data() -> [&'static str; 12] {
+    [
         "{}",
         "{\"a\":{\"bool\":false},\"b\":{\"bool\":true}}",
         "{\"a\":{\"byte\":-128},\"b\":{\"byte\":127},\"c\":{\"byte\":0}}",
@@ -55,19 +54,12 @@ fn data_is_read_and_written(rt: HostRuntime) -> Result<(), Fail> {
         "{\"a\":{\"longs\":[]},\"b\":{\"longs\":[-9223372036854775808,9223372036854775807]}}",
         "{\"a\":{\"texts\":[]},\"b\":{\"texts\":[\"\",\"\\\"\",\"\u{1f600}\"]}}",
         "{\"\\n\":{\"int\":1},\"Z\":{\"int\":2},\"a\":{\"int\":3},\"aa\":{\"int\":4},\"\u{e9}\":{\"int\":5}}",
-    ];
-    for text in texts {
-        assert_eq!(rt; read(alloc, text)?.as_str(), text);
-    }
-    let largest = long_text(alloc, 10_230)?;
-    assert_eq!(rt; read(alloc, largest.as_str())?.as_str(), largest.as_str());
-    Ok(())
+    ]
 }
 
-#[test]
-fn what_isnt_in_the_form_is_refused(rt: HostRuntime) -> Result<(), Fail> {
-    let alloc = rt.alloc();
-    let refused = [
+/// What isn't in the form, and its fault.
+fn texts_of_none() -> [(&'static str, &'static str); 35] {
+    [
         ("null", "BadData "),
         ("[]", "BadData "),
         ("\"a\"", "BadData "),
@@ -103,8 +95,24 @@ fn what_isnt_in_the_form_is_refused(rt: HostRuntime) -> Result<(), Fail> {
         ("{\"k\":{\"ints\":[1,2147483648]}}", "BadData k"),
         ("{\"k\":{\"longs\":[1,1.5]}}", "BadData k"),
         ("{\"k\":{\"texts\":[\"a\",null]}}", "BadData k"),
-    ];
-    for (text, fault) in refused {
+    ]
+}
+
+#[test]
+fn data_is_read_and_written(rt: HostRuntime) -> Result<(), Fail> {
+    let alloc = rt.alloc();
+    for text in texts_of_data() {
+        assert_eq!(rt; read(alloc, text)?.as_str(), text);
+    }
+    let largest = long_text(alloc, 10_230)?;
+    assert_eq!(rt; read(alloc, largest.as_str())?.as_str(), largest.as_str());
+    Ok(())
+}
+
+#[test]
+fn what_isnt_in_the_form_is_refused(rt: HostRuntime) -> Result<(), Fail> {
+    let alloc = rt.alloc();
+    for (text, fault) in texts_of_none() {
         assert_eq!(rt; read(alloc, text)?.as_str(), fault);
     }
     let larger = long_text(alloc, 10_231)?;
