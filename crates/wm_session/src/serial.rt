@@ -55,10 +55,7 @@ pub fn run_serial<K: Keeper, W: Sink, B: Worker, M: Mark>(
 
 /// Executes the lines that are left. After each of them, or once where none is left, it drives all
 /// that may start, until there is nothing left to do.
-fn execute_lines<K: Keeper, W: Sink, B: Worker, M: Mark>(
-    alloc: Global,
-    book: &mut Book<K, W, B, M>,
-)
+fn execute_lines<K: Keeper, W: Sink, B: Worker, M: Mark>(alloc: Global, book: &mut Book<K, W, B, M>)
     requires { IsBetweenRuns book.old }
     ensures rest { IsBetweenRuns book.new }
     ensures done { book.new.status ≡ None → book.new.left ≡ [] }
