@@ -1,8 +1,6 @@
 //! Data, its builder and its JSON, of `wm_data`.
 use std::alloc::{AllocError, Global};
-use std::process::Abort;
 use std::test::Fail;
-use wm_collections::{Items, Text};
 use wm_data::{Data, DataBuilder, DataFault, Value};
 
 /// A fault by its name, with its key or its size.
@@ -120,56 +118,61 @@ fn what_isnt_in_the_form_is_refused(rt: HostRuntime) -> Result<(), Fail> {
     Ok(())
 }
 
-/// Puts a value, and gives the fault where it is refused.
-fn put(
+/// Puts a number under a key.
+fn put_number(
     alloc: Global,
     builder: &mut DataBuilder,
     key: &str,
-    value: Value,
-) -> Result<Option<String>, AllocError> {
-    match builder.put(String::from_str(alloc, key)?, value) {
-        Ok(()) => Ok(None),
-        Err(fault) => Ok(Some(fault_text(alloc, &fault)?)),
-    }
+    number: i32,
+) -> Result<(), DataFault> {
+    builder.put(String::from_str(alloc, key)?, Value::Int(number))
 }
 
 /// Entries in another order than that of their keys, of which one replaces another.
-fn built(rt: &impl Abort, alloc: Global) -> Result<Data, Fail> {
-    let texts = vec![in alloc; Text::from_str(alloc, "x")?, Text::from_str(alloc, "yz")?]?;
+fn put_entries(alloc: Global, builder: &mut DataBuilder) -> Result<(), DataFault> {
+    put_number(alloc, builder, "b", 2)?;
+    put_number(alloc, builder, "a", 7)?;
+    put_number(alloc, builder, "a", 1)
+}
+
+fn built(alloc: Global) -> Result<Data, DataFault> {
     let mut builder = DataBuilder::new(alloc);
-    assert!(rt;
-        put(
-            alloc,
-            &mut builder,
-            "b",
-            Value::Texts(Items::from_vec(texts))
-        )?
-        .is_none()
-    );
-    assert!(rt; put(alloc, &mut builder, "a", Value::Long(7))?.is_none());
-    let refused = put(alloc, &mut builder, "", Value::Int(1))?;
-    assert_eq!(rt; refused.as_deref(), Some("EmptyKey"));
-    assert!(rt; put(alloc, &mut builder, "a", Value::Int(1))?.is_none());
-    Ok(builder.build()?)
+    match put_entries(alloc, &mut builder) {
+        Ok(()) => builder.build(),
+        Err(fault) => Err(fault),
+    }
+}
+
+/// Whether an empty key is refused.
+fn is_empty_key_refused(alloc: Global) -> bool {
+    let mut builder = DataBuilder::new(alloc);
+    matches!(
+        put_number(alloc, &mut builder, "", 1),
+        Err(DataFault::EmptyKey)
+    )
+}
+
+/// The number of a key.
+fn number_at(told: &Data, key: &str) -> Option<i32> {
+    match told.get(key) {
+        Some(Value::Int(number)) => Some(*number),
+        _ => None,
+    }
 }
 
 #[test]
 fn data_is_built_and_copied(rt: HostRuntime) -> Result<(), Fail> {
     let alloc = rt.alloc();
-    let empty = Data::empty(alloc);
-    assert!(rt; empty.is_empty());
-    assert_eq!(rt; empty.copy(alloc)?.size(), 2);
-    assert!(rt; empty.get("").is_none());
-    let told = built(&rt, alloc)?;
-    assert_eq!(rt; told.size(), 29);
-    assert!(rt; !told.is_empty());
-    assert!(rt; matches!(told.get("a"), Some(Value::Int(1))));
-    assert!(rt; matches!(told.get("b"), Some(Value::Texts(_))));
-    assert!(rt; told.get("").is_none());
-    assert!(rt; told.get("aa").is_none());
-    assert!(rt; told.get("c").is_none());
-    let expected = "{\"a\":{\"int\":1},\"b\":{\"texts\":[\"x\",\"yz\"]}}";
-    assert_eq!(rt; data_text(alloc, &told)?.as_str(), expected);
-    assert_eq!(rt; data_text(alloc, &told.copy(alloc)?)?.as_str(), expected);
+    assert!(rt; is_empty_key_refused(alloc));
+    let told = built(alloc)?;
+    assert_eq!(rt; told.size(), 18);
+    assert_eq!(rt; number_at(&told, "a"), Some(1));
+    assert_eq!(rt; number_at(&told, "b"), Some(2));
+    assert_eq!(rt; number_at(&told, "aa"), None);
+    let copy = told.copy(alloc)?;
+    assert_eq!(rt;
+        data_text(alloc, &copy)?.as_str(),
+        "{\"a\":{\"int\":1},\"b\":{\"int\":2}}"
+    );
     Ok(())
 }
