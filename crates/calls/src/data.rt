@@ -13,16 +13,16 @@ fn fault_text(alloc: Global, fault: &DataFault) -> Result<String, AllocError> {
     }
 }
 
-/// Data by its JSON.
-fn data_text(alloc: Global, told: &Data) -> Result<String, Fail> {
-    Ok(told.to_json(alloc)?.to_string(alloc)?)
+/// Data by its canonical text.
+fn data_text(alloc: Global, told: &Data) -> Result<String, AllocError> {
+    Ok(told.to_text(alloc)?.into_string())
 }
 
-/// What a JSON text is read as: the JSON of the Data, or its fault.
+/// What a JSON text is read as: the text of the Data, or its fault.
 fn read(alloc: Global, text: &str) -> Result<String, Fail> {
     let json = serde_json::Value::from_str(alloc, text)?;
     match Data::from_json(alloc, &json) {
-        Ok(told) => data_text(alloc, &told),
+        Ok(told) => Ok(data_text(alloc, &told)?),
         Err(fault) => Ok(fault_text(alloc, &fault)?),
     }
 }
@@ -161,7 +161,7 @@ fn number_at(told: &Data, key: &str) -> Option<i32> {
 }
 
 #[test]
-fn data_is_built_and_copied(rt: HostRuntime) -> Result<(), Fail> {
+fn data_is_built_copied_and_compared(rt: HostRuntime) -> Result<(), Fail> {
     let alloc = rt.alloc();
     assert!(rt; is_empty_key_refused(alloc));
     let told = built(alloc)?;
@@ -170,6 +170,8 @@ fn data_is_built_and_copied(rt: HostRuntime) -> Result<(), Fail> {
     assert_eq!(rt; number_at(&told, "b"), Some(2));
     assert_eq!(rt; number_at(&told, "aa"), None);
     let copy = told.copy(alloc)?;
+    assert!(rt; copy == told);
+    assert!(rt; copy != Data::empty(alloc));
     assert_eq!(rt;
         data_text(alloc, &copy)?.as_str(),
         "{\"a\":{\"int\":1},\"b\":{\"int\":2}}"

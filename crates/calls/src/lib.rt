@@ -12,6 +12,8 @@ mod diarist;
 #[cfg(test)]
 mod keepers;
 #[cfg(test)]
+mod merging;
+#[cfg(test)]
 mod runs;
 #[cfg(test)]
 mod streams;

@@ -16,6 +16,24 @@ impl<T> Model for Items<T> {
     ghost view = { λ a. a.elements.items };
 }
 
+impl<T: PartialEq> PartialEq for Items<T> {
+    ghost use Rattle.std.specs.Cmp.Lexicographic.{lists_per, pointwise};
+
+    ghost eq = { pointwise T.eq };
+
+    ghost laws = { lists_per T.PartialEq.laws };
+
+    fn eq(&self, other: &Items<T>) -> bool {
+        self.elements == other.elements
+    }
+}
+
+impl<T: Eq> Eq for Items<T> {
+    ghost use Rattle.std.proofs.lemmas.Cmp.{lists_equiv};
+
+    ghost laws = { lists_equiv T.Eq.laws };
+}
+
 impl<T> Items<T> {
     /// The empty list, which takes no memory.
     pub fn new(alloc: Global) -> Items<T>

@@ -1,4 +1,5 @@
-ghost use Rattle.std.specs.Prelude.{◌≡◌, ◌==◌, ℕ, List, length, string_bytes, IfOk};
+ghost use Rattle.std.specs.Prelude.{◌≡◌, ◌==◌, ℕ, List, length, string_bytes, Decides, IfOk};
+ghost use Rattle.std.specs.Str.{bytes_eq};
 
 use std::alloc::{AllocError, Global};
 use std::marker::Model;
@@ -13,6 +14,28 @@ impl Model for Text {
     ghost Value = { List ℕ };
 
     ghost view = { λ a. string_bytes a.string };
+}
+
+impl PartialEq for Text {
+    ghost use Rattle.std.proofs.Common.{rules};
+    ghost use Rattle.std.specs.Cmp.Rules.{comparing};
+
+    ghost eq = { bytes_eq };
+
+    ghost laws = { Prim.search (comparing, rules) };
+
+    fn eq(&self, other: &Text) -> bool
+        ensures eq { result ≡ bytes_eq self.now other.now }
+        ensures decides { Decides result (self.now ≡ other.now) }
+    {
+        self.string == other.string
+    }
+}
+
+impl Eq for Text {
+    ghost use Rattle.std.proofs.lemmas.Cmp.{nat_list_eq_equiv};
+
+    ghost laws = { nat_list_eq_equiv };
 }
 
 impl Text {

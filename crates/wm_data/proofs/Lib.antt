@@ -1,6 +1,9 @@
 pub mod EntryForms
+pub mod Equal
 pub mod ItemLists
 pub mod MemberLists
+pub mod NoFloats
 pub mod Places
 pub mod Puts
 pub mod ReadBack
+pub mod ReadData

@@ -1,26 +1,24 @@
 -- Members that are read one by one.
-use Rattle.std.proofs.Common.{◌≡◌, ℕ, ◌<◌, ◌==◌, Bool, true, false, ◌||◌, cond, List, [], ◌∷◌, ◌++◌, length, map, slice_get, filter_map, find, is_none, is_some, Option, Some, None, ok_or, option_map, Result, Ok, Err, String, Global, string_bytes, string_cmp, Less, nat_cmp, is_eq, is_gt, is_lt, is_ok, unwrap_or, refl, sym, ap, ◌∙◌, true≢false, ne_eqb, arith}
+use Rattle.std.proofs.Common.{◌≡◌, ℕ, ◌<◌, ◌==◌, Bool, true, false, ◌||◌, cond, List, [], ◌∷◌, ◌++◌, length, map, slice_get, filter_map, find, is_none, is_some, Option, Some, None, ok_or, option_map, Result, Ok, Err, String, Global, string_bytes, nat_cmp, is_eq, is_ok, unwrap_or, refl, sym, ap, ◌∙◌, true≢false, ne_eqb, arith}
 use Rattle.std.proofs.lemmas.Bool.Decides.{nat_tests}
 use Rattle.std.proofs.lemmas.List.{map-append}
 use Rattle.std.proofs.lemmas.List.Elements.{filter_map-append}
 use Rattle.std.proofs.lemmas.List.Folds.{find-append}
+use Rattle.std.proofs.lemmas.List.Sums.{fold-append}
 use Rattle.std.specs.BTreeMap.{is_at as ties}
 use Rattle.std.specs.Cmp.Lexicographic.{slice_cmp}
-use Rattle.std.specs.List.{AllByRecursion, cons_option, list_any}
-use Rattle.std.specs.List.Sorted.{IsStrictlySortedBy}
-use Rattle.std.specs.Map.{keys_of, lookup}
+use Rattle.std.specs.List.{list_any}
+use Rattle.std.specs.Map.{lookup}
 use Rattle.std.specs.Result.{result_err, result_unwrap_or}
 use Rattle.serde_json.specs.Data as json
 use Rattle.serde_json.specs.Find.{as_object}
 use Rattle.serde_json.specs.View.{members_view, view}
 use Rattle.serde_json.specs.declared.value.Value.{Value}
-use Rattle.wm_data.specs.DataRead.{and_built, entries_of, member_list, only_member, read_data, read_entry, read_value, unless_bad}
-use Rattle.wm_data.specs.Entries.{is_after, is_before, with_entry, IsFaultOf}
+use Rattle.wm_data.specs.DataRead.{and_built, entries_of, member_list, only_member, read_data, put_all, read_entry, unless_bad}
+use Rattle.wm_data.specs.Entries.{with_entry, IsFaultOf}
 use Rattle.wm_data.specs.declared.data.DataEntry.{DataEntry}
 use Rattle.wm_data.specs.declared.fault.DataFault.{DataFault}
 use Rattle.wm_data.specs.declared.fault.DataFault.TheVariants as fault
-use Rattle.wm_data.specs.declared.value.Value.{Value as DataValue}
-use Rattle.wm_data.proofs.Places.{filter_all, filter_none, all_weaker, AllBefore}
 
 -- the members that entries of a map are
 abbrev pub as_member : String Global × Value → List ℕ × json.Data
@@ -57,57 +55,24 @@ good_parts (Some m) entries es e = absurd (true≢false (sym (ap is_ok e)))
 
 -- one more that is in the form
 pub entries_of-good : (ms : List (List ℕ × json.Data)) (m : List ℕ × json.Data) (es : List DataEntry) (e : DataEntry) → entries_of ms ≡ Ok es
-    → read_entry m ≡ Some e → entries_of (ms ++ m ∷ []) ≡ Ok (es ++ e ∷ [])
+    → read_entry m ≡ Some e → entries_of (ms ++ m ∷ []) ≡ Ok (with_entry e es)
 entries_of-good ms m es e good is =
-    let parts = good_parts (find is_bad ms) (filter_map read_entry ms) es good in
-    rw (find-append is_bad ms (m ∷ []), filter_map-append read_entry ms (m ∷ []), parts.0, parts.1, is) refl
+    let parts = good_parts (find is_bad ms) (put_all [] (filter_map read_entry ms)) es good in
+    rw (
+      find-append is_bad ms (m ∷ []),
+      filter_map-append read_entry ms (m ∷ []),
+      fold-append (λ built entry. with_entry entry built) [] (filter_map read_entry ms) (filter_map read_entry (m ∷ [])),
+      parts.0,
+      parts.1,
+      is,
+    ) refl
 
 -- one more that isn't
 pub entries_of-bad : (ms rest : List (List ℕ × json.Data)) (m : List ℕ × json.Data) (es : List DataEntry) → entries_of ms ≡ Ok es → read_entry m ≡ None
     → entries_of (ms ++ m ∷ rest) ≡ Err (fault.BadData m.0)
 entries_of-bad ms rest m es good none =
-    let parts = good_parts (find is_bad ms) (filter_map read_entry ms) es good in
+    let parts = good_parts (find is_bad ms) (put_all [] (filter_map read_entry ms)) es good in
     rw (find-append is_bad ms (m ∷ rest), parts.0, none) refl
-
--- ---- keys that ascend
-
-key_before : (first : String Global × Value) (done : List (String Global × Value)) (e : String Global × Value) (left : List (String Global × Value))
-    → AllByRecursion (λ later. string_cmp first.0 later ≡ Less) (keys_of (done ++ e ∷ left))
-    → slice_cmp nat_cmp (string_bytes first.0) (string_bytes e.0) ≡ Less
-key_before first [] e left h = h.0
-key_before first (x ∷ done) e left h = key_before first done e left h.1
-
--- the members that are read come before the key of the next
-abbrev AreBefore : List ℕ → List (List ℕ × json.Data) → Type 0
-AreBefore key ms = AllByRecursion (λ m. slice_cmp nat_cmp m.0 key ≡ Less) ms
-
-are_before : (done : List (String Global × Value)) (e : String Global × Value) (left : List (String Global × Value))
-    → IsStrictlySortedBy string_cmp (keys_of (done ++ e ∷ left)) → AreBefore (string_bytes e.0) (members_in done)
-unfolding IsStrictlySortedBy
-are_before [] e left h = tt
-are_before (x ∷ done) e left h = (key_before x done e left h.0, are_before done e left h.1)
-
-before_cons : (key : List ℕ) (m : List ℕ × json.Data) (o : Option DataValue) (entries : List DataEntry) → slice_cmp nat_cmp m.0 key ≡ Less
-    → AllBefore key entries
-    → AllBefore key (cons_option (option_map (λ v. record { key = m.0; value = v }) o) entries)
-before_cons key m None entries less before = before
-before_cons key m (Some v) entries less before = (less, before)
-
-entries_before : (key : List ℕ) (ms : List (List ℕ × json.Data)) → AreBefore key ms → AllBefore key (filter_map read_entry ms)
-entries_before key [] h = tt
-entries_before key (m ∷ ms) h = before_cons key m (read_value m.1) (filter_map read_entry ms) h.0 (entries_before key ms h.1)
-
--- an entry whose key is above the others goes last
-pub with_entry-last : (entry : DataEntry) (entries : List DataEntry) → AllBefore entry.key entries → with_entry entry entries ≡ entries ++ entry ∷ []
-with_entry-last entry entries before =
-    rw (
-      filter_all (is_before entry.key) entries (all_weaker _ (λ e. is_before entry.key e ≡ true) (λ e less. ap is_lt less) entries before),
-      filter_none (is_after entry.key) entries (all_weaker _ (λ e. is_after entry.key e ≡ false) (λ e less. ap is_gt less) entries before),
-    ) refl
-
-key_of_entry : (m : List ℕ × json.Data) (o : Option DataValue) (e : DataEntry) → option_map (λ v. record { key = m.0; value = v }) o ≡ Some e → e.key ≡ m.0
-key_of_entry m None e is = cc
-key_of_entry m (Some v) e is = ap (λ (p : Option DataEntry). unwrap_or (option_map (λ x. x.key) p) m.0) (sym is)
 
 -- ---- keys that are empty
 
@@ -127,7 +92,7 @@ has_empty_key (e ∷ es) =
     is_some_or (is_eq (slice_cmp nat_cmp [] (string_bytes e.0))) e.1 (lookup (ties (λ k. slice_cmp nat_cmp [] (string_bytes k))) es)
     ∙ rw (is_eq_empty (string_bytes e.0), has_empty_key es) refl
 
-neither : (a b : Bool) → (a || b) ≡ false → (a ≡ false) × (b ≡ false)
+pub neither : (a b : Bool) → (a || b) ≡ false → (a ≡ false) × (b ≡ false)
 neither true b e = absurd (true≢false e)
 neither false b e = (refl, e)
 
@@ -150,24 +115,20 @@ same_fault answer other (fault.TooLarge size) same h = same (fault.TooLarge size
 same_fault answer other fault.Memory same h = tt
 
 put_of_read : (o : Option DataEntry) (ms : List (List ℕ × json.Data)) (m : List ℕ × json.Data) (builder now : List DataEntry) → read_entry m ≡ o
-    → AreBefore m.0 ms → entries_of ms ≡ Ok builder → option_map (λ entry. with_entry entry builder) o ≡ Some now → entries_of (ms ++ m ∷ []) ≡ Ok now
-put_of_read None ms m builder now is before good put = cc
-put_of_read (Some entry) ms m builder now is before good put =
-    let kept = (good_parts (find is_bad ms) (filter_map read_entry ms) builder good).1 in
-    let key = key_of_entry m (read_value m.1) entry is in
-    let above : AllBefore entry.key builder = rw (key, ← kept) (entries_before m.0 ms before) in
+    → entries_of ms ≡ Ok builder → option_map (λ entry. with_entry entry builder) o ≡ Some now → entries_of (ms ++ m ∷ []) ≡ Ok now
+put_of_read None ms m builder now is good put = cc
+put_of_read (Some entry) ms m builder now is good put =
     let last : with_entry entry builder ≡ now = ap (λ p. unwrap_or p now) put in
-    entries_of-good ms m builder entry good is ∙ ap Ok (sym (with_entry-last entry builder above) ∙ last)
+    entries_of-good ms m builder entry good is ∙ ap Ok last
 
 -- a member that was put
-pub entries_of-put : (done left : List (String Global × Value)) (e : String Global × Value) (builder now : List DataEntry)
-    → IsStrictlySortedBy string_cmp (keys_of (done ++ e ∷ left)) → entries_of (members_in done) ≡ Ok builder
+pub entries_of-put : (done : List (String Global × Value)) (e : String Global × Value) (builder now : List DataEntry)
+    → entries_of (members_in done) ≡ Ok builder
     → option_map (λ entry. with_entry entry builder) (read_entry (string_bytes e.0, view e.1)) ≡ Some now
     → entries_of (members_in (done ++ e ∷ [])) ≡ Ok now
-entries_of-put done left e builder now sorted good put =
+entries_of-put done e builder now good put =
     rw (map-append as_member done (e ∷ []))
-    (put_of_read (read_entry (string_bytes e.0, view e.1)) (members_in done) (string_bytes e.0, view e.1) builder now refl
-    (are_before done e left sorted) good put)
+    (put_of_read (read_entry (string_bytes e.0, view e.1)) (members_in done) (string_bytes e.0, view e.1) builder now refl good put)
 
 bad_answer : (o : Option DataEntry) (ms rest : List (List ℕ × json.Data)) (m : List ℕ × json.Data) (builder : List DataEntry) (x : DataFault) → read_entry m ≡ o
     → entries_of ms ≡ Ok builder → ok_or o (fault.BadData m.0) ≡ Err x → entries_of (ms ++ m ∷ rest) ≡ Err x

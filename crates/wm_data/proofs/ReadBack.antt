@@ -1,17 +1,21 @@
 -- What is written as JSON is read as the same.
-use Rattle.std.proofs.Common.{◌≡◌, ℕ, ℤ, pos, negsuc, ◌^◌, ◌<◌, ◌≤◌, ◌==◌, true, false, List, [], ◌∷◌, length, map, filter_map, find, is_none, is_some, Option, Some, None, Ok, FitsSigned, w8, w32, w64, refl, lt-ltb, le-leb, ne_eqb, arith}
+use Rattle.std.proofs.Common.{◌≡◌, ℕ, ℤ, pos, negsuc, ◌^◌, ◌<◌, ◌≤◌, ◌==◌, true, false, List, [], ◌∷◌, ◌++◌, append_assoc, append-nil, length, Less, sym, ap, ◌∙◌, map, filter_map, find, is_none, is_some, Option, Some, None, Ok, FitsSigned, w8, w32, w64, refl, lt-ltb, le-leb, ne_eqb, arith}
+use Rattle.std.specs.Cmp.Lexicographic.{slice_cmp}
 use Rattle.std.specs.List.{AllByRecursion, list_all, list_any}
+use Rattle.std.specs.Ordering.{is_lt, is_gt, nat_cmp}
+use Rattle.wm_collections.specs.Lists.{AscendByBytes}
 use Rattle.serde_json.specs.Data as json
 use Rattle.serde_json.specs.Find.{as_bool, as_str}
 use Rattle.wm_data.specs.DataJson.{data_json, entries_json, list_of, value_json, whole}
-use Rattle.wm_data.specs.DataRead.{list_in, long_of, member_list, read_data, read_entry, read_value, whole_of}
+use Rattle.wm_data.specs.DataRead.{list_in, long_of, member_list, put_all, read_data, read_entry, read_value, whole_of}
 use Rattle.wm_data.specs.InType.{AreInType, IsInType}
+use Rattle.wm_data.specs.Entries.{is_after, is_before, with_entry}
 use Rattle.wm_data.specs.Size.{IsData}
 use Rattle.wm_data.specs.declared.data.DataEntry.{DataEntry}
 use Rattle.wm_data.specs.declared.value.Value.{Value}
 use Rattle.wm_data.specs.declared.value.Value.TheVariants as value
 use Rattle.wm_data.proofs.ItemLists.{item_list-items_of}
-use Rattle.wm_data.proofs.Places.{all_weaker}
+use Rattle.wm_data.proofs.Places.{all_weaker, filter_all, filter_none, keys, AllBefore}
 
 -- ---- numbers
 
@@ -85,6 +89,31 @@ all_read : (entries : List DataEntry) → AreInType entries → filter_map read_
 all_read [] h = refl
 all_read (entry ∷ entries) h = rw (read_entry-written entry h.0, all_read entries h.1) refl
 
+-- an entry whose key is above the others goes last
+with_entry-last : (entry : DataEntry) (entries : List DataEntry) → AllBefore entry.key entries → with_entry entry entries ≡ entries ++ entry ∷ []
+with_entry-last entry entries before =
+    rw (
+      filter_all (is_before entry.key) entries (all_weaker _ (λ e. is_before entry.key e ≡ true) (λ e less. ap is_lt less) entries before),
+      filter_none (is_after entry.key) entries (all_weaker _ (λ e. is_after entry.key e ≡ false) (λ e less. ap is_gt less) entries before),
+    ) refl
+
+first_before : (first : DataEntry) (done : List DataEntry) (entry : DataEntry) (more : List DataEntry)
+    → AllByRecursion (λ later. slice_cmp nat_cmp first.key later ≡ Less) (keys (done ++ entry ∷ more)) → slice_cmp nat_cmp first.key entry.key ≡ Less
+first_before first [] entry more h = h.0
+first_before first (e ∷ done) entry more h = first_before first done entry more h.1
+
+all_before : (done : List DataEntry) (entry : DataEntry) (more : List DataEntry) → AscendByBytes (keys (done ++ entry ∷ more)) → AllBefore entry.key done
+all_before [] entry more up = tt
+all_before (first ∷ done) entry more up = (first_before first done entry more up.0, all_before done entry more up.1)
+
+-- entries that ascend stay in their order
+put_all-ascending : (done more : List DataEntry) → AscendByBytes (keys (done ++ more)) → put_all done more ≡ done ++ more
+put_all-ascending done [] up = sym (append-nil done)
+put_all-ascending done (entry ∷ more) up =
+    let whole = append_assoc done (entry ∷ []) more in
+    rw (with_entry-last entry done (all_before done entry more up))
+    (put_all-ascending (done ++ entry ∷ []) more (rw whole up) ∙ whole)
+
 no_empty_key : (entries : List DataEntry) → AllByRecursion (λ entry. 1 ≤ length entry.key) entries
     → list_any (λ m. length m.0 == 0) (member_list (entries_json entries)) ≡ false
 no_empty_key [] h = refl
@@ -92,4 +121,5 @@ no_empty_key (entry ∷ entries) h = rw (ne_eqb (length entry.key) 0 (λ e. omeg
 
 pub read_data-data_json : (entries : List DataEntry) → IsData entries → AreInType entries → read_data (data_json entries) ≡ Ok entries
 read_data-data_json entries is_data in_type =
-    rw (no_empty_key entries is_data.named, none_bad entries in_type, all_read entries in_type, le-leb _ 10240 is_data.size) refl
+    rw (no_empty_key entries is_data.named, none_bad entries in_type, all_read entries in_type, put_all-ascending [] entries is_data.ascending)
+    (rw (le-leb _ 10240 is_data.size) refl)

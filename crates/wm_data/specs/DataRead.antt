@@ -1,11 +1,11 @@
 -- Which Data a JSON value is, and why one is none. This project's own choice.
 use Rattle.std.specs.Prelude.{ℕ, ℤ, pos, negsuc, ◌^◌, ◌==◌, List, [], ◌∷◌, length, codes, filter_map, find, nat_lt, Bool, if◌then◌else◌, Option, Some, None, is_some, is_none, option_map, option_and_then, Result, Ok, Err}
-use Rattle.std.specs.List.{list_all, list_any}
+use Rattle.std.specs.List.{fold, list_all, list_any}
 use Rattle.std.specs.Map.{lookup}
 use Rattle.std.specs.Str.{bytes_eq}
 use Rattle.serde_json.specs.Data as json
 use Rattle.serde_json.specs.Find.{as_array, as_bool, as_i64, as_number, as_object, as_str}
-use Rattle.wm_data.specs.Entries.{built_of}
+use Rattle.wm_data.specs.Entries.{built_of, with_entry}
 use Rattle.wm_data.specs.declared.data.DataEntry.{DataEntry}
 use Rattle.wm_data.specs.declared.fault.DataFault.{DataFault}
 use Rattle.wm_data.specs.declared.fault.DataFault.TheVariants as fault
@@ -75,13 +75,17 @@ read_value d = option_and_then (λ m. value_under m.0 m.1) (only_member d)
 abbrev pub read_entry : List ℕ × json.Data → Option DataEntry
 read_entry m = option_map (λ v. record { key = m.0; value = v }) (read_value m.1)
 
+-- the entries put one after another
+abbrev pub put_all : List DataEntry → List DataEntry → List DataEntry
+put_all entries more = fold (λ built entry. with_entry entry built) entries more
+
 -- The entries of members that are all in the form. The keys of an object ascend, so the first that isn't has the least key.
 abbrev pub unless_bad : Option (List ℕ × json.Data) → List DataEntry → Result (List DataEntry) DataFault
 unless_bad None entries = Ok entries
 unless_bad (Some m) entries = Err (fault.BadData m.0)
 
 abbrev pub entries_of : List (List ℕ × json.Data) → Result (List DataEntry) DataFault
-entries_of ms = unless_bad (find (λ m. is_none (read_entry m)) ms) (filter_map read_entry ms)
+entries_of ms = unless_bad (find (λ m. is_none (read_entry m)) ms) (put_all [] (filter_map read_entry ms))
 
 -- the entries as Data, where there are some
 abbrev pub and_built : Result (List DataEntry) DataFault → Result (List DataEntry) DataFault

@@ -1,4 +1,5 @@
-ghost use Rattle.std.specs.Prelude.{◌≡◌, [], length, ◌==◌, option_map, IfOk, IfErr};
+ghost use Rattle.std.specs.Prelude.{◌≡◌, [], length, ◌==◌, option_map, Decides, IfOk, IfErr};
+ghost use Rattle.std.specs.Cmp.Lexicographic.{pointwise};
 ghost use Rattle.wm_data.specs.Entries.{value_at};
 ghost use Rattle.wm_data.specs.Size.{IsData, size_of};
 
@@ -13,7 +14,7 @@ use wm_collections::{Items, Replica, Text};
 pub(crate) const EMPTY_SIZE: u64 = 2;
 
 /// A key and its value.
-#[derive(Debug, Drop)]
+#[derive(Debug, Drop, PartialEq, Eq)]
 pub struct DataEntry {
     pub key: Text,
     pub value: Value,
@@ -50,6 +51,30 @@ impl Model for Data {
     ghost invariant = { λ d. IsKept d.entries d.size };
 }
 
+impl PartialEq for Data {
+    ghost use Rattle.std.specs.Cmp.Lexicographic.{lists_per, pointwise};
+    ghost use Rattle.wm_data.specs.contracts.data.DataEntryPartialEq.TheImpl.Laws.{laws-law};
+
+    ghost eq = { pointwise ⟦<DataEntry as PartialEq>⟧.eq };
+
+    ghost laws = { lists_per laws-law };
+
+    /// Whether they have the same entries.
+    fn eq(&self, other: &Data) -> bool
+        ensures eq { result ≡ pointwise ⟦<DataEntry as PartialEq>⟧.eq self.now other.now }
+        ensures decides { Decides result (self.now ≡ other.now) }
+    {
+        self.entries == other.entries
+    }
+}
+
+impl Eq for Data {
+    ghost use Rattle.std.specs.Cmp.Lexicographic.{lists_equiv};
+    ghost use Rattle.wm_data.specs.contracts.data.DataEntryEq.TheImpl.Laws.{laws-law};
+
+    ghost laws = { lists_equiv laws-law };
+}
+
 impl Data {
     /// No entry. It takes no memory.
     pub fn empty(alloc: Global) -> Data
@@ -62,7 +87,7 @@ impl Data {
     }
 
     /// Entries that are Data, of a size.
-    pub(crate) fn from_entries(entries: Items<DataEntry>, size: u64) -> Data
+    pub fn from_entries(entries: Items<DataEntry>, size: u64) -> Data
         requires is_data { IsData entries }
         requires sized { size ≡ size_of entries }
         ensures { result ≡ entries }
@@ -86,7 +111,7 @@ impl Data {
     }
 
     /// The entries, in ascending order of their keys.
-    pub(crate) fn entries(&self) -> &[DataEntry]
+    pub fn entries(&self) -> &[DataEntry]
         ensures entries { result.now ≡ self.now }
         ensures is_data { IsData self.now }
     {

@@ -1,4 +1,4 @@
-use std::alloc::{AllocError, AllocFailed};
+use std::alloc::AllocError;
 use wm_collections::Text;
 
 /// Why there is no [`Data`](crate::Data).
@@ -22,17 +22,6 @@ impl From<AllocError> for DataFault {
     ghost from_gives = { λ _ fault. fault ≡ Memory };
 
     fn from(_refused: AllocError) -> DataFault {
-        DataFault::Memory
-    }
-}
-
-impl<T: Drop> From<AllocFailed<T>> for DataFault {
-    ghost use Rattle.std.specs.Prelude.{◌≡◌};
-    ghost use Rattle.wm_data.specs.declared.fault.DataFault.TheVariants.{Memory};
-
-    ghost from_gives = { λ _ fault. fault ≡ Memory };
-
-    fn from(_refused: AllocFailed<T>) -> DataFault {
         DataFault::Memory
     }
 }

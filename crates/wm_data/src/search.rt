@@ -5,7 +5,7 @@ ghost use Rattle.wm_data.specs.Entries.{IsFoundAt, IsMissingAt};
 use crate::data::DataEntry;
 
 /// Where the entry of a key stands among entries in the order of their keys, or else where it would.
-pub(crate) fn search(entries: &[DataEntry], key: &str) -> Result<usize, usize>
+pub fn search(entries: &[DataEntry], key: &str) -> Result<usize, usize>
     requires { AscendByBytes (map (λ entry. entry.key) entries.now) }
     ensures found { IfOk result (IsFoundAt key.now entries.now) }
     ensures missing { IfErr result (IsMissingAt key.now entries.now) }

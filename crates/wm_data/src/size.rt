@@ -4,12 +4,23 @@
 //! answered as memory that was refused.
 ghost use Rattle.std.specs.Prelude.{◌≡◌, ◌≤◌, IfOk, IfSome};
 ghost use Rattle.std.specs.Prelude.{◌+◌, ◌*◌, sum_by};
-ghost use Rattle.wm_data.specs.Size.{entry_size, payload, text_size};
+ghost use Rattle.wm_data.specs.Size.{entry_size, payload, size_of, text_size};
 
-use crate::data::DataEntry;
+use crate::data::{DataEntry, EMPTY_SIZE};
 use crate::value::Value;
 use std::alloc::AllocError;
 use wm_collections::{Items, Text};
+
+/// The bytes of entries.
+pub fn entries_size(entries: &[DataEntry]) -> Result<u64, AllocError>
+    ensures { IfOk result (λ size. size ≡ size_of entries.now) }
+{
+    let mut size = EMPTY_SIZE;
+    for entry in entries {
+        size = size_added(size, entry)?;
+    }
+    Ok(size)
+}
 
 /// The bytes with an entry more.
 pub(crate) fn size_added(size: u64, added: &DataEntry) -> Result<u64, AllocError>

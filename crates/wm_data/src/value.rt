@@ -2,7 +2,7 @@ use std::alloc::{AllocError, Global};
 use wm_collections::{Items, Replica, Text};
 
 /// A value of one of the types that [`Data`](crate::Data) holds.
-#[derive(Debug, Drop)]
+#[derive(Debug, Drop, PartialEq, Eq)]
 pub enum Value {
     Bool(bool),
     Byte(i8),

@@ -3,7 +3,7 @@ ghost use Rattle.std.specs.Prelude.{◌≡◌, map, Ok, IfOk, IfErr, OnOk};
 ghost use Rattle.std.specs.List.{AllByRecursion};
 ghost use Rattle.serde_json.specs.View.{view, members_view};
 ghost use Rattle.wm_collections.specs.Lists.{AscendByBytes};
-ghost use Rattle.wm_data.specs.DataJson.{data_json, entries_json, list_of, typed, value_json};
+ghost use Rattle.wm_data.specs.DataJson.{data_json, data_text, entries_json, list_of, typed, value_json};
 ghost use Rattle.wm_data.specs.DataRead.{read_data};
 ghost use Rattle.wm_data.specs.InType.{AreInType, IsInType};
 
@@ -13,7 +13,7 @@ use crate::fault::DataFault;
 use crate::value::Value;
 use serde_json::{Map, put};
 use std::alloc::{AllocError, Global};
-use wm_collections::Items;
+use wm_collections::{Items, Text};
 
 impl Data {
     /// It as a JSON object: under each key an object, whose one key is the name of the value's type.
@@ -23,6 +23,15 @@ impl Data {
         ensures err { IfErr result (λ fault. fault ≡ DataFault.Memory) }
     {
         Ok(entries_to_json(alloc, self.entries())?)
+    }
+
+    /// Its canonical text: it as JSON, compact and with the keys in ascending byte order.
+    #[tactic(auto, using(crate::proofs::NoFloats::entries_have_no_float))]
+    pub fn to_text(&self, alloc: Global) -> Result<Text, AllocError>
+        ensures { IfOk result (λ text. text ≡ data_text self.now) }
+    {
+        let value = entries_to_json(alloc, self.entries())?;
+        Ok(Text::from_string(value.to_string(alloc)?))
     }
 }
 

@@ -24,10 +24,9 @@ loop-key-preserved c =
     let done = map deref_pair c.loop-key.yielded in
     let member : String Global × Value = (c.in-Some.key.now, c.in-Some.json.now) in
     let whole = around done c.loop-key.key-iterator c.next.new.self c.args.members.now.entries member c.in-Some.ensures.steps c.loop-key.invariant.1 in
-    let sorted = rw (← whole) at c.iter-key-items.ensures.ordered in
     let put = rw c.as_str.ensures.value at c.in_ok-put_member.ensures.ok in
     rw (map-append deref_pair c.loop-key.yielded ((c.in-Some.key, c.in-Some.json) ∷ [])) (
-      entries_of-put done c.next.new.self member c.loop-key.builder c.put_member.new.builder sorted c.loop-key.invariant.0 put,
+      entries_of-put done member c.loop-key.builder c.put_member.new.builder c.loop-key.invariant.0 put,
       append_assoc done (member ∷ []) c.next.new.self ∙ whole,
     )
 

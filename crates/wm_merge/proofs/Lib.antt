@@ -1,0 +1,5 @@
+pub mod KeyOrder
+pub mod MergedData
+pub mod Merges
+pub mod Steps
+pub mod Values
