@@ -9,7 +9,7 @@ use std::test::Fail;
 use wm_bench::{Bench, Hand};
 use wm_collections::Text;
 use wm_data::{Data, Value};
-use wm_stock::Echo;
+use wm_stock::{Count, Echo, FailUntil, RetryUntil, Sum, Wait};
 use wm_worker::{Answer, Given, Kind, Signal, Task, Told, Worker};
 
 /// The Success that was told has no data.
@@ -170,6 +170,173 @@ fn workers_leave_the_bench_and_come_back(rt: HostRuntime) -> Result<(), Fail> {
     ];
     let diary = told_runs(alloc, &c.worker)?;
     assert_eq!(rt; diary.as_deref(), Some(runs.as_slice()));
+    Ok(())
+}
+
+/// An answer by its name, with its data as JSON.
+fn answer_text(alloc: Global, answer: &Answer) -> Result<String, Fail> {
+    let (name, told) = match answer {
+        Answer::More(None) => return Ok(String::from_str(alloc, "More")?),
+        Answer::Retry => return Ok(String::from_str(alloc, "Retry")?),
+        Answer::Cut(raised) => return Ok(format!(in alloc; "Cut {}", raised.run())?),
+        Answer::More(Some(progress)) => ("More", progress),
+        Answer::Success(output) => ("Success", output),
+        Answer::Failure(output) => ("Failure", output),
+    };
+    let json = told.to_json(alloc)?.to_string(alloc)?;
+    Ok(format!(in alloc; "{name} {json}")?)
+}
+
+/// Turn `k` of an attempt of run 7, with an input that is given as JSON.
+#[derive(Clone, Copy)]
+struct Turn {
+    input: &'static str,
+    attempt: u32,
+    k: u32,
+}
+
+/// The first turn of the first attempt.
+fn first_turn(input: &'static str) -> Turn {
+    Turn {
+        input,
+        attempt: 1,
+        k: 0,
+    }
+}
+
+/// A worker answers so in a turn.
+fn expect_answer<W: Worker>(
+    rt: &impl Abort,
+    alloc: Global,
+    mut worker: W,
+    turn: Turn,
+    signal: &Signal,
+    expected: &str,
+) -> Result<(), Fail>
+    requires { signal.now.run ≡ 7 }
+{
+    let json = serde_json::Value::from_str(alloc, turn.input)?;
+    let task = Task {
+        run: 7,
+        attempt: turn.attempt,
+        input: Data::from_json(alloc, &json)?,
+    };
+    worker.begin(alloc, &task)?;
+    let told = worker.turn(alloc, &task, turn.k, signal)?;
+    assert_eq!(rt; answer_text(alloc, told.answer())?.as_str(), expected);
+    Ok(())
+}
+
+#[test]
+fn a_sum_takes_ints_alone(rt: HostRuntime) -> Result<(), Fail> {
+    let alloc = rt.alloc();
+    let never = Signal::never(7);
+    let cases = [
+        ("{}", "Success {\"sum\":{\"long\":0}}"),
+        (
+            "{\"a\":{\"int\":3},\"b\":{\"ints\":[4,-6]},\"c\":{\"long\":9},\"d\":{\"text\":\"5\"}}",
+            "Success {\"sum\":{\"long\":1}}",
+        ),
+        (
+            "{\"a\":{\"ints\":[2147483647,2147483647]},\"sum\":{\"int\":2147483647}}",
+            "Success {\"sum\":{\"long\":6442450941}}",
+        ),
+        (
+            "{\"a\":{\"ints\":[-2147483648]},\"b\":{\"int\":-2147483648},\"c\":{\"longs\":[1]}}",
+            "Success {\"sum\":{\"long\":-4294967296}}",
+        ),
+    ];
+    for (input, expected) in cases {
+        expect_answer(&rt, alloc, Sum::new(), first_turn(input), &never, expected)?;
+    }
+    Ok(())
+}
+
+/// Inputs, attempts, and whether a work succeeds at them.
+fn attempts() -> [(&'static str, u32, bool); 15] {
+    let (other_type, third) = ("{\"until\":{\"long\":3}}", "{\"until\":{\"int\":3}}");
+    let (zeroth, negative) = ("{\"until\":{\"int\":0}}", "{\"until\":{\"int\":-1}}");
+    [
+        ("{}", 1, false),
+        ("{}", 2, true),
+        ("{}", 3, true),
+        (other_type, 1, false),
+        (other_type, 2, true),
+        (other_type, 3, true),
+        (third, 1, false),
+        (third, 2, false),
+        (third, 3, true),
+        (zeroth, 1, true),
+        (zeroth, 2, true),
+        (zeroth, 3, true),
+        (negative, 1, true),
+        (negative, 2, true),
+        (negative, 3, true),
+    ]
+}
+
+#[test]
+fn a_work_succeeds_from_an_attempt_on(rt: HostRuntime) -> Result<(), Fail> {
+    let alloc = rt.alloc();
+    let never = Signal::never(7);
+    for (input, attempt, succeeds) in attempts() {
+        let turn = Turn {
+            input,
+            attempt,
+            k: 0,
+        };
+        let success = format!(in alloc; "Success {input}")?;
+        let (failure, retry) = if succeeds {
+            (success.as_str(), success.as_str())
+        } else {
+            ("Failure {}", "Retry")
+        };
+        expect_answer(&rt, alloc, FailUntil::new(), turn, &never, failure)?;
+        expect_answer(&rt, alloc, RetryUntil::new(), turn, &never, retry)?;
+    }
+    Ok(())
+}
+
+#[test]
+fn turns_are_counted(rt: HostRuntime) -> Result<(), Fail> {
+    let alloc = rt.alloc();
+    let never = Signal::never(7);
+    let two = "{\"turns\":{\"int\":2}}";
+    let once = "Success {\"turns\":{\"int\":1}}";
+    let cases = [
+        (two, 0, "More {\"turn\":{\"int\":1}}"),
+        (two, 1, "Success {\"turns\":{\"int\":2}}"),
+        (two, u32::MAX, "Success {\"turns\":{\"int\":2}}"),
+        ("{}", 0, once),
+        ("{\"turns\":{\"int\":0}}", 0, once),
+        ("{\"turns\":{\"int\":-5}}", 0, once),
+        ("{\"turns\":{\"text\":\"2\"}}", 0, once),
+    ];
+    for (input, k, expected) in cases {
+        let turn = Turn {
+            input,
+            attempt: 1,
+            k,
+        };
+        expect_answer(&rt, alloc, Count::new(), turn, &never, expected)?;
+    }
+    Ok(())
+}
+
+#[test]
+fn two_workers_look_at_the_signal(rt: HostRuntime) -> Result<(), Fail> {
+    let alloc = rt.alloc();
+    let turn = first_turn("{}");
+    let signal = Signal::new(alloc, 7)?;
+    expect_answer(&rt, alloc, Wait::new(), turn, &signal, "More")?;
+    signal.raise();
+    let sum = "Success {\"sum\":{\"long\":0}}";
+    expect_answer(&rt, alloc, Echo::new(), turn, &signal, "Success {}")?;
+    expect_answer(&rt, alloc, Sum::new(), turn, &signal, sum)?;
+    expect_answer(&rt, alloc, FailUntil::new(), turn, &signal, "Failure {}")?;
+    expect_answer(&rt, alloc, RetryUntil::new(), turn, &signal, "Retry")?;
+    expect_answer(&rt, alloc, Count::new(), turn, &signal, "Cut 7")?;
+    expect_answer(&rt, alloc, Wait::new(), turn, &signal, "Cut 7")?;
     Ok(())
 }
 

@@ -1,9 +1,21 @@
-//! The stock workers, which need nothing but their input.
+//! The stock workers of this project, which need nothing but their input.
 //!
 //! Each is a [`Worker`](wm_worker::Worker) of the kind of its name, answers what
-//! `specs/Answers.antt` of `wm_worker` says, and tells no diary.
+//! `specs/Answers.antt` of `wm_worker` says, and tells no diary. `Count` and `Wait` look at the
+//! signal; the others don't.
 #![tactic(auto)]
 
+pub mod count;
 pub mod echo;
+pub mod fail_until;
+mod input;
+pub mod retry_until;
+pub mod sum;
+pub mod wait;
 
+pub use count::Count;
 pub use echo::Echo;
+pub use fail_until::FailUntil;
+pub use retry_until::RetryUntil;
+pub use sum::Sum;
+pub use wait::Wait;

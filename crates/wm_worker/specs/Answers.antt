@@ -1,7 +1,8 @@
 -- What workers answer: the one answer of each stock kind, and what any worker may answer. This
 -- project's own choice. Numbers are whole numbers. A sum is a Long's number wherever the input is
 -- within the size of Data; elsewhere a Sum has no answer that a program could make.
-use Rattle.std.specs.Prelude.{◌≡◌, ℕ, ℤ, pos, ◌+◌, ◌+ℤ◌, int_lt, List, [], ◌∷◌, map, fold, codes, bytes_eq, Option, Some, None, unwrap_or, option_and_then, IfSome, if◌then◌else◌}
+use Rattle.std.specs.Prelude.{◌≡◌, ℕ, ℤ, pos, ◌+◌, ◌+ℤ◌, int_le, int_lt, Bool, List, [], ◌∷◌, map, fold, codes, Option, Some, None, unwrap_or, option_and_then, IfSome, if◌then◌else◌}
+use Rattle.wm_data.specs.Entries.{value_at}
 use Rattle.wm_data.specs.declared.data.DataEntry.{DataEntry}
 use Rattle.wm_data.specs.declared.value.Value.{Value}
 use Rattle.wm_data.specs.declared.value.Value.TheVariants as value
@@ -13,11 +14,6 @@ use Rattle.wm_worker.specs.declared.kind.Kind.{Kind}
 use Rattle.wm_worker.specs.declared.kind.Kind.TheVariants as kind
 use Rattle.wm_worker.specs.declared.task.Task.{Task}
 
--- the value under a key
-abbrev pub value_at : List DataEntry → List ℕ → Option Value
-value_at [] key = None
-value_at (entry ∷ entries) key = if bytes_eq entry.key key then Some entry.value else value_at entries key
-
 -- the number of an Int
 abbrev pub number_of : Value → Option ℤ
 number_of (value.Int n) = Some n
@@ -25,7 +21,7 @@ number_of _ = None
 
 -- the number under a key that holds an Int
 abbrev pub int_of : List DataEntry → List ℕ → Option ℤ
-int_of input key = option_and_then number_of (value_at input key)
+int_of input key = option_and_then number_of (value_at key input)
 
 abbrev pub total : List ℤ → ℤ
 total ns = fold ◌+ℤ◌ (pos 0) ns
@@ -44,6 +40,10 @@ sum_of input = total (map (λ entry. summand entry.value) input)
 abbrev pub until_of : List DataEntry → ℤ
 until_of input = unwrap_or (int_of input (codes "until")) (pos 2)
 
+-- the attempt is that one, or a later one
+abbrev pub has_reached : List DataEntry → ℕ → Bool
+has_reached input attempt = int_le (until_of input) (pos attempt)
+
 abbrev pub at_least_one : ℤ → ℤ
 at_least_one n = if int_lt n (pos 1) then pos 1 else n
 
@@ -59,8 +59,8 @@ entry_alone key content = record { key = key; value = content } ∷ []
 abbrev pub stock_answer : Kind → List DataEntry → ℕ → ℕ → Option Given
 stock_answer kind.Echo input attempt k = Some (given.Success input)
 stock_answer kind.Sum input attempt k = Some (given.Success (entry_alone (codes "sum") (value.Long (sum_of input))))
-stock_answer kind.FailUntil input attempt k = Some (if int_lt (pos attempt) (until_of input) then given.Failure [] else given.Success input)
-stock_answer kind.RetryUntil input attempt k = Some (if int_lt (pos attempt) (until_of input) then given.Retry else given.Success input)
+stock_answer kind.FailUntil input attempt k = Some (if has_reached input attempt then given.Success input else given.Failure [])
+stock_answer kind.RetryUntil input attempt k = Some (if has_reached input attempt then given.Success input else given.Retry)
 stock_answer kind.Count input attempt k =
     Some (if int_lt (pos (k + 1)) (turns_of input)
     then given.More (Some (entry_alone (codes "turn") (value.Int (pos (k + 1)))))
