@@ -1,20 +1,22 @@
--- What an enqueue keeps of the states, and that it changes neither runs nor instances.
+-- What is owed for an enqueue.
 use Rattle.std.proofs.Common.{◌≡◌, ℕ, ◌+◌, ◌^◌, ◌<◌, ◌≤◌, Bool, true, false, cond, ltb, List, [], ◌∷◌, ◌++◌, length, Option, Some, None, refl, sym, ◌∙◌, ap, subst, arith, length-append}
 use Rattle.std.specs.Str.{bytes_eq}
 use Rattle.std.proofs.lemmas.Bool.{and_from, eq-eqb, ltb-false, true≢false}
 use Rattle.wm_machine.proofs.Lists.{All-both, All-push, All-weaker, AllLater-push, HasOne-front, none_pass}
+use Rattle.wm_machine.proofs.Owed.{IsAnswered}
 use Rattle.wm_machine.proofs.Records.{IsNarrowRecord-placed, IsRecord-placed, plain_node, sound-narrow}
 use Rattle.wm_machine.specs.Built.{IsPlain}
 use Rattle.wm_machine.specs.Enqueued.{enqueued, first_refusal, id_in_use, is_stored, numbers_spent, outcome_by, placed, placed_record, refusal_of, too_many_works, with_work}
-use Rattle.wm_machine.specs.Frame.{Frame, untouched}
-use Rattle.wm_machine.specs.Limits.{IsShortText}
+use Rattle.wm_machine.specs.Frame.{untouched}
 use Rattle.wm_machine.specs.Narrow.{IsNarrow, IsNarrowRecord, IsReached}
 use Rattle.wm_machine.specs.Valid.{HasOne, IsBefore, IsCurrentOf, IsRecord, IsValidRun, IsWorkOf, Valid}
 use Rattle.wm_machine.specs.declared.command.Command.{Command}
+use Rattle.wm_machine.specs.declared.command.Command.TheVariants as command
 use Rattle.wm_machine.specs.declared.record.Phase.TheVariants as phase
 use Rattle.wm_machine.specs.declared.record.Record.{Record}
 use Rattle.wm_machine.specs.declared.reply.Refusal.{Refusal}
 use Rattle.wm_machine.specs.declared.reply.Refusal.TheVariants.{IdInUse, NumbersSpent, TooManyWorks}
+use Rattle.wm_machine.specs.declared.request.Batch.{Batch}
 use Rattle.wm_machine.specs.declared.request.Node.{Node}
 use Rattle.wm_machine.specs.declared.state.State.{State}
 
@@ -50,6 +52,7 @@ Valid-with_work s work valid narrow numbered unnamed new fine idle room numbers 
       runs = All-weaker (IsValidRun s) (IsValidRun (with_work s work)) s.runs (λ run is. record {
         number = is.number;
         turn = is.turn;
+        input = is.input;
         work = λ current. HasOne-front (IsWorkOf run) s.works (work ∷ []) (is.work current);
         instance = is.instance;
       }) valid.runs;
@@ -94,47 +97,48 @@ new_id s work none =
     let third = first_refusal-none (id_in_use s works) [] second.1 in
     not_found (is_stored s.works work.request.id) (IdInUse work.request.id) third.0
 
-Valid-outcome : (s : State) (id class : List ℕ) (found : Option Refusal) → refusal_of s None (plain_node id class ∷ []) ≡ found
-    → length id ≡ 16 → IsShortText class → Valid s → IsNarrow s → Valid (outcome_by found s None (plain_node id class ∷ [])).state
-Valid-outcome s id class (Some found) is sixteen short valid narrow = valid
-Valid-outcome s id class None is sixteen short valid narrow =
-    let fits = room s (plain_node id class ∷ []) is in
-    let work = placed_record s None (plain_node id class) in
-    Valid-with_work s work valid (IsNarrow-with_work s work narrow (IsNarrowRecord-placed s id class)) refl refl (new_id s (plain_node id class) is)
-    (IsRecord-placed s id class sixteen short valid.first fits.1 valid.now) (λ e. cc) fits.0 fits.1
+-- the work of a plain batch
+abbrev pub node_of : {works : List Node} → IsPlain works → Node
+node_of plain = plain_node plain.id plain.class plain.input plain.merger
 
-IsNarrow-outcome : (s : State) (id class : List ℕ) (found : Option Refusal) → IsNarrow s
-    → IsNarrow (outcome_by found s None (plain_node id class ∷ [])).state
-IsNarrow-outcome s id class (Some found) narrow = narrow
-IsNarrow-outcome s id class None narrow =
-    IsNarrow-with_work s (placed_record s None (plain_node id class)) narrow (IsNarrowRecord-placed s id class)
+reached-outcome : {works : List Node} (s : State) (plain : IsPlain works) (found : Option Refusal) → refusal_of s None (node_of plain ∷ []) ≡ found
+    → IsReached s → IsReached (outcome_by found s None (node_of plain ∷ [])).state
+reached-outcome s plain (Some found) is reached = reached
+reached-outcome s plain None is reached =
+    let node = node_of plain in
+    let fits = room s (node ∷ []) is in
+    let narrow =
+    IsNarrow-with_work s (placed_record s None node) reached.narrow (IsNarrowRecord-placed s plain.id plain.class plain.input plain.merger) in
+    let fine =
+    IsRecord-placed s plain.id plain.class plain.input plain.merger plain.id_is plain.class_is plain.input_is reached.valid.first fits.1 reached.valid.now in
+    record {
+      valid = Valid-with_work s (placed_record s None node) reached.valid narrow refl refl (new_id s node is) fine (λ e. cc) fits.0 fits.1;
+      narrow = narrow;
+    }
 
-pub reached-enqueue : (s : State) (works : List Node) → IsReached s → IsPlain works → IsReached (enqueued s None works).state
+reached-enqueue : (s : State) (works : List Node) → IsReached s → IsPlain works → IsReached (enqueued s None works).state
 reached-enqueue s works reached plain =
-    subst (λ (works : List Node). IsReached (enqueued s None works).state) (sym plain.one) (record {
-      valid = Valid-outcome s plain.id plain.class (refusal_of s None (plain_node plain.id plain.class ∷ [])) refl plain.id_is plain.class_is
-          reached.valid reached.narrow;
-      narrow = IsNarrow-outcome s plain.id plain.class (refusal_of s None (plain_node plain.id plain.class ∷ [])) reached.narrow;
-    })
+    subst (λ (works : List Node). IsReached (enqueued s None works).state) (sym plain.one)
+    (reached-outcome s plain (refusal_of s None (node_of plain ∷ [])) refl reached)
 
 -- ---- the frame
 
--- the frame of a state in which other works stand, where the rest is the same
-abbrev frame_in : State → List Command → State → Frame
-frame_in s commands t = record {
-  commands = commands;
-  runs = t.runs;
-  instances = t.instances;
-  next_run = t.next_run;
-  entries = λ number. [];
-}
-
 frame-placed : (s : State) (commands : List Command) (name : Option (List ℕ)) (nodes : List Node)
-    → frame_in s commands (placed s name nodes) ≡ untouched s commands
+    → untouched (placed s name nodes) commands ≡ untouched s commands
 frame-placed s commands name [] = refl
 frame-placed s commands name (node ∷ nodes) = frame-placed (with_work s (placed_record s name node)) commands name nodes
 
-pub frame-outcome : (s : State) (commands : List Command) (found : Option Refusal) (works : List Node)
-    → frame_in s commands (outcome_by found s None works).state ≡ untouched s commands
+frame-outcome : (s : State) (commands : List Command) (found : Option Refusal) (works : List Node)
+    → untouched (outcome_by found s None works).state commands ≡ untouched s commands
 frame-outcome s commands (Some found) works = refl
 frame-outcome s commands None works = frame-placed s commands None works
+
+-- ---- what is owed
+
+pub enqueue-answered : (s : State) (batch : Batch) → IsPlain batch.works → IsAnswered s (command.Enqueue None batch)
+enqueue-answered s batch plain = record {
+  answer = (enqueued s None batch.works).reply;
+  answers = refl;
+  reached = λ reached. reached-enqueue s batch.works reached plain;
+  frame = frame-outcome s (command.Enqueue None batch ∷ []) (refusal_of s None batch.works) batch.works;
+}

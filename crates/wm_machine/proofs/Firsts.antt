@@ -1,13 +1,14 @@
 -- Which work is first, and which instance is idle.
-use Rattle.std.proofs.Common.{◌≡◌, ℕ, true, false, cond, List, [], ◌∷◌, filter, Option, Some, None, Contains, bytes_eq, refl, ap, subst}
+use Rattle.std.proofs.Common.{◌≡◌, ℕ, true, false, not, ◌&&◌, cond, List, [], ◌∷◌, filter, Option, Some, None, Contains, bytes_eq, refl, ap, subst}
 use Rattle.std.specs.List.{AllByRecursion}
 use Rattle.std.specs.Prelude.{nat_le}
-use Rattle.std.proofs.lemmas.Bool.{cond_both, and_parts, not-true}
-use Rattle.wm_machine.proofs.Lists.{All-filter, All-stored, All-weaker, Contains-from_one, find-passes, find-stored}
+use Rattle.std.proofs.lemmas.Bool.{cond_both, and_from, and_parts, not-true}
+use Rattle.wm_machine.proofs.Lists.{All-filter, All-stored, All-weaker, Contains-from_one, find-passes, find-stored, list_any-stored}
 use Rattle.wm_machine.specs.Due.{due_of}
 use Rattle.wm_machine.specs.First.{all_met, comes_before, earlier_of, first_of, has_room, idle_instance, is_idle, is_live, is_startable, is_waiting, least}
 use Rattle.wm_machine.specs.Met.{met}
-use Rattle.wm_machine.specs.Runs.{cause_in, input_of, start_refusal}
+use Rattle.wm_machine.specs.Input.{cause_in, input_of}
+use Rattle.wm_machine.specs.Runs.{start_refusal}
 use Rattle.wm_machine.specs.Valid.{HasOne}
 use Rattle.wm_machine.specs.declared.event.Cause.TheVariants.{NoWorker}
 use Rattle.wm_machine.specs.declared.record.Record.{Record}
@@ -115,3 +116,12 @@ idle_instance-idle instances class idle found =
       is_in = not-true idle.out second.0;
       not_retired = not-true idle.retired second.1;
     }
+
+-- a class with an idle instance has a worker
+pub idle_instance-live : (instances : List Instance) (class : List ℕ) (idle : Instance) → idle_instance instances class ≡ Some idle
+    → is_live instances class ≡ true
+unfolding is_live
+idle_instance-live instances class idle found =
+    let is = idle_instance-idle instances class idle found in
+    list_any-stored (λ i. bytes_eq i.class class && not i.retired) instances idle (idle_instance-stored instances class idle found)
+    (and_from _ _ is.same_class (ap not is.not_retired))

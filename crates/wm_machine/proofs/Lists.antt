@@ -44,6 +44,10 @@ All-reverse_aux P (x ∷ xs) front all rest = All-reverse_aux P xs (x ∷ front)
 pub All-reverse : {T : Type 0} (P : T → Type 0) (xs : List T) → AllByRecursion P xs → AllByRecursion P (reverse xs)
 All-reverse P xs all = All-reverse_aux P xs [] all tt
 
+pub map-push : {A B : Type 0} (f : A → B) (xs : List A) (x : A) → map f (xs ++ x ∷ []) ≡ map f xs ++ f x ∷ []
+map-push f [] x = refl
+map-push f (y ∷ xs) x = ap (λ rest. f y ∷ rest) (map-push f xs x)
+
 -- two functions that agree on each element
 pub map-same : {T U : Type 0} (f g : T → U) (xs : List T) → AllByRecursion (λ x. f x ≡ g x) xs → map f xs ≡ map g xs
 map-same f g [] same = refl
@@ -154,6 +158,12 @@ list_any-false test (x ∷ xs) all = rw (all.0) (list_any-false test xs all.1)
 pub none_pass : {T : Type 0} (test : T → Bool) (xs : List T) → list_any test xs ≡ false → AllByRecursion (λ x. test x ≡ false) xs
 none_pass test [] none = tt
 none_pass test (x ∷ xs) none = let parts = or_parts (test x) (list_any test xs) none in (parts.0, none_pass test xs parts.1)
+
+-- one that passes
+pub list_any-stored : {T : Type 0} (test : T → Bool) (xs : List T) (x : T) → HasOne (λ y. y ≡ x) xs → test x ≡ true → list_any test xs ≡ true
+list_any-stored test [] x one passes = absurd one
+list_any-stored test (y ∷ xs) x (inl is) passes = or_left _ _ (ap test is ∙ passes)
+list_any-stored test (y ∷ xs) x (inr one) passes = or_right _ _ (list_any-stored test xs x one passes)
 
 -- what passes still passes where each element that passes does after a change
 pub list_any-map : {T U : Type 0} (test : T → Bool) (then : U → Bool) (f : T → U) (xs : List T) → AllByRecursion (λ x. test x ≡ true → then (f x) ≡ true) xs

@@ -25,10 +25,4 @@ pub AreNumberedFrom-push : (line : ℕ) (log : List Event) (number : ℕ) (asked
 AreNumberedFrom-push line [] number asked reply numbered is = (is ∙ omega arith, tt)
 AreNumberedFrom-push line (event.Command first c r ∷ log) number asked reply numbered is =
     (numbered.0, AreNumberedFrom-push (line + 1) log number asked reply numbered.1 (omega arith))
-AreNumberedFrom-push line (event.Start run seq instance input ∷ log) number asked reply numbered is =
-    AreNumberedFrom-push line log number asked reply numbered is
-AreNumberedFrom-push line (event.StartFailed seq cause ∷ log) number asked reply numbered is = AreNumberedFrom-push line log number asked reply numbered is
-AreNumberedFrom-push line (event.Turn run progress ∷ log) number asked reply numbered is = AreNumberedFrom-push line log number asked reply numbered is
-AreNumberedFrom-push line (event.Finish run end ∷ log) number asked reply numbered is = AreNumberedFrom-push line log number asked reply numbered is
-AreNumberedFrom-push line (event.TimedOut run ∷ log) number asked reply numbered is = AreNumberedFrom-push line log number asked reply numbered is
-AreNumberedFrom-push line (event.Late run ∷ log) number asked reply numbered is = AreNumberedFrom-push line log number asked reply numbered is
+AreNumberedFrom-push line (_ ∷ log) number asked reply numbered is = AreNumberedFrom-push line log number asked reply numbered is

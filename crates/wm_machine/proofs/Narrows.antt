@@ -8,15 +8,13 @@ use Rattle.wm_data.specs.declared.data.DataEntry.{DataEntry}
 use Rattle.wm_machine.proofs.Lists.{All-any, All-both, All-find, All-map, All-reverse, All-stored, All-weaker, HasOne-reverse, HasOne-weaker, list_any-false, map-same, one_gives}
 use Rattle.wm_machine.proofs.Runnings.{changed, changed_both, IsAlone}
 use Rattle.wm_machine.specs.Closed.{closed, descendants, is_among, is_open, is_reached, with_closed}
-use Rattle.wm_machine.specs.Ends.{end_of, given_by, is_freed, period_of, succeeded, with_end, with_freed, with_start_failed, works_after_end, works_not_started}
+use Rattle.wm_machine.specs.Ends.{is_freed, period_of, succeeded, with_end, with_freed, with_start_failed, works_after_end, works_not_started}
 use Rattle.wm_machine.specs.First.{all_met, is_waiting}
+use Rattle.wm_machine.specs.Input.{work_numbered}
 use Rattle.wm_machine.specs.Narrow.{IsNarrow, IsNarrowRecord, IsNarrowRun}
-use Rattle.wm_machine.specs.Runs.{changed_work, other_runs, run_numbered, with_out, work_numbered}
-use Rattle.wm_machine.specs.Step.{after, IsEnd}
+use Rattle.wm_machine.specs.Runs.{changed_work, other_runs, run_numbered, with_out}
 use Rattle.wm_machine.specs.Valid.{HasOne, IsInstanceOf, IsValidRun, Valid}
-use Rattle.wm_machine.specs.declared.event.End.{End}
-use Rattle.wm_machine.specs.declared.event.End.TheVariants.{Success, Failure, Retry}
-use Rattle.wm_machine.specs.declared.event.Event.TheVariants as event
+use Rattle.wm_machine.specs.declared.event.End.TheVariants.{Success}
 use Rattle.wm_machine.specs.declared.record.How.{How}
 use Rattle.wm_machine.specs.declared.record.How.TheVariants as how
 use Rattle.wm_machine.specs.declared.record.Phase.{Phase}
@@ -25,9 +23,6 @@ use Rattle.wm_machine.specs.declared.record.Record.{Record}
 use Rattle.wm_machine.specs.declared.schedule.Period.{Period}
 use Rattle.wm_machine.specs.declared.state.Run.{Run}
 use Rattle.wm_machine.specs.declared.state.State.{State}
-use Rattle.wm_worker.specs.Answers.{MayGive}
-use Rattle.wm_worker.specs.declared.answer.Given.TheVariants as given
-use Rattle.wm_worker.specs.declared.kind.Kind.{Kind}
 use Rattle.wm_worker.specs.declared.kind.Kind.TheVariants.{Echo}
 
 -- ---- descendants
@@ -173,17 +168,7 @@ with_start_failed-alone s work narrow alone waits =
     (ap (λ (period : Option Period). works_not_started s.now work.seq period s.works) (period_of-none work.seq s.works one_time)
     ∙ with_closed-alone how.Failed work.seq s.works none opens)
 
--- ---- the end of a run
-
--- an Echo ends its run by giving its input
-pub echo_end : (kind : Kind) (input : List DataEntry) (attempt turn : ℕ) (end : End) → kind ≡ Echo → MayGive kind input attempt turn (given_by end)
-    → end ≡ Success input
-echo_end kind input attempt turn (Success output) echo gives =
-    let same : given.Success output ≡ given.Success input = subst (λ k. MayGive k input attempt turn (given.Success output)) echo gives in cc
-echo_end kind input attempt turn (Failure output) echo gives =
-    let same : given.Failure output ≡ given.Success input = subst (λ k. MayGive k input attempt turn (given.Failure output)) echo gives in absurd (cc)
-echo_end kind input attempt turn Retry echo gives =
-    let same : given.Retry ≡ given.Success input = subst (λ k. MayGive k input attempt turn given.Retry) echo gives in absurd (cc)
+-- ---- runs
 
 -- a run is on an Echo
 pub run_kind : (s : State) (run : Run) → IsNarrow s → IsValidRun s run → run.kind ≡ Echo
@@ -197,21 +182,3 @@ found_valid s number run valid found = All-find (IsValidRun s) (λ r. eqb r.run 
 
 pub found_narrow : (s : State) (number : ℕ) (run : Run) → IsNarrow s → run_numbered number s.runs ≡ Some run → IsNarrowRun run
 found_narrow s number run narrow found = All-find IsNarrowRun (λ r. eqb r.run number) s.runs run found narrow.runs
-
--- the end of a run is a success that gives nothing, and changes its work alone
-pub record IsPlainEnd (s : State) (number : ℕ) (end : End) (run : Run) : Type 0 where
-  pub gives_nothing : end ≡ Success []
-  pub state : after s (event.Finish number end) ≡ with_success s run []
-
-pub plain_end : (s : State) (number : ℕ) (end : End) → Valid s → IsNarrow s → (legal : IsEnd s number end) → IsPlainEnd s number end legal.run
-plain_end s number end valid narrow legal =
-    let run = legal.run in
-    let kind = run_kind s run narrow (found_valid s number run valid legal.is_running) in
-    let nothing : run.input ≡ [] = (found_narrow s number run narrow legal.is_running).no_input in
-    let is : end ≡ Success [] =
-    echo_end run.kind run.input run.attempt run.turn end kind legal.may_give ∙ ap (λ (input : List DataEntry). Success input) nothing in
-    record {
-      gives_nothing = is;
-      state = ap (λ e. after s (event.Finish number e)) is ∙ ap (λ found. end_of s found (Success [])) legal.is_running
-          ∙ with_end-success s run [] narrow.records;
-    }

@@ -1,16 +1,20 @@
 -- What a change keeps of a record.
-use Rattle.std.proofs.Common.{◌≡◌, ℕ, ◌+◌, ◌^◌, ◌<◌, ◌≤◌, List, [], length, None, refl, sym, ◌∙◌, subst, arith}
+use Rattle.std.proofs.Common.{◌≡◌, ℕ, ◌+◌, ◌^◌, ◌<◌, ◌≤◌, true, List, [], length, None, refl, sym, ◌∙◌, subst, arith}
 use Rattle.std.specs.List.{AllByRecursion}
+use Rattle.std.proofs.lemmas.Bool.{false≢true}
 use Rattle.wm_data.specs.Size.{IsData}
+use Rattle.wm_data.specs.declared.data.DataEntry.{DataEntry}
+use Rattle.wm_data.specs.declared.merger.Merger.{Merger}
 use Rattle.wm_machine.proofs.Lists.{All-weaker}
 use Rattle.wm_machine.specs.Closed.{closed}
 use Rattle.wm_machine.specs.Ends.{succeeded}
 use Rattle.wm_machine.specs.Enqueued.{placed_record}
+use Rattle.wm_machine.specs.First.{is_waiting}
 use Rattle.wm_machine.specs.Limits.{FitsRow, IsShortText}
 use Rattle.wm_machine.specs.Narrow.{IsNarrowRecord}
 use Rattle.wm_machine.specs.Requests.{IsRequest, plain_request}
 use Rattle.wm_machine.specs.Runs.{started}
-use Rattle.wm_machine.specs.Valid.{ArePriorSound, IsAttemptIn, IsOfKind, IsRecord}
+use Rattle.wm_machine.specs.Valid.{ArePriorSound, IsAttemptIn, IsOfKind, IsOutputIn, IsRecord}
 use Rattle.wm_machine.specs.declared.record.How.TheVariants as how
 use Rattle.wm_machine.specs.declared.record.Phase.{Phase}
 use Rattle.wm_machine.specs.declared.record.Phase.TheVariants as phase
@@ -21,6 +25,23 @@ use Rattle.wm_machine.specs.declared.state.State.{State}
 -- no entry is Data
 IsData-empty : IsData []
 IsData-empty = record { ascending = tt; named = tt; size = omega arith }
+
+output_in : (p : Phase) (output : List DataEntry) → IsOutputIn p output → IsData output
+output_in phase.Waiting output is = subst IsData (sym is) IsData-empty
+output_in phase.Running output is = subst IsData (sym is) IsData-empty
+output_in (phase.Done how.Succeeded) output is = is
+output_in (phase.Done how.Failed) output is = is
+output_in (phase.Done how.Cancelled) output is = subst IsData (sym is) IsData-empty
+
+-- what any record gave is Data
+pub IsData-output : (work : Record) → IsRecord work → IsData work.output
+IsData-output work is = output_in work.phase work.output is.output
+
+-- waiting work has given nothing
+output-waiting : (p : Phase) (output : List DataEntry) → is_waiting p ≡ true → IsOutputIn p output → output ≡ []
+output-waiting phase.Waiting output waits is = is
+output-waiting phase.Running output waits is = absurd (false≢true waits)
+output-waiting (phase.Done how) output waits is = absurd (false≢true waits)
 
 -- a change that keeps the numbers of a record keeps them within the limits of a row
 FitsRow-kept : (work changed : Record) → changed.seq ≡ work.seq → changed.prior ≡ work.prior → changed.generation ≡ work.generation
@@ -41,8 +62,8 @@ IsOfKind-one_time : (work changed : Record) → work.request.period ≡ None →
 IsOfKind-one_time work changed one_time same kind =
     subst (λ period. IsOfKind period changed) (sym one_time) (same ∙ subst (λ period. IsOfKind period work) one_time kind)
 
-pub IsRecord-started : (work : Record) → IsNarrowRecord work → IsRecord work → IsRecord (started work)
-IsRecord-started work narrow is = record {
+pub IsRecord-started : (work : Record) → is_waiting work.phase ≡ true → IsNarrowRecord work → IsRecord work → IsRecord (started work)
+IsRecord-started work waits narrow is = record {
   number = is.number;
   fits = FitsRow-kept work (started work) refl refl refl refl refl is.fits;
   name = is.name;
@@ -53,7 +74,7 @@ IsRecord-started work narrow is = record {
   backoff_n = let few = is.backoff_n in let most = is.attempt in omega arith;
   runs = is.runs;
   kind = IsOfKind-one_time work (started work) narrow.one_time refl is.kind;
-  output = narrow.no_output;
+  output = output-waiting work.phase work.output waits is.output;
   progress = IsData-empty;
 }
 
@@ -69,14 +90,15 @@ IsRecord-failed work narrow is = record {
   backoff_n = is.backoff_n;
   runs = is.runs;
   kind = IsOfKind-one_time work (closed how.Failed work) narrow.one_time refl is.kind;
-  output = subst IsData (sym narrow.no_output) IsData-empty;
+  output = IsData-output work is;
   progress = refl;
 }
 
-pub IsRecord-succeeded : (work : Record) → work.phase ≡ phase.Running → IsNarrowRecord work → IsRecord work → IsRecord (succeeded [] work)
-IsRecord-succeeded work running narrow is = record {
+pub IsRecord-succeeded : (output : List DataEntry) (work : Record) → IsData output → work.phase ≡ phase.Running → IsNarrowRecord work → IsRecord work
+    → IsRecord (succeeded output work)
+IsRecord-succeeded output work gave running narrow is = record {
   number = is.number;
-  fits = FitsRow-kept work (succeeded [] work) refl refl refl refl refl is.fits;
+  fits = FitsRow-kept work (succeeded output work) refl refl refl refl refl is.fits;
   name = is.name;
   request = is.request;
   prior = is.prior;
@@ -84,16 +106,17 @@ IsRecord-succeeded work running narrow is = record {
   started = subst (λ phase. IsAttemptIn phase work.attempt) running is.started;
   backoff_n = is.backoff_n;
   runs = is.runs;
-  kind = IsOfKind-one_time work (succeeded [] work) narrow.one_time refl is.kind;
-  output = IsData-empty;
+  kind = IsOfKind-one_time work (succeeded output work) narrow.one_time refl is.kind;
+  output = gave;
   progress = refl;
 }
 
-IsRequest-plain : (id class : List ℕ) → length id ≡ 16 → IsShortText class → IsRequest (plain_request id class)
-IsRequest-plain id class sixteen short = record {
+IsRequest-plain : (id class : List ℕ) (input : List DataEntry) (merger : Merger) → length id ≡ 16 → IsShortText class → IsData input
+    → IsRequest (plain_request id class input merger)
+IsRequest-plain id class input merger sixteen short data_is = record {
   id = sixteen;
   class = short;
-  input = IsData-empty;
+  input = data_is;
   tags = record { few = omega arith; short = tt; ascending = tt };
   least_wait = omega arith;
   most_wait = omega arith;
@@ -102,12 +125,12 @@ IsRequest-plain id class sixteen short = record {
 }
 
 -- the work of a plain batch
-abbrev pub plain_node : List ℕ → List ℕ → Node
-plain_node id class = record { request = plain_request id class; after = [] }
+abbrev pub plain_node : List ℕ → List ℕ → List DataEntry → Merger → Node
+plain_node id class input merger = record { request = plain_request id class input merger; after = [] }
 
-pub IsRecord-placed : (s : State) (id class : List ℕ) → length id ≡ 16 → IsShortText class → 1 ≤ s.next → s.next + 1 ≤ 2 ^ 53 → s.now < 2 ^ 53
-    → IsRecord (placed_record s None (plain_node id class))
-IsRecord-placed s id class sixteen short first next now = record {
+pub IsRecord-placed : (s : State) (id class : List ℕ) (input : List DataEntry) (merger : Merger) → length id ≡ 16 → IsShortText class → IsData input
+    → 1 ≤ s.next → s.next + 1 ≤ 2 ^ 53 → s.now < 2 ^ 53 → IsRecord (placed_record s None (plain_node id class input merger))
+IsRecord-placed s id class input merger sixteen short data_is first next now = record {
   number = first;
   fits = record {
     seq = omega arith;
@@ -119,7 +142,7 @@ IsRecord-placed s id class sixteen short first next now = record {
     period = tt;
   };
   name = tt;
-  request = IsRequest-plain id class sixteen short;
+  request = IsRequest-plain id class input merger sixteen short data_is;
   prior = record { few = omega arith; different = tt; earlier = tt };
   attempt = omega arith;
   started = tt;
@@ -130,11 +153,9 @@ IsRecord-placed s id class sixteen short first next now = record {
   progress = refl;
 }
 
-pub IsNarrowRecord-placed : (s : State) (id class : List ℕ) → IsNarrowRecord (placed_record s None (plain_node id class))
-IsNarrowRecord-placed s id class = record {
-  no_input = refl;
-  no_output = refl;
-  no_progress = refl;
+pub IsNarrowRecord-placed : (s : State) (id class : List ℕ) (input : List DataEntry) (merger : Merger)
+    → IsNarrowRecord (placed_record s None (plain_node id class input merger))
+IsNarrowRecord-placed s id class input merger = record {
   one_time = refl;
   no_prerequisite = refl;
   no_retry = refl;

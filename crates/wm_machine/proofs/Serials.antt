@@ -3,8 +3,7 @@ use Rattle.std.proofs.Common.{◌≡◌, ℕ, ◌≤◌, List, [], ◌∷◌, �
 use Rattle.std.specs.List.{AllByRecursion}
 use Rattle.wm_machine.proofs.Commands.{answered}
 use Rattle.wm_machine.proofs.Drains.{AreInTurn-append, commands_of-append, goes_on, Replay-append}
-use Rattle.wm_machine.proofs.Frames.{frame-command}
-use Rattle.wm_machine.proofs.States.{IsReached-after}
+use Rattle.wm_machine.proofs.Steps.{IsReached-after}
 use Rattle.wm_machine.specs.Outcome.{IsBuilt}
 use Rattle.wm_machine.specs.Frame.{Frame}
 use Rattle.wm_machine.specs.Log.{commands_of}
@@ -58,11 +57,11 @@ unbegun : (asked : Command) (lines : List Command) (first : State) → AllByRecu
     → BeginsSerial (asked ∷ lines) first []
 unbegun asked lines first built reached few =
     let answer = answered first asked built.0 in
-    let e = event.Command 0 asked answer.0 in
-    let legal : Legal first e = (built.0, answer.1) in
+    let e = event.Command 0 asked answer.answer in
+    let legal : Legal first e = (built.0, answer.answers) in
     let rest =
     goes_on lines (after first e) built.1 (IsReached-after first e reached legal)
-    (subst (λ (runs : List Run). length runs ≤ 1) (sym (ap (λ (f : Frame). f.runs) (frame-command first 0 asked answer.0))) few) in
+    (subst (λ (runs : List Run). length runs ≤ 1) (sym (ap (λ (f : Frame). f.runs) answer.frame)) few) in
     record {
       rest = e ∷ rest.log;
       last = rest.last;

@@ -4,6 +4,7 @@ use Rattle.std.specs.List.{AllByRecursion}
 use Rattle.std.specs.Prelude.{count_by, nat_le}
 use Rattle.std.proofs.lemmas.Bool.{and_from, and_left, and_parts, cond_both, false≢true, or_cases, or_left, or_right}
 use Rattle.std.proofs.lemmas.List.Sums.{sum_by-cons}
+use Rattle.wm_data.specs.declared.data.DataEntry.{DataEntry}
 use Rattle.wm_machine.proofs.Firsts.{first_of-startable, first_of-stored, IsStartable-from}
 use Rattle.wm_machine.proofs.Lists.{All-any, All-weaker, HasOne-weaker, list_all-weaker, list_any-map}
 use Rattle.wm_machine.proofs.Runnings.{changed, changed_both, IsAlone}
@@ -145,7 +146,8 @@ left_to_drain-started s work change first alone keeps ends =
     (first_of-stored s work first))
 
 -- and no more are, once a work has succeeded
-pub left_to_drain-succeeded : (now seq : ℕ) (works : List Record) → left_among now (changed_work (succeeded []) seq works) ≤ left_among now works
-left_to_drain-succeeded now seq works =
-    left_among-changed now (succeeded []) seq works (λ work. refl) (λ work. refl)
-    (All-any (λ work. work.seq ≡ seq → is_succeeded work.phase ≡ true → is_succeeded (succeeded [] work).phase ≡ true) works (λ work e succeeded. refl))
+pub left_to_drain-succeeded : (now : ℕ) (output : List DataEntry) (seq : ℕ) (works : List Record)
+    → left_among now (changed_work (succeeded output) seq works) ≤ left_among now works
+left_to_drain-succeeded now output seq works =
+    left_among-changed now (succeeded output) seq works (λ work. refl) (λ work. refl)
+    (All-any (λ work. work.seq ≡ seq → is_succeeded work.phase ≡ true → is_succeeded (succeeded output work).phase ≡ true) works (λ work e succeeded. refl))

@@ -1,27 +1,30 @@
 -- What the workers of a run write down. This project's own choice.
 use Rattle.std.specs.Prelude.{ℕ, ◌+◌, ◌==◌, List, [], ◌∷◌, ◌++◌, if◌then◌else◌, Option, Some, None}
-use Rattle.wm_machine.specs.Ends.{given_by}
-use Rattle.wm_machine.specs.Step.{after}
+use Rattle.wm_machine.specs.Role as role
+use Rattle.wm_machine.specs.Role.{Role}
 use Rattle.wm_machine.specs.Runs.{run_numbered}
-use Rattle.wm_machine.specs.declared.event.End.{End}
+use Rattle.wm_machine.specs.Step.{after, role_of}
 use Rattle.wm_machine.specs.declared.event.Event.{Event}
-use Rattle.wm_machine.specs.declared.event.Event.TheVariants as event
 use Rattle.wm_machine.specs.declared.state.Run.{Run}
 use Rattle.wm_machine.specs.declared.state.State.{State}
 use Rattle.wm_worker.specs.Diary.{diary_with}
 use Rattle.wm_worker.specs.declared.answer.Entry.{Entry}
 use Rattle.wm_worker.specs.declared.answer.Entry.TheVariants.{Begun, Gave}
+use Rattle.wm_worker.specs.declared.answer.Given.{Given}
 
--- what the worker of this instance writes down where a run ends so
-abbrev pub end_entries : ℕ → Option Run → End → List Entry
-end_entries number None how = []
-end_entries number (Some run) how = if run.instance == number then Gave run.run run.turn (given_by how) ∷ [] else []
+-- what the worker of this instance writes down where it gave this in a run
+abbrev pub given_entries : ℕ → Option Run → Given → List Entry
+given_entries number None gave = []
+given_entries number (Some run) gave = if run.instance == number then Gave run.run run.turn gave ∷ [] else []
 
 -- what the worker of this instance writes down for an event in a state
+abbrev pub entries_by : ℕ → State → Role → List Entry
+entries_by number s (role.Begins run instance) = if instance == number then Begun run ∷ [] else []
+entries_by number s (role.Ends run gave) = given_entries number (run_numbered run s.runs) gave
+entries_by number s _ = []
+
 abbrev pub event_entries : ℕ → State → Event → List Entry
-event_entries number s (event.Start run seq instance input) = if instance == number then Begun run ∷ [] else []
-event_entries number s (event.Finish run how) = end_entries number (run_numbered run s.runs) how
-event_entries number s _ = []
+event_entries number s e = entries_by number s (role_of e)
 
 -- what it writes down for a log, in the log's order
 abbrev pub log_entries : ℕ → State → List Event → List Entry

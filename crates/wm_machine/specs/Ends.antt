@@ -5,7 +5,8 @@ use Rattle.std.specs.Option.{option_and_then}
 use Rattle.wm_data.specs.declared.data.DataEntry.{DataEntry}
 use Rattle.wm_machine.specs.Closed.{is_among, with_closed}
 use Rattle.wm_machine.specs.First.{all_met, is_waiting}
-use Rattle.wm_machine.specs.Runs.{changed_work, other_runs, with_out, work_numbered}
+use Rattle.wm_machine.specs.Input.{work_numbered}
+use Rattle.wm_machine.specs.Runs.{changed_work, other_runs, with_out}
 use Rattle.wm_machine.specs.declared.event.End.{End}
 use Rattle.wm_machine.specs.declared.event.End.TheVariants.{Success, Failure, Retry}
 use Rattle.wm_machine.specs.declared.record.How.TheVariants as how

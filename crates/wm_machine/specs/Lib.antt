@@ -6,6 +6,7 @@ pub mod Ends
 pub mod Enqueued
 pub mod First
 pub mod Frame
+pub mod Input
 pub mod Limits
 pub mod Log
 pub mod Met
@@ -17,6 +18,7 @@ pub mod Quiet
 pub mod Replay
 pub mod Replied
 pub mod Requests
+pub mod Role
 pub mod Rows
 pub mod Runs
 pub mod Serial

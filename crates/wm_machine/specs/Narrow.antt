@@ -8,20 +8,16 @@ use Rattle.wm_machine.specs.declared.state.Run.{Run}
 use Rattle.wm_machine.specs.declared.state.State.{State}
 use Rattle.wm_worker.specs.declared.kind.Kind.TheVariants.{Echo}
 
--- a one-time work without data, prerequisites and retries
+-- a one-time work without prerequisites and retries
 pub record IsNarrowRecord (work : Record) : Type 0 where
-  pub no_input : work.request.input ≡ []
-  pub no_output : work.output ≡ []
-  pub no_progress : work.progress ≡ []
   pub one_time : work.request.period ≡ None
   pub no_prerequisite : work.prior ≡ []
   pub no_retry : work.backoff_n ≡ 0
 
--- a run that is current, in its first turn, without input
+-- a run that is current, in its first turn
 pub record IsNarrowRun (run : Run) : Type 0 where
   pub current : run.current ≡ true
   pub turn : run.turn ≡ 0
-  pub no_input : run.input ≡ []
 
 -- every record and run is so, and every worker is an Echo
 pub record IsNarrow (s : State) : Type 0 where

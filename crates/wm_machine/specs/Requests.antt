@@ -4,7 +4,8 @@ use Rattle.std.specs.Prelude.{◌≡◌, ℕ, ◌≤◌, List, [], length, None,
 use Rattle.std.specs.List.{AllByRecursion}
 use Rattle.wm_collections.specs.Lists.{AscendByBytes}
 use Rattle.wm_data.specs.Size.{IsData}
-use Rattle.wm_data.specs.declared.merger.Merger.TheVariants.{Overwriting}
+use Rattle.wm_data.specs.declared.data.DataEntry.{DataEntry}
+use Rattle.wm_data.specs.declared.merger.Merger.{Merger}
 use Rattle.wm_machine.specs.Limits.{IsShortText}
 use Rattle.wm_machine.specs.declared.conditions.TheConstants.Constraints.{NONE}
 use Rattle.wm_machine.specs.declared.request.Request.{Request}
@@ -35,13 +36,13 @@ pub record IsRequest (request : Request) : Type 0 where
   pub delay : request.initial_delay ≤ 315360000000
   pub period : IfSome request.period IsPeriod
 
--- one-time work of this id and class: no input, tag, constraint or delay, and exponential backoff from 30,000 ms
-abbrev pub plain_request : List ℕ → List ℕ → Request
-plain_request id class = record {
+-- one-time work of this id and class, with this input and merger: no tag, constraint or delay, and exponential backoff from 30,000 ms
+abbrev pub plain_request : List ℕ → List ℕ → List DataEntry → Merger → Request
+plain_request id class input merger = record {
   id = id;
   class = class;
-  input = [];
-  merger = Overwriting;
+  input = input;
+  merger = merger;
   tags = [];
   constraints = NONE;
   backoff = DEFAULT;

@@ -1,5 +1,5 @@
 -- The rows that are kept for a state. The form is this project's own choice.
-use Rattle.std.specs.Prelude.{◌≡◌, ℕ, ◌+◌, ℤ, pos, Bool, List, [], map, Option, Some, None, if◌then◌else◌}
+use Rattle.std.specs.Prelude.{ℕ, ◌+◌, ℤ, pos, Bool, List, map, Option, Some, None, if◌then◌else◌}
 use Rattle.wm_data.specs.DataJson.{data_text}
 use Rattle.wm_data.specs.declared.merger.Merger.{Merger}
 use Rattle.wm_data.specs.declared.merger.Merger.TheVariants.{Overwriting, ArrayCreating}
@@ -89,8 +89,3 @@ row_of work = record {
 -- the rows of a state, in ascending number
 abbrev pub rows_of : State → List Row
 rows_of s = map row_of s.works
-
--- a record takes no data and gave none
-pub record HasNoData (work : Record) : Type 0 where
-  pub input : work.request.input ≡ []
-  pub output : work.output ≡ []

@@ -1,8 +1,9 @@
 -- How a run begins, and which works can't start. After the guide's pages "Work states" and "Chaining work"; attempts that stand still, runs
 -- and instances are this project's own choice.
-use Rattle.std.specs.Prelude.{ℕ, ◌+◌, ◌==◌, Bool, true, not, List, [], ◌∷◌, ◌++◌, map, filter, find, min, if◌then◌else◌, Option, Some, None, Result, Ok, Err}
+use Rattle.std.specs.Prelude.{ℕ, ◌+◌, ◌==◌, Bool, true, not, List, [], ◌∷◌, ◌++◌, map, filter, find, min, if◌then◌else◌, Option, Some, None}
 use Rattle.wm_data.specs.declared.data.DataEntry.{DataEntry}
 use Rattle.wm_machine.specs.First.{is_live}
+use Rattle.wm_machine.specs.Input.{cause_in, input_of}
 use Rattle.wm_machine.specs.declared.event.Cause.{Cause}
 use Rattle.wm_machine.specs.declared.event.Cause.TheVariants.{NoWorker}
 use Rattle.wm_machine.specs.declared.record.Phase.TheVariants as phase
@@ -12,10 +13,6 @@ use Rattle.wm_machine.specs.declared.state.Run.{Run}
 use Rattle.wm_machine.specs.declared.state.State.{State}
 
 -- ---- records
-
--- the record of this number
-abbrev pub work_numbered : ℕ → List Record → Option Record
-work_numbered seq works = find (λ work. work.seq == seq) works
 
 -- the records, with the one of this number changed
 abbrev pub changed_work : (Record → Record) → ℕ → List Record → List Record
@@ -29,15 +26,7 @@ one_attempt_more attempt = min (attempt + 1) 1000000
 abbrev pub started : Record → Record
 started work = record work { phase = phase.Running; attempt = one_attempt_more work.attempt; progress = [] }
 
--- ---- what a run takes
-
--- what a run of a work takes, or why it has no input: no work names a prerequisite yet, so it is the work's own input
-abbrev pub input_of : State → Record → Result (List DataEntry) Cause
-input_of s work = Ok work.request.input
-
-abbrev pub cause_in : Result (List DataEntry) Cause → Option Cause
-cause_in (Ok input) = None
-cause_in (Err cause) = Some cause
+-- ---- why a run doesn't begin
 
 -- why a work that is first can't start, where it can't: its class has no worker, or it has no input
 abbrev pub start_refusal : State → Record → Option Cause

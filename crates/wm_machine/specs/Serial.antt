@@ -4,7 +4,9 @@ use Rattle.std.specs.Prelude.{◌≡◌, List, [], ◌∷◌, ◌++◌}
 use Rattle.wm_machine.specs.Log.{commands_of}
 use Rattle.wm_machine.specs.Quiet.{IsQuiet}
 use Rattle.wm_machine.specs.Replay.{Replay}
-use Rattle.wm_machine.specs.Step.{after}
+use Rattle.wm_machine.specs.Role as role
+use Rattle.wm_machine.specs.Role.{Role}
+use Rattle.wm_machine.specs.Step.{after, role_of}
 use Rattle.wm_machine.specs.declared.command.Command.{Command}
 use Rattle.wm_machine.specs.declared.event.Event.{Event}
 use Rattle.wm_machine.specs.declared.event.Event.TheVariants as event
@@ -12,11 +14,14 @@ use Rattle.wm_machine.specs.declared.state.State.{State}
 
 -- An event comes in its turn: a line only where there is nothing left to do, a start only where no run is unreturned. All else
 -- goes on with the one run that there is.
+abbrev pub IsTurnOf : Role → State → Type 0
+IsTurnOf (role.Line asked) s = IsQuiet s
+IsTurnOf (role.Begins run instance) s = s.runs ≡ []
+IsTurnOf role.Refuses s = s.runs ≡ []
+IsTurnOf _ s = Unit {0}
+
 abbrev pub IsInTurn : State → Event → Type 0
-IsInTurn s (event.Command line asked reply) = IsQuiet s
-IsInTurn s (event.Start run seq instance input) = s.runs ≡ []
-IsInTurn s (event.StartFailed seq cause) = s.runs ≡ []
-IsInTurn s _ = Unit {0}
+IsInTurn s e = IsTurnOf (role_of e) s
 
 abbrev pub AreInTurn : State → List Event → Type 0
 AreInTurn s [] = Unit {0}

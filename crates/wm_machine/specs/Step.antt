@@ -1,12 +1,15 @@
--- The steps of the machine: which events are legal in a state, and the state after them.
+-- The steps of the machine: which events are legal in a state, the state after them, and what they are to the runs.
 -- Only the events that are built are legal. Each row is a rule of the machine, whose file says where it comes from.
 use Rattle.std.specs.Prelude.{◌≡◌, ℕ, true, List, Option, Some, None, Ok, IsSomeAnd}
 use Rattle.wm_data.specs.declared.data.DataEntry.{DataEntry}
 use Rattle.wm_machine.specs.Outcome.{IsBuilt, outcome}
 use Rattle.wm_machine.specs.Ends.{end_of, given_by, with_start_failed}
 use Rattle.wm_machine.specs.First.{first_of, idle_instance}
+use Rattle.wm_machine.specs.Input.{input_of}
 use Rattle.wm_machine.specs.Replied.{Outcome}
-use Rattle.wm_machine.specs.Runs.{input_of, run_numbered, start_on, start_refusal}
+use Rattle.wm_machine.specs.Role as role
+use Rattle.wm_machine.specs.Role.{Role}
+use Rattle.wm_machine.specs.Runs.{run_numbered, start_on, start_refusal}
 use Rattle.wm_machine.specs.declared.command.Command.{Command}
 use Rattle.wm_machine.specs.declared.event.Cause.{Cause}
 use Rattle.wm_machine.specs.declared.event.End.{End}
@@ -82,6 +85,14 @@ after s (event.Start run seq instance input) = start_of s (first_of s) input
 after s (event.StartFailed seq cause) = with_start_failed s seq
 after s (event.Finish run end) = end_of s (run_numbered run s.runs) end
 after s _ = s
+
+-- what it is to the runs
+abbrev pub role_of : Event → Role
+role_of (event.Command line asked answer) = role.Line asked
+role_of (event.Start run seq instance input) = role.Begins run instance
+role_of (event.StartFailed seq cause) = role.Refuses
+role_of (event.Finish run end) = role.Ends run (given_by end)
+role_of _ = role.Other
 
 -- one step of the machine
 abbrev pub Step : State → Event → State → Type 0

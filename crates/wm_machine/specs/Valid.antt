@@ -144,10 +144,11 @@ pub record IsInstanceOf (run : Run) (instance : Instance) : Type 0 where
   pub number : instance.number ≡ run.instance
   pub kind : instance.kind ≡ run.kind
 
--- a run is numbered, in one of its 1,000 turns, on an instance of its kind, and where it is current of a running work
+-- a run is numbered, in one of its 1,000 turns, with Data as its input, on an instance of its kind, and where it is current of a running work
 pub record IsValidRun (s : State) (run : Run) : Type 0 where
   pub number : run.run < s.next_run
   pub turn : run.turn ≤ 999
+  pub input : IsData run.input
   pub work : run.current ≡ true → HasOne (IsWorkOf run) s.works
   pub instance : HasOne (IsInstanceOf run) s.instances
 

@@ -1,8 +1,10 @@
 -- How many works a drain may still start, by which it ends: each start leaves one fewer, and no end of a run leaves one more, since a work
 -- that is put back is due later, and one that is freed was blocked. This project's own choice.
-use Rattle.std.specs.Prelude.{ℕ, ◌&&◌, ◌||◌, Bool, not, List, count_by, nat_le}
+use Rattle.std.specs.Prelude.{ℕ, ◌<◌, ◌≤◌, ◌&&◌, ◌||◌, Bool, not, List, count_by, nat_le}
 use Rattle.wm_machine.specs.Due.{due_of}
 use Rattle.wm_machine.specs.First.{all_met, is_waiting}
+use Rattle.wm_machine.specs.Role as role
+use Rattle.wm_machine.specs.Role.{Role}
 use Rattle.wm_machine.specs.declared.record.Record.{Record}
 use Rattle.wm_machine.specs.declared.state.State.{State}
 
@@ -15,3 +17,10 @@ left_among now works = count_by (is_left now works) works
 
 abbrev pub left_to_drain : State → ℕ
 left_to_drain s = left_among s.now s.works
+
+-- how many an event of this role leaves of so many: fewer where a work starts or can't, and no more otherwise, but for a line
+abbrev pub LeavesOf : Role → ℕ → ℕ → Type 0
+LeavesOf (role.Line asked) before left = Unit {0}
+LeavesOf (role.Begins run instance) before left = left < before
+LeavesOf role.Refuses before left = left < before
+LeavesOf _ before left = left ≤ before

@@ -1,6 +1,7 @@
 use crate::command::Command;
 use crate::reply::Reply;
-use wm_collections::Text;
+use std::alloc::{AllocError, Global};
+use wm_collections::{Replica, Text};
 use wm_data::Data;
 
 /// Why work that was due couldn't start.
@@ -12,6 +13,18 @@ pub enum Cause {
     Conflict { key: Text },
     /// The merged input would have this size.
     TooLarge { size: u64 },
+}
+
+impl Replica for Cause {
+    fn replica(&self, alloc: Global) -> Result<Cause, AllocError> {
+        Ok(match self {
+            Cause::NoWorker => Cause::NoWorker,
+            Cause::Conflict { key } => Cause::Conflict {
+                key: key.replica(alloc)?,
+            },
+            Cause::TooLarge { size } => Cause::TooLarge { size: *size },
+        })
+    }
 }
 
 /// How a run ended by its own report.

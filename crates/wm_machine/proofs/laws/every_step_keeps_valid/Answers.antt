@@ -1,4 +1,4 @@
-use Rattle.wm_machine.proofs.States.{IsNarrow-after, Valid-after}
+use Rattle.wm_machine.proofs.Steps.{IsNarrow-after, Valid-after}
 use Rattle.wm_machine.proofs.laws.every_step_keeps_valid.Goals as goal
 
 pub returns-clause-valid : goal.returns-clause-valid

@@ -1,0 +1,123 @@
+-- A state in which a run is over and its work was changed.
+use Rattle.std.proofs.Common.{◌≡◌, ℕ, Bool, true, false, not, eqb, Some, sym, ◌∙◌, ap, subst, inl, inr}
+use Rattle.std.specs.List.{AllByRecursion}
+use Rattle.std.proofs.lemmas.Bool.{ne_eqb, eqb-true, not-true, true≢false}
+use Rattle.wm_machine.proofs.Changes.{AreFine-changed, IsFine}
+use Rattle.wm_machine.proofs.Lists.{All-any, All-both, All-filter, All-map, All-weaker, AllLater-filter, find-passes, HasOne-filter, HasOne-weaker, list_any-false, list_any-filter}
+use Rattle.wm_machine.proofs.Narrows.{found_valid}
+use Rattle.wm_machine.proofs.Runnings.{all_of_number, AreNumberedInOrder-made, changed, changed_both, found_or_apart, IsFoundOrApart, made, made_both, other_work, same_instance}
+use Rattle.wm_machine.specs.Narrow.{IsNarrow, IsNarrowRun, IsReached}
+use Rattle.wm_machine.specs.Runs.{changed_work, other_runs, run_numbered, with_out}
+use Rattle.wm_machine.specs.Valid.{AreApart, HasOne, IsCurrentOf, IsOutForRun, IsValidRun, IsWorkOf, Valid}
+use Rattle.wm_machine.specs.declared.record.Phase.{Phase}
+use Rattle.wm_machine.specs.declared.record.Phase.TheVariants as phase
+use Rattle.wm_machine.specs.declared.record.Record.{Record}
+use Rattle.wm_machine.specs.declared.state.Instance.{Instance}
+use Rattle.wm_machine.specs.declared.state.Run.{Run}
+use Rattle.wm_machine.specs.declared.state.State.{State}
+use Rattle.wm_worker.specs.declared.kind.Kind.TheVariants.{Echo}
+
+-- ---- the other runs
+
+-- a valid run, which is this one or apart from it
+abbrev IsTold : State → Run → Run → Type 0
+IsTold s run other = IsFoundOrApart run.run run other × IsValidRun s other
+
+-- whether a run stays
+abbrev stays : Run → Run → Bool
+stays run other = not (eqb other.run run.run)
+
+-- what holds of each run apart from this one holds of those that stay
+others : (s : State) (run : Run) (P : Run → Type 0) → AllByRecursion (IsTold s run) s.runs → ((other : Run) → AreApart run other → IsValidRun s other → P other)
+    → AllByRecursion P (other_runs run.run s.runs)
+others s run P told each =
+    All-filter P (stays run) s.runs (All-weaker (IsTold s run) (λ other. stays run other ≡ true → P other) s.runs (λ other is kept.
+    elim is.0 [ inl found ↦ absurd (true≢false (sym found.0 ∙ not-true (eqb other.run run.run) kept)) | inr apart ↦ each other apart.1 is.1 ]) told)
+
+-- a running work other than this run's keeps its run
+running_stays : (s : State) (run : Run) (seq : ℕ) → AllByRecursion (IsTold s run) s.runs → (seq ≡ run.seq → ⊥) → HasOne (IsCurrentOf seq) s.runs
+    → HasOne (IsCurrentOf seq) (other_runs run.run s.runs)
+running_stays s run seq told differs one =
+    HasOne-filter (IsTold s run) (IsCurrentOf seq) (stays run) s.runs (λ r is same.
+    elim is.0 [ inl found ↦ absurd (differs (sym same.of ∙ ap (λ (x : Run). x.seq) found.1)) | inr apart ↦ ap not apart.0 ]) told one
+
+-- an instance is out exactly where a run is on it, after this run is over
+IsOutForRun-freed : (s : State) (run : Run) (i : Instance) → AllByRecursion (IsTold s run) s.runs → IsOutForRun s.runs i
+    → IsOutForRun (other_runs run.run s.runs) (made false run.instance i)
+IsOutForRun-freed s run i told out =
+    let on : Run → Bool = λ r. eqb r.instance i.number in
+    made_both (IsOutForRun (other_runs run.run s.runs)) false run.instance i (λ e. sym
+    (list_any-false on (other_runs run.run s.runs)
+    (others s run (λ r. on r ≡ false) told (λ other apart is. ne_eqb other.instance i.number (λ same. apart.instances (sym (same ∙ e)))))))
+    (λ differs. out ∙ sym
+    (list_any-filter on (stays run) s.runs (All-weaker (IsTold s run) (λ r. stays run r ≡ false → on r ≡ false) s.runs (λ r is dropped.
+    elim is.0 [
+      | inl found ↦ ne_eqb r.instance i.number (λ same. differs (sym same ∙ ap (λ (x : Run). x.instance) found.1))
+      | inr apart ↦ absurd
+          (true≢false (sym (ap not apart.0) ∙ dropped))
+    ]) told)))
+
+-- ---- the state
+
+-- a run is over, and its work is changed
+abbrev pub ended : State → Run → (Record → Record) → State
+ended s run change = record s {
+  works = changed_work change run.seq s.works;
+  runs = other_runs run.run s.runs;
+  instances = with_out false run.instance s.instances;
+}
+
+abbrev pub Runs : Phase → Type 0
+Runs p = p ≡ phase.Running
+
+-- a change after which it isn't running keeps what holds of the states that are reached
+pub reached-ended : (s : State) (number : ℕ) (run : Run) (change : Record → Record) → IsFine Runs change
+    → ((w : Record) → (change w).phase ≡ phase.Running → ⊥) → IsReached s → run_numbered number s.runs ≡ Some run → run.current ≡ true
+    → IsReached (ended s run change)
+reached-ended s number run change fine idle reached found current =
+    let valid = reached.valid in
+    let same : run.run ≡ number = eqb-true run.run number (find-passes (λ r. eqb r.run number) s.runs run found) in
+    let told =
+    All-both (IsFoundOrApart run.run run) (IsValidRun s) s.runs
+    (found_or_apart run.run run s.runs (subst (λ n. run_numbered n s.runs ≡ Some run) (sym same) found) valid.apart) valid.runs in
+    let its = found_valid s number run valid found in
+    let running =
+    all_of_number (λ w. w.phase ≡ phase.Running) run.seq s.works valid.in_order
+    (HasOne-weaker (λ w. Unit {0}) (IsWorkOf run) (λ w. (w.seq ≡ run.seq) × (w.phase ≡ phase.Running)) s.works (λ w u of. (of.seq, of.running))
+    (All-any (λ w. Unit {0}) s.works (λ w. tt)) (its.work current)) in
+    let works = AreFine-changed Runs change s run.seq fine reached running in
+    let narrow : IsNarrow (ended s run change) = record {
+      records = works.narrow;
+      runs = All-filter IsNarrowRun (stays run) s.runs
+          (All-weaker IsNarrowRun (λ r. stays run r ≡ true → IsNarrowRun r) s.runs (λ r is stay. is) reached.narrow.runs);
+      echoes = All-map (λ i. i.kind ≡ Echo) (λ i. i.kind ≡ Echo) (made false run.instance) s.instances
+          (λ i echo. made_both (λ i. i.kind ≡ Echo) false run.instance i (λ e. echo) (λ e. echo)) reached.narrow.echoes;
+    } in
+    let valid_then : Valid (ended s run change) = record {
+      numbers = works.numbers;
+      first = valid.first;
+      next = valid.next;
+      few_works = works.few;
+      records = works.records;
+      in_order = works.in_order;
+      sound = works.sound;
+      running = All-map (λ w. w.phase ≡ phase.Running → HasOne (IsCurrentOf w.seq) s.runs)
+          (λ w. w.phase ≡ phase.Running → HasOne (IsCurrentOf w.seq) (other_runs run.run s.runs)) (changed change run.seq) s.works (λ w has.
+          changed_both (λ c. c.phase ≡ phase.Running → HasOne (IsCurrentOf c.seq) (other_runs run.run s.runs)) change run.seq w
+          (λ e running. absurd (idle w running))
+          (λ differs running. running_stays s run w.seq told differs (has running))) valid.running;
+      runs = others s run (IsValidRun (ended s run change)) told (λ other apart is. record {
+        number = is.number;
+        turn = is.turn;
+        input = is.input;
+        work = λ also. other_work change run.seq s.works other (λ e. apart.works current also (sym e)) (is.work also);
+        instance = same_instance false run.instance s.instances other is.instance;
+      });
+      apart = AllLater-filter AreApart (stays run) s.runs valid.apart;
+      instances = All-map (IsOutForRun s.runs) (IsOutForRun (other_runs run.run s.runs)) (made false run.instance) s.instances
+          (λ i is. IsOutForRun-freed s run i told is) valid.instances;
+      numbered = AreNumberedInOrder-made false run.instance 0 s.instances valid.numbered;
+      few_observers = valid.few_observers;
+      now = valid.now;
+    } in
+    record { valid = valid_then; narrow = narrow }

@@ -1,0 +1,88 @@
+-- The end of a run.
+use Rattle.std.proofs.Common.{◌≡◌, ℕ, List, [], Option, refl, ◌∙◌, ap, subst}
+use Rattle.wm_data.specs.Size.{IsData}
+use Rattle.wm_data.specs.declared.data.DataEntry.{DataEntry}
+use Rattle.wm_machine.proofs.Changes.{IsFine}
+use Rattle.wm_machine.proofs.EndedRuns.{reached-ended, Runs}
+use Rattle.wm_machine.proofs.Narrows.{found_valid, run_kind, with_end-success, with_success}
+use Rattle.wm_machine.proofs.Owed.{IsKept}
+use Rattle.wm_machine.proofs.Records.{IsRecord-succeeded}
+use Rattle.wm_machine.proofs.Waitings.{left_to_drain-succeeded}
+use Rattle.wm_machine.specs.Diaries.{given_entries}
+use Rattle.wm_machine.specs.Ends.{end_of, given_by, succeeded}
+use Rattle.wm_machine.specs.Frame.{ended_frame, frame_of, frame_to, IsEndedIn}
+use Rattle.wm_machine.specs.Narrow.{IsNarrow, IsReached}
+use Rattle.wm_machine.specs.Role as role
+use Rattle.wm_machine.specs.Step.{after, IsEnd}
+use Rattle.wm_machine.specs.Valid.{Valid}
+use Rattle.wm_machine.specs.declared.event.End.{End}
+use Rattle.wm_machine.specs.declared.event.End.TheVariants.{Success, Failure, Retry}
+use Rattle.wm_machine.specs.declared.event.Event.TheVariants as event
+use Rattle.wm_machine.specs.declared.state.Run.{Run}
+use Rattle.wm_machine.specs.declared.state.State.{State}
+use Rattle.wm_worker.specs.Answers.{MayGive}
+use Rattle.wm_worker.specs.declared.answer.Given.TheVariants as given
+use Rattle.wm_worker.specs.declared.kind.Kind.{Kind}
+use Rattle.wm_worker.specs.declared.kind.Kind.TheVariants.{Echo}
+
+-- ---- the state after it, and its frame
+
+-- an Echo ends its run by giving its input
+pub echo_end : (kind : Kind) (input : List DataEntry) (attempt turn : ℕ) (end : End) → kind ≡ Echo → MayGive kind input attempt turn (given_by end)
+    → end ≡ Success input
+echo_end kind input attempt turn (Success output) echo gives =
+    let same : given.Success output ≡ given.Success input = subst (λ k. MayGive k input attempt turn (given.Success output)) echo gives in cc
+echo_end kind input attempt turn (Failure output) echo gives =
+    let same : given.Failure output ≡ given.Success input = subst (λ k. MayGive k input attempt turn (given.Failure output)) echo gives in absurd (cc)
+echo_end kind input attempt turn Retry echo gives =
+    let same : given.Retry ≡ given.Success input = subst (λ k. MayGive k input attempt turn given.Retry) echo gives in absurd (cc)
+
+-- the end of a run is a success that gives its input, and changes its work alone
+pub record IsPlainEnd (s : State) (number : ℕ) (end : End) (run : Run) : Type 0 where
+  pub gives_input : end ≡ Success run.input
+  pub state : after s (event.Finish number end) ≡ with_success s run run.input
+
+pub plain_end : (s : State) (number : ℕ) (end : End) → Valid s → IsNarrow s → (legal : IsEnd s number end) → IsPlainEnd s number end legal.run
+plain_end s number end valid narrow legal =
+    let run = legal.run in
+    let kind = run_kind s run narrow (found_valid s number run valid legal.is_running) in
+    let is = echo_end run.kind run.input run.attempt run.turn end kind legal.may_give in
+    record {
+      gives_input = is;
+      state = ap (λ e. after s (event.Finish number e)) is ∙ ap (λ found. end_of s found (Success run.input)) legal.is_running
+          ∙ with_end-success s run run.input narrow.records;
+    }
+
+-- the end of a run leads to the state with its success, which gives its input
+pub after_finish : (s : State) (number : ℕ) (end : End) → IsReached s → (legal : IsEnd s number end)
+    → after s (event.Finish number end) ≡ with_success s legal.run legal.run.input
+after_finish s number end reached legal = (plain_end s number end reached.valid reached.narrow legal).state
+
+-- the end of a run takes it away, its instance is idle, and its worker writes what it gave
+pub frame-finish : (s : State) (number : ℕ) (end : End) (legal : IsEnd s number end)
+    → frame_of s (event.Finish number end) ≡ ended_frame s legal.run (given_by end)
+frame-finish s number end legal =
+    ap (λ (found : Option Run). frame_to (end_of s found end) [] (λ worker. given_entries worker found (given_by end))) legal.is_running
+
+pub finish-framed : (s : State) (number : ℕ) (end : End) → IsEnd s number end → IsEndedIn number (given_by end) s (frame_of s (event.Finish number end))
+finish-framed s number end legal =
+    record { run = legal.run; is_running = legal.is_running; frame_is = frame-finish s number end legal }
+
+-- ---- what it keeps
+
+IsFine-succeeded : (output : List DataEntry) → IsData output → IsFine Runs (succeeded output)
+IsFine-succeeded output data_is = record {
+  same = λ work. record { seq = refl; name = refl; request = refl; prior = refl; backoff_n = refl };
+  fits = λ work. IsRecord-succeeded output work data_is;
+}
+
+pub finish-kept : (s : State) (number : ℕ) (end : End) → IsReached s → IsEnd s number end
+    → IsKept (role.Ends number (given_by end)) s (after s (event.Finish number end))
+finish-kept s number end reached legal =
+    let run = legal.run in
+    let is = found_valid s number run reached.valid legal.is_running in
+    rw (after_finish s number end reached legal) record {
+      reached = reached-ended s number run (succeeded run.input) (IsFine-succeeded run.input is.input) (λ w running. absurd (cc)) reached legal.is_running
+          legal.is_current;
+      left = left_to_drain-succeeded s.now run.input run.seq s.works;
+    }

@@ -1,0 +1,159 @@
+-- The start of a run.
+use Rattle.std.proofs.Common.{◌≡◌, ℕ, ◌+◌, Bool, true, false, eqb, cond, ◌||◌, List, [], ◌∷◌, ◌++◌, Some, refl, sym, ◌∙◌, ap, subst, arith}
+use Rattle.std.specs.List.{AllByRecursion, list_any}
+use Rattle.std.proofs.lemmas.Bool.{eq-eqb, ne_eqb, eqb-false, or_left, or_right}
+use Rattle.std.proofs.lemmas.List.Folds.{list_any-append}
+use Rattle.wm_data.specs.Size.{IsData}
+use Rattle.wm_data.specs.declared.data.DataEntry.{DataEntry}
+use Rattle.wm_machine.proofs.Changes.{AreFine-changed, IsFine, Waits, waits-alone}
+use Rattle.wm_machine.proofs.Firsts.{first_of-stored, first_of-waiting, idle_instance-idle, idle_instance-stored}
+use Rattle.wm_machine.proofs.Inputs.{input_of-data}
+use Rattle.wm_machine.proofs.Lists.{All-both, All-map, All-push, All-weaker, AllLater-push, HasOne-front, HasOne-last, none_pass, one_gives}
+use Rattle.wm_machine.proofs.Owed.{IsKept}
+use Rattle.wm_machine.proofs.Records.{IsRecord-started}
+use Rattle.wm_machine.proofs.Runnings.{AreNumberedInOrder-made, changed, changed_both, changed_there, IsAlone-stored, made, made_both, made_there, old_work, other_number, same_instance}
+use Rattle.wm_machine.proofs.Waitings.{left_to_drain-started}
+use Rattle.wm_machine.specs.First.{first_of, idle_instance}
+use Rattle.wm_machine.specs.Frame.{begun_frame, Frame, frame_of, frame_to, IsBegunIn}
+use Rattle.wm_machine.specs.Narrow.{IsNarrow, IsNarrowRun, IsReached}
+use Rattle.wm_machine.specs.Role as role
+use Rattle.wm_machine.specs.Runs.{run_on, start_on, started, with_out, with_start}
+use Rattle.wm_machine.specs.Step.{after, IsStart, start_of}
+use Rattle.wm_machine.specs.Valid.{AreApart, HasOne, IsCurrentOf, IsInstanceOf, IsOutForRun, IsValidRun, IsWorkOf, Valid}
+use Rattle.wm_machine.specs.declared.event.Event.TheVariants as event
+use Rattle.wm_machine.specs.declared.record.Phase.TheVariants as phase
+use Rattle.wm_machine.specs.declared.record.Record.{Record}
+use Rattle.wm_machine.specs.declared.state.Instance.{Instance}
+use Rattle.wm_machine.specs.declared.state.Run.{Run}
+use Rattle.wm_machine.specs.declared.state.State.{State}
+use Rattle.wm_worker.specs.declared.answer.Entry.TheVariants.{Begun}
+use Rattle.wm_worker.specs.declared.kind.Kind.TheVariants.{Echo}
+
+-- ---- the state after it, and its frame
+
+-- a start leads to the state with its run
+pub after_start : (s : State) (run seq instance : ℕ) (input : List DataEntry) (legal : IsStart s run seq instance input)
+    → after s (event.Start run seq instance input) ≡ with_start s legal.work legal.idle input
+after_start s run seq instance input legal =
+    ap (λ found. start_of s found input) legal.is_first ∙ ap (λ found. start_on s legal.work found input) legal.is_idle
+
+-- a start brings its run, whose instance is out, and its worker writes that it began
+pub frame-start : (s : State) (run seq instance : ℕ) (input : List DataEntry) (legal : IsStart s run seq instance input)
+    → frame_of s (event.Start run seq instance input) ≡ begun_frame s run instance (run_on s legal.work legal.idle input)
+frame-start s run seq instance input legal =
+    ap (λ (t : State). frame_to t [] (λ worker. cond (eqb instance worker) (Begun run ∷ []) [])) (after_start s run seq instance input legal)
+    ∙ ap (λ n. let f : Frame = record {
+      commands = [];
+      runs = s.runs ++ run_on s legal.work legal.idle input ∷ [];
+      instances = with_out true n s.instances;
+      next_run = s.next_run + 1;
+      entries = λ worker. cond (eqb instance worker) (Begun run ∷ []) [];
+    } in f) (sym legal.instance_is)
+
+pub start-framed : (s : State) (run seq instance : ℕ) (input : List DataEntry) → IsStart s run seq instance input
+    → IsBegunIn run instance s (frame_of s (event.Start run seq instance input))
+start-framed s run seq instance input legal = record {
+  run = run_on s legal.work legal.idle input;
+  number_is = legal.run_is;
+  instance_is = legal.instance_is;
+  frame_is = frame-start s run seq instance input legal;
+}
+
+-- ---- what it keeps
+
+-- no run is on an instance that isn't out
+free_instance : (s : State) (idle : Instance) → Valid s → idle.out ≡ false → HasOne (λ other. other ≡ idle) s.instances
+    → AllByRecursion (λ run. eqb run.instance idle.number ≡ false) s.runs
+free_instance s idle valid is_in stored =
+    none_pass (λ run. eqb run.instance idle.number) s.runs
+    (one_gives (IsOutForRun s.runs) (λ other. other ≡ idle) (list_any (λ run. eqb run.instance idle.number) s.runs ≡ false) s.instances
+    (λ other is same. sym (subst (IsOutForRun s.runs) same is) ∙ is_in) valid.instances stored)
+
+-- what doesn't pass makes no difference
+or_neither : (x b : Bool) → b ≡ false → (x || (b || false)) ≡ x
+or_neither true b e = refl
+or_neither false true e = e
+or_neither false false e = refl
+
+-- an instance is out exactly where a run is on it, after a start on this one
+IsOutForRun-made : (runs : List Run) (run : Run) (other : Instance) → IsOutForRun runs other → IsOutForRun (runs ++ run ∷ []) (made true run.instance other)
+IsOutForRun-made runs run other out =
+    made_both (IsOutForRun (runs ++ run ∷ [])) true run.instance other
+    (λ e. sym (list_any-append (λ r. eqb r.instance other.number) runs (run ∷ []) ∙ or_right _ _ (or_left _ _ (eq-eqb run.instance other.number (sym e)))))
+    (λ e. out ∙ sym
+    (list_any-append (λ r. eqb r.instance other.number) runs (run ∷ []) ∙ or_neither _ _ (ne_eqb run.instance other.number (λ same. e (sym same)))))
+
+IsFine-started : IsFine Waits started
+IsFine-started = record {
+  same = λ work. record { seq = refl; name = refl; request = refl; prior = refl; backoff_n = refl };
+  fits = IsRecord-started;
+}
+
+reached-start : (s : State) (work : Record) (idle : Instance) (input : List DataEntry) → IsReached s → first_of s ≡ Some work
+    → idle_instance s.instances work.request.class ≡ Some idle → IsData input → IsReached (with_start s work idle input)
+reached-start s work idle input reached first found data_is =
+    let valid = reached.valid in
+    let stored = first_of-stored s work first in
+    let waiting = first_of-waiting s work first in
+    let alone = IsAlone-stored work s.works valid.in_order stored in
+    let there = idle_instance-stored s.instances work.request.class idle found in
+    let free = free_instance s idle valid (idle_instance-idle s.instances work.request.class idle found).is_in there in
+    let run = run_on s work idle input in
+    let works = AreFine-changed Waits started s work.seq IsFine-started reached (waits-alone work s.works waiting alone) in
+    let narrow : IsNarrow (with_start s work idle input) = record {
+      records = works.narrow;
+      runs = All-push IsNarrowRun s.runs run reached.narrow.runs (record { current = refl; turn = refl });
+      echoes = All-map (λ i. i.kind ≡ Echo) (λ i. i.kind ≡ Echo) (made true idle.number) s.instances
+          (λ i echo. made_both (λ i. i.kind ≡ Echo) true idle.number i (λ e. echo) (λ e. echo)) reached.narrow.echoes;
+    } in
+    let valid_then : Valid (with_start s work idle input) = record {
+      numbers = works.numbers;
+      first = valid.first;
+      next = valid.next;
+      few_works = works.few;
+      records = works.records;
+      in_order = works.in_order;
+      sound = works.sound;
+      running = All-map (λ w. w.phase ≡ phase.Running → HasOne (IsCurrentOf w.seq) s.runs)
+          (λ w. w.phase ≡ phase.Running → HasOne (IsCurrentOf w.seq) (s.runs ++ run ∷ [])) (changed started work.seq) s.works (λ w has.
+          changed_both (λ c. c.phase ≡ phase.Running → HasOne (IsCurrentOf c.seq) (s.runs ++ run ∷ [])) started work.seq w
+          (λ e running. HasOne-last (IsCurrentOf w.seq) s.runs run (record { of = sym e; current = refl }))
+          (λ e running. HasOne-front (IsCurrentOf w.seq) s.runs (run ∷ []) (has running))) valid.running;
+      runs = All-push (IsValidRun (with_start s work idle input)) s.runs run
+          (All-weaker (IsValidRun s) (IsValidRun (with_start s work idle input)) s.runs (λ r is. let below = is.number in record {
+            number = omega arith;
+            turn = is.turn;
+            input = is.input;
+            work = λ current. old_work started work s.works r waiting alone (is.work current);
+            instance = same_instance true idle.number s.instances r is.instance;
+          }) valid.runs) (record {
+            number = omega arith;
+            turn = omega arith;
+            input = data_is;
+            work = λ current. changed_there (IsWorkOf run) started work s.works (record { seq = refl; running = refl; attempt = refl }) stored;
+            instance = made_there (IsInstanceOf run) true idle s.instances (record { number = refl; kind = refl }) there;
+          });
+      apart = AllLater-push AreApart s.runs run valid.apart
+          (All-weaker (λ r. IsValidRun s r × (eqb r.instance idle.number ≡ false)) (λ r. AreApart r run) s.runs (λ r both. let below = both.0.number in record {
+            runs = λ e. absurd (omega arith);
+            works = λ current also. other_number work s.works r waiting alone (both.0.work current);
+            instances = eqb-false r.instance idle.number both.1;
+          }) (All-both (IsValidRun s) (λ r. eqb r.instance idle.number ≡ false) s.runs valid.runs free));
+      instances = All-map (IsOutForRun s.runs) (IsOutForRun (s.runs ++ run ∷ [])) (made true idle.number) s.instances
+          (IsOutForRun-made s.runs run) valid.instances;
+      numbered = AreNumberedInOrder-made true idle.number 0 s.instances valid.numbered;
+      few_observers = valid.few_observers;
+      now = valid.now;
+    } in
+    record { valid = valid_then; narrow = narrow }
+
+pub start-kept : (s : State) (run seq instance : ℕ) (input : List DataEntry) → IsReached s → IsStart s run seq instance input
+    → IsKept (role.Begins run instance) s (after s (event.Start run seq instance input))
+start-kept s run seq instance input reached legal =
+    let stored = first_of-stored s legal.work legal.is_first in
+    let taken = input_of-data s legal.work input reached.valid.records stored legal.input_is in
+    let alone = IsAlone-stored legal.work s.works reached.valid.in_order stored in
+    rw (after_start s run seq instance input legal) record {
+      reached = reached-start s legal.work legal.idle input reached legal.is_first legal.is_idle taken;
+      left = left_to_drain-started s legal.work started legal.is_first alone (λ other. refl) (λ other. refl);
+    }
