@@ -5,6 +5,7 @@ ghost use Rattle.wm_session.specs.Hands.{AreEchoes};
 
 use crate::diarist::{Diarist, told_runs};
 use std::alloc::{AllocError, Global};
+use std::process::Abort;
 use std::test::Fail;
 use wm_bench::Hand;
 use wm_cli::{Status, run};
@@ -51,42 +52,24 @@ not json
     Ok(())
 }
 
-#[test]
-fn a_status_has_a_code_and_a_text(rt: HostRuntime) -> Result<(), Fail> {
-    let alloc = rt.alloc();
-    let cases = [
+/// The statuses of a run that began, each with its code and its text.
+fn statuses_of_runs() -> [(Status, u8, &'static str); 5] {
+    [
         (Status::Done, 0, ""),
+        (Status::SourceFault, 3, "read failed"),
+        (Status::SinkFault, 4, "write failed"),
+        (Status::KeeperFault, 5, "store failed"),
+        (Status::Memory, 8, "out of memory"),
+    ]
+}
+
+/// The statuses of what a run is given, each with its code and its text.
+fn statuses_of_inputs() -> [(Status, u8, &'static str); 4] {
+    [
         (
             Status::Usage,
             2,
             "usage: work --store NAME [--workers N] [--generate SEED]",
-        ),
-        (Status::SourceFault, 3, "read failed"),
-        (Status::SinkFault, 4, "write failed"),
-        (Status::KeeperFault, 5, "store failed"),
-        (
-            Status::BadStore {
-                seq: 3,
-                bad_row: true,
-            },
-            6,
-            "bad store: row 3: bad row",
-        ),
-        (
-            Status::BadStore {
-                seq: 5,
-                bad_row: false,
-            },
-            6,
-            "bad store: row 5: unsound",
-        ),
-        (
-            Status::BadStore {
-                seq: -7,
-                bad_row: true,
-            },
-            6,
-            "bad store: row -7: bad row",
         ),
         (
             Status::ScriptTooLong(Limit::Bytes),
@@ -103,11 +86,60 @@ fn a_status_has_a_code_and_a_text(rt: HostRuntime) -> Result<(), Fail> {
             7,
             "script too long: lines",
         ),
-        (Status::Memory, 8, "out of memory"),
-    ];
-    for (status, code, text) in cases {
-        assert_eq!(rt; status.code(), code);
-        assert_eq!(rt; status.text(alloc)?.as_str(), text);
+    ]
+}
+
+/// The statuses of stores that aren't opened, each with its text.
+fn statuses_of_stores() -> [(Status, &'static str); 3] {
+    [
+        (
+            Status::BadStore {
+                seq: 3,
+                bad_row: true,
+            },
+            "bad store: row 3: bad row",
+        ),
+        (
+            Status::BadStore {
+                seq: 5,
+                bad_row: false,
+            },
+            "bad store: row 5: unsound",
+        ),
+        (
+            Status::BadStore {
+                seq: -7,
+                bad_row: true,
+            },
+            "bad store: row -7: bad row",
+        ),
+    ]
+}
+
+/// The status has the code and the text.
+fn expect_status(
+    rt: &impl Abort,
+    alloc: Global,
+    status: Status,
+    code: u8,
+    text: &str,
+) -> Result<(), AllocError> {
+    assert_eq!(rt; status.code(), code);
+    assert_eq!(rt; status.text(alloc)?.as_str(), text);
+    Ok(())
+}
+
+#[test]
+fn a_status_has_a_code_and_a_text(rt: HostRuntime) -> Result<(), Fail> {
+    let alloc = rt.alloc();
+    for (status, code, text) in statuses_of_runs() {
+        expect_status(&rt, alloc, status, code, text)?;
+    }
+    for (status, code, text) in statuses_of_inputs() {
+        expect_status(&rt, alloc, status, code, text)?;
+    }
+    for (status, text) in statuses_of_stores() {
+        expect_status(&rt, alloc, status, 6, text)?;
     }
     Ok(())
 }

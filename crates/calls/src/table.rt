@@ -6,11 +6,14 @@ ghost use Rattle.wm_table.specs.Table.{AreFresh, Stands};
 use std::alloc::{AllocError, Global};
 use std::test::Fail;
 use uuid::Uuid;
-use wm_collections::{Items, Text};
-use wm_data::{Data, Merger};
+use wm_collections::{Items, Replica, Text};
+use wm_data::{Data, DataBuilder, Merger, Value};
 use wm_keeper::MemoryKeeper;
-use wm_machine::{Backoff, Batch, Command, Constraints, Instance, Kind, Node, Reply, Request};
-use wm_table::{Claim, Table, Ticket, Trouble, TurnAnswer};
+use wm_machine::{
+    Backoff, Batch, Cause, Command, Constraints, How, Instance, Kind, Node, Phase, Record, Reply,
+    Request,
+};
+use wm_table::{Claim, Table, TableEnd, Ticket, Trouble, TurnAnswer};
 use wm_worker::{Answer, Task, Told};
 
 /// One idle Echo.
@@ -28,15 +31,27 @@ fn one_echo(alloc: Global) -> Result<Items<Instance>, AllocError>
     Ok(instances)
 }
 
-/// An enqueue of one work of class Echo.
-fn enqueue(alloc: Global) -> Result<Command, AllocError>
+/// Data with a text of so many letters `x` under the key `k`.
+fn letters(alloc: Global, count: usize) -> Result<Data, Fail> {
+    let mut text = String::new(alloc);
+    for _ in 0..count {
+        text.push('x')?;
+    }
+    let mut builder = DataBuilder::new(alloc);
+    let key = String::from_str(alloc, "k")?;
+    builder.put(key, Value::Text(Text::from_string(text)))?;
+    Ok(builder.build()?)
+}
+
+/// An enqueue of one work of class Echo, with this merger and input.
+fn enqueue(alloc: Global, merger: Merger, input: Data) -> Result<Command, AllocError>
     ensures { IfOk result IsBuilt }
 {
     let request = Request {
         id: Uuid::from_u128(1),
         class: Text::from_str(alloc, "Echo")?,
-        input: Data::empty(alloc),
-        merger: Merger::Overwriting,
+        input,
+        merger,
         tags: Items::new(alloc),
         constraints: Constraints::NONE,
         backoff: Backoff::DEFAULT,
@@ -54,15 +69,39 @@ fn enqueue(alloc: Global) -> Result<Command, AllocError>
     })
 }
 
-/// What an Echo tells of a task, or of the one this many runs later.
-fn echoed(alloc: Global, task: &Task, later: u64) -> Result<Told, AllocError> {
-    let task = Task {
-        run: task.run.wrapping_add(later),
-        attempt: task.attempt,
-        input: Data::empty(alloc),
+/// What an Echo reports on.
+#[derive(Clone, Copy)]
+enum Subject {
+    /// Its task.
+    Task,
+    /// The run after its own.
+    NextRun,
+    /// Its run without an input.
+    NoInput,
+}
+
+/// The task that an Echo with this task reports on.
+fn task_told(alloc: Global, task: &Task, subject: Subject) -> Result<Task, AllocError> {
+    let run = match subject {
+        Subject::NextRun => task.run.wrapping_add(1),
+        _ => task.run,
     };
-    let answer = Answer::Success(Data::empty(alloc));
-    Told::new(alloc, Kind::Echo, &task, 0, answer)
+    let input = match subject {
+        Subject::NoInput => Data::empty(alloc),
+        _ => task.input.replica(alloc)?,
+    };
+    Ok(Task {
+        run,
+        attempt: task.attempt,
+        input,
+    })
+}
+
+/// What an Echo with this task tells.
+fn echoed(alloc: Global, task: &Task, subject: Subject) -> Result<Told, AllocError> {
+    let task = task_told(alloc, task, subject)?;
+    let output = task.input.replica(alloc)?;
+    Told::new(alloc, Kind::Echo, &task, 0, Answer::Success(output))
 }
 
 /// Whether the second try of a report finishes its run.
@@ -82,7 +121,7 @@ fn finishes(table: &mut Table<MemoryKeeper>, ticket: Ticket, told: Told) -> bool
     }
 }
 
-/// What becomes of a report on a run, or on one this many runs later.
+/// What becomes of a report.
 fn report(
     table: &mut Table<MemoryKeeper>,
     ticket: Ticket,
@@ -114,21 +153,30 @@ fn report(
 }
 
 /// What becomes of a run, where it is the first.
-fn run(alloc: Global, table: &mut Table<MemoryKeeper>, ticket: Ticket, later: u64) -> &'static str
+fn run(
+    alloc: Global,
+    table: &mut Table<MemoryKeeper>,
+    ticket: Ticket,
+    subject: Subject,
+) -> &'static str
     requires { Stands table.old.state ticket }
 {
     let first = ticket.task().run == 1 && ticket.task().attempt == 1;
-    let told = echoed(alloc, ticket.task(), later);
+    let told = echoed(alloc, ticket.task(), subject);
     let outcome = report(table, ticket, told);
     if first { outcome } else { "another run" }
 }
 
 /// What becomes of the start of a work and of its run.
-fn start_and_report(alloc: Global, table: &mut Table<MemoryKeeper>, later: u64) -> &'static str {
+fn start_and_report(
+    alloc: Global,
+    table: &mut Table<MemoryKeeper>,
+    subject: Subject,
+) -> &'static str {
     match table.claim() {
         Ok(Some(claim)) => match claim {
-            Claim::Run(ticket) => run(alloc, table, ticket, later),
-            Claim::Failed { seq: _, cause: _ } => "no worker",
+            Claim::Run(ticket) => run(alloc, table, ticket, subject),
+            Claim::Failed { seq: _, cause: _ } => "can't start",
         },
         Ok(None) => "nothing to start",
         Err(Trouble::KeeperFault) => "not started",
@@ -149,7 +197,7 @@ fn enqueue_and_run(
     table: &mut Table<MemoryKeeper>,
     alloc: Global,
     command: Command,
-    later: u64,
+    subject: Subject,
 ) -> &'static str
     requires built { IsBuilt command }
     requires no_run { table.old.state.runs ≡ [] }
@@ -158,7 +206,7 @@ fn enqueue_and_run(
         Ok(reply) => {
             let first = lists_first(&reply);
             drop(reply);
-            let outcome = start_and_report(alloc, table, later);
+            let outcome = start_and_report(alloc, table, subject);
             if first { outcome } else { "another reply" }
         }
         Err(Trouble::KeeperFault) => "not enqueued",
@@ -171,14 +219,14 @@ fn enqueue_and_run(
 fn outcome(
     alloc: Global,
     failing: u32,
-    later: u64,
+    subject: Subject,
 ) -> Result<(&'static str, usize, usize, bool), Fail> {
-    let command = enqueue(alloc)?;
+    let command = enqueue(alloc, Merger::Overwriting, letters(alloc, 1)?)?;
     let instances = one_echo(alloc)?;
     let keeper = MemoryKeeper::new(Vec::new(alloc), vec![in alloc; failing]?);
     match Table::begin(alloc, keeper, &[], instances) {
         Ok(mut table) => {
-            let outcome = enqueue_and_run(&mut table, alloc, command, later);
+            let outcome = enqueue_and_run(&mut table, alloc, command, subject);
             let quiet = table.quiet();
             let end = table.end();
             Ok((outcome, end.last.works.len(), end.log.len(), quiet))
@@ -190,14 +238,108 @@ fn outcome(
 #[test]
 fn a_table_runs_one_echo(rt: HostRuntime) -> Result<(), Fail> {
     let alloc = rt.alloc();
-    for (failing, later, want) in [
-        (0, 0, ("finished", 1, 3, true)),
-        (1, 0, ("not enqueued", 0, 0, true)),
-        (2, 0, ("not started", 1, 1, false)),
-        (3, 0, ("finished later", 1, 3, true)),
-        (0, 1, ("again", 1, 2, false)),
+    for (failing, subject, want) in [
+        (0, Subject::Task, ("finished", 1, 3, true)),
+        (1, Subject::Task, ("not enqueued", 0, 0, true)),
+        (2, Subject::Task, ("not started", 1, 1, false)),
+        (3, Subject::Task, ("finished later", 1, 3, true)),
+        (0, Subject::NextRun, ("again", 1, 2, false)),
+        (0, Subject::NoInput, ("again", 1, 2, false)),
     ] {
-        assert_eq!(rt; outcome(alloc, failing, later)?, want);
+        assert_eq!(rt; outcome(alloc, failing, subject)?, want);
+    }
+    Ok(())
+}
+
+/// Why a work can't start.
+fn cause_text(alloc: Global, cause: &Cause) -> Result<Text, AllocError> {
+    let text = match cause {
+        Cause::NoWorker => String::from_str(alloc, "NoWorker")?,
+        Cause::Conflict { key } => format!(in alloc; "Conflict {}", key.as_str())?,
+        Cause::TooLarge { size } => format!(in alloc; "TooLarge {size}")?,
+    };
+    Ok(Text::from_string(text))
+}
+
+/// What becomes of the start of a work: the input of its run, or why it can't start.
+fn start(alloc: Global, table: &mut Table<MemoryKeeper>) -> Result<Text, AllocError> {
+    match table.claim() {
+        Ok(Some(claim)) => match claim {
+            Claim::Run(ticket) => {
+                let input = ticket.task().input.to_text(alloc);
+                table.take_back(ticket);
+                input
+            }
+            Claim::Failed { seq: _, cause } => cause_text(alloc, &cause),
+        },
+        Ok(None) => Text::from_str(alloc, "nothing to start"),
+        Err(_) => Text::from_str(alloc, "trouble"),
+    }
+}
+
+/// The phase of a work, how often it was started, and whether it gave an output.
+fn record_text(alloc: Global, work: &Record) -> Result<String, AllocError> {
+    let phase = match work.phase {
+        Phase::Waiting => "waiting",
+        Phase::Running => "running",
+        Phase::Done(How::Succeeded) => "succeeded",
+        Phase::Done(How::Failed) => "failed",
+        Phase::Done(How::Cancelled) => "cancelled",
+    };
+    let output = if work.output.is_empty() {
+        "no output"
+    } else {
+        "an output"
+    };
+    format!(in alloc; "{phase}, attempt {}, {output}", work.attempt)
+}
+
+/// The only work of a table in the end.
+fn only_text(alloc: Global, end: &TableEnd<MemoryKeeper>) -> Result<String, AllocError> {
+    match end.last.works.as_slice() {
+        [work] => record_text(alloc, work),
+        _ => String::from_str(alloc, "not one work"),
+    }
+}
+
+/// What becomes of the start of a work with this merger and a text of so many letters, and what the
+/// work is then.
+fn started(alloc: Global, merger: Merger, count: usize) -> Result<String, Fail> {
+    let command = enqueue(alloc, merger, letters(alloc, count)?)?;
+    let keeper = MemoryKeeper::new(Vec::new(alloc), Vec::new(alloc));
+    match Table::begin(alloc, keeper, &[], one_echo(alloc)?) {
+        Ok(mut table) => {
+            drop(table.command(1, command));
+            let outcome = start(alloc, &mut table);
+            let end = table.end();
+            let record = only_text(alloc, &end)?;
+            Ok(format!(in alloc; "{} {}", outcome?.as_str(), record.as_str())?)
+        }
+        Err(_) => Ok(String::from_str(alloc, "not begun")?),
+    }
+}
+
+#[test]
+fn a_run_takes_what_the_merger_makes(rt: HostRuntime) -> Result<(), Fail> {
+    let alloc = rt.alloc();
+    for (merger, count, want) in [
+        (
+            Merger::Overwriting,
+            1,
+            "{\"k\":{\"text\":\"x\"}} running, attempt 1, no output",
+        ),
+        (
+            Merger::ArrayCreating,
+            1,
+            "{\"k\":{\"texts\":[\"x\"]}} running, attempt 1, no output",
+        ),
+        (
+            Merger::ArrayCreating,
+            10_230,
+            "TooLarge 10244 failed, attempt 0, no output",
+        ),
+    ] {
+        assert_eq!(rt; started(alloc, merger, count)?.as_str(), want);
     }
     Ok(())
 }

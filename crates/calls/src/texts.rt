@@ -1,15 +1,13 @@
 //! The texts of events and the rows of records, of `wm_machine`.
-ghost use Rattle.std.specs.Prelude.{◌≡◌, [], Some, IfOk};
+ghost use Rattle.std.specs.Prelude.{◌≡◌, Some, IfOk};
 ghost use Rattle.wm_machine.specs.Limits.{FitsRow};
-ghost use Rattle.wm_machine.specs.Rows.{HasNoData};
-ghost use Rattle.wm_machine.specs.Built.{ReplyTellsNoData, TellsNoData};
 
 use std::alloc::{AllocError, Global};
 use std::process::Abort;
 use std::test::Fail;
 use uuid::Uuid;
 use wm_collections::{Items, Replica, Text};
-use wm_data::{Data, Merger};
+use wm_data::{Data, DataBuilder, DataFault, Merger, Value};
 use wm_keeper::Row;
 use wm_machine::{
     Applied, Backoff, Command, Constraints, Counts, Event, How, LineFault, Network, Period, Phase,
@@ -19,9 +17,7 @@ use wm_rows::to_row;
 use wm_script::event_text;
 
 /// The text of a reply to a line.
-fn text_of(alloc: Global, line: u32, reply: Reply) -> Result<Vec<u8>, AllocError>
-    requires { ReplyTellsNoData reply }
-{
+fn text_of(alloc: Global, line: u32, reply: Reply) -> Result<Vec<u8>, AllocError> {
     let event = Event::Command {
         line,
         command: Command::Settle,
@@ -37,9 +33,7 @@ fn expect_texts(
     reply: Reply,
     expected: &str,
     after_hush: &str,
-) -> Result<(), AllocError>
-    requires { ReplyTellsNoData reply }
-{
+) -> Result<(), AllocError> {
     let event = Event::Command {
         line: 7,
         command: Command::Settle,
@@ -56,9 +50,7 @@ fn expect_texts(
 }
 
 /// What is told of a work that was enqueued under a name and waits, with two tags.
-fn enqueued_info(alloc: Global) -> Result<WorkInfo, AllocError>
-    ensures { IfOk result (λ info. TellsNoData info) }
-{
+fn enqueued_info(alloc: Global) -> Result<WorkInfo, AllocError> {
     let mut tags = Items::new(alloc);
     tags.push(Text::from_str(alloc, "a")?)?;
     tags.push(Text::from_str(alloc, "b")?)?;
@@ -76,10 +68,8 @@ fn enqueued_info(alloc: Global) -> Result<WorkInfo, AllocError>
     })
 }
 
-/// What is told of the first work, after one attempt, without name or tags.
-fn ended_info(alloc: Global, state: Shown) -> WorkInfo
-    ensures { TellsNoData result }
-{
+/// What is told of the first work, after one attempt, without name, data or tags.
+fn ended_info(alloc: Global, state: Shown) -> WorkInfo {
     WorkInfo {
         seq: 1,
         id: Uuid::from_u128(1),
@@ -94,10 +84,46 @@ fn ended_info(alloc: Global, state: Shown) -> WorkInfo
     }
 }
 
+/// Puts a text with quotes, a long and a list.
+fn put_entries(alloc: Global, builder: &mut DataBuilder) -> Result<(), DataFault> {
+    let said = Text::from_str(alloc, "\"hi\" \\")?;
+    builder.put(String::from_str(alloc, "said")?, Value::Text(said))?;
+    let count = Value::Long(-9_007_199_254_740_993);
+    builder.put(String::from_str(alloc, "count")?, count)?;
+    let list = Items::from_vec(vec![in alloc; 1, -2, 3]?);
+    builder.put(String::from_str(alloc, "list")?, Value::Ints(list))
+}
+
+/// Data with a text with quotes, a long and a list.
+fn entries(alloc: Global) -> Result<Data, DataFault> {
+    let mut builder = DataBuilder::new(alloc);
+    match put_entries(alloc, &mut builder) {
+        Ok(()) => builder.build(),
+        Err(fault) => Err(fault),
+    }
+}
+
+/// Data with a number under one key.
+fn number(alloc: Global, key: &str, number: i32) -> Result<Data, DataFault> {
+    let mut builder = DataBuilder::new(alloc);
+    match builder.put(String::from_str(alloc, key)?, Value::Int(number)) {
+        Ok(()) => builder.build(),
+        Err(fault) => Err(fault),
+    }
+}
+
+/// The reply that tells a work with data.
+fn data_query(alloc: Global) -> Result<Reply, DataFault> {
+    let mut info = ended_info(alloc, Shown::Running);
+    info.output = entries(alloc)?;
+    info.progress = number(alloc, "turn", 2)?;
+    let mut works = Items::new(alloc);
+    works.push(info)?;
+    Ok(Reply::Query(works))
+}
+
 /// The reply that tells two works that ended, in this order.
-fn ended_query(alloc: Global, first: Shown, second: Shown) -> Result<Reply, AllocError>
-    ensures { IfOk result (λ reply. ReplyTellsNoData reply) }
-{
+fn ended_query(alloc: Global, first: Shown, second: Shown) -> Result<Reply, AllocError> {
     let mut works = Items::new(alloc);
     works.push(ended_info(alloc, first))?;
     works.push(ended_info(alloc, second))?;
@@ -105,18 +131,15 @@ fn ended_query(alloc: Global, first: Shown, second: Shown) -> Result<Reply, Allo
 }
 
 /// A replica of the reply that tells the first observer one work that waits.
-fn observing(alloc: Global) -> Result<Reply, AllocError>
-    ensures { IfOk result (λ reply. ReplyTellsNoData reply) }
-{
+fn observing(alloc: Global) -> Result<Reply, AllocError> {
     let mut works = Items::new(alloc);
     works.push(enqueued_info(alloc)?)?;
     let reply = Reply::Observing { observer: 1, works };
     reply.replica(alloc)
 }
 
-/// Refusals, each with the number of its line and its text.
-fn refusals(alloc: Global) -> Result<Vec<(u32, Refusal, &'static str)>, AllocError> {
-    let first = Uuid::from_u128(1);
+/// Refusals of what a line says, each with the number of the line and its text.
+fn line_refusals(alloc: Global) -> Result<Vec<(u32, Refusal, &'static str)>, AllocError> {
     let key = Text::from_str(alloc, "a\"b")?;
     Ok(vec![in alloc;
         (
@@ -124,6 +147,23 @@ fn refusals(alloc: Global) -> Result<Vec<(u32, Refusal, &'static str)>, AllocErr
             Refusal::Line(LineFault::NotBuilt),
             "{\"error\":\"NotBuilt\",\"line\":1}\n"
         ),
+        (
+            5,
+            Refusal::Line(LineFault::BadData { key }),
+            "{\"error\":\"BadData\",\"key\":\"a\\\"b\",\"line\":5}\n"
+        ),
+        (
+            6,
+            Refusal::Line(LineFault::TooLarge { size: 10_241 }),
+            "{\"error\":\"TooLarge\",\"line\":6,\"size\":10241}\n"
+        ),
+    ]?)
+}
+
+/// Refusals of commands in a state, each with the number of the line and its text.
+fn state_refusals(alloc: Global) -> Result<Vec<(u32, Refusal, &'static str)>, AllocError> {
+    let first = Uuid::from_u128(1);
+    Ok(vec![in alloc;
         (
             2,
             Refusal::IdInUse { id: first },
@@ -142,16 +182,6 @@ fn refusals(alloc: Global) -> Result<Vec<(u32, Refusal, &'static str)>, AllocErr
             "{\"error\":\"NumbersSpent\",\"line\":4,\"next\":9007199254740992}\n"
         ),
         (
-            5,
-            Refusal::Line(LineFault::BadData { key }),
-            "{\"error\":\"BadData\",\"key\":\"a\\\"b\",\"line\":5}\n"
-        ),
-        (
-            6,
-            Refusal::Line(LineFault::TooLarge { size: 10_241 }),
-            "{\"error\":\"TooLarge\",\"line\":6,\"size\":10241}\n"
-        ),
-        (
             7,
             Refusal::MomentBack { now: 8 },
             "{\"error\":\"MomentBack\",\"line\":7,\"now\":8}\n"
@@ -164,10 +194,21 @@ fn refusals(alloc: Global) -> Result<Vec<(u32, Refusal, &'static str)>, AllocErr
     ]?)
 }
 
+/// Each refusal has its text.
+fn expect_refusals(
+    rt: &impl Abort,
+    alloc: Global,
+    refusals: Vec<(u32, Refusal, &'static str)>,
+) -> Result<(), AllocError> {
+    for (line, refusal, expected) in refusals {
+        let text = text_of(alloc, line, Reply::Refused(refusal))?;
+        assert_eq!(rt; text.as_slice(), expected.as_bytes());
+    }
+    Ok(())
+}
+
 /// An update that did this to the second generation of a work.
-fn updated(applied: Applied) -> Reply
-    ensures { ReplyTellsNoData result }
-{
+fn updated(applied: Applied) -> Reply {
     Reply::Updated {
         result: applied,
         generation: 2,
@@ -175,9 +216,7 @@ fn updated(applied: Applied) -> Reply
 }
 
 /// Seven different counts.
-fn summary() -> Reply
-    ensures { ReplyTellsNoData result }
-{
+fn summary() -> Reply {
     Reply::Summary(Counts {
         enqueued: 1,
         running: 2,
@@ -243,23 +282,30 @@ fn expect_works(rt: &impl Abort, alloc: Global) -> Result<(), AllocError> {
     expect_texts(rt, alloc, observing(alloc)?, text, "")
 }
 
+/// The reply that tells a work with data, with its text, and with that after `hush`.
+fn expect_data(rt: &impl Abort, alloc: Global) -> Result<(), Fail> {
+    let told = data_query(alloc)?;
+    let text =
+        "{\"line\":7,\"ok\":\"query\",\"works\":[{\"attempt\":1,\"generation\":0,\"id\":\"00000000-0000-0000-0000-000000000001\",\"output\":{\"count\":{\"long\":-9007199254740993},\"list\":{\"ints\":[1,-2,3]},\"said\":{\"text\":\"\\\"hi\\\" \\\\\"}},\"progress\":{\"turn\":{\"int\":2}},\"seq\":1,\"state\":\"RUNNING\",\"tags\":[]}]}\n";
+    expect_texts(rt, alloc, told, text, "")?;
+    Ok(())
+}
+
 #[test]
 fn replies_alone_are_written(rt: HostRuntime) -> Result<(), Fail> {
     let alloc = rt.alloc();
     expect_plain_replies(&rt, alloc)?;
     expect_counts(&rt, alloc)?;
     expect_works(&rt, alloc)?;
-    for (line, refusal, expected) in refusals(alloc)? {
-        let text = text_of(alloc, line, Reply::Refused(refusal))?;
-        assert_eq!(rt; text.as_slice(), expected.as_bytes());
-    }
+    expect_data(&rt, alloc)?;
+    expect_refusals(&rt, alloc, line_refusals(alloc)?)?;
+    expect_refusals(&rt, alloc, state_refusals(alloc)?)?;
     assert!(rt; event_text(alloc, &Event::TimedOut { run: 1 }, false)?.is_empty());
     Ok(())
 }
 
-/// A request of the second work under a period, with a tag.
-fn request(alloc: Global) -> Result<Request, AllocError>
-    ensures input { IfOk result (λ request. request.input ≡ []) }
+/// A request of the second work under a period, with an input and a tag.
+fn request(alloc: Global) -> Result<Request, DataFault>
     ensures delay { IfOk result (λ request. request.initial_delay ≡ 3) }
     ensures wait { IfOk result (λ request. request.backoff.delay ≡ 30000) }
     ensures period { IfOk result (λ request. request.period ≡ Some (record { period = 900000; flex = 300000 })) }
@@ -269,7 +315,7 @@ fn request(alloc: Global) -> Result<Request, AllocError>
     Ok(Request {
         id: Uuid::from_u128(2),
         class: Text::from_str(alloc, "Echo")?,
-        input: Data::empty(alloc),
+        input: number(alloc, "x", 5)?,
         merger: Merger::ArrayCreating,
         tags,
         constraints: Constraints {
@@ -286,10 +332,9 @@ fn request(alloc: Global) -> Result<Request, AllocError>
     })
 }
 
-/// The record of the second work, which came after the first and has succeeded.
-fn record(alloc: Global) -> Result<Record, AllocError>
+/// The record of the second work, which came after the first and has succeeded, with an output.
+fn record(alloc: Global) -> Result<Record, DataFault>
     ensures fits { IfOk result (λ work. FitsRow work) }
-    ensures no_data { IfOk result (λ work. HasNoData work) }
 {
     let mut prior = Items::new(alloc);
     prior.push(1)?;
@@ -304,7 +349,7 @@ fn record(alloc: Global) -> Result<Record, AllocError>
         runs: 6,
         generation: 7,
         enqueued_at: 8,
-        output: Data::empty(alloc),
+        output: entries(alloc)?,
         progress: Data::empty(alloc),
     })
 }
@@ -344,7 +389,10 @@ fn a_record_has_its_row(rt: HostRuntime) -> Result<(), Fail> {
     assert_eq!(rt; row.id.as_slice(), id.as_slice());
     assert_eq!(rt; row.name.as_ref().map(|name| name.as_str()), Some("sync"));
     assert_eq!(rt; row.class.as_str(), "Echo");
-    assert_eq!(rt; (row.input.as_str(), row.output.as_str()), ("{}", "{}"));
+    assert_eq!(rt; row.input.as_str(), "{\"x\":{\"int\":5}}");
+    let output =
+        "{\"count\":{\"long\":-9007199254740993},\"list\":{\"ints\":[1,-2,3]},\"said\":{\"text\":\"\\\"hi\\\" \\\\\"}}";
+    assert_eq!(rt; row.output.as_str(), output);
     assert_eq!(rt; row.prior.as_slice(), [1].as_slice());
     assert_eq!(rt; row.tags.len(), 1);
     Ok(())

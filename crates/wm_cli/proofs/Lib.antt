@@ -1,5 +1,5 @@
-pub mod Endings
 pub mod Hands
 pub mod Opening
-pub mod Pieces
 pub mod RunEnds
+pub mod RunsWithoutEvents
+pub mod TakenBytes

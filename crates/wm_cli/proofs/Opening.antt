@@ -1,5 +1,5 @@
 -- A run that opens an empty store.
-use Rattle.std.proofs.Common.{◌≡◌, List, [], ◌∷◌, refl, arith}
+use Rattle.std.proofs.Common.{◌≡◌, List, [], refl, arith}
 use Rattle.std.specs.List.{AllByRecursion}
 use Rattle.wm_machine.proofs.Serials.{BeginsSerial-goes-on}
 use Rattle.wm_machine.specs.Outcome.{IsBuilt}

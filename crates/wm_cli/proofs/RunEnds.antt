@@ -3,7 +3,7 @@ use Rattle.std.proofs.Common.{◌≡◌, ℕ, Bool, true, false, List, [], ◌�
 use Rattle.std.specs.List.{AllByRecursion}
 use Rattle.wm_bench.specs.Places.{place_of}
 use Rattle.wm_bench.specs.declared.hand.Hand.{Hand}
-use Rattle.wm_cli.proofs.Endings.{HasCommands-nothing, IsTextWritten-nothing}
+use Rattle.wm_cli.proofs.RunsWithoutEvents.{HasCommands-nothing, IsTextWritten-nothing}
 use Rattle.wm_cli.proofs.Hands.{AreFresh-instances_from, AreHandsBack-opened, place_diaries-places}
 use Rattle.wm_cli.proofs.Opening.{BeginsSerial-nothing, IsSerialRun-early, IsSerialRun-unopened}
 use Rattle.wm_cli.specs.Benched.{HasJustBegun}

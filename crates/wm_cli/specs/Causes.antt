@@ -1,6 +1,7 @@
 -- Which status a fault of reading gives, and when each status comes. This project's own choice.
 use Rattle.std.specs.Prelude.{◌≡◌, ◌⊎◌, ℕ, ℤ, ◌<◌, ◌≤◌, true, List, [], ◌∷◌, length, Option, IfSome, IsSomeAnd}
 use Rattle.wm_keeper.specs.declared.row.Row.{Row}
+use Rattle.wm_script.specs.declared.lines.Limit.{Limit}
 use Rattle.wm_script.specs.declared.lines.Limit.TheVariants.{Bytes}
 use Rattle.wm_script.specs.declared.lines.TheConstants.{MAX_SCRIPT_BYTES}
 use Rattle.wm_session.specs.declared.status.Status.{Status}
@@ -18,9 +19,15 @@ IsToldTooLong left = IsSomeAnd left (λ all. MAX_SCRIPT_BYTES < length all)
 abbrev pub IsToldWithin : Option (List ℕ) → Type 0
 IsToldWithin left = IsSomeAnd left (λ all. length all ≤ MAX_SCRIPT_BYTES)
 
+-- the limit is the one on bytes, the source didn't fail, and where it tells what it has left, that is too long
+pub record IsPastLimit (limit : Limit) (before now : ℕ) (left : Option (List ℕ)) : Type 0 where
+  pub limit_is : limit ≡ Bytes
+  pub no_fault : now ≡ before
+  pub too_long : IsTooLong left
+
 -- `ScriptTooLong` names the limit on bytes, and comes only where the source didn't fail and the script is too long
 abbrev pub LimitCause : Status → ℕ → ℕ → Option (List ℕ) → Type 0
-LimitCause (status.ScriptTooLong limit) before now left = (limit ≡ Bytes) × (now ≡ before) × IsTooLong left
+LimitCause (status.ScriptTooLong limit) before now left = IsPastLimit limit before now left
 LimitCause _ before now left = Unit {0}
 
 -- the first of these rows has this number

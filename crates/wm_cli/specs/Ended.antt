@@ -65,8 +65,10 @@ AreRowsKept began last held kept = MatchBool began (kept ≡ option_map (λ _. r
 -- ---- the lines
 
 -- it holds of the bytes that the source had left, where it tells them, and else of some bytes
-abbrev pub ForScript : Option (List ℕ) → (List ℕ → Type 0) → Type 0
-ForScript left P = (bytes : List ℕ) × IfSome left (λ all. all ≡ bytes) × P bytes
+pub record ForScript (left : Option (List ℕ)) (P : List ℕ → Type 0) : Type 0 where
+  pub bytes : List ℕ
+  pub told : IfSome left (λ all. all ≡ bytes)
+  pub holds : P bytes
 
 -- the log has the script's commands, a front of them, and on `Done` all
 abbrev pub HasCommandsOf : Option (List ℕ) → Status → List Event → Type 0

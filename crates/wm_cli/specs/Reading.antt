@@ -1,13 +1,12 @@
 -- What reading the commands of a script answers. This project's own choice.
 use Rattle.std.specs.Prelude.{◌≡◌, ℕ, ◌≤◌, List, length, Option}
-use Rattle.wm_cli.specs.Causes.{IsTooLong}
+use Rattle.wm_cli.specs.Causes.{IsPastLimit}
 use Rattle.wm_cli.specs.Ended.{ForScript}
 use Rattle.wm_session.specs.declared.status.Status.{Status}
 use Rattle.wm_session.specs.declared.status.Status.TheVariants as status
 use Rattle.wm_faults.specs.Faults.{Failed}
 use Rattle.wm_script.specs.Lines.{commands_in}
 use Rattle.wm_machine.specs.declared.command.Command.{Command}
-use Rattle.wm_script.specs.declared.lines.Limit.TheVariants.{Bytes}
 use Rattle.wm_script.specs.declared.lines.TheConstants.{MAX_SCRIPT_BYTES}
 
 -- the commands are those of the script, which is within the limit
@@ -17,6 +16,6 @@ AreCommandsOf left commands = ForScript left (λ bytes. (commands ≡ commands_i
 -- each status that ends a run before its store is opened, with its cause
 abbrev pub IsReadStatus : Status → ℕ → ℕ → Option (List ℕ) → Type 0
 IsReadStatus status.SourceFault before now left = Failed before now
-IsReadStatus (status.ScriptTooLong limit) before now left = (limit ≡ Bytes) × (now ≡ before) × IsTooLong left
+IsReadStatus (status.ScriptTooLong limit) before now left = IsPastLimit limit before now left
 IsReadStatus status.Memory before now left = now ≡ before
 IsReadStatus _ before now left = ⊥

@@ -24,12 +24,24 @@ pub record IsTakenWithin (limit : ℕ) (before now : Option (List ℕ)) : Type 0
   pub few : length bytes ≤ limit
   pub taken : IsTakenFrom before now bytes
 
--- One call of the source: the end, a piece of at least one byte, which the script has now, or a
--- fault. No piece is longer than there is room for.
+-- the source is at its end, and the script is as it was
+pub record IsScriptEnd (before now : Option (List ℕ)) (script longer : List ℕ) : Type 0 where
+  pub at_end : IsAtEnd now
+  pub nothing_taken : now ≡ before
+  pub script_is : longer ≡ script
+
+-- the script is longer by a piece that was taken, of at least one byte and no longer than there is room for
+pub record IsPieceMore (before now : Option (List ℕ)) (script longer : List ℕ) (room : ℕ) : Type 0 where
+  pub piece : List ℕ
+  pub taken : IsTakenFrom before now piece
+  pub script_is : longer ≡ script ++ piece
+  pub not_empty : 0 < length piece
+  pub fits : length piece ≤ room
+
+-- One call of the source: the end, a piece, or a fault, which may have taken some bytes.
 abbrev pub IsPieceOf : Result Bool ReadFault → Option (List ℕ) → Option (List ℕ) → List ℕ → List ℕ → ℕ → Type 0
-IsPieceOf (Ok true) before now script longer room = IsAtEnd now × (now ≡ before) × (longer ≡ script)
-IsPieceOf (Ok false) before now script longer room =
-    (piece : List ℕ) × IsTakenFrom before now piece × (longer ≡ script ++ piece) × (0 < length piece) × (length piece ≤ room)
+IsPieceOf (Ok true) before now script longer room = IsScriptEnd before now script longer
+IsPieceOf (Ok false) before now script longer room = IsPieceMore before now script longer room
 IsPieceOf (Err fault) before now script longer room = IsTakenWithin room before now
 
 abbrev pub is_read_failed : {T : Type 0} → Result T ReadFault → Bool

@@ -1,19 +1,16 @@
 ghost use Rattle.std.specs.Prelude.{◌≡◌, ◌^◌, ◌<◌, All, map, pos, IfOk, IfSome};
 ghost use Rattle.wm_machine.specs.Limits.{FitsRow};
-ghost use Rattle.wm_machine.specs.Rows.{row_of, HasNoData, kind_code, period_code, flex_code, policy_code, merger_code, network_code, flags_code, phase_code};
+ghost use Rattle.wm_machine.specs.Rows.{row_of, kind_code, period_code, flex_code, policy_code, merger_code, network_code, flags_code, phase_code};
 
 use std::alloc::{AllocError, Global};
 use uuid::Uuid;
-use wm_collections::{Items, Replica, Text};
+use wm_collections::{Items, Replica};
 use wm_data::Merger;
 use wm_keeper::Row;
 use wm_machine::{BackoffPolicy, Constraints, How, Network, Period, Phase, Record};
 
 /// The form of the rows that are written.
 const ROW_VERSION: i64 = 1;
-
-/// The canonical text of Data without entries.
-const NO_DATA: &str = "{}";
 
 fn kind_code(period: &Option<Period>) -> i64
     ensures { result ≡ kind_code period.now }
@@ -124,11 +121,9 @@ fn stored_numbers(alloc: Global, numbers: &[u64]) -> Result<Items<i64>, AllocErr
     Ok(stored)
 }
 
-/// The row of a record, whose numbers are within their limits and which has no data. Its progress
-/// isn't stored.
+/// The row of a record, whose numbers are within their limits. Its progress isn't stored.
 pub fn to_row(alloc: Global, work: &Record) -> Result<Row, AllocError>
     requires fits { FitsRow work.now }
-    requires no_data { HasNoData work.now }
     ensures { IfOk result (λ row. row ≡ row_of work.now) }
 {
     let request = &work.request;
@@ -153,8 +148,8 @@ pub fn to_row(alloc: Global, work: &Record) -> Result<Row, AllocError>
         runs: i64::from(work.runs),
         generation: stored_number(work.generation),
         enqueued_at: stored_number(work.enqueued_at),
-        input: Text::from_str(alloc, NO_DATA)?,
-        output: Text::from_str(alloc, NO_DATA)?,
+        input: request.input.to_text(alloc)?,
+        output: work.output.to_text(alloc)?,
         prior: stored_numbers(alloc, work.prior.as_slice())?,
         tags: request.tags.replica(alloc)?,
     })

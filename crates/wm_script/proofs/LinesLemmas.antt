@@ -15,6 +15,7 @@ use Rattle.serde_json.specs.Find.{as_object, as_str, get, get_member}
 use Rattle.serde_json.specs.Read.{read}
 use Rattle.serde_json.specs.View.{items_view, members_view}
 use Rattle.serde_json.specs.declared.value.Value.{Value}
+use Rattle.wm_data.specs.declared.merger.Merger.TheVariants.{Overwriting}
 use Rattle.wm_machine.specs.Built.{NamesNothing}
 use Rattle.wm_machine.specs.Outcome.{IsBuilt}
 use Rattle.uuid.specs.Text.{by_index, byte_of_digits, close_brace, digits_of, has_urn_prefix, open_brace, parsed, parsed_braced, parsed_hyphenated, parsed_simple, parsed_urn}
@@ -252,7 +253,7 @@ IsShortText-class_of d = IfSome-and_then _ IsShortText (as_str d) (λ text. shor
 
 -- a request has every default, and its id and class are within their limits
 IsPlainRequest : Request → Type 0
-IsPlainRequest request = (id : List ℕ) × (class : List ℕ) × (request ≡ plain_request id class) × HasSixteen id × IsShortText class
+IsPlainRequest request = (id : List ℕ) × (class : List ℕ) × (request ≡ plain_request id class [] Overwriting) × HasSixteen id × IsShortText class
 
 IsPlainRequest-work_of : (d : json.Data) → IfSome (work_of d) IsPlainRequest
 unfolding work_of IsPlainRequest
@@ -272,8 +273,11 @@ unfolding IsPlainRequest HasSixteen
 IsBuilt-enqueue_command request h = record {
   id = h.0;
   class = h.1;
+  input = [];
+  merger = Overwriting;
   id_is = h.3;
   class_is = h.4;
+  input_is = record { ascending = tt; named = tt; size = omega arith };
   one = ap (λ (r : Request). (record { request = r; after = [] }) ∷ []) h.2;
 }
 

@@ -1,12 +1,8 @@
--- No reply has a float, nor has data, so its compact text is what `to_vec` gives.
-use Rattle.std.proofs.Common.{◌≡◌, ℕ, ℤ, pos, negsuc, List, [], ◌∷◌, map, Option, Some, None, false, refl}
+-- No reply has a float, so its compact text is what `to_vec` gives.
+use Rattle.std.proofs.Common.{◌≡◌, ℕ, List, Option, Some, None, false, refl}
 use Rattle.serde_json.specs.Data as json
-use Rattle.serde_json.specs.View.{items_of}
-use Rattle.serde_json.specs.Written.{has_float, items_have_float, members_have_float}
-use Rattle.wm_data.specs.DataJson.{entries_json, value_json, whole}
-use Rattle.wm_data.specs.declared.data.DataEntry.{DataEntry}
-use Rattle.wm_data.specs.declared.value.Value.{Value}
-use Rattle.wm_data.specs.declared.value.Value.TheVariants as value
+use Rattle.serde_json.specs.Written.{has_float, members_have_float}
+use Rattle.wm_data.proofs.NoFloats.{entries_have_no_float, list_has_no_float}
 use Rattle.wm_script.specs.Texts.{count, info_json, info_members, reply_json, with_due, with_name}
 use Rattle.wm_machine.specs.declared.command.LineFault.{LineFault}
 use Rattle.wm_machine.specs.declared.command.LineFault.TheVariants as fault
@@ -15,34 +11,6 @@ use Rattle.wm_machine.specs.declared.reply.Refusal.TheVariants as refusal
 use Rattle.wm_machine.specs.declared.reply.Reply.{Reply}
 use Rattle.wm_machine.specs.declared.reply.Reply.TheVariants as reply
 use Rattle.wm_machine.specs.declared.reply.WorkInfo.{WorkInfo}
-
--- a list has no float where none of its items has one
-list_has_no_float : {T : Type 0} (form : T → json.Data) (contents : List T) → ((content : T) → has_float (form content) ≡ false)
-    → items_have_float (items_of (map form contents)) ≡ false
-list_has_no_float form [] each = refl
-list_has_no_float form (content ∷ contents) each = rw (each content) (list_has_no_float form contents each)
-
--- ---- data
-
-whole_is_no_float : (n : ℤ) → has_float (whole n) ≡ false
-whole_is_no_float (pos n) = refl
-whole_is_no_float (negsuc n) = refl
-
-value_has_no_float : (v : Value) → has_float (value_json v) ≡ false
-value_has_no_float (value.Bool b) = refl
-value_has_no_float (value.Byte n) = rw (whole_is_no_float n)
-value_has_no_float (value.Int n) = rw (whole_is_no_float n)
-value_has_no_float (value.Long n) = rw (whole_is_no_float n)
-value_has_no_float (value.Text text) = refl
-value_has_no_float (value.Bools bs) = rw (list_has_no_float json.boolean bs (λ b. refl))
-value_has_no_float (value.Bytes ns) = rw (list_has_no_float whole ns whole_is_no_float)
-value_has_no_float (value.Ints ns) = rw (list_has_no_float whole ns whole_is_no_float)
-value_has_no_float (value.Longs ns) = rw (list_has_no_float whole ns whole_is_no_float)
-value_has_no_float (value.Texts texts) = rw (list_has_no_float json.string texts (λ text. refl))
-
-entries_have_no_float : (entries : List DataEntry) → members_have_float (entries_json entries) ≡ false
-entries_have_no_float [] = refl
-entries_have_no_float (entry ∷ entries) = rw (value_has_no_float entry.value) (entries_have_no_float entries)
 
 -- ---- what is told of a work
 

@@ -7,6 +7,7 @@ use Rattle.serde_json.specs.Data as json
 use Rattle.serde_json.specs.Find.{get_member, as_str, as_array, as_object}
 use Rattle.serde_json.specs.Read.{read}
 use Rattle.uuid.specs.Text.{parsed}
+use Rattle.wm_data.specs.declared.merger.Merger.TheVariants.{Overwriting}
 use Rattle.wm_machine.specs.Requests.{plain_request}
 use Rattle.wm_machine.specs.declared.command.Command.{Command}
 use Rattle.wm_machine.specs.declared.command.Command.TheVariants.{Enqueue, Query, Faulty}
@@ -68,7 +69,7 @@ work_of d = do
   text ← as_str fields.0
   id ← parsed text
   class ← class_of fields.1
-  Some (plain_request id class)
+  Some (plain_request id class [] Overwriting)
 
 -- an enqueue of one work
 unfoldable pub enqueue_of : json.Data → Option Request

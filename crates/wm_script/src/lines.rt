@@ -1,5 +1,5 @@
 //! The lines of a script as commands.
-ghost use Rattle.std.specs.Prelude.{◌≡◌, ◌==◌, position, ◌∷◌, ◌+◌, ◌<◌, ◌≤◌, length, option_map, option_and_then, Some, Err, IfOk, IfErr, OnOk};
+ghost use Rattle.std.specs.Prelude.{◌≡◌, ◌==◌, position, [], ◌∷◌, ◌+◌, ◌<◌, ◌≤◌, length, option_map, option_and_then, Some, Err, IfOk, IfErr, OnOk};
 ghost use Rattle.std.specs.List.{AllByRecursion};
 ghost use Rattle.serde_json.specs.Find.{as_str};
 ghost use Rattle.serde_json.specs.View.{view, items_view};
@@ -168,7 +168,7 @@ struct PlainWork<'v> {
 /// The work of an enqueue of one work.
 #[tactic(auto, unfolding(crate::specs::Lines::enqueue_of))]
 fn enqueue_of(value: &Value) -> Option<PlainWork<'_>>
-    ensures { option_map (λ work. plain_request work.id work.class.now) result
+    ensures { option_map (λ work. plain_request work.id work.class.now [] Merger.Overwriting) result
         ≡ enqueue_of (view value.now) }
 {
     let (command, works) = both("cmd", "works", value)?;
@@ -184,7 +184,7 @@ fn enqueue_of(value: &Value) -> Option<PlainWork<'_>>
 /// The work of an object with an id and a class.
 #[tactic(auto, unfolding(crate::specs::Lines::work_of))]
 fn work_of(value: &Value) -> Option<PlainWork<'_>>
-    ensures { option_map (λ work. plain_request work.id work.class.now) result
+    ensures { option_map (λ work. plain_request work.id work.class.now [] Merger.Overwriting) result
         ≡ work_of (view value.now) }
 {
     let (id, class) = both("id", "class", value)?;
@@ -276,7 +276,8 @@ fn class_of(value: &Value) -> Option<&str>
 
 /// The request for a work with every default.
 fn plain_request(alloc: Global, id: Uuid, class: &str) -> Result<Request, AllocError>
-    ensures { IfOk result (λ request. request ≡ plain_request id class.now) }
+    ensures { IfOk result (λ request. request
+        ≡ plain_request id class.now [] Merger.Overwriting) }
 {
     Ok(Request {
         id,

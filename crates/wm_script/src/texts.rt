@@ -1,8 +1,6 @@
-ghost use Rattle.std.specs.Prelude.{◌≡◌, [], IfOk, OnOk, OnErr};
-ghost use Rattle.std.specs.List.{AllByRecursion};
+ghost use Rattle.std.specs.Prelude.{◌≡◌, IfOk, OnOk, OnErr};
 ghost use Rattle.serde_json.specs.View.{view, members_view};
 ghost use Rattle.wm_data.specs.DataJson.{data_json};
-ghost use Rattle.wm_machine.specs.Built.{EventTellsNoData, ReplyTellsNoData, TellsNoData};
 ghost use Rattle.wm_script.specs.Texts as texts;
 
 use serde_json::{Map, Value, json, push, put};
@@ -17,7 +15,6 @@ use wm_machine::{Applied, Counts, Event, LineFault, Refusal, Reply, Shown, WorkI
 /// other event nothing.
 #[tactic(auto, unfolding(crate::specs::Texts::text_of))]
 pub fn event_text(alloc: Global, event: &Event, hushed: bool) -> Result<Vec<u8>, AllocError>
-    requires { EventTellsNoData event.now }
     ensures { IfOk result (λ text. text.items ≡ texts.text_of event.now hushed) }
 {
     let Event::Command { line, reply, .. } = event else {
@@ -44,7 +41,6 @@ fn is_written(reply: &Reply, hushed: bool) -> bool
 // The reply to a line, and LF.
 #[tactic(auto, using(crate::proofs::TextsLemmas::reply_has_no_float))]
 fn reply_text(alloc: Global, line: u32, reply: &Reply) -> Result<Vec<u8>, AllocError>
-    requires { ReplyTellsNoData reply.now }
     ensures { IfOk result (λ text. text.items ≡ texts.reply_text line reply.now) }
 {
     let mut text = reply_value(alloc, line, reply)?.to_vec(alloc)?;
@@ -53,7 +49,6 @@ fn reply_text(alloc: Global, line: u32, reply: &Reply) -> Result<Vec<u8>, AllocE
 }
 
 fn reply_value(alloc: Global, line: u32, reply: &Reply) -> Result<Value, AllocError>
-    requires { ReplyTellsNoData reply.now }
     ensures { IfOk result (λ value. view value ≡ texts.reply_json line reply.now) }
 {
     match reply {
@@ -120,7 +115,6 @@ fn conditions_value(alloc: Global, line: u32, stopped: u64) -> Result<Value, All
 }
 
 fn query_value(alloc: Global, line: u32, works: &[WorkInfo]) -> Result<Value, AllocError>
-    requires { AllByRecursion TellsNoData works.now }
     ensures { IfOk result (λ value. view value ≡ texts.reply_json line (Reply.Query works.now)) }
 {
     let infos = infos_value(alloc, works)?;
@@ -133,7 +127,6 @@ fn observing_value(
     observer: u32,
     works: &[WorkInfo],
 ) -> Result<Value, AllocError>
-    requires { AllByRecursion TellsNoData works.now }
     ensures { IfOk result
         (λ value. view value ≡ texts.reply_json line (Reply.Observing observer works.now)) }
 {
@@ -186,7 +179,6 @@ fn numbers_value(alloc: Global, works: &[u64]) -> Result<Value, AllocError>
 }
 
 fn infos_value(alloc: Global, works: &[WorkInfo]) -> Result<Value, AllocError>
-    requires { AllByRecursion TellsNoData works.now }
     ensures { IfOk result (λ value. view value ≡ texts.infos works.now) }
 {
     let mut values = Vec::new(alloc);
@@ -198,7 +190,6 @@ fn infos_value(alloc: Global, works: &[WorkInfo]) -> Result<Value, AllocError>
 
 // What is told of one work.
 fn info_value(alloc: Global, info: &WorkInfo) -> Result<Value, AllocError>
-    requires { TellsNoData info.now }
     ensures { IfOk result (λ value. view value ≡ texts.info_json info.now) }
 {
     let mut members = info_members(alloc, info)?;
@@ -209,7 +200,6 @@ fn info_value(alloc: Global, info: &WorkInfo) -> Result<Value, AllocError>
 
 // What is told of every work.
 fn info_members(alloc: Global, info: &WorkInfo) -> Result<Map<String, Value>, AllocError>
-    requires { TellsNoData info.now }
     ensures { IfOk result (λ members. members_view members.entries
         ≡ texts.info_members info.now) }
 {
@@ -218,9 +208,9 @@ fn info_members(alloc: Global, info: &WorkInfo) -> Result<Map<String, Value>, Al
     let generation = Value::from(info.generation);
     put(&mut members, alloc, "generation", generation)?;
     put(&mut members, alloc, "id", id_value(alloc, &info.id)?)?;
-    let output = data_value(alloc, &info.output);
+    let output = data_value(alloc, &info.output)?;
     put(&mut members, alloc, "output", output)?;
-    let progress = data_value(alloc, &info.progress);
+    let progress = data_value(alloc, &info.progress)?;
     put(&mut members, alloc, "progress", progress)?;
     put(&mut members, alloc, "seq", Value::from(info.seq))?;
     let state = Value::try_from_str(alloc, state_name(info.state))?;
@@ -230,13 +220,11 @@ fn info_members(alloc: Global, info: &WorkInfo) -> Result<Map<String, Value>, Al
     Ok(members)
 }
 
-// The data of a work, of which nothing is told yet.
-fn data_value(alloc: Global, told: &Data) -> Value
-    requires { told.now ≡ [] }
-    ensures { view result ≡ data_json told.now }
+// The JSON of Data. Memory that is refused is the only error.
+fn data_value(alloc: Global, told: &Data) -> Result<Value, AllocError>
+    ensures { IfOk result (λ value. view value ≡ data_json told.now) }
 {
-    prove!(told.is_empty());
-    Value::Object(Map::new(alloc))
+    told.to_json(alloc).map_err(|_| AllocError)
 }
 
 fn tags_value(alloc: Global, tags: &[Text]) -> Result<Value, AllocError>

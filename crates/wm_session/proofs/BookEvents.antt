@@ -1,23 +1,18 @@
--- What an event tells of the lines, and leaves to drain.
-use Rattle.std.proofs.Common.{◌≡◌, ℕ, ◌+◌, ◌<◌, ◌≤◌, List, [], ◌∷◌, ◌++◌, Option, Some, None, IsSomeAnd, refl, sym, ◌∙◌, ap, subst}
-use Rattle.wm_data.specs.declared.data.DataEntry.{DataEntry}
-use Rattle.wm_machine.proofs.Firsts.{first_of-stored}
-use Rattle.wm_machine.proofs.Frames.{after_start}
+-- What an event tells of the lines, and what one that ends a run makes of a state.
+use Rattle.std.proofs.Common.{◌≡◌, ℕ, ◌+◌, ◌≤◌, List, [], ◌∷◌, ◌++◌, Option, Some, None, IsSomeAnd, sym, ◌∙◌, ap, subst}
 use Rattle.wm_machine.proofs.Narrows.{found_valid, run_kind}
-use Rattle.wm_machine.proofs.Runnings.{IsAlone-stored}
-use Rattle.wm_machine.proofs.States.{after_finish, after_start_failed}
-use Rattle.wm_machine.proofs.Waitings.{left_to_drain-started, left_to_drain-succeeded}
-use Rattle.wm_machine.specs.Closed.{closed}
+use Rattle.wm_machine.proofs.Steps.{framed, kept as kept_by}
+use Rattle.wm_machine.specs.Frame.{frame_of, Frame, IsEndedIn, IsFramed}
+use Rattle.wm_machine.specs.Role as role
+use Rattle.wm_machine.specs.Serial.{IsInTurn, IsTurnOf}
+use Rattle.wm_machine.specs.Step.{after, role_of, Legal}
+use Rattle.wm_machine.specs.Waiting.{left_to_drain, LeavesOf}
+use Rattle.wm_worker.specs.declared.answer.Given.{Given}
 use Rattle.wm_machine.specs.Log.{command_in, AreNumberedFrom}
 use Rattle.wm_machine.specs.Narrow.{IsReached}
-use Rattle.wm_machine.specs.Runs.{run_numbered, started}
-use Rattle.wm_machine.specs.Step.{after, IsEnd, IsStart, IsStartFailure}
-use Rattle.wm_machine.specs.Waiting.{left_to_drain}
-use Rattle.wm_machine.specs.declared.event.Cause.{Cause}
-use Rattle.wm_machine.specs.declared.event.End.{End}
+use Rattle.wm_machine.specs.Runs.{run_numbered}
 use Rattle.wm_machine.specs.declared.event.Event.TheVariants as event
 use Rattle.wm_machine.specs.declared.event.Event.{Event}
-use Rattle.wm_machine.specs.declared.record.How.TheVariants as how
 use Rattle.wm_machine.specs.declared.state.Run.{Run}
 use Rattle.wm_machine.specs.declared.state.State.{State}
 use Rattle.wm_table.specs.TableState.{TicketState, ticket_of}
@@ -44,25 +39,22 @@ ticket_kind s ticket None reached is stands = absurd stands
 ticket_kind s ticket (Some run) reached is stands =
     ap (λ (t : TicketState). t.kind) stands ∙ run_kind s run reached.narrow (found_valid s ticket.task.run run reached.valid is)
 
--- ---- what is left to drain
+-- ---- an event that ends a run
 
--- a start leaves fewer works
-pub started_fewer : (s : State) (run seq instance : ℕ) (input : List DataEntry) → IsReached s → IsStart s run seq instance input
-    → left_to_drain (after s (event.Start run seq instance input)) < left_to_drain s
-started_fewer s run seq instance input reached legal =
-    let alone = IsAlone-stored legal.work s.works reached.valid.in_order (first_of-stored s legal.work legal.is_first) in
-    rw (after_start s run seq instance input legal)
-    (left_to_drain-started s legal.work started legal.is_first alone (λ other. refl) (λ other. refl))
+-- what it makes of all but the records
+pub framed_end : (s : State) (number : ℕ) (gave : Given) (e : Event) → role_of e ≡ role.Ends number gave → Legal s e → IsEndedIn number gave s (frame_of s e)
+framed_end s number gave e ends legal = subst (λ r. IsFramed r s (frame_of s e)) ends (framed s e legal)
 
--- and so does one that fails
-pub failed_fewer : (s : State) (seq : ℕ) (cause : Cause) → IsReached s → IsStartFailure s seq cause
-    → left_to_drain (after s (event.StartFailed seq cause)) < left_to_drain s
-failed_fewer s seq cause reached legal =
-    let alone = IsAlone-stored legal.work s.works reached.valid.in_order (first_of-stored s legal.work legal.is_first) in
-    subst (λ (t : State). left_to_drain t < left_to_drain s) (sym (after_start_failed s seq cause reached legal))
-    (left_to_drain-started s legal.work (closed how.Failed) legal.is_first alone (λ other. refl) (λ other. refl))
+-- it is no line
+pub silent_end : (s : State) (number : ℕ) (gave : Given) (e : Event) → role_of e ≡ role.Ends number gave → Legal s e → command_in e ≡ []
+silent_end s number gave e ends legal = ap (λ (f : Frame). f.commands) (framed_end s number gave e ends legal).frame_is
 
--- the end of a run leaves no more
-pub finished_no_more : (s : State) (number : ℕ) (end : End) → IsReached s → IsEnd s number end
-    → left_to_drain (after s (event.Finish number end)) ≤ left_to_drain s
-finished_no_more s number end reached legal = rw (after_finish s number end reached legal) (left_to_drain-succeeded s.now legal.run.seq s.works)
+-- it comes in its turn always
+pub end_in_turn : (s : State) (number : ℕ) (gave : Given) (e : Event) → role_of e ≡ role.Ends number gave → IsInTurn s e
+end_in_turn s number gave e ends = subst (λ r. IsTurnOf r s) (sym ends) tt
+
+-- it leaves no more to drain
+pub no_more_after_end : (s : State) (number : ℕ) (gave : Given) (e : Event) → role_of e ≡ role.Ends number gave → IsReached s → Legal s e
+    → left_to_drain (after s e) ≤ left_to_drain s
+no_more_after_end s number gave e ends reached legal =
+    subst (λ r. LeavesOf r (left_to_drain s) (left_to_drain (after s e))) ends (kept_by s e reached legal).left

@@ -3,25 +3,24 @@ use Rattle.std.proofs.Common.{◌≡◌, ◌⊎◌, ℕ, ◌+◌, ◌-◌, ◌^�
 use Rattle.std.proofs.Math.Nat.{le-min, le_trans, min-le_left, min-le_right}
 use Rattle.wm_faults.specs.Faults.{Failed}
 use Rattle.wm_keeper.specs.declared.row.Row.{Row}
-use Rattle.std.specs.Option.{IfSome}
 use Rattle.wm_machine.proofs.Logs.{Replay-push}
-use Rattle.wm_machine.specs.Built.{EventTellsNoData}
 use Rattle.wm_machine.specs.Log.{command_in, HasPrefix}
 use Rattle.wm_machine.specs.Replay.{Replay}
 use Rattle.wm_machine.specs.Rows.{rows_of}
 use Rattle.wm_machine.specs.Runs.{run_numbered}
 use Rattle.wm_machine.specs.declared.command.Command.{Command}
+use Rattle.wm_machine.specs.declared.event.End.TheVariants.{Success}
 use Rattle.wm_machine.specs.declared.event.Event.TheVariants as event
 use Rattle.wm_machine.specs.declared.event.Event.{Event}
 use Rattle.wm_machine.specs.declared.state.Run.{Run}
 use Rattle.wm_machine.specs.declared.state.State.{State}
-use Rattle.wm_session.proofs.Pieces.{TextsInvariant-front}
+use Rattle.wm_session.proofs.WrittenTexts.{TextsInvariant-front}
 use Rattle.wm_session.specs.Bench.{is_away}
 use Rattle.wm_session.specs.Book as book
 use Rattle.wm_session.specs.BookState.{BookState}
 use Rattle.wm_session.specs.Causes.{stop_by_fault, stop_by_trouble, StopCause}
 use Rattle.wm_session.specs.Invariant.{AwayInvariant, LinesInvariant, TextsInvariant}
-use Rattle.wm_table.specs.Table.{last_of, IsClaimed, IsOneStep, IsUntouched, TurnCause}
+use Rattle.wm_table.specs.Table.{last_of, IsClaimAnswer, IsFinished, IsOneStep, IsUntouched, TurnCause}
 use Rattle.wm_table.specs.TableState.{TableState, TicketState, ticket_of}
 use Rattle.wm_session.specs.Writing.{WriteCause}
 use Rattle.wm_session.specs.declared.book.Stop.{Stop}
@@ -32,7 +31,9 @@ use Rattle.wm_table.specs.declared.table.Trouble.{Trouble}
 use Rattle.wm_table.specs.declared.table.TurnAnswer.TheVariants as turn
 use Rattle.wm_session.specs.declared.writing.WriteFault.TheVariants as fault
 use Rattle.wm_session.specs.declared.writing.WriteFault.{WriteFault}
+use Rattle.wm_worker.specs.Answers.{given_of}
 use Rattle.wm_worker.specs.Told.{Report}
+use Rattle.wm_worker.specs.declared.answer.Given.TheVariants as given
 
 -- rows that are a state's where they are told are then those of the next one
 pub rows_then : (old new : State) (stored held kept : Option (List Row)) → held ≡ option_map (λ _. rows_of old) stored
@@ -112,20 +113,22 @@ pub last_of-step : {K : Type 0} (held : K → Option (List Row)) (e : Event) (ol
 last_of-step held e old new step = ap last_of step.appended ∙ last_of-push old.log e
 
 -- a claim's event, which is no line
-pub claimed_step : {K : Type 0} (held : K → Option (List Row)) (claimed : Claim) (old new : TableState K) → IsClaimed held (Some claimed) old new
+pub claimed_step : {K : Type 0} (held : K → Option (List Row)) (claimed : Claim) (old new : TableState K) → IsClaimAnswer held (Some claimed) old new
     → (e : Event) × IsOneStep held e old new × (command_in e ≡ [])
-claimed_step held (claim.Run ticket) old new (step, stands) =
-    (event.Start ticket.task.run ticket.seq ticket.instance ticket.task.input, step, refl)
+claimed_step held (claim.Run ticket) old new run =
+    (event.Start ticket.task.run ticket.seq ticket.instance ticket.task.input, run.step, refl)
 claimed_step held (claim.Failed seq cause) old new step = (event.StartFailed seq cause, step, refl)
 
--- nor does it tell of data
-pub claimed_tells : {K : Type 0} (held : K → Option (List Row)) (claimed : Claim) (old new : TableState K) → IsClaimed held (Some claimed) old new
-    → IfSome (last_of new.log) EventTellsNoData
-claimed_tells held (claim.Run ticket) old new (step, stands) =
-    let e = event.Start ticket.task.run ticket.seq ticket.instance ticket.task.input in
-    subst (λ (last : Option Event). IfSome last EventTellsNoData) (sym (last_of-step held e old new step)) tt
-claimed_tells held (claim.Failed seq cause) old new step =
-    subst (λ (last : Option Event). IfSome last EventTellsNoData) (sym (last_of-step held (event.StartFailed seq cause) old new step)) tt
+-- a run that is finished has ended, with what its work succeeded with
+pub HasEnded-finished : {K : Type 0} (held : K → Option (List Row)) (number : ℕ) (told : Report) (old new : TableState K) → IsFinished held number told old new
+    → book.HasEnded held number told old new
+HasEnded-finished held number told old new finished = record {
+  ending = event.Finish number (Success finished.output);
+  gave = given.Success finished.output;
+  told_is = ap given_of finished.told_is;
+  ends = refl;
+  step = finished.step;
+}
 
 -- a ticket that holds what its run keeps stands
 ticket_stands : (found : Option Run) (ticket : TicketState) → IsSomeAnd found (λ run. ticket ≡ ticket_of run)
@@ -134,21 +137,21 @@ ticket_stands None ticket is = absurd is
 ticket_stands (Some run) ticket is = (ap (λ (t : TicketState). t.instance) (sym is), ap (λ (t : TicketState). t.kind) (sym is))
 
 -- so a claim can be given up
-pub claimed_in : {K : Type 0} (held : K → Option (List Row)) (claimed : Claim) (old new : TableState K) → IsClaimed held (Some claimed) old new
+pub claimed_in : {K : Type 0} (held : K → Option (List Row)) (claimed : Claim) (old new : TableState K) → IsClaimAnswer held (Some claimed) old new
     → book.IsClaimIn new.state claimed
-claimed_in held (claim.Run ticket) old new (step, stands) = ticket_stands (run_numbered ticket.task.run new.state.runs) ticket stands
+claimed_in held (claim.Run ticket) old new run = ticket_stands (run_numbered ticket.task.run new.state.runs) ticket run.ticket_in
 claimed_in held (claim.Failed seq cause) old new step = tt
 
 -- the session stopped while a claim was told, and its ticket was taken back
 pub IsUntold-claimed : {K W B : Type 0} (held : K → Option (List Row)) (claimed : Claim) (old : BookState K W B) (between table : TableState K)
     (pending : List ℕ) (sink : W) (stop : Stop)
-    → old.status ≡ None → IsClaimed held (Some claimed) old.table between → table ≡ between
+    → old.status ≡ None → IsClaimAnswer held (Some claimed) old.table between → table ≡ between
     → book.HasStopped held old (record old { table = table; pending = pending; sink = sink; status = Some stop })
     ⊎ book.IsClaimUntold held old (record old { table = table; pending = pending; sink = sink; status = Some stop })
 IsUntold-claimed held claimed old between table pending sink stop going done same = inr (record {
   made = claimed;
   before = going;
   status = refl;
-  claimed = subst (IsClaimed held (Some claimed) old.table) (sym same) done;
+  claimed = subst (IsClaimAnswer held (Some claimed) old.table) (sym same) done;
   left = refl;
 })

@@ -10,9 +10,8 @@ use Rattle.wm_bench.specs.declared.place.Presence.{Presence}
 use Rattle.wm_bench.specs.declared.place.Presence.TheVariants.{Idle, Away}
 use Rattle.wm_keeper.specs.declared.row.Row.{Row}
 use Rattle.wm_machine.proofs.DiaryLogs.{log_entries-push}
-use Rattle.wm_machine.proofs.Frames.{frame-finish}
 use Rattle.wm_machine.specs.Diaries.{diaries_after, event_entries, log_entries}
-use Rattle.wm_machine.specs.Ends.{given_by}
+use Rattle.wm_session.proofs.BookEvents.{framed_end}
 use Rattle.wm_machine.specs.Frame.{Frame}
 use Rattle.wm_machine.specs.Replay.{Replay}
 use Rattle.wm_machine.specs.declared.event.Event.{Event}
@@ -174,14 +173,15 @@ pub KeepDiaries-last : {K W B : Type 0} {held : K → Option (List Row)} {diary_
 KeepDiaries-last {held = held} {diary_of = diary_of} {ticket = ticket} {worker = worker} {old = old} {new = new} diaries under_way last keep going =
     let s = old.table.state in
     let legal = last.step.legal in
-    let gave = Gave ticket.task.run ticket.k (given_by last.end) ∷ [] in
+    let gave = Gave ticket.task.run ticket.k last.gave ∷ [] in
+    let ended = framed_end s ticket.task.run last.gave last.ending last.ends legal in
     let away = place_diaries diary_of old.places in
-    let of_run = ticket-found ticket under_way.ticket_in legal.is_running in
+    let of_run = ticket-found ticket under_way.ticket_in ended.is_running in
     rw last.places
     (place_diaries-back diary_of last.back ticket.instance old.places
     ∙ ap (slice_set away ticket.instance) last.diary
-    ∙ diaries_after-written held (event.Finish ticket.task.run last.end) old.table new.table ticket.instance gave
+    ∙ diaries_after-written held last.ending old.table new.table ticket.instance gave
     (diary_of worker) away diaries under_way.replay last.step
-    (λ n. ap (λ (f : Frame). f.entries n) (frame-finish s ticket.task.run last.end legal)
-    ∙ ap (λ (t : TicketState). cond (eqb t.instance n) (Gave t.task.run t.k (given_by last.end) ∷ []) []) (sym of_run))
+    (λ n. ap (λ (f : Frame). f.entries n) ended.frame_is
+    ∙ ap (λ (t : TicketState). cond (eqb t.instance n) (Gave t.task.run t.k last.gave ∷ []) []) (sym of_run))
     (keep last.before))

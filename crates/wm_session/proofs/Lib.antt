@@ -1,9 +1,13 @@
-pub mod Benches
+pub mod BookClaims
 pub mod BookEnds
 pub mod BookEvents
+pub mod BookLines
 pub mod BookParts
-pub mod Books
+pub mod BookReports
+pub mod BookSteps
+pub mod BookStops
 pub mod DiaryLemmas
 pub mod HandLemmas
-pub mod Pieces
+pub mod PlacesAndInstances
 pub mod SerialLemmas
+pub mod WrittenTexts

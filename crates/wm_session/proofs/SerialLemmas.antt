@@ -7,7 +7,6 @@ use Rattle.wm_bench.specs.Places.{changed_at, made_away, made_idle}
 use Rattle.wm_bench.specs.Seat.{Seat}
 use Rattle.wm_data.specs.declared.data.DataEntry.{DataEntry}
 use Rattle.wm_keeper.specs.declared.row.Row.{Row}
-use Rattle.wm_machine.proofs.Frames.{frame-command, frame-finish, frame-start}
 use Rattle.wm_machine.proofs.Serials.{AreInOrder-push, BeginsSerial-goes-on}
 use Rattle.wm_machine.specs.Outcome.{IsBuilt}
 use Rattle.wm_machine.specs.Frame.{Frame}
@@ -15,40 +14,40 @@ use Rattle.wm_machine.specs.Log.{commands_of}
 use Rattle.wm_machine.specs.Narrow.{IsNarrow}
 use Rattle.wm_machine.specs.Quiet.{IsQuiet}
 use Rattle.wm_machine.specs.Replay.{Replay}
-use Rattle.wm_machine.specs.Runs.{other_runs, run_on}
+use Rattle.wm_machine.specs.Runs.{other_runs}
 use Rattle.wm_machine.specs.Serial.{AreInOrder, IsInTurn, MayGoOn}
 use Rattle.wm_machine.specs.Valid.{Valid}
 use Rattle.wm_machine.specs.Waiting.{left_to_drain}
 use Rattle.wm_machine.specs.declared.command.Command.{Command}
 use Rattle.wm_machine.specs.declared.event.Cause.{Cause}
-use Rattle.wm_machine.specs.declared.event.End.TheVariants.{Success}
 use Rattle.wm_machine.specs.declared.event.Event.{Event}
 use Rattle.wm_machine.specs.declared.event.Event.TheVariants as event
 use Rattle.wm_machine.specs.declared.state.State.{State}
+use Rattle.wm_machine.proofs.Steps.{framed}
+use Rattle.wm_session.proofs.BookEvents.{end_in_turn, framed_end}
 use Rattle.wm_session.proofs.BookParts.{claimed_step, Replay-same, Replay-step}
 use Rattle.wm_session.proofs.DiaryLemmas.{KeepDiaries-last, diaries_after-nothing, no_longer, ticket-found}
 use Rattle.wm_session.proofs.HandLemmas.{AreIdle-back, IsAwayAt-taken, NoneRetired-changed}
 use Rattle.wm_session.specs.Bench.{place_diaries}
-use Rattle.wm_session.specs.Book.{HasStopped, IsBegun, IsClaimed, IsFronted, IsLineDone, IsReported, IsStartFailed}
+use Rattle.wm_session.specs.Book.{HasEnded, IsBegun, IsClaimStopped, IsFrontStopped, IsGivenBack, IsLineDone, IsReported, IsStartFailed}
 use Rattle.wm_session.specs.BookState.{BookState}
 use Rattle.wm_session.specs.Drive.{HasWritten, IsDriven, IsGivenUp, IsLastTurn, IsUnderWay}
 use Rattle.wm_session.specs.Ended.{HasCommands, IsSerialRun}
 use Rattle.wm_session.specs.BetweenRuns.{GoesInOrder, IsAtBegin, IsBetweenRuns, IsInOrder, IsReady, KeepDiaries}
-use Rattle.wm_table.specs.Table as table
-use Rattle.wm_table.specs.Table.{IsFinished, IsOneStep, IsUntouched}
+use Rattle.wm_table.specs.Table.{IsClaimAnswer, IsOneStep, IsUntouched}
 use Rattle.wm_table.specs.TableState.{TicketState}
 use Rattle.wm_table.specs.declared.table.Claim.{Claim}
 use Rattle.wm_table.specs.declared.table.Claim.TheVariants as claim
-use Rattle.wm_session.specs.declared.book.Front.TheVariants as front
 use Rattle.wm_session.specs.declared.book.After.{After}
 use Rattle.wm_session.specs.declared.book.After.TheVariants as report
-use Rattle.wm_session.specs.declared.book.Job.TheVariants as job
 use Rattle.wm_session.specs.declared.status.Status.{Status}
 use Rattle.wm_session.specs.declared.status.Status.TheVariants as status
 use Rattle.wm_worker.specs.Diary.{diary_with, turn_entries}
 use Rattle.wm_worker.specs.Signal.{SignalState}
 use Rattle.wm_worker.specs.Told.{Report}
 use Rattle.wm_worker.specs.declared.answer.Entry.{Entry}
+use Rattle.wm_worker.specs.declared.answer.Entry.TheVariants.{Gave}
+use Rattle.std.specs.Prelude.{map, option_to_list}
 use Rattle.wm_worker.specs.declared.kind.Kind.{Kind}
 
 -- ---- a turn is reported
@@ -58,20 +57,23 @@ module _ {K W B : Type 0} (held : K → Option (List Row)) (diary_of : B → Opt
   at_place : new.places ≡ changed_at (made_idle seat.worker) seat.number old.places → new.places ≡ changed_at (made_idle seat.worker) ticket.instance old.places
   at_place places = places ∙ ap (λ n. changed_at (made_idle seat.worker) n old.places) number
 
-  given_up : HasStopped held old new × (new.places ≡ changed_at (made_idle seat.worker) seat.number old.places) → IsGivenUp held ticket old new
-  given_up (stopped, places) = record { back = seat.worker; stopped = stopped; places = at_place places }
+  given_up : IsGivenBack held seat old new → IsGivenUp held ticket old new
+  given_up given = record { back = seat.worker; stopped = given.stopped; places = at_place given.places }
 
-  last_turn : (told : Report) → old.status ≡ None → IsFinished held ticket.task.run told old.table new.table
+  last_turn : (told : Report) → old.status ≡ None → HasEnded held ticket.task.run told old.table new.table
       → new.places ≡ changed_at (made_idle seat.worker) seat.number old.places → new.left ≡ old.left
       → left_to_drain new.table.state ≤ left_to_drain old.table.state
       → diary_of seat.worker ≡ diary_with (turn_entries ticket.task.run ticket.k told.answer) (diary_of worker)
       → IsLastTurn held diary_of ticket worker old new
-  last_turn told before finished places left no_more written = record {
-    end = Success finished.output;
+  last_turn told before ended places left no_more written = record {
+    ending = ended.ending;
+    gave = ended.gave;
     back = seat.worker;
     before = before;
-    step = finished.step;
-    diary = written ∙ ap (λ answer. diary_with (turn_entries ticket.task.run ticket.k answer) (diary_of worker)) finished.told_is;
+    ends = ended.ends;
+    step = ended.step;
+    diary = written
+        ∙ ap (λ given. diary_with (map (λ given. Gave ticket.task.run ticket.k given) (option_to_list given)) (diary_of worker)) ended.told_is;
     places = at_place places;
     left = left;
     no_more = no_more;
@@ -82,12 +84,14 @@ module _ {K W B : Type 0} (held : K → Option (List Row)) (diary_of : B → Opt
       → (result ≡ report.Over) ⊎ (result ≡ report.Stopped) → HasWritten diary_of ticket worker seat.worker told
       → IsLastTurn held diary_of ticket worker old new ⊎ IsGivenUp held ticket old new
   IsTurned-reported (Ok told) report.Over done ends written =
-      inl (last_turn told done.goes_on.before done.finished done.places done.left done.no_more written)
+      inl (last_turn told done.goes_on.before done.ended done.places done.left done.no_more written)
   IsTurned-reported (Ok told) (report.Again same kept) done (inl ends) written = absurd (cc)
   IsTurned-reported (Ok told) (report.Again same kept) done (inr ends) written = absurd (cc)
-  IsTurned-reported (Ok told) report.Stopped (inl stopped, places) ends written = inr (given_up (stopped, places))
-  IsTurned-reported (Ok told) report.Stopped (inr untold, places) ends written =
-      inl (last_turn told untold.before untold.finished places untold.left untold.no_more written)
+  IsTurned-reported (Ok told) report.Stopped done ends written =
+      elim done.how [
+        | inl stopped ↦ inr (given_up (record { stopped = stopped; places = done.places }))
+        | inr untold ↦ inl (last_turn told untold.before untold.ended done.places untold.left untold.no_more written)
+      ]
   IsTurned-reported (Err refused) report.Stopped done ends written = inr (given_up done)
   IsTurned-reported (Err refused) _ done ends written = absurd done
 
@@ -145,20 +149,22 @@ rest_again rest replays none places =
 module _ {K W B : Type 0} (held : K → Option (List Row)) (old new : BookState K W B) (rest : IsBetweenRuns old) (going : old.status ≡ None) where
   -- where a run began, it alone is unreturned
   begun_alone : (run seq instance : ℕ) (input : List DataEntry) (step : IsOneStep held (event.Start run seq instance input) old.table new.table)
-      → new.table.state.runs ≡ run_on old.table.state step.legal.work step.legal.idle input ∷ []
+      → new.table.state.runs ≡ (framed old.table.state (event.Start run seq instance input) step.legal).run ∷ []
   begun_alone run seq instance input step =
-      rw (step.state, ap (λ (f : Frame). f.runs) (frame-start old.table.state run seq instance input step.legal), rest.no_run going) refl
+      ap (λ (t : State). t.runs) step.state
+      ∙ ap (λ (f : Frame). f.runs) (framed old.table.state (event.Start run seq instance input) step.legal).frame_is
+      ∙ ap (λ runs. runs ++ (framed old.table.state (event.Start run seq instance input) step.legal).run ∷ []) (rest.no_run going)
 
   -- where a work couldn't start, none is
   failed_none : (seq : ℕ) (cause : Cause) → IsOneStep held (event.StartFailed seq cause) old.table new.table → new.table.state.runs ≡ []
   failed_none seq cause step = ap (λ (t : State). t.runs) step.state ∙ rest.no_run going
 
   -- the event of a claim comes in its turn
-  pub GoesInOrder-claimed : (claimed : Claim) → table.IsClaimed held (Some claimed) old.table new.table → (lines : List Command) → GoesInOrder lines old
+  pub GoesInOrder-claimed : (claimed : Claim) → IsClaimAnswer held (Some claimed) old.table new.table → (lines : List Command) → GoesInOrder lines old
       → GoesInOrder lines new
-  GoesInOrder-claimed (claim.Run ticket) (step, stands) lines =
-      GoesInOrder-step held lines (event.Start ticket.task.run ticket.seq ticket.instance ticket.task.input) old new step
-      (rw (begun_alone ticket.task.run ticket.seq ticket.instance ticket.task.input step) (omega arith)) rest.replay going (rest.no_run going)
+  GoesInOrder-claimed (claim.Run ticket) run lines =
+      GoesInOrder-step held lines (event.Start ticket.task.run ticket.seq ticket.instance ticket.task.input) old new run.step
+      (rw (begun_alone ticket.task.run ticket.seq ticket.instance ticket.task.input run.step) (omega arith)) rest.replay going (rest.no_run going)
   GoesInOrder-claimed (claim.Failed seq cause) step lines =
       GoesInOrder-step held lines (event.StartFailed seq cause) old new step (rw (failed_none seq cause step) (omega arith)) rest.replay going
       (rest.no_run going)
@@ -168,11 +174,13 @@ pub IsUnderWay-begun : {K W B : Type 0} {held : K → Option (List Row)} {kind_o
     {old new : BookState K W B} → IsBetweenRuns old → IsBegun held kind_of ticket seat signal old new → IsUnderWay ticket new
 IsUnderWay-begun {held = held} {kind_of = kind_of} {ticket = ticket} {seat = seat} {old = old} {new = new} rest begun =
     let task = ticket.task in
+    let start = event.Start task.run ticket.seq ticket.instance task.input in
+    let its = framed old.table.state start begun.step.legal in
     let one = begun_alone held old new rest begun.goes_on.before task.run ticket.seq ticket.instance task.input begun.step in
     record {
-      replay = Replay-step held (event.Start task.run ticket.seq ticket.instance task.input) old.table new.table rest.replay begun.step;
+      replay = Replay-step held start old.table new.table rest.replay begun.step;
       ticket_in = begun.ticket_in;
-      alone = rw (one, eq-eqb old.table.state.next_run task.run (sym begun.step.legal.run_is)) refl;
+      alone = rw (one, eq-eqb its.run.run task.run (sym its.number_is)) refl;
       away = rw (begun.places, ← begun.kind) (IsAwayAt-taken kind_of seat.worker ticket.instance old.places begun.worker);
       others = λ back. rw begun.places (AreIdle-back kind_of back ticket.instance old.places rest.idle);
       not_retired = rw begun.places (NoneRetired-changed (made_away kind_of) ticket.instance old.places (λ place. refl) rest.not_retired);
@@ -186,26 +194,29 @@ IsBetweenRuns-failed {held = held} {old = old} {new = new} rest failed =
     (λ going. failed_none held old new rest failed.goes_on.before failed.seq failed.cause failed.step) failed.places
 
 -- the session has stopped early, with or without the event of a claim
-module _ {K W B : Type 0} (held : K → Option (List Row)) (kind_of : B → Kind) (old new : BookState K W B) where
-  pub status-halted : IsClaimed held kind_of job.Stopped old new → IsSome new.status
-  status-halted (inl stopped, places) = stopped.status
-  status-halted (inr untold, places) = untold.status
+module _ {K W B : Type 0} (held : K → Option (List Row)) (old new : BookState K W B) where
+  pub status-halted : IsClaimStopped held old new → IsSome new.status
+  status-halted halted = elim halted.how [ inl stopped ↦ stopped.status | inr untold ↦ untold.status ]
 
-  pub left-halted : IsClaimed held kind_of job.Stopped old new → new.left ≡ old.left
-  left-halted (inl stopped, places) = stopped.left
-  left-halted (inr untold, places) = untold.left
+  pub left-halted : IsClaimStopped held old new → new.left ≡ old.left
+  left-halted halted = elim halted.how [ inl stopped ↦ stopped.left | inr untold ↦ untold.left ]
 
-  pub IsBetweenRuns-halted : IsBetweenRuns old → IsClaimed held kind_of job.Stopped old new → IsBetweenRuns new
-  IsBetweenRuns-halted rest (inl stopped, places) =
-      rest_again rest (Replay-same held old.table new.table rest.replay stopped.table) (no_longer new.status stopped.status) places
-  IsBetweenRuns-halted rest (inr untold, places) =
-      let step = claimed_step held untold.made old.table new.table untold.claimed in
-      rest_again rest (Replay-step held step.0 old.table new.table rest.replay step.1) (no_longer new.status untold.status) places
+  pub IsBetweenRuns-halted : IsBetweenRuns old → IsClaimStopped held old new → IsBetweenRuns new
+  IsBetweenRuns-halted rest halted =
+      elim halted.how [
+        | inl stopped ↦
+            rest_again rest (Replay-same held old.table new.table rest.replay stopped.table) (no_longer new.status stopped.status) halted.places
+        | inr untold ↦
+            let step = claimed_step held untold.made old.table new.table untold.claimed in
+            rest_again rest (Replay-step held step.0 old.table new.table rest.replay step.1) (no_longer new.status untold.status) halted.places
+      ]
 
-  pub GoesInOrder-halted : IsBetweenRuns old → IsClaimed held kind_of job.Stopped old new → (lines : List Command) → GoesInOrder lines old
-      → GoesInOrder lines new
-  GoesInOrder-halted rest (inl stopped, places) lines = GoesInOrder-stopped held lines old new stopped.table stopped.status
-  GoesInOrder-halted rest (inr untold, places) lines = GoesInOrder-claimed held old new rest untold.before untold.made untold.claimed lines
+  pub GoesInOrder-halted : IsBetweenRuns old → IsClaimStopped held old new → (lines : List Command) → GoesInOrder lines old → GoesInOrder lines new
+  GoesInOrder-halted rest halted lines =
+      elim halted.how [
+        | inl stopped ↦ GoesInOrder-stopped held lines old new stopped.table stopped.status
+        | inr untold ↦ GoesInOrder-claimed held old new rest untold.before untold.made untold.claimed lines
+      ]
 
 -- ---- a run under way
 
@@ -239,17 +250,20 @@ module _ {K W B : Type 0} {held : K → Option (List Row)} {diary_of : B → Opt
   -- its last turn
   IsDriven-last : IsUnderWay ticket old → IsLastTurn held diary_of ticket worker old new → IsDriven diary_of ticket.instance (diary_of worker) old new
   IsDriven-last under_way last =
-      let finish = event.Finish ticket.task.run last.end in
+      let s = old.table.state in
+      let number = ticket.task.run in
+      let ended = framed_end s number last.gave last.ending last.ends last.step.legal in
       let none : new.table.state.runs ≡ [] =
       ap (λ (t : State). t.runs) last.step.state
-      ∙ ap (λ (f : Frame). f.runs) (frame-finish old.table.state ticket.task.run last.end last.step.legal)
-      ∙ ap (λ (t : TicketState). other_runs t.task.run old.table.state.runs) (sym (ticket-found ticket under_way.ticket_in last.step.legal.is_running))
+      ∙ ap (λ (f : Frame). f.runs) ended.frame_is
+      ∙ ap (λ (t : TicketState). other_runs t.task.run s.runs) (sym (ticket-found ticket under_way.ticket_in ended.is_running))
       ∙ under_way.alone in
       record {
-        rest = rest_back last.back under_way (Replay-step held finish old.table new.table under_way.replay last.step) (λ going. none) last.places;
+        rest = rest_back last.back under_way (Replay-step held last.ending old.table new.table under_way.replay last.step) (λ going. none) last.places;
         left = last.left;
         no_more = last.no_more;
-        order = λ lines. GoesInOrder-step held lines finish old new last.step (rw none (omega arith)) under_way.replay last.before tt;
+        order = λ lines. GoesInOrder-step held lines last.ending old new last.step (rw none (omega arith)) under_way.replay last.before
+            (end_in_turn s number last.gave last.ending last.ends);
         diaries = λ diaries. KeepDiaries-last diaries under_way last;
       }
 
@@ -265,7 +279,7 @@ module _ {K W B : Type 0} {held : K → Option (List Row)} {old new : BookState 
   line_none : old.status ≡ None → IsLineDone held old new → new.table.state.runs ≡ []
   line_none going done =
       ap (λ (t : State). t.runs) done.step.state
-      ∙ ap (λ (f : Frame). f.runs) (frame-command old.table.state (old.line + 1) done.command done.reply)
+      ∙ ap (λ (f : Frame). f.runs) (framed old.table.state (event.Command (old.line + 1) done.command done.reply) done.step.legal)
       ∙ rest.no_run going
 
   -- a line was executed
@@ -285,16 +299,19 @@ module _ {K W B : Type 0} {held : K → Option (List Row)} {old new : BookState 
       ])
 
   -- the session has stopped early, with or without a line
-  pub IsBetweenRuns-front : IsFronted held front.Stopped old new → IsBetweenRuns new
-  IsBetweenRuns-front (stopped, inl same, places, stays) =
-      rest_again rest (Replay-same held old.table new.table rest.replay same) (no_longer new.status stopped) places
-  IsBetweenRuns-front (stopped, inr done, places, stays) = IsBetweenRuns-line done.1 done.0 places
+  pub IsBetweenRuns-front : IsFrontStopped held old new → IsBetweenRuns new
+  IsBetweenRuns-front stopped =
+      elim stopped.how [
+        | inl same ↦ rest_again rest (Replay-same held old.table new.table rest.replay same) (no_longer new.status stopped.status) stopped.places
+        | inr untold ↦ IsBetweenRuns-line untold.before untold.line stopped.places
+      ]
 
-  pub IsReady-front : (lines : List Command) → IsFronted held front.Stopped old new → IsReady lines old → IsReady lines new
-  IsReady-front lines (stopped, inl same, places, stays) ready =
-      record { order = IsInOrder-same held lines old new same ready.order; next = no_longer new.status stopped }
-  IsReady-front lines (stopped, inr done, places, stays) ready =
-      record { order = (GoesInOrder-line lines done.1 done.0 ready).order; next = no_longer new.status stopped }
+  pub IsReady-front : (lines : List Command) → IsFrontStopped held old new → IsReady lines old → IsReady lines new
+  IsReady-front lines stopped ready =
+      elim stopped.how [
+        | inl same ↦ record { order = IsInOrder-same held lines old new same ready.order; next = no_longer new.status stopped.status }
+        | inr untold ↦ record { order = (GoesInOrder-line lines untold.before untold.line ready).order; next = no_longer new.status stopped.status }
+      ]
 
 -- ---- begin and end
 

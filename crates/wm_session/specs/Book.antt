@@ -5,16 +5,18 @@ use Rattle.wm_bench.specs.Places.{changed_at, idle_at, made_away, made_idle}
 use Rattle.wm_bench.specs.Seat.{Seat}
 use Rattle.wm_keeper.specs.declared.row.Row.{Row}
 use Rattle.wm_machine.specs.First.{first_of}
+use Rattle.wm_machine.specs.Role as role
+use Rattle.wm_machine.specs.Step.{role_of}
 use Rattle.wm_machine.specs.Waiting.{left_to_drain}
 use Rattle.wm_machine.specs.declared.command.Command.{Command}
 use Rattle.wm_machine.specs.declared.event.Cause.{Cause}
+use Rattle.wm_machine.specs.declared.event.Event.{Event}
 use Rattle.wm_machine.specs.declared.event.Event.TheVariants as event
 use Rattle.wm_machine.specs.declared.reply.Reply.{Reply}
 use Rattle.wm_machine.specs.declared.state.State.{State}
 use Rattle.wm_session.specs.BookState.{BookState}
-use Rattle.wm_table.specs.Table as table
-use Rattle.wm_table.specs.Table.{IsOneStep, IsUntouched, IsTicketIn, CountsIn, IsFinished, Stands}
-use Rattle.wm_table.specs.TableState.{TicketState}
+use Rattle.wm_table.specs.Table.{IsClaimAnswer, IsOneStep, IsUntouched, IsTicketIn, CountsIn, Stands}
+use Rattle.wm_table.specs.TableState.{TableState, TicketState}
 use Rattle.wm_table.specs.declared.table.Claim.{Claim}
 use Rattle.wm_table.specs.declared.table.Claim.TheVariants as claim
 use Rattle.wm_session.specs.declared.book.After.{After}
@@ -23,8 +25,10 @@ use Rattle.wm_session.specs.declared.book.Front.{Front}
 use Rattle.wm_session.specs.declared.book.Front.TheVariants as front
 use Rattle.wm_session.specs.declared.book.Job.{Job}
 use Rattle.wm_session.specs.declared.book.Job.TheVariants as job
+use Rattle.wm_worker.specs.Answers.{given_of}
 use Rattle.wm_worker.specs.Signal.{SignalState}
 use Rattle.wm_worker.specs.Told.{Report}
+use Rattle.wm_worker.specs.declared.answer.Given.{Given}
 use Rattle.wm_worker.specs.declared.kind.Kind.{Kind}
 
 -- the session went on and goes on, and its lines are as they were
@@ -47,14 +51,35 @@ pub record IsLineDone {K W B : Type 0} (held : K → Option (List Row)) (old new
   pub next : old.left ≡ command ∷ new.left
   pub step : IsOneStep held (event.Command (old.line + 1) command reply) old.table new.table
 
--- Moved where a line was executed; Ended where none is left; Stopped where the session has stopped early, with or without that line's
--- event, and stays so where it had before. The bench is as it was.
+-- the next line was executed and its reply told, and the bench is as it was
+pub record HasMoved {K W B : Type 0} (held : K → Option (List Row)) (old new : BookState K W B) : Type 0 where
+  pub goes_on : GoesOn old new
+  pub line : IsLineDone held old new
+  pub places : new.places ≡ old.places
+
+-- the session goes on, but no line is left, and nothing changes
+pub record HasNoLine {K W B : Type 0} (old new : BookState K W B) : Type 0 where
+  pub going : old.status ≡ None
+  pub none_left : old.left ≡ []
+  pub book_is : new ≡ old
+
+-- a line was executed, and the session stopped while its reply was told
+pub record IsLineUntold {K W B : Type 0} (held : K → Option (List Row)) (old new : BookState K W B) : Type 0 where
+  pub before : old.status ≡ None
+  pub line : IsLineDone held old new
+
+-- the session has stopped early, with or without the next line's event, or had before; the bench is as it was
+pub record IsFrontStopped {K W B : Type 0} (held : K → Option (List Row)) (old new : BookState K W B) : Type 0 where
+  pub status : IsSome new.status
+  pub stays : IsSome old.status → StaysStopped old new
+  pub how : IsUntouched held old.table new.table ⊎ IsLineUntold held old new
+  pub places : new.places ≡ old.places
+
+-- Moved where a line was executed; Ended where none is left; Stopped where the session has stopped early
 abbrev pub IsFronted : {K W B : Type 0} → (K → Option (List Row)) → Front → BookState K W B → BookState K W B → Type 0
-IsFronted held front.Moved old new = GoesOn old new × IsLineDone held old new × (new.places ≡ old.places)
-IsFronted held front.Ended old new = (old.status ≡ None) × (old.left ≡ []) × (new ≡ old)
-IsFronted held front.Stopped old new =
-    IsSome new.status × (IsUntouched held old.table new.table ⊎ (IsLineDone held old new × (old.status ≡ None))) × (new.places ≡ old.places)
-    × (IsSome old.status → StaysStopped old new)
+IsFronted held front.Moved old new = HasMoved held old new
+IsFronted held front.Ended old new = HasNoLine old new
+IsFronted held front.Stopped old new = IsFrontStopped held old new
 
 -- ---- a start
 
@@ -100,23 +125,44 @@ pub record IsClaimUntold {K W B : Type 0} (held : K → Option (List Row)) (old 
   pub made : Claim
   pub before : old.status ≡ None
   pub status : IsSome new.status
-  pub claimed : table.IsClaimed held (Some made) old.table new.table
+  pub claimed : IsClaimAnswer held (Some made) old.table new.table
   pub left : new.left ≡ old.left
 
+-- the session has stopped early, with or without the event of a claim; the bench is as it was
+pub record IsClaimStopped {K W B : Type 0} (held : K → Option (List Row)) (old new : BookState K W B) : Type 0 where
+  pub how : HasStopped held old new ⊎ IsClaimUntold held old new
+  pub places : new.places ≡ old.places
+
+-- the session goes on, but no work can start, and nothing changes
+pub record NothingStarts {K W B : Type 0} (old new : BookState K W B) : Type 0 where
+  pub going : old.status ≡ None
+  pub none_first : first_of old.table.state ≡ None
+  pub book_is : new ≡ old
+
+-- Run where a run began; Failed where the work that is first couldn't start; None where nothing is startable; Stopped where the session has
+-- stopped early
 abbrev pub IsClaimed : {K W B : Type 0} → (K → Option (List Row)) → (B → Kind) → Job B → BookState K W B → BookState K W B → Type 0
 IsClaimed held kind_of (job.Run ticket seat signal) old new = IsBegun held kind_of ticket seat signal old new
 IsClaimed held kind_of job.Failed old new = IsStartFailed held old new
-IsClaimed held kind_of job.None old new = (old.status ≡ None) × (first_of old.table.state ≡ None) × (new ≡ old)
-IsClaimed held kind_of job.Stopped old new = (HasStopped held old new ⊎ IsClaimUntold held old new) × (new.places ≡ old.places)
+IsClaimed held kind_of job.None old new = NothingStarts old new
+IsClaimed held kind_of job.Stopped old new = IsClaimStopped held old new
 
 -- ---- a report
+
+-- the run of this number is over, by an event that ends it as was told
+pub record HasEnded {K : Type 0} (held : K → Option (List Row)) (number : ℕ) (told : Report) (old new : TableState K) : Type 0 where
+  pub ending : Event
+  pub gave : Given
+  pub told_is : given_of told.answer ≡ Some gave
+  pub ends : role_of ending ≡ role.Ends number gave
+  pub step : IsOneStep held ending old new
 
 -- a run is over, its worker is at its place again, and no more works are left to drain
 pub record IsOver {K W B : Type 0} (held : K → Option (List Row)) (ticket : TicketState) (seat : Seat B) (told : Report)
     (old new : BookState K W B) : Type 0 where
   pub goes_on : GoesOn old new
   pub counts : CountsIn old.table.state ticket.task.run told
-  pub finished : IsFinished held ticket.task.run told old.table new.table
+  pub ended : HasEnded held ticket.task.run told old.table new.table
   pub places : new.places ≡ changed_at (made_idle seat.worker) seat.number old.places
   pub left : new.left ≡ old.left
   pub no_more : left_to_drain new.table.state ≤ left_to_drain old.table.state
@@ -126,19 +172,35 @@ pub record IsEndUntold {K W B : Type 0} (held : K → Option (List Row)) (ticket
   pub before : old.status ≡ None
   pub status : IsSome new.status
   pub counts : CountsIn old.table.state ticket.task.run told
-  pub finished : IsFinished held ticket.task.run told old.table new.table
+  pub ended : HasEnded held ticket.task.run told old.table new.table
   pub left : new.left ≡ old.left
   pub no_more : left_to_drain new.table.state ≤ left_to_drain old.table.state
 
--- Over where what was told counts, with its event; Again where it doesn't, and nothing changes; Stopped where the session has stopped
--- early, with or without that event, and the worker is at its place again
+-- what was told doesn't count for the run: ticket and seat come back as they were, and nothing changes
+pub record IsAskedAgain {K W B : Type 0} (ticket same : TicketState) (seat kept : Seat B) (told : Report) (old new : BookState K W B) : Type 0 where
+  pub going : old.status ≡ None
+  pub not_counted : CountsIn old.table.state ticket.task.run told → ⊥
+  pub ticket_is : same ≡ ticket
+  pub seat_is : kept ≡ seat
+  pub book_is : new ≡ old
+
+-- the session has stopped early without an event of the run, or had before, and the worker is at its place again
+pub record IsGivenBack {K W B : Type 0} (held : K → Option (List Row)) (seat : Seat B) (old new : BookState K W B) : Type 0 where
+  pub stopped : HasStopped held old new
+  pub places : new.places ≡ changed_at (made_idle seat.worker) seat.number old.places
+
+-- the session has stopped early, with or without the event by which the run is over, and the worker is at its place again
+pub record IsReportStopped {K W B : Type 0} (held : K → Option (List Row)) (ticket : TicketState) (seat : Seat B) (told : Report)
+    (old new : BookState K W B) : Type 0 where
+  pub how : HasStopped held old new ⊎ IsEndUntold held ticket told old new
+  pub places : new.places ≡ changed_at (made_idle seat.worker) seat.number old.places
+
+-- Over where what was told counts, with its event; Again where it doesn't; Stopped where the session has stopped early, as it has where
+-- memory was refused to the worker
 abbrev pub IsReported : {K W B : Type 0} → (K → Option (List Row)) → TicketState → Seat B → Result Report AllocError → After B → BookState K W B
     → BookState K W B → Type 0
 IsReported held ticket seat (Ok told) after.Over old new = IsOver held ticket seat told old new
-IsReported held ticket seat (Ok told) (after.Again same kept) old new =
-    (old.status ≡ None) × (CountsIn old.table.state ticket.task.run told → ⊥) × (same ≡ ticket) × (kept ≡ seat) × (new ≡ old)
-IsReported held ticket seat (Ok told) after.Stopped old new =
-    (HasStopped held old new ⊎ IsEndUntold held ticket told old new) × (new.places ≡ changed_at (made_idle seat.worker) seat.number old.places)
-IsReported held ticket seat (Err refused) after.Stopped old new =
-    HasStopped held old new × (new.places ≡ changed_at (made_idle seat.worker) seat.number old.places)
+IsReported held ticket seat (Ok told) (after.Again same kept) old new = IsAskedAgain ticket same seat kept told old new
+IsReported held ticket seat (Ok told) after.Stopped old new = IsReportStopped held ticket seat told old new
+IsReported held ticket seat (Err refused) after.Stopped old new = IsGivenBack held seat old new
 IsReported held ticket seat (Err refused) _ old new = ⊥

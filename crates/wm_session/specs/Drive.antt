@@ -6,12 +6,13 @@ use Rattle.wm_bench.specs.Seat.{Seat}
 use Rattle.wm_data.specs.declared.data.DataEntry.{DataEntry}
 use Rattle.wm_keeper.specs.declared.row.Row.{Row}
 use Rattle.wm_machine.specs.Diaries.{diaries_after}
-use Rattle.wm_machine.specs.Ends.{given_by}
 use Rattle.wm_machine.specs.Replay.{Replay}
+use Rattle.wm_machine.specs.Role as role
 use Rattle.wm_machine.specs.Runs.{other_runs}
+use Rattle.wm_machine.specs.Step.{role_of}
 use Rattle.wm_machine.specs.Waiting.{left_to_drain}
 use Rattle.wm_machine.specs.declared.command.Command.{Command}
-use Rattle.wm_machine.specs.declared.event.End.{End}
+use Rattle.wm_machine.specs.declared.event.Event.{Event}
 use Rattle.wm_machine.specs.declared.event.Event.TheVariants as event
 use Rattle.wm_session.specs.Bench.{AreIdle, place_diaries}
 use Rattle.wm_session.specs.Book.{GoesOn, HasStopped}
@@ -23,6 +24,7 @@ use Rattle.wm_worker.specs.Diary.{diary_with, turn_entries}
 use Rattle.wm_worker.specs.Told.{Report}
 use Rattle.wm_worker.specs.declared.answer.Entry.{Entry}
 use Rattle.wm_worker.specs.declared.answer.Entry.TheVariants.{Gave}
+use Rattle.wm_worker.specs.declared.answer.Given.{Given}
 use Rattle.wm_worker.specs.declared.answer.Given.TheVariants as given
 use Rattle.wm_worker.specs.declared.kind.Kind.{Kind}
 
@@ -52,14 +54,16 @@ abbrev pub HasWritten : {B : Type 0} → (B → Option (List Entry)) → TicketS
 HasWritten diary_of ticket worker now told =
     IfOk told (λ answered. diary_of now ≡ diary_with (turn_entries ticket.task.run ticket.k answered.answer) (diary_of worker))
 
--- the run is over, told or not, and its worker, which has written down what it gave, is at its place again
+-- the run is over by this event, told or not, and its worker, which has written down what it gave, is at its place again
 pub record IsLastTurn {K W B : Type 0} (held : K → Option (List Row)) (diary_of : B → Option (List Entry)) (ticket : TicketState) (worker : B)
     (old new : BookState K W B) : Type 0 where
-  pub end : End
+  pub ending : Event
+  pub gave : Given
   pub back : B
   pub before : old.status ≡ None
-  pub step : IsOneStep held (event.Finish ticket.task.run end) old.table new.table
-  pub diary : diary_of back ≡ diary_with (Gave ticket.task.run ticket.k (given_by end) ∷ []) (diary_of worker)
+  pub ends : role_of ending ≡ role.Ends ticket.task.run gave
+  pub step : IsOneStep held ending old.table new.table
+  pub diary : diary_of back ≡ diary_with (Gave ticket.task.run ticket.k gave ∷ []) (diary_of worker)
   pub places : new.places ≡ changed_at (made_idle back) ticket.instance old.places
   pub left : new.left ≡ old.left
   pub no_more : left_to_drain new.table.state ≤ left_to_drain old.table.state

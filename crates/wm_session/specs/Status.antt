@@ -31,12 +31,12 @@ bad_store_text seq bad_row =
     codes "bad store: row " ++ (signed_decimal seq ++ (codes ": " ++ row_fault_name bad_row))
 
 -- what is written on standard error, without the line's end
-abbrev pub text_of : Status → List ℕ
-text_of status.Done = []
-text_of status.Usage = codes "usage: work --store NAME [--workers N] [--generate SEED]"
-text_of status.SourceFault = codes "read failed"
-text_of status.SinkFault = codes "write failed"
-text_of status.KeeperFault = codes "store failed"
-text_of (status.BadStore seq bad_row) = bad_store_text seq bad_row
-text_of (status.ScriptTooLong limit) = codes "script too long: " ++ limit_name limit
-text_of status.Memory = codes "out of memory"
+abbrev pub status_text : Status → List ℕ
+status_text status.Done = []
+status_text status.Usage = codes "usage: work --store NAME [--workers N] [--generate SEED]"
+status_text status.SourceFault = codes "read failed"
+status_text status.SinkFault = codes "write failed"
+status_text status.KeeperFault = codes "store failed"
+status_text (status.BadStore seq bad_row) = bad_store_text seq bad_row
+status_text (status.ScriptTooLong limit) = codes "script too long: " ++ limit_name limit
+status_text status.Memory = codes "out of memory"

@@ -10,8 +10,10 @@ abbrev pub IsAppended : Option (List ℕ) → Option (List ℕ) → List ℕ →
 IsAppended before now text = now ≡ option_map (λ given. given ++ text) before
 
 -- a front of the text came to its end
-abbrev pub IsPartAppended : Option (List ℕ) → Option (List ℕ) → List ℕ → Type 0
-IsPartAppended before now text = (front : List ℕ) × HasPrefix text front × IsAppended before now front
+pub record IsPartAppended (before now : Option (List ℕ)) (text : List ℕ) : Type 0 where
+  pub front : List ℕ
+  pub is_front : HasPrefix text front
+  pub given : IsAppended before now front
 
 abbrev pub is_write_failed : {T : Type 0} → Result T WriteFault → Bool
 is_write_failed (Err Failed) = true

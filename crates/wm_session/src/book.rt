@@ -180,8 +180,7 @@ impl<K: Keeper, W: Sink, B: Worker, M: Mark> Book<K, W, B, M> {
         ensures places { IfOk result (λ book. book.places ≡ bench) }
         ensures left { IfOk result (λ book. book.left ≡ lines) }
         ensures status { IfOk result (λ book. book.status ≡ None) }
-        ensures kept { IfErr result (λ parts.
-            (parts.0 ≡ table) × (parts.1 ≡ bench) × (parts.2 ≡ sink)) }
+        ensures kept { IfErr result (λ parts. parts ≡ (table, bench, sink)) }
     {
         match Vec::with_capacity(alloc, PENDING_BYTES) {
             Ok(pending) => Ok(Book {

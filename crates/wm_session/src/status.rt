@@ -1,5 +1,5 @@
 ghost use Rattle.std.specs.Prelude.{◌≡◌, IfOk, string_bytes};
-ghost use Rattle.wm_session.specs.Status.{code_of, text_of, limit_name, row_fault_name, bad_store_text};
+ghost use Rattle.wm_session.specs.Status.{code_of, status_text, limit_name, row_fault_name, bad_store_text};
 
 use crate::book::Stop;
 use std::alloc::{AllocError, Global};
@@ -90,7 +90,7 @@ impl Status {
 
     /// What the program writes on standard error, without the line's end. It is empty for `Done`.
     pub fn text(&self, alloc: Global) -> Result<String, AllocError>
-        ensures { IfOk result (λ text. string_bytes text ≡ text_of self.now) }
+        ensures { IfOk result (λ text. string_bytes text ≡ status_text self.now) }
     {
         match self {
             Status::Done => Ok(String::new(alloc)),

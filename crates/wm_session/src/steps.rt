@@ -2,7 +2,6 @@
 //! worker back.
 ghost use Rattle.std.specs.Prelude.{◌≡◌, ◌++◌, [], None, Some, IsNone, IfErr, IfSome, OnOk, OnErr};
 ghost use Rattle.wm_bench.specs.Places.{changed_at, made_idle, IsAwayAt};
-ghost use Rattle.wm_machine.specs.Built.{EventTellsNoData, ReplyTellsNoData};
 ghost use Rattle.wm_machine.specs.Outcome.{IsBuilt};
 ghost use Rattle.wm_script.specs.Texts.{text_of};
 ghost use Rattle.wm_machine.specs.declared.event.Event.TheVariants as event;
@@ -10,7 +9,7 @@ ghost use Rattle.wm_machine.specs.declared.reply.Reply.{Reply};
 ghost use Rattle.wm_session.specs.Book.{IsClaimIn};
 ghost use Rattle.wm_session.specs.Causes.{status_by_stop, stop_by_fault};
 ghost use Rattle.wm_session.specs.Invariant.{TextsInvariant, IsLastTold};
-ghost use Rattle.wm_table.specs.Table.{last_of, IsOneStep, IsUntouched, Stands, TroubleCause};
+ghost use Rattle.wm_table.specs.Table.{IsOneStep, IsUntouched, Stands, TroubleCause};
 ghost use Rattle.wm_session.specs.Writing.{WriteCause};
 
 use crate::book::Stop;
@@ -29,7 +28,7 @@ use wm_worker::Worker;
 pub fn execute<K: Keeper>(table: &mut Table<K>, line: u32, command: Command) -> Result<(), Trouble>
     requires built { IsBuilt command }
     requires no_run { table.old.state.runs ≡ [] }
-    ensures ok { OnOk result ((reply : Reply) × ReplyTellsNoData reply
+    ensures ok { OnOk result ((reply : Reply)
         × IsOneStep K.held (event.Command line command reply) table.old table.new) }
     ensures err { OnErr result (IsUntouched K.held table.old table.new) }
     ensures cause { TroubleCause result (K.faults table.old.keeper) (K.faults table.new.keeper) }
@@ -77,7 +76,6 @@ pub fn tell_last<K: Keeper, W: Sink>(
     pending: &mut Vec<u8>,
     sink: &mut W,
 ) -> Result<(), WriteFault>
-    requires { IfSome (last_of table.now.log) EventTellsNoData }
     ensures ok { OnOk result (IsLastTold None table.now (W.given sink.old) (W.given sink.new)
         pending.old.items pending.new.items) }
     ensures err { IfErr result (λ fault. IsLastTold (Some (stop_by_fault fault)) table.now
@@ -98,7 +96,6 @@ fn tell<W: Sink>(
     pending: &mut Vec<u8>,
     sink: &mut W,
 ) -> Result<(), WriteFault>
-    requires { EventTellsNoData event.now }
     ensures ok { OnOk result (TextsInvariant None (W.given sink.old) (W.given sink.new)
         (pending.old.items ++ text_of event.now hushed) pending.new.items) }
     ensures err { IfErr result (λ fault. TextsInvariant (Some (stop_by_fault fault))

@@ -1,10 +1,9 @@
 -- The step that places a plain work.
 use Rattle.std.proofs.Common.{◌≡◌, ℕ, List, [], ◌∷◌, length, length-append, None, refl, sym, ◌∙◌, ap, subst, arith, inl, inr}
 use Rattle.std.proofs.lemmas.List.{length-map}
-use Rattle.wm_machine.proofs.Records.{IsRecord-placed, plain_node}
-use Rattle.wm_machine.proofs.Enqueues.{room}
+use Rattle.wm_machine.proofs.Records.{IsRecord-placed}
+use Rattle.wm_machine.proofs.Enqueues.{node_of, room}
 use Rattle.wm_machine.specs.Built.{IsPlain}
-use Rattle.wm_machine.specs.Outcome.{IsBuilt}
 use Rattle.wm_machine.specs.Enqueued.{enqueued, outcome_by, placed_record, refusal_of, with_work}
 use Rattle.wm_machine.specs.Replied.{Outcome}
 use Rattle.wm_machine.specs.Rows.{rows_of}
@@ -28,14 +27,14 @@ placed_by s line batch = event.Command line (command.Enqueue None batch) (reply.
 
 -- the outcome of a batch that isn't refused: its only work is placed
 placed-outcome : (s : State) (batch : Batch) (plain : IsPlain batch.works) → refusal_of s None batch.works ≡ None
-    → enqueued s None batch.works ≡ outcome_by None s None (plain_node plain.id plain.class ∷ [])
+    → enqueued s None batch.works ≡ outcome_by None s None (node_of plain ∷ [])
 placed-outcome s batch plain accepted =
     ap (λ found. outcome_by found s None batch.works) accepted ∙ ap (outcome_by None s None) plain.one
 
 -- there is a row more
 more_rows : (s : State) (batch : Batch) → IsPlain batch.works → refusal_of s None batch.works ≡ None → ChangesRows s (command.Enqueue None batch)
 more_rows s batch plain accepted same =
-    let longer : rows_of (with_work s (placed_record s None (plain_node plain.id plain.class))) ≡ rows_of s =
+    let longer : rows_of (with_work s (placed_record s None (node_of plain))) ≡ rows_of s =
     ap (λ (o : Outcome). rows_of o.state) (sym (placed-outcome s batch plain accepted)) ∙ same in
     absurd (omega (arith, simp (length-map, length-append) at (ap length longer)))
 
@@ -50,11 +49,11 @@ no-row-changes s t line asked executed state_is is same = elim is.rows [
 -- the step of its only work
 pub placing-executed : (s : State) (line : ℕ) (batch : Batch) (plain : IsPlain batch.works) → Valid s → refusal_of s None batch.works ≡ None
     → IsExecuted s line (command.Enqueue None batch) (record {
-      change = placing (placed_record s None (plain_node plain.id plain.class)) (placed_by s line batch);
+      change = placing (placed_record s None (node_of plain)) (placed_by s line batch);
       reply = reply.Enqueued (s.next ∷ []);
     })
 placing-executed s line batch plain valid accepted =
-    let work = plain_node plain.id plain.class in
+    let work = node_of plain in
     let fits = room s (work ∷ []) (subst (λ (works : List Node). refusal_of s None works ≡ None) plain.one accepted) in
     let done = placed-outcome s batch plain accepted in
     record {
@@ -67,10 +66,7 @@ placing-executed s line batch plain valid accepted =
           numbers = fits.1;
           replaced_rows = tt;
           placed_rows = (
-            record {
-              fits = (IsRecord-placed s plain.id plain.class plain.id_is plain.class_is valid.first fits.1 valid.now).fits;
-              no_data = record { input = refl; output = refl };
-            },
+            (IsRecord-placed s plain.id plain.class plain.input plain.merger plain.id_is plain.class_is plain.input_is valid.first fits.1 valid.now).fits,
             tt,
           );
           apart = (tt, tt);
@@ -78,6 +74,5 @@ placing-executed s line batch plain valid accepted =
         legal = (plain, sym (ap (λ (o : Outcome). o.reply) done));
         state = sym (ap (λ (o : Outcome). o.state) done);
       };
-      text = tt;
       rows = inl (more_rows s batch plain accepted);
     }

@@ -1,10 +1,5 @@
 -- Commands that only have a reply.
 use Rattle.std.proofs.Common.{◌≡◌, ℕ, refl, sym, ◌∙◌, arith, inr}
-use Rattle.std.specs.List.{AllByRecursion}
-use Rattle.wm_machine.proofs.Lists.{All-map}
-use Rattle.wm_machine.specs.Built.{ReplyTellsNoData, TellsNoData}
-use Rattle.wm_machine.specs.Narrow.{IsNarrow, IsNarrowRecord}
-use Rattle.wm_machine.specs.Shown.{info_of, infos_of}
 use Rattle.wm_machine.specs.Step.{Legal, after}
 use Rattle.wm_machine.specs.Valid.{Valid}
 use Rattle.wm_machine.specs.declared.command.Command.{Command}
@@ -25,16 +20,9 @@ telling-step s e valid legal same = record {
 }
 
 pub answering-executed : (s : State) (line : ℕ) (asked : Command) (answer : Reply) → Valid s → Legal s (event.Command line asked answer)
-    → after s (event.Command line asked answer) ≡ s → ReplyTellsNoData answer → IsExecuted s line asked (answering line asked answer)
-answering-executed s line asked answer valid legal same text = record {
+    → after s (event.Command line asked answer) ≡ s → IsExecuted s line asked (answering line asked answer)
+answering-executed s line asked answer valid legal same = record {
   event = refl;
   step = telling-step s (event.Command line asked answer) valid legal same;
-  text = text;
   rows = inr refl;
 }
-
--- nothing is told of data, since no record has any
-pub infos-tell : (s : State) → IsNarrow s → AllByRecursion TellsNoData (infos_of s)
-unfolding infos_of
-infos-tell s narrow =
-    All-map IsNarrowRecord TellsNoData (info_of s.works) s.works (λ work is. record { output = is.no_output; progress = is.no_progress }) narrow.records

@@ -6,12 +6,12 @@ use Rattle.std.proofs.lemmas.Int.{ints}
 use Rattle.std.proofs.lemmas.List.{append-nil, length-map}
 use Rattle.std.proofs.lemmas.Option.{none-some, same_Some, slice_get-map, slice_get_within}
 use Rattle.wm_keeper.proofs.Ascending.{int_lt-true, int_lt-false, put_row-above}
-use Rattle.wm_keeper.specs.Keeper.{changed, changed_by as row_changed, put_row, remove_row}
+use Rattle.wm_keeper.specs.Keeper.{changed, changed_by, put_row, remove_row}
 use Rattle.wm_keeper.specs.declared.row.Change.{Change}
 use Rattle.wm_keeper.specs.declared.row.Row.{Row}
-use Rattle.wm_machine.proofs.Lists.{All-filter, All-push, All-weaker, AllLater-filter, one_gives}
+use Rattle.wm_machine.proofs.Lists.{All-filter, All-push, All-weaker, AllLater-filter, map-push, one_gives}
 use Rattle.wm_machine.proofs.Runnings.{WorksAscend, WorksAscend-in_order}
-use Rattle.wm_machine.proofs.States.{map-push, rows_below}
+use Rattle.wm_machine.proofs.Rows.{rows_below}
 use Rattle.wm_machine.specs.Rows.{row_of, rows_of}
 use Rattle.wm_machine.specs.Runs.{changed_work}
 use Rattle.wm_machine.specs.Valid.{HasOne, IsRecord, Valid}
@@ -19,7 +19,7 @@ use Rattle.wm_machine.specs.declared.event.Event.{Event}
 use Rattle.wm_machine.specs.declared.record.Record.{Record}
 use Rattle.wm_machine.specs.declared.state.State.{State}
 use Rattle.wm_table.proofs.Lookups.{changed_work-at}
-use Rattle.wm_table.specs.StepChanges.{changed_by, next_run_by, other_works, put_replaced, put_work, remove_numbered, replacing, row_changes, seqs_of, with_replaced, without, AreNumberedFrom, Fits, IsStepOf, KeepsNumber}
+use Rattle.wm_table.specs.StepChanges.{changed_state, next_run_by, other_works, put_replaced, put_work, remove_numbered, replacing, row_changes, seqs_of, with_replaced, without, HaveNextNumbers, Fits, IsStepOf, KeepsNumber}
 use Rattle.wm_table.specs.Table.{HoldsRowsOf, IsOneStep}
 use Rattle.wm_table.specs.TableState.{TableState}
 use Rattle.wm_table.specs.declared.table.change.Replacement.{Replacement}
@@ -133,7 +133,7 @@ rows-removed next (number ∷ numbers) works below =
 
 -- ---- records that are placed
 
-rows-placed : (next : ℕ) (placed works : List Record) → AreNumberedFrom next placed → AllByRecursion (λ work. work.seq < next) works
+rows-placed : (next : ℕ) (placed works : List Record) → HaveNextNumbers next placed → AllByRecursion (λ work. work.seq < next) works
     → changed (map put_work placed) (map row_of works) ≡ map row_of (works ++ placed)
 rows-placed next [] works numbered below = ap (map row_of) (sym (append-nil works))
 rows-placed next (work ∷ placed) works numbered below =
@@ -150,10 +150,10 @@ rows-placed next (work ∷ placed) works numbered below =
 
 changed-append : (first second : List Change) (rows : List Row) → changed (first ++ second) rows ≡ changed second (changed first rows)
 changed-append [] second rows = refl
-changed-append (change ∷ first) second rows = changed-append first second (row_changed change rows)
+changed-append (change ∷ first) second rows = changed-append first second (changed_by change rows)
 
 -- the keeper's changes make the rows of the state after the change
-rows-changed : (s : State) (change : StepChange) → Valid s → Fits s change → changed (row_changes change) (rows_of s) ≡ rows_of (changed_by change s)
+rows-changed : (s : State) (change : StepChange) → Valid s → Fits s change → changed (row_changes change) (rows_of s) ≡ rows_of (changed_state change s)
 rows-changed s change valid fits =
     let puts = map put_replaced change.replaced in
     let removes = map remove_numbered change.removed in
@@ -174,7 +174,7 @@ rows-held s t change (Some rows) holds makes =
 
 -- a change that is that of a legal step makes one step of the machine
 pub change-step : {K : Type 0} (held : K → Option (List Row)) (old new : TableState K) (change : StepChange) → Valid old.state
-    → HoldsRowsOf old.state (held old.keeper) → IsStepOf old.state change → new.first ≡ old.first → new.state ≡ changed_by change old.state
+    → HoldsRowsOf old.state (held old.keeper) → IsStepOf old.state change → new.first ≡ old.first → new.state ≡ changed_state change old.state
     → new.log ≡ old.log ++ change.event ∷ [] → held new.keeper ≡ option_map (changed (row_changes change)) (held old.keeper)
     → IsOneStep held change.event old new
 change-step held old new change valid holds is first state appended rows = record {
@@ -184,13 +184,13 @@ change-step held old new change valid holds is first state appended rows = recor
   appended = appended;
   rows =
       rows
-      ∙ rows-held old.state (changed_by change old.state) (changed (row_changes change)) (held old.keeper) holds
+      ∙ rows-held old.state (changed_state change old.state) (changed (row_changes change)) (held old.keeper) holds
       (rows-changed old.state change valid is.fits)
       ∙ ap (λ (t : State). option_map (λ _. rows_of t) (held old.keeper)) (sym state);
 }
 
 -- a change begins one run at most
-pub next_run-changed : (s : State) (change : StepChange) → (changed_by change s).next_run ≤ s.next_run + 1
+pub next_run-changed : (s : State) (change : StepChange) → (changed_state change s).next_run ≤ s.next_run + 1
 next_run-changed s change = elim change.run as (λ run. next_run_by run s.next_run ≤ s.next_run + 1) [
   | Unchanged ↦ omega arith
   | Begin run ↦ omega arith
@@ -213,16 +213,16 @@ replaced_within works replaced keep =
     All-weaker (KeepsNumber works) (λ r. r.index < length works) replaced (λ r is.
     omega (arith, slice_get_within (seqs_of works) r.index r.work.seq is, length-map works (λ (work : Record). work.seq))) keep
 
--- one record that is replaced by one of its number, without data
+-- one record that is replaced by one of its number
 pub Fits-replacing : (s : State) (i : ℕ) (work new : Record) (run : RunChange) (e : Event) → Valid s → slice_get s.works i ≡ Some work → new.seq ≡ work.seq
-    → IsRecord new → new.request.input ≡ [] → new.output ≡ [] → Fits s (replacing i new run e)
-Fits-replacing s i work new run e valid at keeps is no_input no_output = record {
+    → IsRecord new → Fits s (replacing i new run e)
+Fits-replacing s i work new run e valid at keeps is = record {
   replaced =
       (slice_get-map (λ (w : Record). w.seq) s.works i ∙ ap (option_map (λ (w : Record). w.seq)) at ∙ ap (λ number. Some number) (sym keeps), tt);
   removed = tt;
   placed = tt;
   numbers = omega (arith, valid.next);
-  replaced_rows = (record { fits = is.fits; no_data = record { input = no_input; output = no_output } }, tt);
+  replaced_rows = (is.fits, tt);
   placed_rows = tt;
   apart = (tt, tt);
 }

@@ -6,7 +6,7 @@ use Rattle.std.proofs.lemmas.Option.{none-some}
 use Rattle.wm_keeper.specs.declared.row.Row.{Row}
 use Rattle.wm_machine.proofs.Lists.{All-weaker}
 use Rattle.wm_machine.proofs.Logs.{Replay-push}
-use Rattle.wm_machine.proofs.States.{IsNarrow-after, Valid-after}
+use Rattle.wm_machine.proofs.Steps.{IsNarrow-after, Valid-after}
 use Rattle.wm_machine.specs.First.{first_of}
 use Rattle.wm_machine.specs.Narrow.{IsNarrow}
 use Rattle.wm_machine.specs.Opened.{opening_state}

@@ -1,16 +1,18 @@
 -- What is built for an event: the change of its step, and what is answered. This project's own choice.
-use Rattle.std.specs.Prelude.{◌≡◌, ◌⊎◌, ℕ, List, [], Some, slice_get}
+use Rattle.std.specs.Prelude.{◌≡◌, ◌⊎◌, ℕ, List, [], Some, Result, Ok, Err, slice_get}
 use Rattle.wm_data.specs.declared.data.DataEntry.{DataEntry}
-use Rattle.wm_machine.specs.Built.{ReplyTellsNoData}
 use Rattle.wm_machine.specs.First.{first_of}
+use Rattle.wm_machine.specs.Input.{cause_in}
 use Rattle.wm_machine.specs.Step.{after}
 use Rattle.wm_machine.specs.declared.command.Command.{Command}
+use Rattle.wm_machine.specs.declared.event.Cause.{Cause}
 use Rattle.wm_machine.specs.declared.event.End.TheVariants.{Success}
 use Rattle.wm_machine.specs.declared.event.Event.{Event}
 use Rattle.wm_machine.specs.declared.event.Event.TheVariants as event
 use Rattle.wm_machine.specs.declared.record.Record.{Record}
 use Rattle.wm_machine.specs.declared.reply.Reply.{Reply}
 use Rattle.wm_machine.specs.declared.state.State.{State}
+use Rattle.wm_merge.specs.declared.fault.MergeFault.{MergeFault}
 use Rattle.wm_table.specs.StepChanges.{row_changes, telling, IsStepOf}
 use Rattle.wm_table.specs.Table.{ChangesRows, IsTicketIn}
 use Rattle.wm_table.specs.declared.table.Claim.{Claim}
@@ -27,7 +29,6 @@ use Rattle.wm_worker.specs.declared.answer.Answer.TheVariants as answer
 pub record IsExecuted (s : State) (line : ℕ) (asked : Command) (executed : Executed) : Type 0 where
   pub event : executed.change.event ≡ event.Command line asked executed.reply
   pub step : IsStepOf s executed.change
-  pub text : ReplyTellsNoData executed.reply
   pub rows : ChangesRows s asked ⊎ (row_changes executed.change ≡ [])
 
 -- a command that only has a reply
@@ -35,6 +36,11 @@ abbrev pub answering : ℕ → Command → Reply → Executed
 answering line asked answer = record { change = telling (event.Command line asked answer); reply = answer }
 
 -- ---- a claim
+
+-- what inputs became, or the cause for which they don't become one
+abbrev pub IsTaken : Result (List DataEntry) MergeFault → Result (List DataEntry) Cause → Type 0
+IsTaken answer (Ok input) = answer ≡ Ok input
+IsTaken answer (Err cause) = cause_in answer ≡ Some cause
 
 -- the work that is first stands at this index
 pub record IsFirstAt (s : State) (index : ℕ) (work : Record) : Type 0 where

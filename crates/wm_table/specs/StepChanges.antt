@@ -5,7 +5,7 @@ use Rattle.wm_keeper.specs.Keeper.{AreOfDifferentNumbers}
 use Rattle.wm_keeper.specs.declared.row.Change.{Change}
 use Rattle.wm_keeper.specs.declared.row.Change.TheVariants.{Put, Remove}
 use Rattle.wm_machine.specs.Limits.{FitsRow}
-use Rattle.wm_machine.specs.Rows.{row_of, HasNoData}
+use Rattle.wm_machine.specs.Rows.{row_of}
 use Rattle.wm_machine.specs.Runs.{other_runs, with_out}
 use Rattle.wm_machine.specs.Step.{Legal, after}
 use Rattle.wm_machine.specs.Valid.{HasOne}
@@ -54,8 +54,8 @@ next_run_by (Begin run) next = next + 1
 next_run_by (End run instance) next = next
 
 -- the state after a change: works without the removed ones, with the replaced ones in place and the placed ones at the end
-abbrev pub changed_by : StepChange → State → State
-changed_by change s = record s {
+abbrev pub changed_state : StepChange → State → State
+changed_state change s = record s {
   works = without change.removed (with_replaced change.replaced s.works) ++ change.placed;
   runs = runs_by change.run s.runs;
   instances = instances_by change.run s.instances;
@@ -87,24 +87,19 @@ seqs_of works = map (λ work. work.seq) works
 abbrev pub KeepsNumber : List Record → Replacement → Type 0
 KeepsNumber works replaced = slice_get (seqs_of works) replaced.index ≡ Some replaced.work.seq
 
--- the records have the next numbers, in order
-abbrev pub AreNumberedFrom : ℕ → List Record → Type 0
-AreNumberedFrom next [] = Unit {0}
-AreNumberedFrom next (work ∷ works) = (work.seq ≡ next) × AreNumberedFrom (next + 1) works
-
--- a record has a row
-pub record HasRow (work : Record) : Type 0 where
-  pub fits : FitsRow work
-  pub no_data : HasNoData work
+-- the records have the numbers from this one on, in order
+abbrev pub HaveNextNumbers : ℕ → List Record → Type 0
+HaveNextNumbers next [] = Unit {0}
+HaveNextNumbers next (work ∷ works) = (work.seq ≡ next) × HaveNextNumbers (next + 1) works
 
 pub record Fits (s : State) (change : StepChange) : Type 0 where
   pub replaced : AllByRecursion (KeepsNumber s.works) change.replaced
   -- the records removed are there
   pub removed : AllByRecursion (λ number. HasOne (λ work. work.seq ≡ number) s.works) change.removed
-  pub placed : AreNumberedFrom s.next change.placed
+  pub placed : HaveNextNumbers s.next change.placed
   pub numbers : s.next + length change.placed ≤ 2 ^ 53
-  pub replaced_rows : AllByRecursion (λ replaced. HasRow replaced.work) change.replaced
-  pub placed_rows : AllByRecursion HasRow change.placed
+  pub replaced_rows : AllByRecursion (λ replaced. FitsRow replaced.work) change.replaced
+  pub placed_rows : AllByRecursion FitsRow change.placed
   -- no row is changed twice
   pub apart : AreOfDifferentNumbers (row_changes change)
 
@@ -112,7 +107,7 @@ pub record Fits (s : State) (change : StepChange) : Type 0 where
 pub record IsStepOf (s : State) (change : StepChange) : Type 0 where
   pub fits : Fits s change
   pub legal : Legal s change.event
-  pub state : changed_by change s ≡ after s change.event
+  pub state : changed_state change s ≡ after s change.event
 
 -- ---- changes
 

@@ -92,12 +92,21 @@ ChangesRows s asked = ChangesNoRow s asked → ⊥
 abbrev pub IsTicketIn : State → TicketState → Type 0
 IsTicketIn s ticket = IsSomeAnd (run_numbered ticket.task.run s.runs) (λ run. ticket ≡ ticket_of run)
 
+-- nothing is startable, and nothing has changed
+pub record IsNothingClaimed {K : Type 0} (old new : TableState K) : Type 0 where
+  pub none_first : first_of old.state ≡ None
+  pub same : new ≡ old
+
+-- a run began, and the ticket is its
+pub record IsRunClaimed {K : Type 0} (held : K → Option (List Row)) (ticket : TicketState) (old new : TableState K) : Type 0 where
+  pub step : IsOneStep held (event.Start ticket.task.run ticket.seq ticket.instance ticket.task.input) old new
+  pub ticket_in : IsTicketIn new.state ticket
+
 -- none where nothing is startable, else one event: the start of the work that is first, or that it couldn't start
-abbrev pub IsClaimed : {K : Type 0} → (K → Option (List Row)) → Option Claim → TableState K → TableState K → Type 0
-IsClaimed held None old new = (first_of old.state ≡ None) × (new ≡ old)
-IsClaimed held (Some (claim.Run ticket)) old new =
-    IsOneStep held (event.Start ticket.task.run ticket.seq ticket.instance ticket.task.input) old new × IsTicketIn new.state ticket
-IsClaimed held (Some (claim.Failed seq cause)) old new = IsOneStep held (event.StartFailed seq cause) old new
+abbrev pub IsClaimAnswer : {K : Type 0} → (K → Option (List Row)) → Option Claim → TableState K → TableState K → Type 0
+IsClaimAnswer held None old new = IsNothingClaimed old new
+IsClaimAnswer held (Some (claim.Run ticket)) old new = IsRunClaimed held ticket old new
+IsClaimAnswer held (Some (claim.Failed seq cause)) old new = IsOneStep held (event.StartFailed seq cause) old new
 
 -- ---- turn
 
@@ -120,15 +129,30 @@ pub record IsFinished {K : Type 0} (held : K → Option (List Row)) (number : �
   pub told_is : told.answer ≡ answer.Success output
   pub step : IsOneStep held (event.Finish number (Success output)) old new
 
--- Finished where the report counts, with its event; Again where it doesn't, and nothing changes; Refused where it counts and there is
--- trouble
-abbrev pub IsTurned : {K : Type 0} → (K → Option (List Row)) → TicketState → Report → TurnAnswer → TableState K → TableState K → Type 0
-IsTurned held ticket told turn.Finished old new =
-    CountsIn old.state ticket.task.run told × IsFinished held ticket.task.run told old new
-IsTurned held ticket told (turn.Again same) old new =
-    (CountsIn old.state ticket.task.run told → ⊥) × (same ≡ ticket) × (new ≡ old)
-IsTurned held ticket told (turn.Refused same report why) old new =
-    CountsIn old.state ticket.task.run told × (same ≡ ticket) × (report ≡ told) × IsUntouched held old new
+-- the report counts, and the run is over
+pub record IsTurnOver {K : Type 0} (held : K → Option (List Row)) (ticket : TicketState) (told : Report) (old new : TableState K) : Type 0 where
+  pub counts : CountsIn old.state ticket.task.run told
+  pub finished : IsFinished held ticket.task.run told old new
+
+-- the report doesn't count: the ticket is given back, and nothing has changed
+pub record IsTurnKept {K : Type 0} (ticket : TicketState) (told : Report) (back : TicketState) (old new : TableState K) : Type 0 where
+  pub counts_not : CountsIn old.state ticket.task.run told → ⊥
+  pub same_ticket : back ≡ ticket
+  pub same : new ≡ old
+
+-- the report counts and there was trouble: ticket and report are given back, and the table is untouched
+pub record IsTurnRefused {K : Type 0} (held : K → Option (List Row)) (ticket : TicketState) (told : Report) (back : TicketState) (report : Report)
+    (old new : TableState K) : Type 0 where
+  pub counts : CountsIn old.state ticket.task.run told
+  pub same_ticket : back ≡ ticket
+  pub same_report : report ≡ told
+  pub untouched : IsUntouched held old new
+
+-- Finished where the report counts, with its event; Again where it doesn't; Refused where it counts and there is trouble
+abbrev pub IsTurnAnswer : {K : Type 0} → (K → Option (List Row)) → TicketState → Report → TurnAnswer → TableState K → TableState K → Type 0
+IsTurnAnswer held ticket told turn.Finished old new = IsTurnOver held ticket told old new
+IsTurnAnswer held ticket told (turn.Again back) old new = IsTurnKept ticket told back old new
+IsTurnAnswer held ticket told (turn.Refused back report why) old new = IsTurnRefused held ticket told back report old new
 
 abbrev pub is_refused_for_keeper : TurnAnswer → Bool
 is_refused_for_keeper (turn.Refused same report trouble.KeeperFault) = true

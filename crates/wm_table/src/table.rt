@@ -1,7 +1,6 @@
 //! The table: the state, the log of the events that led to it, and the keeper of its rows.
 ghost use Rattle.std.specs.Prelude.{◌≡◌, ◌≢◌, ◌↔◌, [], Err, IsTrue, IfOk, IfErr, IfSome, OnOk, OnErr};
 ghost use Rattle.std.specs.Option.{option_copied};
-ghost use Rattle.wm_machine.specs.Built.{ReplyTellsNoData};
 ghost use Rattle.wm_machine.specs.Outcome.{IsBuilt};
 ghost use Rattle.wm_machine.specs.Narrow.{IsNarrow};
 ghost use Rattle.wm_machine.specs.Opened.{opening_state, Opened};
@@ -10,7 +9,7 @@ ghost use Rattle.wm_machine.specs.Replay.{Replay};
 ghost use Rattle.wm_machine.specs.Valid.{Valid};
 ghost use Rattle.wm_machine.specs.declared.event.Event.TheVariants as event;
 ghost use Rattle.wm_table.specs.StepChanges.{row_changes, IsStepOf};
-ghost use Rattle.wm_table.specs.Table.{last_of, AreFresh, BeginCause, ChangesNoRow, ChangesRows, CountsIn, HoldsRowsOf, IsClaimed, IsFinished, IsOneStep, IsTurned, IsUntouched, Stands, TroubleCause, TurnCause};
+ghost use Rattle.wm_table.specs.Table.{last_of, AreFresh, BeginCause, ChangesNoRow, ChangesRows, CountsIn, HoldsRowsOf, IsClaimAnswer, IsFinished, IsOneStep, IsTurnAnswer, IsUntouched, Stands, TroubleCause, TurnCause};
 
 mod carry;
 mod change;
@@ -193,7 +192,6 @@ impl<K: Keeper> Table<K> {
         requires no_run { self.old.state.runs ≡ [] }
         ensures ok { IfOk result (λ reply.
             IsOneStep K.held (event.Command line command reply) self.old self.new) }
-        ensures text { IfOk result ReplyTellsNoData }
         ensures err { OnErr result (IsUntouched K.held self.old self.new) }
         ensures cause { TroubleCause result (K.faults self.old.keeper) (K.faults self.new.keeper) }
         ensures untouched_keeper { ChangesNoRow self.old.state command
@@ -214,7 +212,7 @@ impl<K: Keeper> Table<K> {
     /// Starts the work that is first, in one event: on the idle instance of its class, or as a work
     /// that can't start. None where nothing is startable.
     pub fn claim(&mut self) -> Result<Option<Claim>, Trouble>
-        ensures ok { IfOk result (λ claim. IsClaimed K.held claim self.old self.new) }
+        ensures ok { IfOk result (λ claim. IsClaimAnswer K.held claim self.old self.new) }
         ensures err { OnErr result (IsUntouched K.held self.old self.new) }
         ensures cause { TroubleCause result (K.faults self.old.keeper) (K.faults self.new.keeper) }
     {
@@ -235,7 +233,7 @@ impl<K: Keeper> Table<K> {
     /// turn, or the worker was cut, nothing changes.
     pub fn turn(&mut self, ticket: Ticket, told: Told) -> TurnAnswer
         requires { Stands self.old.state ticket }
-        ensures answer { IsTurned K.held ticket told result self.old self.new }
+        ensures answer { IsTurnAnswer K.held ticket told result self.old self.new }
         ensures cause { TurnCause result (K.faults self.old.keeper) (K.faults self.new.keeper) }
     {
         if !finishing::counts_in(&self.state, &ticket, &told) {

@@ -3,9 +3,10 @@
 ghost use Rattle.std.specs.Prelude.{◌≡◌, ◌≢◌, ◌+◌, ◌^◌, ◌<◌, ◌≤◌, ◌∷◌, ◌++◌, [], length, vec_len, vec_capacity, option_map, Err, OnOk, OnErr};
 ghost use Rattle.std.specs.List.{AllByRecursion};
 ghost use Rattle.wm_keeper.specs.Keeper.{changed, AreOfDifferentNumbers};
+ghost use Rattle.wm_machine.specs.Limits.{FitsRow};
 ghost use Rattle.wm_machine.specs.Runs.{other_runs, with_out};
 ghost use Rattle.wm_machine.specs.Valid.{Valid};
-ghost use Rattle.wm_table.specs.StepChanges.{changed_by, instances_by, next_run_by, other_works, row_changes, runs_by, with_replaced, without, Fits, HasRow};
+ghost use Rattle.wm_table.specs.StepChanges.{changed_state, instances_by, next_run_by, other_works, row_changes, runs_by, with_replaced, without, Fits};
 ghost use Rattle.wm_table.specs.Table.{TroubleCause};
 
 use crate::table::Trouble;
@@ -228,9 +229,9 @@ fn store<K: Keeper>(
     keeper: &mut K,
     change: &StepChange,
 ) -> Result<(), Trouble>
-    requires replaced { AllByRecursion (λ replaced. HasRow replaced.work) change.now.replaced }
+    requires replaced { AllByRecursion (λ replaced. FitsRow replaced.work) change.now.replaced }
     requires removed { AllByRecursion (λ number. number < 2 ^ 53) change.now.removed }
-    requires placed { AllByRecursion HasRow change.now.placed }
+    requires placed { AllByRecursion FitsRow change.now.placed }
     requires apart { AreOfDifferentNumbers (row_changes change.now) }
     ensures works { lists.new.works.items ≡ lists.old.works.items }
     ensures runs { lists.new.runs.items ≡ lists.old.runs.items }
@@ -261,7 +262,7 @@ pub fn carry_out<K: Keeper>(
     requires valid { Valid state.old }
     requires fits { Fits state.old change }
     requires few_runs { state.old.next_run ≤ length log.old + 1 }
-    ensures state { OnOk result (state.new ≡ changed_by change state.old) }
+    ensures state { OnOk result (state.new ≡ changed_state change state.old) }
     ensures log { OnOk result (log.new ≡ log.old ++ change.event ∷ []) }
     ensures rows { OnOk result (K.held keeper.new ≡ option_map (changed (row_changes change)) (K.held keeper.old)) }
     ensures state_err { OnErr result (state.new ≡ state.old) }

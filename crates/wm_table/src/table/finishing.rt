@@ -1,5 +1,5 @@
 //! How a run ends by the report of its worker.
-ghost use Rattle.std.specs.Prelude.{◌≡◌, ◌↔◌, ◌==◌, ◌<◌, [], true, None, length, slice_get, IfNone, IfOk, IfSome, IsSome, IsSomeAnd, IsTrue, MatchOption};
+ghost use Rattle.std.specs.Prelude.{◌≡◌, ◌↔◌, ◌==◌, ◌<◌, true, None, length, slice_get, IfNone, IfOk, IfSome, IsSome, IsSomeAnd, IsTrue, MatchOption};
 ghost use Rattle.std.specs.Option.{option_copied};
 ghost use Rattle.wm_machine.specs.Narrow.{IsNarrow, IsNarrowRun};
 ghost use Rattle.wm_machine.specs.Runs.{run_numbered};
@@ -56,15 +56,14 @@ fn is_given(answer: &Answer) -> bool
     !matches!(answer, Answer::Cut(_))
 }
 
-/// Whether a report counts for a run, which took no input.
+/// Whether a report counts for a run.
 fn counts(run: &Run, told: &Told) -> bool
-    requires { run.now.input ≡ [] }
     ensures { IsTrue result ↔ Counts run.entry.now told.now }
 {
     told.kind() == run.kind
         && told.run() == run.run
         && told.attempt() == run.attempt
-        && told.input().is_empty()
+        && *told.input() == run.input
         && told.k() == run.turn
         && is_given(told.answer())
 }
@@ -81,7 +80,7 @@ pub fn counts_in(state: &State, ticket: &Ticket, told: &Told) -> bool
     }
 }
 
-/// The output of a report that an Echo gave.
+/// The output of a report that an Echo gave: its input.
 fn output_of(told: &Told) -> &Data
     requires echo { told.now.kind ≡ Kind.Echo }
     requires given { IsSome (given_of told.now.answer) }

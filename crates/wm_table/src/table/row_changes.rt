@@ -1,7 +1,8 @@
 //! The changes of the rows that a step makes.
 ghost use Rattle.std.specs.Prelude.{◌≡◌, ◌^◌, ◌<◌, ◌++◌, map, IfOk, OnOk};
 ghost use Rattle.std.specs.List.{AllByRecursion};
-ghost use Rattle.wm_table.specs.StepChanges.{put_replaced, put_work, remove_numbered, row_changes, HasRow};
+ghost use Rattle.wm_machine.specs.Limits.{FitsRow};
+ghost use Rattle.wm_table.specs.StepChanges.{put_replaced, put_work, remove_numbered, row_changes};
 
 use crate::table::change::{Replacement, StepChange};
 use std::alloc::{AllocError, Global};
@@ -11,9 +12,9 @@ use wm_rows::to_row;
 
 /// The changes of the rows of the records that are replaced, removed and placed.
 pub fn row_changes(alloc: Global, change: &StepChange) -> Result<Vec<Change>, AllocError>
-    requires replaced { AllByRecursion (λ replaced. HasRow replaced.work) change.now.replaced }
+    requires replaced { AllByRecursion (λ replaced. FitsRow replaced.work) change.now.replaced }
     requires removed { AllByRecursion (λ number. number < 2 ^ 53) change.now.removed }
-    requires placed { AllByRecursion HasRow change.now.placed }
+    requires placed { AllByRecursion FitsRow change.now.placed }
     ensures { IfOk result (λ changes. changes.items ≡ row_changes change.now) }
 {
     let mut changes = Vec::new(alloc);
@@ -29,7 +30,7 @@ fn put_replaced(
     changes: &mut Vec<Change>,
     replaced: &[Replacement],
 ) -> Result<(), AllocError>
-    requires { AllByRecursion (λ replaced. HasRow replaced.work) replaced.now }
+    requires { AllByRecursion (λ replaced. FitsRow replaced.work) replaced.now }
     ensures { OnOk result (changes.new.items ≡ changes.old.items ++ map put_replaced replaced.now) }
 {
     for replacement in replaced {
@@ -51,7 +52,7 @@ fn remove_numbered(changes: &mut Vec<Change>, numbers: &[u64]) -> Result<(), All
 
 /// Adds the rows of new records.
 fn put_placed(alloc: Global, changes: &mut Vec<Change>, works: &[Record]) -> Result<(), AllocError>
-    requires { AllByRecursion HasRow works.now }
+    requires { AllByRecursion FitsRow works.now }
     ensures { OnOk result (changes.new.items ≡ changes.old.items ++ map put_work works.now) }
 {
     for work in works {

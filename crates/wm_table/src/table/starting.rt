@@ -1,19 +1,23 @@
 //! How the work that is first starts: its run begins, or it can't start.
-ghost use Rattle.std.specs.Prelude.{◌≡◌, Some, None, IfOk, MatchOption};
+ghost use Rattle.std.specs.Prelude.{◌≡◌, ◌∷◌, [], Err, Ok, Some, None, IfOk, MatchOption};
 ghost use Rattle.wm_machine.specs.First.{first_of, idle_instance};
+ghost use Rattle.wm_machine.specs.Input.{cause_in, input_of};
 ghost use Rattle.wm_machine.specs.Narrow.{IsNarrow};
-ghost use Rattle.wm_machine.specs.Runs.{one_attempt_more, run_on};
+ghost use Rattle.wm_machine.specs.Runs.{one_attempt_more, run_on, start_refusal};
 ghost use Rattle.wm_machine.specs.Valid.{Valid};
-ghost use Rattle.wm_table.specs.Builds.{IsClaiming, IsFirstAt};
+ghost use Rattle.wm_merge.specs.Merged.{merged};
+ghost use Rattle.wm_table.specs.Builds.{IsClaiming, IsFirstAt, IsTaken};
 ghost use Rattle.wm_table.specs.TableState.{task_in};
 
 use crate::table::change::{RunChange, StepChange};
-use crate::table::joins::{at, with};
+use crate::table::joins::{at, copied, one, with};
 use crate::table::ticket::Ticket;
 use crate::table::{Claim, lifecycle, scan};
 use std::alloc::{AllocError, Global};
-use wm_collections::Replica;
+use wm_collections::{Items, Replica};
+use wm_data::Data;
 use wm_machine::{Cause, Event, Instance, Record, Run, State};
+use wm_merge::{MergeFault, merge};
 use wm_worker::Task;
 
 /// The change of a start's step, and what it claims.
@@ -33,13 +37,13 @@ pub fn claim_first(alloc: Global, state: &State) -> Result<Option<Claiming>, All
     };
     let work = at(state.works.as_slice(), index);
     match scan::idle_in(state.instances.as_slice(), work.request.class.as_str()) {
-        Some(idle) => Ok(Some(start(alloc, state, index, work, idle)?)),
-        None => Ok(Some(fail(alloc, state, index, work)?)),
+        Some(idle) => Ok(Some(start_merged(alloc, state, index, work, idle)?)),
+        None => Ok(Some(fail(alloc, state, index, work, Cause::NoWorker)?)),
     }
 }
 
-/// The start of a work on an instance.
-fn start(
+/// The start of a work on an instance, or its failure where its inputs don't become one.
+fn start_merged(
     alloc: Global,
     state: &State,
     index: usize,
@@ -52,9 +56,30 @@ fn start(
     requires idle { idle_instance state.now.instances work.now.request.class ≡ Some idle.now }
     ensures { IfOk result (IsClaiming state.entry.now) }
 {
-    let changed = lifecycle::started(alloc, work)?;
-    let run = run_on(alloc, state, work, changed.attempt, idle);
-    let (changed, run) = with(changed, run)?;
+    match taken_by(alloc, work)? {
+        Ok(input) => start(alloc, state, index, work, idle, input),
+        Err(cause) => fail(alloc, state, index, work, cause),
+    }
+}
+
+/// The start of a work on an instance, with this input.
+fn start(
+    alloc: Global,
+    state: &State,
+    index: usize,
+    work: &Record,
+    idle: &Instance,
+    input: Data,
+) -> Result<Claiming, AllocError>
+    requires valid { Valid state.now }
+    requires narrow { IsNarrow state.now }
+    requires first { IsFirstAt state.now index work.now }
+    requires idle { idle_instance state.now.instances work.now.request.class ≡ Some idle.now }
+    requires input { input_of state.now work.now ≡ Ok input }
+    ensures { IfOk result (IsClaiming state.entry.now) }
+{
+    let (input, changed) = with(input, lifecycle::started(alloc, work))?;
+    let run = run_on(state, work, changed.attempt, idle, input);
     let said = said_of(alloc, &run);
     let ((changed, run), (event, task)) = with((changed, run), said)?;
     let (seq, kind, instance) = (run.seq, run.kind, run.instance);
@@ -70,50 +95,82 @@ fn start(
     Ok(Claiming { change, claim })
 }
 
-/// The failure of a work whose class has no worker.
-fn fail(alloc: Global, state: &State, index: usize, work: &Record) -> Result<Claiming, AllocError>
+/// The failure of a work that can't start for this cause.
+fn fail(
+    alloc: Global,
+    state: &State,
+    index: usize,
+    work: &Record,
+    cause: Cause,
+) -> Result<Claiming, AllocError>
     requires valid { Valid state.now }
     requires narrow { IsNarrow state.now }
     requires first { IsFirstAt state.now index work.now }
-    requires no_worker { idle_instance state.now.instances work.now.request.class ≡ None }
+    requires refused { start_refusal state.now work.now ≡ Some cause }
     ensures { IfOk result (IsClaiming state.entry.now) }
 {
-    let changed = lifecycle::not_started(alloc, work)?;
+    let (cause, changed) = with(cause, lifecycle::not_started(alloc, work))?;
+    let (cause, logged, changed) = copied(alloc, cause, changed)?;
     let event = Event::StartFailed {
         seq: work.seq,
-        cause: Cause::NoWorker,
+        cause: logged,
     };
-    let change = StepChange::replacing(alloc, index, changed, RunChange::Unchanged, event)?;
+    let change = StepChange::replacing(alloc, index, changed, RunChange::Unchanged, event);
+    let (cause, change) = with(cause, change)?;
     let claim = Claim::Failed {
         seq: work.seq,
-        cause: Cause::NoWorker,
+        cause,
     };
     Ok(Claiming { change, claim })
 }
 
-/// The next run, which is this attempt of a work on an instance.
-fn run_on(
-    alloc: Global,
-    state: &State,
-    work: &Record,
-    attempt: u32,
-    instance: &Instance,
-) -> Result<Run, AllocError>
-    requires { attempt ≡ one_attempt_more work.now.attempt }
-    ensures { IfOk result (λ run. run
-        ≡ run_on state.entry.now work.entry.now instance.entry.now work.entry.now.request.input) }
+/// What a run of a work takes, or why its inputs don't become one.
+fn taken_by(alloc: Global, work: &Record) -> Result<Result<Data, Cause>, AllocError>
+    ensures { IfOk result (IsTaken
+        (merged work.entry.now.request.merger (work.entry.now.request.input ∷ []))) }
 {
-    Ok(Run {
+    let inputs = inputs_for(alloc, work)?;
+    match merge(alloc, work.request.merger, inputs.as_slice()) {
+        Ok(input) => Ok(Ok(input)),
+        Err(fault) => Ok(Err(cause_of(fault)?)),
+    }
+}
+
+/// The inputs that a work's merger makes one of: its own alone, since no work names a prerequisite
+/// yet.
+fn inputs_for(alloc: Global, work: &Record) -> Result<Items<Data>, AllocError>
+    ensures { IfOk result (λ inputs. inputs ≡ work.entry.now.request.input ∷ []) }
+{
+    one(alloc, work.request.input.replica(alloc)?)
+}
+
+/// Why a work whose inputs don't become one can't start.
+fn cause_of(fault: MergeFault) -> Result<Cause, AllocError>
+    ensures { IfOk result (λ cause. cause_in (Err fault) ≡ Some cause) }
+{
+    match fault {
+        MergeFault::Conflict { key } => Ok(Cause::Conflict { key }),
+        MergeFault::TooLarge { size } => Ok(Cause::TooLarge { size }),
+        MergeFault::Memory => Err(AllocError),
+    }
+}
+
+/// The next run, which is this attempt of a work on an instance, with this input.
+fn run_on(state: &State, work: &Record, attempt: u32, instance: &Instance, input: Data) -> Run
+    requires { attempt ≡ one_attempt_more work.now.attempt }
+    ensures { result ≡ run_on state.entry.now work.entry.now instance.entry.now input }
+{
+    Run {
         run: state.next_run,
         seq: work.seq,
         attempt,
-        input: work.request.input.replica(alloc)?,
+        input,
         kind: instance.kind,
         instance: instance.number,
         constraints: work.request.constraints,
         turn: 0,
         current: true,
-    })
+    }
 }
 
 /// The event by which a run begins, and what its worker is asked.

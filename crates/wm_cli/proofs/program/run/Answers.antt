@@ -1,5 +1,5 @@
 use Rattle.std.proofs.Common.{◌≡◌, sym, ◌∙◌, ap}
-use Rattle.wm_cli.proofs.Endings.{IsTextWritten-nothing, HasCommands-nothing, ForScript-any, not_done}
+use Rattle.wm_cli.proofs.RunsWithoutEvents.{IsTextWritten-nothing, HasCommands-nothing, ForScript-any, not_done}
 use Rattle.wm_cli.proofs.Opening.{IsSerialRun-unopened}
 use Rattle.wm_session.specs.Ended.{HasCommands, IsSerialRun}
 use Rattle.wm_session.specs.declared.status.Status.TheVariants.{Done, Usage}

@@ -64,9 +64,8 @@ returns-in-Err g c =
     let ended = c.end_at_once.result in
     let kept = c.in-Err.ensures.kept in
     let at : IsEndedAtOnce c.args.table c.args.sink c.back.result ended =
-    subst (λ table. IsEndedAtOnce table c.args.sink c.back.result ended) kept.0
-    (subst (λ sink. IsEndedAtOnce c.in-Err.parts.0 sink c.back.result ended) kept.2 c.end_at_once.ensures) in
+    subst (λ parts. IsEndedAtOnce parts.0 parts.2 c.back.result ended) kept c.end_at_once.ensures in
     subst (λ run. IsSerialEnd tells run had ended) (sym c.requires.inputs)
     (IsSerialEnd-at_once tells c.args.commands benched.hands had c.args.table c.args.sink c.back.result ended at c.requires.begun c.requires.built
     benched.echoes benched.opened
-    (c.back.ensures ∙ ap idle_hands (kept.1 ∙ benched.at_places) ∙ idle_hands-places benched.hands))
+    (c.back.ensures ∙ ap (λ parts. idle_hands parts.1) kept ∙ ap idle_hands benched.at_places ∙ idle_hands-places benched.hands))

@@ -1,6 +1,6 @@
 use Rattle.std.proofs.Common.{◌++◌, arith, length-append}
 use Rattle.std.proofs.lemmas.List.{length-take}
-use Rattle.wm_cli.proofs.Pieces.{IsTakenFrom-append}
+use Rattle.wm_cli.proofs.TakenBytes.{IsTakenFrom-append}
 use Rattle.wm_cli.proofs.script.read_script.Goals as goal
 
 pub returns-in_err-read_piece-clause-reads : goal.returns-in_err-read_piece-clause-reads

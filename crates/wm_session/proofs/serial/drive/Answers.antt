@@ -13,6 +13,6 @@ returns-in-Stopped g c =
     (diary_with (Begun c.args.ticket.task.run ∷ []) (g.B.Worker.diary_of c.args.seat.worker)) c.requires.under_way
     (record {
       back = seat.worker;
-      stopped = stopped.0;
-      places = stopped.1 ∙ ap (λ n. changed_at (made_idle seat.worker) n c.args.book.now.places) (c.begin.ensures.number ∙ c.requires.number);
+      stopped = stopped.stopped;
+      places = stopped.places ∙ ap (λ n. changed_at (made_idle seat.worker) n c.args.book.now.places) (c.begin.ensures.number ∙ c.requires.number);
     })

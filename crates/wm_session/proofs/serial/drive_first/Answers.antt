@@ -12,7 +12,7 @@ returns-in-Run-clause-order g c lines goes =
     let begun = c.in-Run.ensures in
     c.drive.ensures.order lines
     (GoesInOrder-claimed g.K.Keeper.held c.args.book.now c.claim.new.self c.requires begun.goes_on.before
-    (claim.Run c.in-Run.ticket) (begun.step, begun.ticket_in) lines goes)
+    (claim.Run c.in-Run.ticket) (record { step = begun.step; ticket_in = begun.ticket_in }) lines goes)
 
 pub returns-in-Run-clause-diaries : goal.returns-in-Run-clause-diaries
 returns-in-Run-clause-diaries g c diaries keep =
@@ -33,19 +33,19 @@ returns-in-Failed-clause-diaries g c diaries =
 
 pub returns-in-Stopped-clause-rest : goal.returns-in-Stopped-clause-rest
 returns-in-Stopped-clause-rest g c =
-    IsBetweenRuns-halted g.K.Keeper.held g.B.Worker.kind_of c.args.book.now c.claim.new.self c.requires c.in-Stopped.ensures
+    IsBetweenRuns-halted g.K.Keeper.held c.args.book.now c.claim.new.self c.requires c.in-Stopped.ensures
 
 pub returns-in-Stopped-clause-left : goal.returns-in-Stopped-clause-left
-returns-in-Stopped-clause-left g c = left-halted g.K.Keeper.held g.B.Worker.kind_of c.args.book.now c.claim.new.self c.in-Stopped.ensures
+returns-in-Stopped-clause-left g c = left-halted g.K.Keeper.held c.args.book.now c.claim.new.self c.in-Stopped.ensures
 
 pub returns-in-Stopped-clause-stopped : goal.returns-in-Stopped-clause-stopped
-returns-in-Stopped-clause-stopped g c is = status-halted g.K.Keeper.held g.B.Worker.kind_of c.args.book.now c.claim.new.self c.in-Stopped.ensures
+returns-in-Stopped-clause-stopped g c is = status-halted g.K.Keeper.held c.args.book.now c.claim.new.self c.in-Stopped.ensures
 
 pub returns-in-Stopped-clause-order : goal.returns-in-Stopped-clause-order
 returns-in-Stopped-clause-order g c =
-    GoesInOrder-halted g.K.Keeper.held g.B.Worker.kind_of c.args.book.now c.claim.new.self c.requires c.in-Stopped.ensures
+    GoesInOrder-halted g.K.Keeper.held c.args.book.now c.claim.new.self c.requires c.in-Stopped.ensures
 
 pub returns-in-Stopped-clause-diaries : goal.returns-in-Stopped-clause-diaries
 returns-in-Stopped-clause-diaries g c diaries keep =
     let new = c.claim.new.self in
-    no_longer new.status (status-halted g.K.Keeper.held g.B.Worker.kind_of c.args.book.now new c.in-Stopped.ensures)
+    no_longer new.status (status-halted g.K.Keeper.held c.args.book.now new c.in-Stopped.ensures)

@@ -31,7 +31,7 @@ lines-init g c =
     ]
 
 pub drain-requires-in-Moved : goal.drain-requires-in-Moved
-drain-requires-in-Moved g c = let moved = c.in-Moved.ensures in IsBetweenRuns-line c.lines.invariant.rest moved.0.before moved.1 moved.2
+drain-requires-in-Moved g c = let moved = c.in-Moved.ensures in IsBetweenRuns-line c.lines.invariant.rest moved.goes_on.before moved.line moved.places
 
 pub lines-preserved : goal.lines-preserved
 lines-preserved g c =
@@ -44,9 +44,9 @@ lines-preserved g c =
       quiet = λ going none. drained.quiet going;
       order = λ lines ready.
           IsReady-quiet lines new drained.quiet
-          (drained.order lines (GoesInOrder-line kept.rest lines moved.0.before moved.1 (kept.order lines ready)));
+          (drained.order lines (GoesInOrder-line kept.rest lines moved.goes_on.before moved.line (kept.order lines ready)));
       diaries = λ diaries keep. drained.diaries diaries
-          (KeepDiaries-same g.B.Worker.diary_of diaries kept.rest moved.0 moved.1.step moved.2 (λ number. refl) (kept.diaries diaries keep));
+          (KeepDiaries-same g.B.Worker.diary_of diaries kept.rest moved.goes_on moved.line.step moved.places (λ number. refl) (kept.diaries diaries keep));
     }
 
 pub returns-in-Ended : goal.returns-in-Ended
@@ -58,13 +58,19 @@ returns-in-Ended g c =
     elim c.in-Ended.is [
       | inl ended ↦
           let is : IsFronted held front.Ended old new = subst (λ r. IsFronted held r old new) ended c.front_step.ensures in
-          rw is.2 (record { rest = kept.rest; done = λ going. is.1; quiet = λ going. kept.quiet is.0 is.1; order = kept.order; diaries = kept.diaries })
+          rw is.book_is (record {
+            rest = kept.rest;
+            done = λ going. is.none_left;
+            quiet = λ going. kept.quiet is.going is.none_left;
+            order = kept.order;
+            diaries = kept.diaries;
+          })
       | inr stopped ↦
           let is : IsFronted held front.Stopped old new = subst (λ r. IsFronted held r old new) stopped c.front_step.ensures in record {
             rest = IsBetweenRuns-front kept.rest is;
-            done = no_longer new.status is.0;
-            quiet = no_longer new.status is.0;
+            done = no_longer new.status is.status;
+            quiet = no_longer new.status is.status;
             order = λ lines ready. IsReady-front kept.rest lines is (kept.order lines ready);
-            diaries = λ diaries keep. no_longer new.status is.0;
+            diaries = λ diaries keep. no_longer new.status is.status;
           }
     ]

@@ -1,13 +1,9 @@
 use Rattle.std.proofs.Common.{refl, rules}
 use Rattle.wm_machine.specs.declared.event.Event.TheVariants as event
-use Rattle.wm_session.proofs.BookParts.{claimed_in, claimed_tells, IsUntold-claimed}
-use Rattle.wm_session.proofs.Books.{claimed_idle, BookInvariant-begun, BookInvariant-start_failed, BookInvariant-untold, IsBegun-taken, IsStartFailed-kept, IsTold-all, IsTold-cut}
+use Rattle.wm_session.proofs.BookParts.{claimed_in, IsUntold-claimed}
+use Rattle.wm_session.proofs.BookSteps.{IsTold-all, IsTold-cut}
+use Rattle.wm_session.proofs.BookClaims.{claimed_idle, BookInvariant-begun, BookInvariant-start_failed, BookInvariant-untold, IsBegun-taken, IsStartFailed-kept}
 use Rattle.wm_session.proofs.book.Book.claim.Goals as goal
-
-pub tell_last-requires : goal.tell_last-requires
-tell_last-requires g c =
-    let done = rw c.in-Ok-Some.field-0-is at c.in-Ok-Some.ensures.ok in
-    claimed_tells g.K.Keeper.held c.in-Ok-Some.claim c.self.inside.table c.claim.new.self done
 
 pub give_up-requires : goal.give_up-requires
 give_up-requires g c =
@@ -31,7 +27,7 @@ unreachable-requires g c =
     let ticket = c.in-Run.ticket in
     let run = rw (c.in-Ok-Some.field-0-is, c.in-Run.is) at c.in-Ok-Some.ensures.ok in
     claimed_idle c.claim.new.self ticket.task.run ticket.seq ticket.instance c.instance.result ticket.task.input c.self.invariant
-    (search rules) run.0 c.instance.ensures c.in_default.ensures.seat
+    (search rules) run.step c.instance.ensures c.in_default.ensures.seat
 
 pub invariant_of-self-in-Run : goal.invariant_of-self-in-Run
 invariant_of-self-in-Run g c =
@@ -40,8 +36,8 @@ invariant_of-self-in-Run g c =
     let e = event.Start ticket.task.run ticket.seq ticket.instance ticket.task.input in
     let run = rw (c.in-Ok-Some.field-0-is, c.in-Run.is) at c.in-Ok-Some.ensures.ok in
     BookInvariant-begun c.claim.new.self c.take.new.self told.pending.items told.sink ticket.task.run ticket.seq ticket.instance c.instance.result
-    ticket.task.input c.self.invariant (search rules) run.0 c.instance.ensures c.in-Some.ensures.taken
-    (IsTold-all e c.claim.new.self told.pending.items told.sink c.self.invariant (search rules) run.0
+    ticket.task.input c.self.invariant (search rules) run.step c.instance.ensures c.in-Some.ensures.taken
+    (IsTold-all e c.claim.new.self told.pending.items told.sink c.self.invariant (search rules) run.step
     c.in-Ok.ensures.ok c.in-Ok.ensures.cause)
     c.in-Ok-Some.ensures.cause
 
@@ -59,11 +55,11 @@ pub returns-in-Err-tell_last : goal.returns-in-Err-tell_last
 returns-in-Err-tell_last g c =
     let done = rw c.in-Ok-Some.field-0-is at c.in-Ok-Some.ensures.ok in
     let told = c.tell_last.new in
-    rw (← c.self.view_is) (
-      IsUntold-claimed g.K.Keeper.held c.in-Ok-Some.claim _ c.claim.new.self c.give_up.new.table told.pending.items told.sink
-          c.from-in-Err-tell_last.result (search rules) done c.give_up.ensures,
-      refl,
-    )
+    rw (← c.self.view_is) (record {
+      how = IsUntold-claimed g.K.Keeper.held c.in-Ok-Some.claim _ c.claim.new.self c.give_up.new.table told.pending.items told.sink
+          c.from-in-Err-tell_last.result (search rules) done c.give_up.ensures;
+      places = refl;
+    })
 
 pub returns-in-Some : goal.returns-in-Some
 returns-in-Some g c =
@@ -72,7 +68,7 @@ returns-in-Some g c =
     let run = rw (c.in-Ok-Some.field-0-is, c.in-Run.is) at c.in-Ok-Some.ensures.ok in
     rw (← c.self.view_is)
     (IsBegun-taken c.claim.new.self c.take.new.self told.pending.items told.sink ticket c.instance.result c.in-Some.seat c.never-signal.result
-    c.self.invariant (search rules) run.0 run.1 c.instance.ensures c.in-Some.ensures.seat c.in-Some.ensures.taken (cc))
+    c.self.invariant (search rules) run.step run.ticket_in c.instance.ensures c.in-Some.ensures.seat c.in-Some.ensures.taken (cc))
 
 pub returns-in-Failed : goal.returns-in-Failed
 returns-in-Failed g c =

@@ -1,16 +1,8 @@
-use Rattle.std.proofs.Common.{◌+◌, Some, sym, subst, rules}
-use Rattle.std.specs.Option.{IfSome}
-use Rattle.wm_machine.specs.Built.{EventTellsNoData}
+use Rattle.std.proofs.Common.{◌+◌, Some, rules}
 use Rattle.wm_machine.specs.declared.event.Event.TheVariants as event
-use Rattle.wm_session.proofs.BookParts.{last_of-step}
-use Rattle.wm_session.proofs.Books.{BookInvariant-line, IsTold-all, IsTold-cut}
+use Rattle.wm_session.proofs.BookSteps.{IsTold-all, IsTold-cut}
+use Rattle.wm_session.proofs.BookLines.{BookInvariant-line}
 use Rattle.wm_session.proofs.book.Book.front_step.Goals as goal
-
-pub tell_last-requires : goal.tell_last-requires
-tell_last-requires g c =
-    let done = c.in_default-execute.ensures.ok in
-    let last = last_of-step g.K.Keeper.held _ c.self.inside.table c.execute.new.table done.2 in
-    subst (λ event. IfSome event EventTellsNoData) (sym last) done.1
 
 pub invariant_of-self-in-Ok : goal.invariant_of-self-in-Ok
 invariant_of-self-in-Ok g c =
@@ -19,8 +11,8 @@ invariant_of-self-in-Ok g c =
     let told = c.tell_last.new in
     BookInvariant-line c.execute.new.table c.pop_front.new.self.items told.pending.items told.sink c.self.inside.status c.in-Some.command done.0
     c.self.invariant
-    (search rules) done.2 c.in-Some.ensures.items c.in_default-execute.ensures.cause
-    (IsTold-all e c.execute.new.table told.pending.items told.sink c.self.invariant (search rules) done.2 c.in-Ok.ensures.ok c.in-Ok.ensures.cause)
+    (search rules) done.1 c.in-Some.ensures.items c.in_default-execute.ensures.cause
+    (IsTold-all e c.execute.new.table told.pending.items told.sink c.self.invariant (search rules) done.1 c.in-Ok.ensures.ok c.in-Ok.ensures.cause)
 
 pub invariant_of-self-in-Err-tell_last : goal.invariant_of-self-in-Err-tell_last
 invariant_of-self-in-Err-tell_last g c =
@@ -30,6 +22,6 @@ invariant_of-self-in-Err-tell_last g c =
     let refused = c.in-Err-tell_last in
     let stop = c.from-in-Err-tell_last in
     BookInvariant-line c.execute.new.table c.pop_front.new.self.items told.pending.items told.sink (Some stop.result) c.in-Some.command done.0 c.self.invariant
-    (search rules) done.2 c.in-Some.ensures.items c.in_default-execute.ensures.cause
-    (IsTold-cut e c.execute.new.table told.pending.items told.sink refused.fault stop.result c.self.invariant done.2
+    (search rules) done.1 c.in-Some.ensures.items c.in_default-execute.ensures.cause
+    (IsTold-cut e c.execute.new.table told.pending.items told.sink refused.fault stop.result c.self.invariant done.1
     refused.ensures.err refused.ensures.cause stop.ensures)

@@ -1,12 +1,10 @@
 use Rattle.std.proofs.Common.{Some, inr, subst, sym, rules}
 use Rattle.wm_bench.specs.Places.{IsAwayAt}
-use Rattle.wm_session.proofs.Benches.{traits-back}
-use Rattle.std.specs.Option.{IfSome}
-use Rattle.wm_machine.specs.Built.{EventTellsNoData}
-use Rattle.wm_machine.specs.declared.event.End.TheVariants.{Success}
-use Rattle.wm_machine.specs.declared.event.Event.TheVariants as event
-use Rattle.wm_session.proofs.BookParts.{last_of-step}
-use Rattle.wm_session.proofs.Books.{BookInvariant-memory, BookInvariant-over, BookInvariant-placed, BookInvariant-refused, IsEndUntold-finished, IsOver-finished, IsTold-all, IsTold-cut}
+use Rattle.wm_session.proofs.PlacesAndInstances.{traits-back}
+use Rattle.wm_session.proofs.BookParts.{HasEnded-finished}
+use Rattle.wm_session.proofs.BookSteps.{IsTold-all, IsTold-cut}
+use Rattle.wm_session.proofs.BookReports.{BookInvariant-over, IsEndUntold-ended, IsOver-ended}
+use Rattle.wm_session.proofs.BookStops.{BookInvariant-memory, BookInvariant-placed, BookInvariant-refused}
 use Rattle.wm_table.specs.Table.{Stands}
 use Rattle.wm_session.proofs.book.Book.report.Goals as goal
 
@@ -25,24 +23,16 @@ invariant_of-self-in_default g c =
     BookInvariant-memory back.new.table back.new.bench c.self.invariant back.ensures.table
     (traits-back g.B.Worker.kind_of seat.worker seat.number c.self.inside.bench back.new.bench away back.ensures.places)
 
-pub tell_last-requires : goal.tell_last-requires
-tell_last-requires g c =
-    let finished = c.in-Finished.ensures.answer.1 in
-    let e = event.Finish c.args.ticket.task.run (Success finished.output) in
-    let last = last_of-step g.K.Keeper.held e c.self.inside.table c.turn.new.self finished.step in
-    subst (λ event. IfSome event EventTellsNoData) (sym last) tt
-
 pub invariant_of-self-in-Ok-tell_last : goal.invariant_of-self-in-Ok-tell_last
 invariant_of-self-in-Ok-tell_last g c =
     let seat = c.args.seat in
     let told = c.tell_last.new in
-    let finished = c.in-Finished.ensures.answer.1 in
-    let e = event.Finish c.args.ticket.task.run (Success finished.output) in
+    let ended = HasEnded-finished g.K.Keeper.held c.args.ticket.task.run c.in-Ok.told _ c.turn.new.self c.in-Finished.ensures.answer.finished in
     let stands = subst (λ book. Stands book.table.state c.args.ticket) (sym c.self.view_is) c.requires.stands in
     let away = subst (λ book. IsAwayAt seat.number (g.B.Worker.kind_of seat.worker) book.places) (sym c.self.view_is) c.requires.away in
-    BookInvariant-over c.turn.new.self c.give.new.self told.pending.items told.sink c.self.inside.status c.args.ticket seat.number finished.output
-    seat.worker c.self.invariant (search rules) finished.step stands c.requires.number away c.give.ensures
-    (IsTold-all e c.turn.new.self told.pending.items told.sink c.self.invariant (search rules) finished.step c.in-Ok-tell_last.ensures.ok
+    BookInvariant-over c.turn.new.self c.give.new.self told.pending.items told.sink c.self.inside.status c.args.ticket seat.number c.in-Ok.told
+    seat.worker ended c.self.invariant (search rules) stands c.requires.number away c.give.ensures
+    (IsTold-all ended.ending c.turn.new.self told.pending.items told.sink c.self.invariant (search rules) ended.step c.in-Ok-tell_last.ensures.ok
     c.in-Ok-tell_last.ensures.cause)
     c.in-Finished.ensures.cause
 
@@ -52,13 +42,12 @@ invariant_of-self-in-Err g c =
     let told = c.tell_last.new in
     let refused = c.in-Err in
     let stop = c.from in
-    let finished = c.in-Finished.ensures.answer.1 in
-    let e = event.Finish c.args.ticket.task.run (Success finished.output) in
+    let ended = HasEnded-finished g.K.Keeper.held c.args.ticket.task.run c.in-Ok.told _ c.turn.new.self c.in-Finished.ensures.answer.finished in
     let stands = subst (λ book. Stands book.table.state c.args.ticket) (sym c.self.view_is) c.requires.stands in
     let away = subst (λ book. IsAwayAt seat.number (g.B.Worker.kind_of seat.worker) book.places) (sym c.self.view_is) c.requires.away in
-    BookInvariant-over c.turn.new.self c.give.new.self told.pending.items told.sink (Some stop.result) c.args.ticket seat.number finished.output
-    seat.worker c.self.invariant (search rules) finished.step stands c.requires.number away c.give.ensures
-    (IsTold-cut e c.turn.new.self told.pending.items told.sink refused.fault stop.result c.self.invariant finished.step refused.ensures.err
+    BookInvariant-over c.turn.new.self c.give.new.self told.pending.items told.sink (Some stop.result) c.args.ticket seat.number c.in-Ok.told
+    seat.worker ended c.self.invariant (search rules) stands c.requires.number away c.give.ensures
+    (IsTold-cut ended.ending c.turn.new.self told.pending.items told.sink refused.fault stop.result c.self.invariant ended.step refused.ensures.err
     refused.ensures.cause stop.ensures)
     c.in-Finished.ensures.cause
 
@@ -69,23 +58,25 @@ invariant_of-self-in-Refused g c =
     let away = subst (λ book. IsAwayAt seat.number (g.B.Worker.kind_of seat.worker) book.places) (sym c.self.view_is) c.requires.away in
     let back = c.give_back-in-Refused in
     BookInvariant-refused c.turn.new.self back.new.table back.new.bench refused.ticket refused.told refused.trouble c.from-in-Refused.result c.self.invariant
-    refused.ensures.answer.3 back.ensures.table refused.ensures.cause c.from-in-Refused.ensures
+    refused.ensures.answer.untouched back.ensures.table refused.ensures.cause c.from-in-Refused.ensures
     (traits-back g.B.Worker.kind_of seat.worker seat.number c.self.inside.bench back.new.bench away back.ensures.places)
 
 pub returns-in-Ok-tell_last : goal.returns-in-Ok-tell_last
 returns-in-Ok-tell_last g c =
     let told = c.tell_last.new in
     let answer = c.in-Finished.ensures.answer in
+    let ended = HasEnded-finished g.K.Keeper.held c.args.ticket.task.run c.in-Ok.told _ c.turn.new.self answer.finished in
     rw (c.in-Ok.is, ← c.self.view_is)
-    (IsOver-finished c.turn.new.self c.give.new.self told.pending.items told.sink c.args.ticket c.args.seat c.in-Ok.told c.self.invariant
-    (search rules) answer.0 answer.1 c.give.ensures)
+    (IsOver-ended c.turn.new.self c.give.new.self told.pending.items told.sink c.args.ticket c.args.seat c.in-Ok.told c.self.invariant
+    (search rules) answer.counts ended c.give.ensures)
 
 pub returns-in-Err : goal.returns-in-Err
 returns-in-Err g c =
     let told = c.tell_last.new in
     let answer = c.in-Finished.ensures.answer in
-    rw (c.in-Ok.is, ← c.self.view_is) (
-      inr (IsEndUntold-finished c.turn.new.self c.give.new.self told.pending.items told.sink c.from.result c.args.ticket c.in-Ok.told c.self.invariant
-          (search rules) answer.0 answer.1),
-      c.give.ensures,
-    )
+    let ended = HasEnded-finished g.K.Keeper.held c.args.ticket.task.run c.in-Ok.told _ c.turn.new.self answer.finished in
+    rw (c.in-Ok.is, ← c.self.view_is) (record {
+      how = inr (IsEndUntold-ended c.turn.new.self c.give.new.self told.pending.items told.sink c.from.result c.args.ticket c.in-Ok.told c.self.invariant
+          (search rules) answer.counts ended);
+      places = c.give.ensures;
+    })

@@ -10,8 +10,11 @@ pub returns : goal.returns
 returns c =
     let s = c.args.state.now in
     let work = c.args.work.now in
-    let run = run_on s work c.args.idle.now work.request.input in
-    let run_is : c.in_ok-changed-3.run' ≡ run = search rules in
+    let idle = c.args.idle.now in
+    let input = c.args.input in
+    let run = run_on s work idle input in
+    let run_is : c.in_ok-changed.run' ≡ run = search rules in
     let task_is : c.in_ok-task.task ≡ task_in run = search rules in
-    let change_is : c.in_ok-task.change ≡ replacing c.args.index (started work) (Begin run) (start_event s work c.args.idle.now) = search rules in
-    rw (change_is, run_is, task_is) (start-claims s c.args.index work c.requires.valid c.requires.narrow c.requires.first c.args.idle.now c.requires.idle)
+    let change_is : c.in_ok-task.change ≡ replacing c.args.index (started work) (Begin run) (start_event s work idle input) = search rules in
+    rw (change_is, run_is, task_is)
+    (start-claims s c.args.index work c.requires.valid c.requires.narrow c.requires.first idle input c.requires.idle c.requires.input)

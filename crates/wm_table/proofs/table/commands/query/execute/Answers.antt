@@ -1,12 +1,10 @@
 use Rattle.std.proofs.Common.{◌≡◌, List, refl, sym, ◌∙◌, ap, subst}
-use Rattle.std.specs.List.{AllByRecursion}
 use Rattle.std.proofs.lemmas.Result.{IfOk-weaker}
 use Rattle.wm_machine.proofs.Queries.{answer_to-all}
-use Rattle.wm_machine.specs.Built.{TellsNoData}
 use Rattle.wm_machine.specs.declared.command.Command.TheVariants as command
 use Rattle.wm_machine.specs.declared.reply.Reply.TheVariants as reply
 use Rattle.wm_machine.specs.declared.reply.WorkInfo.{WorkInfo}
-use Rattle.wm_table.proofs.Executions.{answering-executed, infos-tell}
+use Rattle.wm_table.proofs.Executions.{answering-executed}
 use Rattle.wm_table.specs.Builds.{answering, IsExecuted}
 use Rattle.wm_table.proofs.table.commands.query.execute.Goals as goal
 
@@ -20,5 +18,4 @@ returns c =
     (answering-executed s c.args.line asked answer c.requires.valid (
       c.requires.all,
       ap (λ (works : List WorkInfo). reply.Query works) (c.in_ok-works.ensures ∙ sym (answer_to-all s c.args.query c.requires.all)),
-    ) refl
-    (subst (AllByRecursion TellsNoData) (sym c.in_ok-works.ensures) (infos-tell s c.requires.narrow)))) c.answering.ensures
+    ) refl)) c.answering.ensures

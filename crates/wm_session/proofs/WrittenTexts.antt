@@ -1,4 +1,4 @@
--- A text that is given in pieces.
+-- The text that a sink was given, in pieces, and what of it is pending.
 use Rattle.std.proofs.Common.{◌≡◌, ℕ, ◌-◌, ◌+◌, List, [], ◌++◌, length, take, drop, Option, Some, None, option_map, refl, sym, ◌∙◌, ap, subst, arith, append_assoc, length-drop, take-append-drop}
 use Rattle.std.proofs.lemmas.List.{append-nil, take_all}
 use Rattle.std.proofs.Math.Seq.{take-add}
@@ -91,11 +91,12 @@ IsPartAppended-kept status before between now text pending left kept more =
     let whole = TextsInvariant-whole status before between text pending kept in
     let first : List ℕ = whole.0 in
     let rest : List ℕ = whole.1 in
-    let text_is : text ≡ (first ++ pending) ++ rest = whole.3 in (
-      first ++ more.written,
-      (left ++ rest, text_is ∙ ap (λ (l : List ℕ). (first ++ l) ++ rest) more.kept ∙ simp append_assoc),
-      IsAppended-append before between now first more.written whole.2 more.given,
-    )
+    let text_is : text ≡ (first ++ pending) ++ rest = whole.3 in
+    record {
+      front = first ++ more.written;
+      is_front = (left ++ rest, text_is ∙ ap (λ (l : List ℕ). (first ++ l) ++ rest) more.kept ∙ simp append_assoc);
+      given = IsAppended-append before between now first more.written whole.2 more.given;
+    }
 
 -- where nothing is pending any more, the text was given
 pub IsAppended-kept : (before between now : Option (List ℕ)) (text pending left : List ℕ) → TextsInvariant None before between text pending

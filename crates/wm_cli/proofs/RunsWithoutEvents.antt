@@ -2,7 +2,7 @@
 use Rattle.std.proofs.Common.{◌≡◌, ℕ, List, [], ◌++◌, Option, Some, None, refl, sym, ◌∙◌, ap, subst}
 use Rattle.wm_cli.specs.Ended.{ForScript}
 use Rattle.wm_session.specs.Ended.{HasCommands, IsTextWritten}
-use Rattle.wm_session.proofs.Pieces.{IsAppended-nothing}
+use Rattle.wm_session.proofs.WrittenTexts.{IsAppended-nothing}
 use Rattle.wm_cli.specs.Reading.{IsReadStatus}
 use Rattle.wm_session.specs.Writing.{IsAppended, IsPartAppended}
 use Rattle.wm_session.specs.declared.status.Status.{Status}
@@ -20,7 +20,7 @@ IsTextWritten-nothing before now ended first log same none =
     let empty : log_text first log ≡ [] = ap (log_text first) none in
     let given : IsAppended before now [] = same ∙ IsAppended-nothing before in
     record {
-      front = subst (IsPartAppended before now) (sym empty) ([], ([], refl), given);
+      front = subst (IsPartAppended before now) (sym empty) (record { front = []; is_front = ([], refl); given = given });
       all = λ done. subst (IsAppended before now) (sym empty) given;
     }
 
@@ -35,8 +35,8 @@ HasCommands-nothing commands ended log none all = record {
 
 -- some bytes are those that a source has left, where it tells them
 pub ForScript-any : (left : Option (List ℕ)) (P : List ℕ → Type 0) → ((bytes : List ℕ) → P bytes) → ForScript left P
-ForScript-any None P p = ([], tt, p [])
-ForScript-any (Some bytes) P p = (bytes, refl, p bytes)
+ForScript-any None P p = record { bytes = []; told = tt; holds = p [] }
+ForScript-any (Some bytes) P p = record { bytes = bytes; told = refl; holds = p bytes }
 
 -- a script that wasn't read isn't done
 pub not_done : (ended : Status) (before now : ℕ) (left : Option (List ℕ)) → IsReadStatus ended before now left → ended ≡ status.Done → ⊥

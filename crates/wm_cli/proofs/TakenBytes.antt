@@ -1,4 +1,4 @@
--- A script that is read in pieces.
+-- The bytes that are taken from a source.
 use Rattle.std.proofs.Common.{ℕ, List, ◌++◌, Option, Some, None, option_map, sym, ◌∙◌, ap, append_assoc}
 use Rattle.wm_cli.specs.Script.{IsTakenFrom}
 

@@ -1,0 +1,153 @@
+-- A book after a claim: what a start keeps, and one that fails.
+use Rattle.std.proofs.Common.{◌≡◌, ℕ, ◌+◌, true, List, map, Some, None, option_map, refl, sym, ◌∙◌, ap, subst, arith}
+use Rattle.wm_bench.specs.Places.{changed_at, made_away, idle_at}
+use Rattle.wm_bench.specs.Seat.{Seat}
+use Rattle.wm_bench.specs.declared.place.Place.{Place}
+use Rattle.wm_data.specs.declared.data.DataEntry.{DataEntry}
+use Rattle.wm_machine.proofs.Firsts.{idle_instance-idle, idle_instance-stored}
+use Rattle.wm_machine.proofs.Steps.{framed, kept as kept_by}
+use Rattle.wm_machine.specs.Frame.{Frame}
+use Rattle.wm_machine.specs.Runs.{run_numbered, with_out}
+use Rattle.wm_machine.specs.declared.event.Cause.{Cause}
+use Rattle.wm_machine.specs.declared.event.Event.TheVariants as event
+use Rattle.wm_machine.specs.declared.event.Event.{Event}
+use Rattle.wm_machine.specs.declared.state.State.{State}
+use Rattle.wm_session.proofs.PlacesAndInstances.{away-changed, away-taken, idle_at-in, kind-Echo, no_seat, seat_is, traits-taken, traits-with_out}
+use Rattle.wm_session.proofs.BookEvents.{ticket_kind}
+use Rattle.wm_session.proofs.BookParts.{AwayInvariant-from, claimed_step}
+use Rattle.wm_session.specs.Bench.{instance_traits, is_away, place_traits}
+use Rattle.wm_session.specs.Book as book
+use Rattle.wm_session.specs.BookState.{BookState}
+use Rattle.wm_session.specs.Inputs.{Inputs}
+use Rattle.wm_session.specs.Invariant.{BookInvariant}
+use Rattle.wm_session.specs.Tells.{Tells}
+use Rattle.wm_table.specs.Table.{IsClaimAnswer, IsOneStep, IsTicketIn}
+use Rattle.wm_table.specs.TableState.{TableState, TicketState}
+use Rattle.wm_session.specs.declared.book.Stop.{Stop}
+use Rattle.wm_table.specs.declared.table.Claim.TheVariants as claim
+use Rattle.wm_table.specs.declared.table.Claim.{Claim}
+use Rattle.wm_worker.specs.Signal.{SignalState}
+use Rattle.wm_session.proofs.BookSteps.{IsTold, away_now, reached, reached_after, BookInvariant-event}
+
+module _ {K W B : Type 0} {run : Inputs} {tells : Tells K W B} where
+  -- the worker of the instance that starts is at its place
+  pub claimed_idle : {old : BookState K W B} (table : TableState K) (number seq instance place : ℕ) (input : List DataEntry)
+      → BookInvariant run tells old → old.status ≡ None
+      → IsOneStep tells.held (event.Start number seq instance input) old.table table → place ≡ instance
+      → None ≡ option_map (λ worker. let made : Seat B = record { number = place; worker = worker } in made) (idle_at place old.places) → ⊥
+  claimed_idle {old = old} table number seq instance place input kept going step same none =
+      let start = step.legal in
+      let instances = old.table.state.instances in
+      let is : start.idle.number ≡ 0 + place = sym start.instance_is ∙ sym same ∙ omega arith in
+      idle_at-in start.idle place 0 old.places instances kept.valid.numbered (away_now old going kept.away)
+      (idle_instance-stored instances start.work.request.class start.idle start.is_idle)
+      (idle_instance-idle instances start.work.request.class start.idle start.is_idle).is_in is
+      (no_seat place (idle_at place old.places) none)
+
+  -- a run began and was told
+  pub BookInvariant-begun : {old : BookState K W B} (table : TableState K) (places : List (Place B)) (pending : List ℕ) (sink : W)
+      (number seq instance place : ℕ) (input : List DataEntry)
+      → BookInvariant run tells old → old.status ≡ None
+      → IsOneStep tells.held (event.Start number seq instance input) old.table table → place ≡ instance
+      → places ≡ changed_at (made_away tells.kind_of) place old.places
+      → IsTold run tells (event.Start number seq instance input) old table pending sink old.status
+      → tells.keeper_faults table.keeper ≡ tells.keeper_faults old.table.keeper
+      → BookInvariant run tells (record old { table = table; places = places; pending = pending; sink = sink })
+  BookInvariant-begun {old = old} table places pending sink number seq instance place input kept going step same there told no_fault =
+      let s = old.table.state in
+      let instances : table.state.instances ≡ with_out true instance s.instances =
+      ap (λ (t : State). t.instances) step.state
+      ∙ ap (λ (f : Frame). f.instances) (framed s (event.Start number seq instance input) step.legal).frame_is in
+      let from_zero : 0 + instance ≡ instance = omega arith in
+      let are : places ≡ changed_at (made_away tells.kind_of) instance old.places = there ∙ ap (λ n. changed_at (made_away tells.kind_of) n old.places) same in
+      BookInvariant-event (event.Start number seq instance input) old table places pending sink old.status kept going step refl told
+      (ap (map (place_traits tells.kind_of)) are ∙ traits-taken tells.kind_of instance old.places ∙ kept.workers
+      ∙ sym (traits-with_out true instance s.instances) ∙ ap (map instance_traits) (sym instances))
+      (AwayInvariant-from old.status (record old { table = table; places = places; pending = pending; sink = sink })
+      (ap (map (λ place. is_away place.presence)) are
+      ∙ away-changed (made_away tells.kind_of) true instance 0 old.places s.instances (away-taken tells.kind_of) kept.valid.numbered
+      (away_now old going kept.away)
+      ∙ ap (λ n. map (λ instance. instance.out) (with_out true n s.instances)) from_zero
+      ∙ ap (map (λ instance. instance.out)) (sym instances)))
+      no_fault
+
+  pub IsBegun-taken : {old : BookState K W B} (table : TableState K) (places : List (Place B)) (pending : List ℕ) (sink : W) (ticket : TicketState)
+      (place : ℕ) (seat : Seat B) (signal : SignalState)
+      → BookInvariant run tells old → old.status ≡ None
+      → IsOneStep tells.held (event.Start ticket.task.run ticket.seq ticket.instance ticket.task.input) old.table table → IsTicketIn table.state ticket
+      → place ≡ ticket.instance → Some seat ≡ option_map (λ worker. record { number = place; worker = worker }) (idle_at place old.places)
+      → places ≡ changed_at (made_away tells.kind_of) place old.places → signal ≡ record { run = ticket.task.run; never = true }
+      → book.IsBegun tells.held tells.kind_of ticket seat signal old
+      (record old { table = table; places = places; pending = pending; sink = sink })
+  IsBegun-taken {old = old} table places pending sink ticket place seat signal kept going step ticket_in same taken are signal_is =
+      let seated = seat_is place (idle_at place old.places) seat taken in
+      let there : idle_at ticket.instance old.places ≡ Some seat.worker = ap (λ n. idle_at n old.places) (sym same) ∙ seated.0 in
+      let start = event.Start ticket.task.run ticket.seq ticket.instance ticket.task.input in
+      record {
+        goes_on = record { before = going; now = going };
+        step = step;
+        ticket_in = ticket_in;
+        number = seated.1 ∙ same;
+        kind = kind-Echo tells.kind_of seat.worker ticket.instance old.places old.table.state.instances kept.narrow.echoes kept.workers there
+            ∙ sym (ticket_kind table.state ticket (run_numbered ticket.task.run table.state.runs)
+            (reached_after start old (record old { table = table; places = places }) kept step) refl ticket_in);
+        worker = there;
+        places = are ∙ ap (λ n. changed_at (made_away tells.kind_of) n old.places) same;
+        signal_is = signal_is;
+        left = refl;
+        fewer = rw step.state (kept_by old.table.state start (reached kept) step.legal).left;
+      }
+
+  -- ---- a work that couldn't start
+
+  pub BookInvariant-start_failed : {old : BookState K W B} (table : TableState K) (pending : List ℕ) (sink : W) (seq : ℕ) (cause : Cause)
+      → BookInvariant run tells old → old.status ≡ None → IsOneStep tells.held (event.StartFailed seq cause) old.table table
+      → IsTold run tells (event.StartFailed seq cause) old table pending sink old.status
+      → tells.keeper_faults table.keeper ≡ tells.keeper_faults old.table.keeper
+      → BookInvariant run tells (record old { table = table; pending = pending; sink = sink })
+  BookInvariant-start_failed {old = old} table pending sink seq cause kept going step told no_fault =
+      let instances : table.state.instances ≡ old.table.state.instances = ap (λ (t : State). t.instances) step.state in
+      BookInvariant-event (event.StartFailed seq cause) old table old.places pending sink old.status kept going step refl told
+      (kept.workers ∙ ap (map instance_traits) (sym instances))
+      (AwayInvariant-from old.status (record old { table = table; pending = pending; sink = sink })
+      (away_now old going kept.away ∙ ap (map (λ instance. instance.out)) (sym instances)))
+      no_fault
+
+  pub IsStartFailed-kept : {old : BookState K W B} (table : TableState K) (pending : List ℕ) (sink : W) (seq : ℕ) (cause : Cause)
+      → BookInvariant run tells old → old.status ≡ None → IsOneStep tells.held (event.StartFailed seq cause) old.table table
+      → book.IsStartFailed tells.held old (record old { table = table; pending = pending; sink = sink })
+  IsStartFailed-kept {old = old} table pending sink seq cause kept going step = record {
+    seq = seq;
+    cause = cause;
+    goes_on = record { before = going; now = going };
+    step = step;
+    places = refl;
+    left = refl;
+    fewer = rw step.state (kept_by old.table.state (event.StartFailed seq cause) (reached kept) step.legal).left;
+  }
+
+  -- ---- a claim that couldn't be told
+
+  untold_traits : (claimed : Claim) (old : BookState K W B) (table : TableState K) → BookInvariant run tells old
+      → IsClaimAnswer tells.held (Some claimed) old.table table
+      → map (place_traits tells.kind_of) old.places ≡ map instance_traits table.state.instances
+  untold_traits (claim.Run ticket) old table kept claimed =
+      let s = old.table.state in
+      let start = event.Start ticket.task.run ticket.seq ticket.instance ticket.task.input in
+      let instances : table.state.instances ≡ with_out true ticket.instance s.instances =
+      ap (λ (t : State). t.instances) claimed.step.state ∙ ap (λ (f : Frame). f.instances) (framed s start claimed.step.legal).frame_is in
+      kept.workers ∙ sym (traits-with_out true ticket.instance s.instances) ∙ ap (map instance_traits) (sym instances)
+  untold_traits (claim.Failed seq cause) old table kept step =
+      kept.workers ∙ ap (λ (t : State). map instance_traits t.instances) (sym step.state)
+
+  -- the session stopped while the claim was told, and its ticket was taken back
+  pub BookInvariant-untold : {old : BookState K W B} (claimed : Claim) (between table : TableState K) (pending : List ℕ) (sink : W) (stop : Stop)
+      → BookInvariant run tells old → old.status ≡ None → IsClaimAnswer tells.held (Some claimed) old.table between → table ≡ between
+      → ((e : Event) → IsOneStep tells.held e old.table between → IsTold run tells e old between pending sink (Some stop))
+      → tells.keeper_faults between.keeper ≡ tells.keeper_faults old.table.keeper
+      → BookInvariant run tells (record old { table = table; pending = pending; sink = sink; status = Some stop })
+  BookInvariant-untold {old = old} claimed between table pending sink stop kept going done same told no_fault =
+      let step = claimed_step tells.held claimed old.table between done in
+      subst (λ t. BookInvariant run tells (record old { table = t; pending = pending; sink = sink; status = Some stop })) (sym same)
+      (BookInvariant-event step.0 old between old.places pending sink (Some stop) kept going step.1 step.2 (told step.0 step.1)
+      (untold_traits claimed old between kept done) tt no_fault)

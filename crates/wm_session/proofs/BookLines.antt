@@ -1,0 +1,95 @@
+-- A book as it begins, and after a line.
+use Rattle.std.proofs.Common.{◌≡◌, ℕ, ◌+◌, ◌^◌, ◌<◌, ◌≤◌, false, List, [], ◌∷◌, ◌++◌, length, map, Option, None, option_map, refl, sym, ◌∙◌, ap, subst, arith}
+use Rattle.std.specs.List.{AllByRecursion}
+use Rattle.wm_bench.specs.declared.place.Place.{Place}
+use Rattle.wm_machine.proofs.Logs.{AreNumberedFrom-push}
+use Rattle.wm_machine.proofs.Steps.{framed}
+use Rattle.wm_machine.specs.Outcome.{IsBuilt}
+use Rattle.wm_machine.specs.Frame.{Frame}
+use Rattle.wm_machine.specs.Log.{commands_of, AreNumberedFrom}
+use Rattle.wm_machine.specs.Narrow.{IsNarrow}
+use Rattle.wm_machine.specs.Replay.{Replay}
+use Rattle.wm_machine.specs.Rows.{rows_of}
+use Rattle.wm_script.specs.Texts.{log_text}
+use Rattle.wm_machine.specs.Valid.{Valid}
+use Rattle.wm_machine.specs.declared.command.Command.{Command}
+use Rattle.wm_machine.specs.declared.event.Event.TheVariants as event
+use Rattle.wm_machine.specs.declared.reply.Reply.{Reply}
+use Rattle.wm_machine.specs.declared.state.State.{State}
+use Rattle.wm_session.proofs.PlacesAndInstances.{all_here}
+use Rattle.wm_session.proofs.BookParts.{AwayInvariant-from}
+use Rattle.wm_session.proofs.WrittenTexts.{TextsInvariant-unwritten}
+use Rattle.wm_session.specs.Bench.{instance_traits, place_traits, AreIdle}
+use Rattle.wm_session.specs.BookState.{BookState}
+use Rattle.wm_session.specs.Inputs.{Inputs}
+use Rattle.wm_session.specs.Invariant.{TextsInvariant, BookInvariant}
+use Rattle.wm_session.specs.Tells.{Tells}
+use Rattle.wm_table.specs.Table.{IsOneStep}
+use Rattle.wm_table.specs.TableState.{TableState}
+use Rattle.wm_session.specs.declared.book.Stop.{Stop}
+use Rattle.wm_session.proofs.BookSteps.{IsTold, away_now, BookInvariant-step}
+
+module _ {K W B : Type 0} {run : Inputs} {tells : Tells K W B} where
+  -- a line was executed, and its text told or not
+  pub BookInvariant-line : {old : BookState K W B} (table : TableState K) (left : List Command) (pending : List ℕ) (sink : W) (status : Option Stop)
+      (command : Command) (reply : Reply)
+      → BookInvariant run tells old → old.status ≡ None
+      → IsOneStep tells.held (event.Command (old.line + 1) command reply) old.table table → old.left ≡ command ∷ left
+      → tells.keeper_faults table.keeper ≡ tells.keeper_faults old.table.keeper
+      → IsTold run tells (event.Command (old.line + 1) command reply) old table pending sink status
+      → BookInvariant run tells
+      (record old { table = table; left = left; line = old.line + 1; pending = pending; sink = sink; status = status })
+  BookInvariant-line {old = old} table left pending sink status command reply kept going step next no_fault told =
+      let new : BookState K W B = record old { table = table; left = left; line = old.line + 1; pending = pending; sink = sink; status = status } in
+      let e = event.Command (old.line + 1) command reply in
+      let built : AllByRecursion IsBuilt (command ∷ left) = subst (AllByRecursion IsBuilt) next kept.built in
+      let number : old.line + 1 ≡ 1 + length (commands_of old.table.log) = ap (λ n. n + 1) kept.line ∙ omega arith in
+      let instances : table.state.instances ≡ old.table.state.instances =
+      ap (λ (t : State). t.instances) step.state ∙ ap (λ (f : Frame). f.instances) (framed old.table.state e step.legal) in
+      BookInvariant-step e old new kept (record {
+        going = going;
+        step = step;
+        left = next;
+        built = built.1;
+        line = refl;
+        workers = kept.workers ∙ ap (map instance_traits) (sym instances);
+        no_fault = no_fault;
+      })
+      (AreNumberedFrom-push 1 old.table.log (old.line + 1) command reply kept.numbered number)
+      told
+      (AwayInvariant-from status new (away_now old going kept.away ∙ ap (map (λ instance. instance.out)) (sym instances)))
+
+-- ---- the begin
+
+pub BookInvariant-new : {K W B : Type 0} (run : Inputs) (tells : Tells K W B) (table : TableState K) (places : List (Place B)) (left : List Command)
+    (pending : List ℕ) (sink : W)
+    → table.log ≡ [] → left ≡ run.lines → pending ≡ [] → map (place_traits tells.kind_of) places ≡ map instance_traits table.state.instances → AreIdle places
+    → AllByRecursion (λ instance. instance.out ≡ false) table.state.instances → Valid table.state → IsNarrow table.state
+    → 0 + length left < 2 ^ 32 → AllByRecursion IsBuilt left
+    → table.state ≡ table.first → table.first ≡ run.first → tells.held table.keeper ≡ option_map (λ _. rows_of table.state) run.rows
+    → tells.given sink ≡ run.written
+    → run.keeper_faults ≤ tells.keeper_faults table.keeper → run.sink_faults ≤ tells.sink_faults sink
+    → BookInvariant run tells
+    (record { table = table; places = places; left = left; line = 0; pending = pending; sink = sink; status = None })
+BookInvariant-new run tells table places left pending sink empty lines none workers idle all_in valid narrow few built begun first
+    rows written keeper sink_later =
+    record {
+      first = first;
+      replay = subst (λ log. Replay table.first log table.state) (sym empty) begun;
+      valid = valid;
+      narrow = narrow;
+      lines = sym lines ∙ ap (λ log. commands_of log ++ left) (sym empty);
+      built = built;
+      numbered = subst (AreNumberedFrom 1) (sym empty) tt;
+      line = ap (λ log. length (commands_of log)) (sym empty);
+      few_lines = few;
+      texts = subst (λ log. TextsInvariant None run.written (tells.given sink) (log_text table.first log) pending) (sym empty)
+          (subst (λ l. TextsInvariant None run.written (tells.given sink) [] l) (sym none)
+          (subst (λ now. TextsInvariant None run.written now [] []) (sym written) (TextsInvariant-unwritten run.written [])));
+      rows = rows;
+      workers = workers;
+      away = all_here tells.kind_of places table.state.instances workers idle all_in;
+      keeper_later = keeper;
+      sink_later = sink_later;
+      cause = tt;
+    }

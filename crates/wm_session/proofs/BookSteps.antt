@@ -1,0 +1,159 @@
+-- What a book keeps where its table makes an event, told or not.
+use Rattle.std.proofs.Common.{◌≡◌, ℕ, ◌+◌, ◌^◌, ◌<◌, ◌≤◌, List, [], ◌∷◌, ◌++◌, length, map, Option, Some, None, Err, sym, ◌∙◌, ap, subst, arith, append_assoc, length-append}
+use Rattle.std.specs.List.{AllByRecursion}
+use Rattle.wm_bench.specs.declared.place.Place.{Place}
+use Rattle.wm_machine.proofs.Logs.{commands_of-push}
+use Rattle.wm_script.proofs.LogTexts.{log_text-push}
+use Rattle.wm_machine.proofs.Steps.{IsReached-after}
+use Rattle.wm_machine.specs.Outcome.{IsBuilt}
+use Rattle.wm_machine.specs.Log.{command_in, commands_of, AreNumberedFrom}
+use Rattle.wm_machine.specs.Narrow.{IsReached}
+use Rattle.wm_script.specs.Texts.{event_text, log_text}
+use Rattle.wm_machine.specs.declared.command.Command.{Command}
+use Rattle.wm_machine.specs.declared.event.Event.{Event}
+use Rattle.wm_session.proofs.BookEvents.{AreNumberedFrom-silent}
+use Rattle.wm_session.proofs.BookParts.{LinesInvariant-from, StopCause-write, last_of-step, Replay-step, rows_then}
+use Rattle.wm_session.proofs.WrittenTexts.{TextsInvariant-more}
+use Rattle.wm_session.specs.Bench.{instance_traits, is_away, place_traits}
+use Rattle.wm_session.specs.BookState.{BookState}
+use Rattle.wm_session.specs.Causes.{stop_by_fault, StopCause}
+use Rattle.wm_session.specs.Inputs.{Inputs}
+use Rattle.wm_session.specs.Invariant.{AwayInvariant, LinesInvariant, TextsInvariant, BookInvariant, IsLastTold}
+use Rattle.wm_session.specs.Tells.{Tells}
+use Rattle.wm_table.specs.Table.{IsOneStep}
+use Rattle.wm_table.specs.TableState.{TableState}
+use Rattle.wm_session.specs.Writing.{WriteCause}
+use Rattle.wm_session.specs.declared.book.Stop.{Stop}
+use Rattle.wm_session.specs.declared.writing.WriteFault.{WriteFault}
+
+-- what is the same in every step of the table
+pub record IsStep {K W B : Type 0} (tells : Tells K W B) (e : Event) (old new : BookState K W B) : Type 0 where
+  pub going : old.status ≡ None
+  pub step : IsOneStep tells.held e old.table new.table
+  pub left : old.left ≡ command_in e ++ new.left
+  pub built : AllByRecursion IsBuilt new.left
+  pub line : new.line ≡ old.line + length (command_in e)
+  pub workers : map (place_traits tells.kind_of) new.places ≡ map instance_traits new.table.state.instances
+  pub no_fault : tells.keeper_faults new.table.keeper ≡ tells.keeper_faults old.table.keeper
+
+-- what telling an event made of what is pending and of the sink, and why the session stopped, where it did
+pub record IsTold {K W B : Type 0} (run : Inputs) (tells : Tells K W B) (e : Event) (old : BookState K W B) (table : TableState K) (pending : List ℕ)
+    (sink : W) (status : Option Stop) : Type 0 where
+  pub texts : TextsInvariant status (tells.given old.sink) (tells.given sink) (old.pending ++ event_text old.table.state e table.state) pending
+  pub later : tells.sink_faults old.sink ≤ tells.sink_faults sink
+  pub cause : StopCause status run.keeper_faults (tells.keeper_faults table.keeper) run.sink_faults (tells.sink_faults sink)
+
+-- the workers that are away are those of the instances that are out
+pub away_now : {K W B : Type 0} (old : BookState K W B) → old.status ≡ None → AwayInvariant old.status old
+    → map (λ place. is_away place.presence) old.places ≡ map (λ instance. instance.out) old.table.state.instances
+away_now old going kept = subst (λ status. AwayInvariant status old) going kept
+
+module _ {K W B : Type 0} {run : Inputs} {tells : Tells K W B} where
+  pub reached : {book : BookState K W B} → BookInvariant run tells book → IsReached book.table.state
+  reached kept = record { valid = kept.valid; narrow = kept.narrow }
+
+  pub reached_after : (e : Event) (old new : BookState K W B) → BookInvariant run tells old → IsOneStep tells.held e old.table new.table
+      → IsReached new.table.state
+  reached_after e old new kept step = rw step.state (IsReached-after old.table.state e (reached kept) step.legal)
+
+  text_is : (e : Event) (old new : BookState K W B) → BookInvariant run tells old → IsOneStep tells.held e old.table new.table
+      → log_text new.table.first new.table.log ≡ log_text old.table.first old.table.log ++ event_text old.table.state e new.table.state
+  text_is e old new kept step =
+      ap (λ first. log_text first new.table.log) step.first
+      ∙ ap (log_text old.table.first) step.appended
+      ∙ log_text-push old.table.first old.table.log old.table.state e kept.replay
+      ∙ ap (λ s. log_text old.table.first old.table.log ++ event_text old.table.state e s) (sym step.state)
+
+  pub BookInvariant-step : (e : Event) (old new : BookState K W B) → BookInvariant run tells old
+      → IsStep tells e old new → AreNumberedFrom 1 (old.table.log ++ e ∷ [])
+      → IsTold run tells e old new.table new.pending new.sink new.status → AwayInvariant new.status new → BookInvariant run tells new
+  BookInvariant-step e old new kept more numbered told away =
+      let step = more.step in
+      let done = commands_of old.table.log in
+      let commands : commands_of new.table.log ≡ done ++ command_in e = ap commands_of step.appended ∙ commands_of-push old.table.log e in
+      let lines : run.lines ≡ done ++ old.left = subst (λ status. LinesInvariant status run.lines done old.left) more.going kept.lines in
+      let few : old.line + length old.left < 2 ^ 32 = kept.few_lines in
+      let left_is : length old.left ≡ length (command_in e) + length new.left = ap length more.left ∙ length-append (command_in e) new.left in
+      let line_is : new.line ≡ old.line + length (command_in e) = more.line in
+      let sink_before : run.sink_faults ≤ tells.sink_faults old.sink = kept.sink_later in
+      let keeper_before : run.keeper_faults ≤ tells.keeper_faults old.table.keeper = kept.keeper_later in
+      let later : tells.sink_faults old.sink ≤ tells.sink_faults new.sink = told.later in
+      let before : TextsInvariant None run.written (tells.given old.sink) (log_text old.table.first old.table.log) old.pending =
+      subst (λ status. TextsInvariant status run.written (tells.given old.sink) (log_text old.table.first old.table.log) old.pending) more.going kept.texts in
+      record {
+        first = step.first ∙ kept.first;
+        replay = Replay-step tells.held e old.table new.table kept.replay step;
+        valid = (reached_after e old new kept step).valid;
+        narrow = (reached_after e old new kept step).narrow;
+        lines = LinesInvariant-from new.status run.lines (commands_of new.table.log) new.left
+            (lines ∙ ap (λ (l : List Command). done ++ l) more.left ∙ sym (append_assoc done (command_in e) new.left) ∙ ap (λ (l : List Command). l ++ new.left)
+            (sym commands));
+        built = more.built;
+        numbered = subst (AreNumberedFrom 1) (sym step.appended) numbered;
+        line = more.line ∙ ap (λ n. n + length (command_in e)) kept.line ∙ sym (length-append done (command_in e)) ∙ ap length (sym commands);
+        few_lines = omega arith;
+        texts = subst (λ text. TextsInvariant new.status run.written (tells.given new.sink) text new.pending) (sym (text_is e old new kept step))
+            (TextsInvariant-more new.status run.written (tells.given old.sink) (tells.given new.sink) (log_text old.table.first old.table.log)
+            (event_text old.table.state e new.table.state) old.pending new.pending before told.texts);
+        rows = rows_then old.table.state new.table.state run.rows (tells.held old.table.keeper) (tells.held new.table.keeper) kept.rows step.rows;
+        workers = more.workers;
+        away = away;
+        keeper_later = subst (λ n. run.keeper_faults ≤ n) (sym more.no_fault) keeper_before;
+        sink_later = omega arith;
+        cause = told.cause;
+      }
+
+  -- the text was told, and all that was pending written
+  pub IsTold-all : {old : BookState K W B} (e : Event) (table : TableState K) (pending : List ℕ) (sink : W)
+      → BookInvariant run tells old → old.status ≡ None → IsOneStep tells.held e old.table table
+      → IsLastTold None table (tells.given old.sink) (tells.given sink) old.pending pending
+      → tells.sink_faults sink ≡ tells.sink_faults old.sink
+      → IsTold run tells e old table pending sink old.status
+  IsTold-all {old = old} e table pending sink kept going step last no_sink_fault = record {
+    texts = subst
+        (λ status. TextsInvariant status (tells.given old.sink) (tells.given sink) (old.pending ++ event_text old.table.state e table.state) pending)
+        (sym going) (last old.table.state e (last_of-step tells.held e old.table table step));
+    later = omega arith;
+    cause = subst (λ status. StopCause status run.keeper_faults (tells.keeper_faults table.keeper) run.sink_faults (tells.sink_faults sink)) (sym going) tt;
+  }
+
+  -- the session stopped while the text was told
+  pub IsTold-cut : {old : BookState K W B} (e : Event) (table : TableState K) (pending : List ℕ) (sink : W) (refused : WriteFault) (stop : Stop)
+      → BookInvariant run tells old → IsOneStep tells.held e old.table table
+      → IsLastTold (Some (stop_by_fault refused)) table (tells.given old.sink) (tells.given sink) old.pending pending
+      → WriteCause {T = Unit {0}} (Err refused) (tells.sink_faults old.sink) (tells.sink_faults sink) → stop ≡ stop_by_fault refused
+      → IsTold run tells e old table pending sink (Some stop)
+  IsTold-cut {old = old} e table pending sink refused stop kept step last trouble stop_is =
+      let cause =
+      StopCause-write refused run.keeper_faults (tells.keeper_faults table.keeper) (tells.sink_faults old.sink)
+      (tells.sink_faults sink) run.sink_faults trouble kept.sink_later in record {
+        texts = subst
+            (λ why. TextsInvariant (Some why) (tells.given old.sink) (tells.given sink) (old.pending ++ event_text old.table.state e table.state) pending)
+            (sym stop_is) (last old.table.state e (last_of-step tells.held e old.table table step));
+        later = cause.0;
+        cause = subst (λ s. StopCause (Some s) run.keeper_faults (tells.keeper_faults table.keeper) run.sink_faults (tells.sink_faults sink))
+            (sym stop_is) cause.1;
+      }
+
+  -- an event that is no line, and its text told or not
+  pub BookInvariant-event : (e : Event) (old : BookState K W B) (table : TableState K) (places : List (Place B)) (pending : List ℕ) (sink : W)
+      (status : Option Stop)
+      → BookInvariant run tells old → old.status ≡ None → IsOneStep tells.held e old.table table → command_in e ≡ []
+      → IsTold run tells e old table pending sink status
+      → map (place_traits tells.kind_of) places ≡ map instance_traits table.state.instances
+      → AwayInvariant status (record old { table = table; places = places; pending = pending; sink = sink; status = status })
+      → tells.keeper_faults table.keeper ≡ tells.keeper_faults old.table.keeper
+      → BookInvariant run tells (record old { table = table; places = places; pending = pending; sink = sink; status = status })
+  BookInvariant-event e old table places pending sink status kept going step none told workers away no_fault =
+      let new : BookState K W B = record old { table = table; places = places; pending = pending; sink = sink; status = status } in
+      BookInvariant-step e old new kept (record {
+        going = going;
+        step = step;
+        left = ap (λ (l : List Command). l ++ old.left) (sym none);
+        built = kept.built;
+        line = let empty : length (command_in e) ≡ 0 = ap length none in omega arith;
+        workers = workers;
+        no_fault = no_fault;
+      })
+      (AreNumberedFrom-silent 1 old.table.log e none kept.numbered)
+      told away
