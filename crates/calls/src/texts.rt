@@ -1,5 +1,5 @@
 //! The texts of events and the rows of records, of `wm_machine`.
-ghost use Rattle.std.specs.Prelude.{◌≡◌, Some, IfOk};
+ghost use Rattle.std.specs.Prelude.{◌≡◌, [], ◌∷◌, Some, IfOk};
 ghost use Rattle.wm_machine.specs.Limits.{FitsRow};
 
 use std::alloc::{AllocError, Global};
@@ -84,14 +84,28 @@ fn ended_info(alloc: Global, state: Shown) -> WorkInfo {
     }
 }
 
+/// A list of one value.
+fn alone<T: Drop>(alloc: Global, value: T) -> Result<Items<T>, AllocError>
+    ensures { IfOk result (λ items. items ≡ value ∷ []) }
+{
+    let mut items = Items::new(alloc);
+    items.push(value)?;
+    Ok(items)
+}
+
+/// The numbers 1, -2 and 3.
+fn three_numbers(alloc: Global) -> Result<Items<i32>, AllocError> {
+    Ok(Items::from_vec(vec![in alloc; 1, -2, 3]?))
+}
+
 /// Puts a text with quotes, a long and a list.
 fn put_entries(alloc: Global, builder: &mut DataBuilder) -> Result<(), DataFault> {
     let said = Text::from_str(alloc, "\"hi\" \\")?;
     builder.put(String::from_str(alloc, "said")?, Value::Text(said))?;
     let count = Value::Long(-9_007_199_254_740_993);
     builder.put(String::from_str(alloc, "count")?, count)?;
-    let list = Items::from_vec(vec![in alloc; 1, -2, 3]?);
-    builder.put(String::from_str(alloc, "list")?, Value::Ints(list))
+    let list = Value::Ints(three_numbers(alloc)?);
+    builder.put(String::from_str(alloc, "list")?, list)
 }
 
 /// Data with a text with quotes, a long and a list.
@@ -117,9 +131,7 @@ fn data_query(alloc: Global) -> Result<Reply, DataFault> {
     let mut info = ended_info(alloc, Shown::Running);
     info.output = entries(alloc)?;
     info.progress = number(alloc, "turn", 2)?;
-    let mut works = Items::new(alloc);
-    works.push(info)?;
-    Ok(Reply::Query(works))
+    Ok(Reply::Query(alone(alloc, info)?))
 }
 
 /// The reply that tells two works that ended, in this order.
@@ -310,8 +322,7 @@ fn request(alloc: Global) -> Result<Request, DataFault>
     ensures wait { IfOk result (λ request. request.backoff.delay ≡ 30000) }
     ensures period { IfOk result (λ request. request.period ≡ Some (record { period = 900000; flex = 300000 })) }
 {
-    let mut tags = Items::new(alloc);
-    tags.push(Text::from_str(alloc, "a")?)?;
+    let tags = alone(alloc, Text::from_str(alloc, "a")?)?;
     Ok(Request {
         id: Uuid::from_u128(2),
         class: Text::from_str(alloc, "Echo")?,
@@ -336,8 +347,7 @@ fn request(alloc: Global) -> Result<Request, DataFault>
 fn record(alloc: Global) -> Result<Record, DataFault>
     ensures fits { IfOk result (λ work. FitsRow work) }
 {
-    let mut prior = Items::new(alloc);
-    prior.push(1)?;
+    let prior = alone(alloc, 1)?;
     Ok(Record {
         seq: 2,
         name: Some(Text::from_str(alloc, "sync")?),
