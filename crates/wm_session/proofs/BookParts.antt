@@ -9,7 +9,6 @@ use Rattle.wm_machine.specs.Replay.{Replay}
 use Rattle.wm_machine.specs.Rows.{rows_of}
 use Rattle.wm_machine.specs.Runs.{run_numbered}
 use Rattle.wm_machine.specs.declared.command.Command.{Command}
-use Rattle.wm_machine.specs.declared.event.End.TheVariants.{Success}
 use Rattle.wm_machine.specs.declared.event.Event.TheVariants as event
 use Rattle.wm_machine.specs.declared.event.Event.{Event}
 use Rattle.wm_machine.specs.declared.state.Run.{Run}
@@ -20,7 +19,7 @@ use Rattle.wm_session.specs.Book as book
 use Rattle.wm_session.specs.BookState.{BookState}
 use Rattle.wm_session.specs.Causes.{stop_by_fault, stop_by_trouble, StopCause}
 use Rattle.wm_session.specs.Invariant.{AwayInvariant, LinesInvariant, TextsInvariant}
-use Rattle.wm_table.specs.Table.{last_of, IsClaimAnswer, IsFinished, IsOneStep, IsUntouched, TurnCause}
+use Rattle.wm_table.specs.Table.{last_of, IsClaimAnswer, IsOneStep, IsUntouched, TurnCause}
 use Rattle.wm_table.specs.TableState.{TableState, TicketState, ticket_of}
 use Rattle.wm_session.specs.Writing.{WriteCause}
 use Rattle.wm_session.specs.declared.book.Stop.{Stop}
@@ -31,9 +30,7 @@ use Rattle.wm_table.specs.declared.table.Trouble.{Trouble}
 use Rattle.wm_table.specs.declared.table.TurnAnswer.TheVariants as turn
 use Rattle.wm_session.specs.declared.writing.WriteFault.TheVariants as fault
 use Rattle.wm_session.specs.declared.writing.WriteFault.{WriteFault}
-use Rattle.wm_worker.specs.Answers.{given_of}
 use Rattle.wm_worker.specs.Told.{Report}
-use Rattle.wm_worker.specs.declared.answer.Given.TheVariants as given
 
 -- rows that are a state's where they are told are then those of the next one
 pub rows_then : (old new : State) (stored held kept : Option (List Row)) → held ≡ option_map (λ _. rows_of old) stored
@@ -118,17 +115,6 @@ pub claimed_step : {K : Type 0} (held : K → Option (List Row)) (claimed : Clai
 claimed_step held (claim.Run ticket) old new run =
     (event.Start ticket.task.run ticket.seq ticket.instance ticket.task.input, run.step, refl)
 claimed_step held (claim.Failed seq cause) old new step = (event.StartFailed seq cause, step, refl)
-
--- a run that is finished has ended, with what its work succeeded with
-pub HasEnded-finished : {K : Type 0} (held : K → Option (List Row)) (number : ℕ) (told : Report) (old new : TableState K) → IsFinished held number told old new
-    → book.HasEnded held number told old new
-HasEnded-finished held number told old new finished = record {
-  ending = event.Finish number (Success finished.output);
-  gave = given.Success finished.output;
-  told_is = ap given_of finished.told_is;
-  ends = refl;
-  step = finished.step;
-}
 
 -- a ticket that holds what its run keeps stands
 ticket_stands : (found : Option Run) (ticket : TicketState) → IsSomeAnd found (λ run. ticket ≡ ticket_of run)

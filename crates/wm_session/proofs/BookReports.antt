@@ -15,7 +15,7 @@ use Rattle.wm_session.specs.BookState.{BookState}
 use Rattle.wm_session.specs.Inputs.{Inputs}
 use Rattle.wm_session.specs.Invariant.{BookInvariant}
 use Rattle.wm_session.specs.Tells.{Tells}
-use Rattle.wm_table.specs.Table.{CountsIn, Stands}
+use Rattle.wm_table.specs.Table.{CountsIn, IsFinished, Stands}
 use Rattle.wm_table.specs.TableState.{TableState, TicketState}
 use Rattle.wm_session.specs.declared.book.Stop.{Stop}
 use Rattle.wm_worker.specs.Told.{Report}
@@ -25,7 +25,7 @@ module _ {K W B : Type 0} {run : Inputs} {tells : Tells K W B} where
   pub IsOver-ended : {old : BookState K W B} (table : TableState K) (places : List (Place B)) (pending : List ℕ) (sink : W) (ticket : TicketState)
       (seat : Seat B) (told : Report)
       → BookInvariant run tells old → old.status ≡ None → CountsIn old.table.state ticket.task.run told
-      → book.HasEnded tells.held ticket.task.run told old.table table → places ≡ changed_at (made_idle seat.worker) seat.number old.places
+      → IsFinished tells.held ticket.task.run told old.table table → places ≡ changed_at (made_idle seat.worker) seat.number old.places
       → book.IsOver tells.held ticket seat told old (record old { table = table; places = places; pending = pending; sink = sink })
   IsOver-ended {old = old} table places pending sink ticket seat told kept going counts ended are = record {
     goes_on = record { before = going; now = going };
@@ -41,7 +41,7 @@ module _ {K W B : Type 0} {run : Inputs} {tells : Tells K W B} where
   pub IsEndUntold-ended : {old : BookState K W B} (table : TableState K) (places : List (Place B)) (pending : List ℕ) (sink : W) (stop : Stop)
       (ticket : TicketState) (told : Report)
       → BookInvariant run tells old → old.status ≡ None → CountsIn old.table.state ticket.task.run told
-      → book.HasEnded tells.held ticket.task.run told old.table table
+      → IsFinished tells.held ticket.task.run told old.table table
       → book.IsEndUntold tells.held ticket told old
       (record old { table = table; places = places; pending = pending; sink = sink; status = Some stop })
   IsEndUntold-ended {old = old} table places pending sink stop ticket told kept going counts ended = record {
@@ -56,7 +56,7 @@ module _ {K W B : Type 0} {run : Inputs} {tells : Tells K W B} where
 
   -- a run is over, and its text told or not
   pub BookInvariant-over : {old : BookState K W B} (table : TableState K) (places : List (Place B)) (pending : List ℕ) (sink : W) (status : Option Stop)
-      (ticket : TicketState) (place : ℕ) (told : Report) (worker : B) (ended : book.HasEnded tells.held ticket.task.run told old.table table)
+      (ticket : TicketState) (place : ℕ) (told : Report) (worker : B) (ended : IsFinished tells.held ticket.task.run told old.table table)
       → BookInvariant run tells old → old.status ≡ None → Stands old.table.state ticket → place ≡ ticket.instance
       → IsAwayAt place (tells.kind_of worker) old.places → places ≡ changed_at (made_idle worker) place old.places
       → IsTold run tells ended.ending old table pending sink status

@@ -29,12 +29,12 @@ use Rattle.wm_session.proofs.BookParts.{claimed_step, Replay-same, Replay-step}
 use Rattle.wm_session.proofs.DiaryLemmas.{KeepDiaries-last, diaries_after-nothing, no_longer, ticket-found}
 use Rattle.wm_session.proofs.HandLemmas.{AreIdle-back, IsAwayAt-taken, NoneRetired-changed}
 use Rattle.wm_session.specs.Bench.{place_diaries}
-use Rattle.wm_session.specs.Book.{HasEnded, IsBegun, IsClaimStopped, IsFrontStopped, IsGivenBack, IsLineDone, IsReported, IsStartFailed}
+use Rattle.wm_session.specs.Book.{IsBegun, IsClaimStopped, IsFrontStopped, IsGivenBack, IsLineDone, IsReported, IsStartFailed}
 use Rattle.wm_session.specs.BookState.{BookState}
 use Rattle.wm_session.specs.Drive.{HasWritten, IsDriven, IsGivenUp, IsLastTurn, IsUnderWay}
 use Rattle.wm_session.specs.Ended.{HasCommands, IsSerialRun}
 use Rattle.wm_session.specs.BetweenRuns.{GoesInOrder, IsAtBegin, IsBetweenRuns, IsInOrder, IsReady, KeepDiaries}
-use Rattle.wm_table.specs.Table.{IsClaimAnswer, IsOneStep, IsUntouched}
+use Rattle.wm_table.specs.Table.{IsClaimAnswer, IsFinished, IsOneStep, IsUntouched}
 use Rattle.wm_table.specs.TableState.{TicketState}
 use Rattle.wm_table.specs.declared.table.Claim.{Claim}
 use Rattle.wm_table.specs.declared.table.Claim.TheVariants as claim
@@ -60,7 +60,7 @@ module _ {K W B : Type 0} (held : K → Option (List Row)) (diary_of : B → Opt
   given_up : IsGivenBack held seat old new → IsGivenUp held ticket old new
   given_up given = record { back = seat.worker; stopped = given.stopped; places = at_place given.places }
 
-  last_turn : (told : Report) → old.status ≡ None → HasEnded held ticket.task.run told old.table new.table
+  last_turn : (told : Report) → old.status ≡ None → IsFinished held ticket.task.run told old.table new.table
       → new.places ≡ changed_at (made_idle seat.worker) seat.number old.places → new.left ≡ old.left
       → left_to_drain new.table.state ≤ left_to_drain old.table.state
       → diary_of seat.worker ≡ diary_with (turn_entries ticket.task.run ticket.k told.answer) (diary_of worker)

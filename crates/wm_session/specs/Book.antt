@@ -5,18 +5,15 @@ use Rattle.wm_bench.specs.Places.{changed_at, idle_at, made_away, made_idle}
 use Rattle.wm_bench.specs.Seat.{Seat}
 use Rattle.wm_keeper.specs.declared.row.Row.{Row}
 use Rattle.wm_machine.specs.First.{first_of}
-use Rattle.wm_machine.specs.Role as role
-use Rattle.wm_machine.specs.Step.{role_of}
 use Rattle.wm_machine.specs.Waiting.{left_to_drain}
 use Rattle.wm_machine.specs.declared.command.Command.{Command}
 use Rattle.wm_machine.specs.declared.event.Cause.{Cause}
-use Rattle.wm_machine.specs.declared.event.Event.{Event}
 use Rattle.wm_machine.specs.declared.event.Event.TheVariants as event
 use Rattle.wm_machine.specs.declared.reply.Reply.{Reply}
 use Rattle.wm_machine.specs.declared.state.State.{State}
 use Rattle.wm_session.specs.BookState.{BookState}
-use Rattle.wm_table.specs.Table.{IsClaimAnswer, IsOneStep, IsUntouched, IsTicketIn, CountsIn, Stands}
-use Rattle.wm_table.specs.TableState.{TableState, TicketState}
+use Rattle.wm_table.specs.Table.{IsClaimAnswer, IsFinished, IsOneStep, IsUntouched, IsTicketIn, CountsIn, Stands}
+use Rattle.wm_table.specs.TableState.{TicketState}
 use Rattle.wm_table.specs.declared.table.Claim.{Claim}
 use Rattle.wm_table.specs.declared.table.Claim.TheVariants as claim
 use Rattle.wm_session.specs.declared.book.After.{After}
@@ -25,10 +22,8 @@ use Rattle.wm_session.specs.declared.book.Front.{Front}
 use Rattle.wm_session.specs.declared.book.Front.TheVariants as front
 use Rattle.wm_session.specs.declared.book.Job.{Job}
 use Rattle.wm_session.specs.declared.book.Job.TheVariants as job
-use Rattle.wm_worker.specs.Answers.{given_of}
 use Rattle.wm_worker.specs.Signal.{SignalState}
 use Rattle.wm_worker.specs.Told.{Report}
-use Rattle.wm_worker.specs.declared.answer.Given.{Given}
 use Rattle.wm_worker.specs.declared.kind.Kind.{Kind}
 
 -- the session went on and goes on, and its lines are as they were
@@ -149,20 +144,12 @@ IsClaimed held kind_of job.Stopped old new = IsClaimStopped held old new
 
 -- ---- a report
 
--- the run of this number is over, by an event that ends it as was told
-pub record HasEnded {K : Type 0} (held : K → Option (List Row)) (number : ℕ) (told : Report) (old new : TableState K) : Type 0 where
-  pub ending : Event
-  pub gave : Given
-  pub told_is : given_of told.answer ≡ Some gave
-  pub ends : role_of ending ≡ role.Ends number gave
-  pub step : IsOneStep held ending old new
-
 -- a run is over, its worker is at its place again, and no more works are left to drain
 pub record IsOver {K W B : Type 0} (held : K → Option (List Row)) (ticket : TicketState) (seat : Seat B) (told : Report)
     (old new : BookState K W B) : Type 0 where
   pub goes_on : GoesOn old new
   pub counts : CountsIn old.table.state ticket.task.run told
-  pub ended : HasEnded held ticket.task.run told old.table new.table
+  pub ended : IsFinished held ticket.task.run told old.table new.table
   pub places : new.places ≡ changed_at (made_idle seat.worker) seat.number old.places
   pub left : new.left ≡ old.left
   pub no_more : left_to_drain new.table.state ≤ left_to_drain old.table.state
@@ -172,7 +159,7 @@ pub record IsEndUntold {K W B : Type 0} (held : K → Option (List Row)) (ticket
   pub before : old.status ≡ None
   pub status : IsSome new.status
   pub counts : CountsIn old.table.state ticket.task.run told
-  pub ended : HasEnded held ticket.task.run told old.table new.table
+  pub ended : IsFinished held ticket.task.run told old.table new.table
   pub left : new.left ≡ old.left
   pub no_more : left_to_drain new.table.state ≤ left_to_drain old.table.state
 

@@ -1,5 +1,5 @@
--- Commands that only have a reply.
-use Rattle.std.proofs.Common.{◌≡◌, ℕ, refl, sym, ◌∙◌, arith, inr}
+-- The step of a command: one that only has a reply, and one that leaves the rows.
+use Rattle.std.proofs.Common.{◌≡◌, ℕ, [], refl, sym, ◌∙◌, subst, arith, inl, inr}
 use Rattle.wm_machine.specs.Step.{Legal, after}
 use Rattle.wm_machine.specs.Valid.{Valid}
 use Rattle.wm_machine.specs.declared.command.Command.{Command}
@@ -9,7 +9,9 @@ use Rattle.wm_machine.specs.declared.reply.Reply.{Reply}
 use Rattle.wm_machine.specs.declared.state.State.{State}
 use Rattle.wm_table.proofs.StepRows.{unplaced}
 use Rattle.wm_table.specs.Builds.{answering, IsExecuted}
-use Rattle.wm_table.specs.StepChanges.{telling, IsStepOf}
+use Rattle.wm_table.specs.StepChanges.{row_changes, telling, IsStepOf}
+use Rattle.wm_table.specs.Table.{ChangesNoRow}
+use Rattle.wm_table.specs.declared.table.commands.Executed.{Executed}
 
 -- the step of an event that changes the log alone
 pub telling-step : (s : State) (e : Event) → Valid s → Legal s e → after s e ≡ s → IsStepOf s (telling e)
@@ -26,3 +28,11 @@ answering-executed s line asked answer valid legal same = record {
   step = telling-step s (event.Command line asked answer) valid legal same;
   rows = inr refl;
 }
+
+-- a command that leaves the rows has no row to commit
+pub no-row-changes : (s t : State) (line : ℕ) (asked : Command) (executed : Executed) → t ≡ s → IsExecuted s line asked executed
+    → ChangesNoRow t asked → row_changes executed.change ≡ []
+no-row-changes s t line asked executed state_is is same = elim is.rows [
+  | inl changes ↦ absurd (changes (subst (λ (s : State). ChangesNoRow s asked) state_is same))
+  | inr none ↦ none
+]

@@ -1,12 +1,14 @@
 -- One record or run of a list, found by its number and changed at its index.
 use Rattle.std.proofs.Common.{◌≡◌, ℕ, zero, suc, ◌<◌, Bool, true, false, cond, eqb, ltb, List, [], ◌∷◌, ◌++◌, length, find, set, slice_get, Option, Some, None, MatchOption, refl, sym, ◌∙◌, ap, subst, arith, inl, inr}
-use Rattle.std.specs.Prelude.{IsSomeAnd}
+use Rattle.std.specs.Prelude.{IfSome, IsSomeAnd}
 use Rattle.std.specs.List.{AllByRecursion, position, position_or_len}
 use Rattle.std.proofs.lemmas.Bool.{eq-eqb, ltb-true, ltb-false, ne_eqb}
 use Rattle.std.proofs.lemmas.List.Folds.{find_at}
 use Rattle.std.proofs.lemmas.Option.{cond_some, none-some, same_Some, slice_get_past}
 use Rattle.wm_machine.proofs.Lists.{one_gives}
+use Rattle.wm_machine.proofs.Narrows.{found_narrow, found_valid}
 use Rattle.wm_machine.proofs.Runnings.{WorksAscend, WorksAscend-in_order}
+use Rattle.wm_machine.specs.Narrow.{IsNarrow, IsNarrowRun}
 use Rattle.wm_machine.specs.Runs.{changed_work, run_numbered}
 use Rattle.wm_machine.specs.Valid.{HasOne, IsValidRun, IsWorkOf, Valid}
 use Rattle.wm_machine.specs.declared.record.Record.{Record}
@@ -103,3 +105,9 @@ run_numbered-push number [] run below is = let hit = eq-eqb run.run number is in
 run_numbered-push number (first ∷ runs) run below is =
     let miss = ne_eqb first.run number (λ e. absurd (omega (arith, below.0))) in
     rw miss (run_numbered-push number runs run below.1 is)
+
+-- a run that is found is as all are
+pub found-fine : (s : State) (number : ℕ) (found : Option Run) → Valid s → IsNarrow s → found ≡ run_numbered number s.runs
+    → IfSome found (λ run. IsValidRun s run × IsNarrowRun run)
+found-fine s number None valid narrow is = tt
+found-fine s number (Some run) valid narrow is = (found_valid s number run valid (sym is), found_narrow s number run narrow (sym is))

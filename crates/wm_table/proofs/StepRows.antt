@@ -14,6 +14,7 @@ use Rattle.wm_machine.proofs.Runnings.{WorksAscend, WorksAscend-in_order}
 use Rattle.wm_machine.proofs.Rows.{rows_below}
 use Rattle.wm_machine.specs.Rows.{row_of, rows_of}
 use Rattle.wm_machine.specs.Runs.{changed_work}
+use Rattle.wm_machine.specs.Step.{Legal, after}
 use Rattle.wm_machine.specs.Valid.{HasOne, IsRecord, Valid}
 use Rattle.wm_machine.specs.declared.event.Event.{Event}
 use Rattle.wm_machine.specs.declared.record.Record.{Record}
@@ -214,7 +215,7 @@ replaced_within works replaced keep =
     omega (arith, slice_get_within (seqs_of works) r.index r.work.seq is, length-map works (λ (work : Record). work.seq))) keep
 
 -- one record that is replaced by one of its number
-pub Fits-replacing : (s : State) (i : ℕ) (work new : Record) (run : RunChange) (e : Event) → Valid s → slice_get s.works i ≡ Some work → new.seq ≡ work.seq
+Fits-replacing : (s : State) (i : ℕ) (work new : Record) (run : RunChange) (e : Event) → Valid s → slice_get s.works i ≡ Some work → new.seq ≡ work.seq
     → IsRecord new → Fits s (replacing i new run e)
 Fits-replacing s i work new run e valid at keeps is = record {
   replaced =
@@ -235,8 +236,19 @@ unplaced s works changed same =
     ∙ ap (λ (all : List Record). record s { works = all }) (append-nil works ∙ same)
 
 -- the record stands there as if it had been changed by its number
-pub state-replacing : (s t : State) (i : ℕ) (work : Record) (change : Record → Record) → Valid s → slice_get s.works i ≡ Some work
+state-replacing : (s t : State) (i : ℕ) (work : Record) (change : Record → Record) → Valid s → slice_get s.works i ≡ Some work
     → record t { works = set s.works i (change work) ++ []; next = t.next + 0 } ≡ record t { works = changed_work change work.seq s.works }
 state-replacing s t i work change valid at =
     let ascend = WorksAscend-in_order s.works valid.in_order in
     unplaced t (set s.works i (change work)) (changed_work change work.seq s.works) (sym (changed_work-at change s.works i work ascend at))
+
+-- a legal event that changes one record, and what its change says of the runs, is made by the change that replaces it
+pub replacing-step : (s t : State) (i : ℕ) (work : Record) (change : Record → Record) (run : RunChange) (e : Event) → Valid s
+    → slice_get s.works i ≡ Some work → (change work).seq ≡ work.seq → IsRecord (change work) → Legal s e
+    → changed_state (replacing i (change work) run e) s ≡ record t { works = set s.works i (change work) ++ []; next = t.next + 0 }
+    → after s e ≡ record t { works = changed_work change work.seq s.works } → IsStepOf s (replacing i (change work) run e)
+replacing-step s t i work change run e valid at keeps fine legal made then = record {
+  fits = Fits-replacing s i work (change work) run e valid at keeps fine;
+  legal = legal;
+  state = made ∙ state-replacing s t i work change valid at ∙ sym then;
+}

@@ -3,10 +3,10 @@ use Rattle.std.specs.Prelude.{◌≡◌, ◌⊎◌, ℕ, List, [], Some, Result,
 use Rattle.wm_data.specs.declared.data.DataEntry.{DataEntry}
 use Rattle.wm_machine.specs.First.{first_of}
 use Rattle.wm_machine.specs.Input.{cause_in}
-use Rattle.wm_machine.specs.Step.{after}
+use Rattle.wm_machine.specs.Role as role
+use Rattle.wm_machine.specs.Step.{after, role_of}
 use Rattle.wm_machine.specs.declared.command.Command.{Command}
 use Rattle.wm_machine.specs.declared.event.Cause.{Cause}
-use Rattle.wm_machine.specs.declared.event.End.TheVariants.{Success}
 use Rattle.wm_machine.specs.declared.event.Event.{Event}
 use Rattle.wm_machine.specs.declared.event.Event.TheVariants as event
 use Rattle.wm_machine.specs.declared.record.Record.{Record}
@@ -20,8 +20,9 @@ use Rattle.wm_table.specs.declared.table.Claim.TheVariants as claim
 use Rattle.wm_table.specs.declared.table.change.StepChange.{StepChange}
 use Rattle.wm_table.specs.declared.table.commands.Executed.{Executed}
 use Rattle.wm_table.specs.declared.table.starting.Claiming.{Claiming}
+use Rattle.wm_worker.specs.Answers.{given_of}
 use Rattle.wm_worker.specs.Told.{Report}
-use Rattle.wm_worker.specs.declared.answer.Answer.TheVariants as answer
+use Rattle.wm_worker.specs.declared.answer.Given.{Given}
 
 -- ---- a command
 
@@ -59,9 +60,9 @@ pub record IsClaiming (s : State) (claiming : Claiming) : Type 0 where
 
 -- ---- the end of a run
 
--- the step by which the run of this number is over: its work succeeded with the output that was told
+-- the step by which the run of this number is over, as was told
 pub record IsFinish (s : State) (number : ℕ) (told : Report) (change : StepChange) : Type 0 where
-  pub output : List DataEntry
-  pub told_is : told.answer ≡ answer.Success output
-  pub event : change.event ≡ event.Finish number (Success output)
+  pub gave : Given
+  pub told_is : given_of told.answer ≡ Some gave
+  pub ends : role_of change.event ≡ role.Ends number gave
   pub step : IsStepOf s change

@@ -1,18 +1,17 @@
 -- What the calls of the table do to the state, its log and the rows held. This project's own choice.
 use Rattle.std.specs.Prelude.{◌≡◌, ℕ, ◌+◌, ◌≤◌, Bool, true, false, List, [], ◌∷◌, ◌++◌, length, Option, Some, None, IsSome, IsSomeAnd, option_map, Result, Err}
 use Rattle.std.specs.List.{AllByRecursion}
-use Rattle.wm_data.specs.declared.data.DataEntry.{DataEntry}
 use Rattle.wm_faults.specs.Faults as faults
 use Rattle.wm_keeper.specs.declared.row.Row.{Row}
 use Rattle.wm_machine.specs.First.{first_of}
 use Rattle.wm_machine.specs.Narrow.{IsNarrow}
 use Rattle.wm_machine.specs.Replay.{Replay}
+use Rattle.wm_machine.specs.Role as role
 use Rattle.wm_machine.specs.Rows.{rows_of}
 use Rattle.wm_machine.specs.Runs.{run_numbered}
-use Rattle.wm_machine.specs.Step.{Legal, after, after_command}
+use Rattle.wm_machine.specs.Step.{Legal, after, after_command, role_of}
 use Rattle.wm_machine.specs.Valid.{Valid, AreNumberedInOrder}
 use Rattle.wm_machine.specs.declared.command.Command.{Command}
-use Rattle.wm_machine.specs.declared.event.End.TheVariants.{Success}
 use Rattle.wm_machine.specs.declared.event.Event.{Event}
 use Rattle.wm_machine.specs.declared.event.Event.TheVariants as event
 use Rattle.wm_machine.specs.declared.state.Instance.{Instance}
@@ -29,7 +28,7 @@ use Rattle.wm_table.specs.declared.table.TurnAnswer.{TurnAnswer}
 use Rattle.wm_table.specs.declared.table.TurnAnswer.TheVariants as turn
 use Rattle.wm_worker.specs.Answers.{given_of}
 use Rattle.wm_worker.specs.Told.{Report, IsReportOf}
-use Rattle.wm_worker.specs.declared.answer.Answer.TheVariants as answer
+use Rattle.wm_worker.specs.declared.answer.Given.{Given}
 use Rattle.wm_worker.specs.declared.kind.Kind.TheVariants.{Echo}
 
 -- ---- one event
@@ -123,11 +122,13 @@ pub record Counts (run : Run) (told : Report) : Type 0 where
 abbrev pub CountsIn : State → ℕ → Report → Type 0
 CountsIn s number told = IsSomeAnd (run_numbered number s.runs) (λ run. Counts run told)
 
--- the run is over: its work succeeded with the output that was told
+-- the run of this number is over, by an event that ends it as was told
 pub record IsFinished {K : Type 0} (held : K → Option (List Row)) (number : ℕ) (told : Report) (old new : TableState K) : Type 0 where
-  pub output : List DataEntry
-  pub told_is : told.answer ≡ answer.Success output
-  pub step : IsOneStep held (event.Finish number (Success output)) old new
+  pub ending : Event
+  pub gave : Given
+  pub told_is : given_of told.answer ≡ Some gave
+  pub ends : role_of ending ≡ role.Ends number gave
+  pub step : IsOneStep held ending old new
 
 -- the report counts, and the run is over
 pub record IsTurnOver {K : Type 0} (held : K → Option (List Row)) (ticket : TicketState) (told : Report) (old new : TableState K) : Type 0 where

@@ -1,7 +1,6 @@
 use Rattle.std.proofs.Common.{Some, inr, subst, sym, rules}
 use Rattle.wm_bench.specs.Places.{IsAwayAt}
 use Rattle.wm_session.proofs.PlacesAndInstances.{traits-back}
-use Rattle.wm_session.proofs.BookParts.{HasEnded-finished}
 use Rattle.wm_session.proofs.BookSteps.{IsTold-all, IsTold-cut}
 use Rattle.wm_session.proofs.BookReports.{BookInvariant-over, IsEndUntold-ended, IsOver-ended}
 use Rattle.wm_session.proofs.BookStops.{BookInvariant-memory, BookInvariant-placed, BookInvariant-refused}
@@ -27,7 +26,7 @@ pub invariant_of-self-in-Ok-tell_last : goal.invariant_of-self-in-Ok-tell_last
 invariant_of-self-in-Ok-tell_last g c =
     let seat = c.args.seat in
     let told = c.tell_last.new in
-    let ended = HasEnded-finished g.K.Keeper.held c.args.ticket.task.run c.in-Ok.told _ c.turn.new.self c.in-Finished.ensures.answer.finished in
+    let ended = c.in-Finished.ensures.answer.finished in
     let stands = subst (λ book. Stands book.table.state c.args.ticket) (sym c.self.view_is) c.requires.stands in
     let away = subst (λ book. IsAwayAt seat.number (g.B.Worker.kind_of seat.worker) book.places) (sym c.self.view_is) c.requires.away in
     BookInvariant-over c.turn.new.self c.give.new.self told.pending.items told.sink c.self.inside.status c.args.ticket seat.number c.in-Ok.told
@@ -42,7 +41,7 @@ invariant_of-self-in-Err g c =
     let told = c.tell_last.new in
     let refused = c.in-Err in
     let stop = c.from in
-    let ended = HasEnded-finished g.K.Keeper.held c.args.ticket.task.run c.in-Ok.told _ c.turn.new.self c.in-Finished.ensures.answer.finished in
+    let ended = c.in-Finished.ensures.answer.finished in
     let stands = subst (λ book. Stands book.table.state c.args.ticket) (sym c.self.view_is) c.requires.stands in
     let away = subst (λ book. IsAwayAt seat.number (g.B.Worker.kind_of seat.worker) book.places) (sym c.self.view_is) c.requires.away in
     BookInvariant-over c.turn.new.self c.give.new.self told.pending.items told.sink (Some stop.result) c.args.ticket seat.number c.in-Ok.told
@@ -65,18 +64,16 @@ pub returns-in-Ok-tell_last : goal.returns-in-Ok-tell_last
 returns-in-Ok-tell_last g c =
     let told = c.tell_last.new in
     let answer = c.in-Finished.ensures.answer in
-    let ended = HasEnded-finished g.K.Keeper.held c.args.ticket.task.run c.in-Ok.told _ c.turn.new.self answer.finished in
     rw (c.in-Ok.is, ← c.self.view_is)
     (IsOver-ended c.turn.new.self c.give.new.self told.pending.items told.sink c.args.ticket c.args.seat c.in-Ok.told c.self.invariant
-    (search rules) answer.counts ended c.give.ensures)
+    (search rules) answer.counts answer.finished c.give.ensures)
 
 pub returns-in-Err : goal.returns-in-Err
 returns-in-Err g c =
     let told = c.tell_last.new in
     let answer = c.in-Finished.ensures.answer in
-    let ended = HasEnded-finished g.K.Keeper.held c.args.ticket.task.run c.in-Ok.told _ c.turn.new.self answer.finished in
     rw (c.in-Ok.is, ← c.self.view_is) (record {
       how = inr (IsEndUntold-ended c.turn.new.self c.give.new.self told.pending.items told.sink c.from.result c.args.ticket c.in-Ok.told c.self.invariant
-          (search rules) answer.counts ended);
+          (search rules) answer.counts answer.finished);
       places = c.give.ensures;
     })

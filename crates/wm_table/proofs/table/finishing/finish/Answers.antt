@@ -1,22 +1,92 @@
-use Rattle.std.proofs.Common.{◌≡◌, Some, rules, slice_get, sym, ◌∙◌, subst}
+use Rattle.std.proofs.Common.{◌≡◌, ℕ, false, List, Some, rules, slice_get, refl, sym, ◌∙◌, ap, eqb, subst}
+use Rattle.std.specs.Prelude.{IsSomeAnd}
+use Rattle.std.proofs.lemmas.Bool.{eqb-true}
 use Rattle.std.proofs.lemmas.Result.{IfOk-weaker}
+use Rattle.wm_data.specs.declared.data.DataEntry.{DataEntry}
+use Rattle.wm_machine.proofs.Finishes.{after_finish}
+use Rattle.wm_machine.proofs.Lists.{find-passes}
+use Rattle.wm_machine.proofs.Narrows.{found_narrow, found_valid, run_kind, with_success}
+use Rattle.wm_machine.proofs.Records.{IsRecord-succeeded}
 use Rattle.wm_machine.specs.Ends.{succeeded}
-use Rattle.wm_machine.specs.Runs.{run_numbered}
-use Rattle.wm_machine.specs.Valid.{IsWorkOf}
+use Rattle.wm_machine.specs.Narrow.{IsNarrow, IsNarrowRecord}
+use Rattle.wm_machine.specs.Role as role
+use Rattle.wm_machine.specs.Runs.{changed_work, other_runs, run_numbered, with_out}
+use Rattle.wm_machine.specs.Step.{IsEnd}
+use Rattle.wm_machine.specs.Valid.{IsRecord, IsWorkOf, Valid}
 use Rattle.wm_machine.specs.declared.event.End.TheVariants as end
 use Rattle.wm_machine.specs.declared.event.Event.TheVariants as event
-use Rattle.wm_table.proofs.Finishes.{counted, finish-step}
-use Rattle.wm_table.proofs.Lookups.{at-some}
+use Rattle.wm_machine.specs.declared.record.Record.{Record}
+use Rattle.wm_machine.specs.declared.state.Run.{Run}
+use Rattle.wm_machine.specs.declared.state.State.{State}
+use Rattle.wm_table.proofs.Lookups.{All-at, at-some}
+use Rattle.wm_table.proofs.StepRows.{replacing-step}
 use Rattle.wm_table.specs.Builds.{IsFinish}
 use Rattle.wm_table.specs.StepChanges.{replacing}
+use Rattle.wm_table.specs.Table.{Counts, CountsIn}
 use Rattle.wm_table.specs.declared.table.change.RunChange.TheVariants.{End}
+use Rattle.wm_worker.specs.Answers.{given_of, MayGive}
+use Rattle.wm_worker.specs.Told.{Report}
+use Rattle.wm_worker.specs.declared.answer.Answer.TheVariants as answer
+use Rattle.wm_worker.specs.declared.answer.Given.TheVariants as given
+use Rattle.wm_worker.specs.declared.kind.Kind.{Kind}
+use Rattle.wm_worker.specs.declared.kind.Kind.TheVariants.{Echo}
 use Rattle.wm_table.proofs.table.finishing.finish.Goals as goal
+
+-- a report that counts for a run is by an Echo, on its input
+record IsCounted (run : Run) (told : Report) : Type 0 where
+  on_echo : run.kind ≡ Echo
+  echo : told.kind ≡ Echo
+  input : told.input ≡ run.input
+
+counted : (s : State) (number : ℕ) (told : Report) (run : Run) → Valid s → IsNarrow s → CountsIn s number told → run_numbered number s.runs ≡ Some run
+    → IsCounted run told
+counted s number told run valid narrow counts found =
+    let of : Counts run told = subst (λ found. IsSomeAnd found (λ r. Counts r told)) found counts in
+    let echo = run_kind s run narrow (found_valid s number run valid found) in
+    record { on_echo = echo; echo = of.about.same_kind ∙ echo; input = of.about.same_input }
+
+-- an Echo may give its input
+echo-gives : (kind : Kind) (input output : List DataEntry) (attempt turn : ℕ) → kind ≡ Echo → output ≡ input
+    → MayGive kind input attempt turn (given.Success output)
+echo-gives kind input output attempt turn echo same =
+    subst (λ k. MayGive k input attempt turn (given.Success output)) (sym echo) (ap (λ (d : List DataEntry). given.Success d) same)
+
+-- the run is over, and its work has succeeded
+finish-step : (s : State) (number i : ℕ) (told : Report) (run : Run) (work : Record) (output : List DataEntry) → Valid s → IsNarrow s
+    → CountsIn s number told → run_numbered number s.runs ≡ Some run → slice_get s.works i ≡ Some work → IsWorkOf run work
+    → told.answer ≡ answer.Success output → output ≡ told.input
+    → IsFinish s number told (replacing i (succeeded output work) (End run.run run.instance) (event.Finish run.run (end.Success output)))
+finish-step s number i told run work output valid narrow counts found at of told_is output_is =
+    let is = counted s number told run valid narrow counts found in
+    let its = found_valid s number run valid found in
+    let own : output ≡ run.input = output_is ∙ is.input in
+    let named : run.run ≡ number = eqb-true run.run number (find-passes (λ r. eqb r.run number) s.runs run found) in
+    let legal : IsEnd s run.run (end.Success output) = record {
+      run = run;
+      is_running = ap (λ n. run_numbered n s.runs) named ∙ found;
+      is_current = (found_narrow s number run narrow found).current;
+      may_give = echo-gives run.kind run.input output run.attempt run.turn is.on_echo own;
+    } in
+    let gone : State = record s { runs = other_runs run.run s.runs; instances = with_out false run.instance s.instances } in
+    let plain = All-at IsNarrowRecord s.works i work narrow.records at in
+    let fine = IsRecord-succeeded run.input work its.input of.running plain (All-at IsRecord s.works i work valid.records at) in
+    record {
+      gave = given.Success output;
+      told_is = ap given_of told_is;
+      ends = ap (λ n. role.Ends n (given.Success output)) named;
+      step =
+          replacing-step s gone i work (succeeded output) (End run.run run.instance) (event.Finish run.run (end.Success output)) valid at refl
+          (subst (λ (given : List DataEntry). IsRecord (succeeded given work)) (sym own) fine) legal refl
+          (after_finish s run.run (end.Success output) (record { valid = valid; narrow = narrow }) legal
+          ∙ ap (with_success s run) (sym own)
+          ∙ ap (λ n. record gone { works = changed_work (succeeded output) n s.works }) (sym of.seq));
+    }
 
 pub output_of-output-requires-clause-echo : goal.output_of-output-requires-clause-echo
 output_of-output-requires-clause-echo c =
-    let s = c.args.state.now in
-    let found : run_numbered c.args.ticket.now.task.run s.runs ≡ Some c.in-Some.run'.now = search rules in
-    (counted s c.args.ticket.now.task.run c.args.told.now c.in-Some.run'.now c.requires.valid c.requires.narrow c.requires.counts found).echo
+    let number = c.args.ticket.now.task.run in
+    let found : run_numbered number c.args.state.now.runs ≡ Some c.in-Some.run'.now = search rules in
+    (counted c.args.state.now number c.args.told.now c.in-Some.run'.now c.requires.valid c.requires.narrow c.requires.counts found).echo
 
 pub returns : goal.returns
 returns c =
@@ -34,6 +104,5 @@ returns c =
     let built_is : built ≡ replacing index (succeeded output work) (End run.run run.instance) (event.Finish run.run (end.Success output)) = search rules in
     IfOk-weaker c.replacing.result (λ change. change ≡ built) (IsFinish s number told) (λ change same.
     subst (IsFinish s number told) (sym (same ∙ built_is))
-    (finish-step s number index told run work output c.requires.valid c.requires.narrow
-    (counted s number told run c.requires.valid c.requires.narrow c.requires.counts found)
-    work_at of c.output_of-output.ensures.answer c.output_of-output.ensures.input)) c.replacing.ensures
+    (finish-step s number index told run work output c.requires.valid c.requires.narrow c.requires.counts found work_at of
+    c.output_of-output.ensures.answer c.output_of-output.ensures.input)) c.replacing.ensures

@@ -1,7 +1,7 @@
 use Rattle.std.proofs.Common.{◌≡◌, rules}
 use Rattle.std.specs.Option.{option_copied}
 use Rattle.wm_machine.specs.Runs.{run_numbered}
-use Rattle.wm_table.proofs.Finishes.{found-fine}
+use Rattle.wm_table.proofs.Lookups.{found-fine}
 use Rattle.wm_table.proofs.table.finishing.run_of.Goals as goal
 
 pub returns-clause-run : goal.returns-clause-run
