@@ -2,4 +2,5 @@ pub mod Hands
 pub mod Opening
 pub mod RunEnds
 pub mod RunsWithoutEvents
+pub mod ScriptLimits
 pub mod TakenBytes

@@ -1,31 +1,25 @@
 -- Which status a fault of reading gives, and when each status comes. This project's own choice.
-use Rattle.std.specs.Prelude.{◌≡◌, ◌⊎◌, ℕ, ℤ, ◌<◌, ◌≤◌, true, List, [], ◌∷◌, length, Option, IfSome, IsSomeAnd}
+use Rattle.std.specs.Prelude.{◌≡◌, ◌⊎◌, ℕ, ℤ, true, List, [], ◌∷◌, Option, Some, None, IfSome, IsSomeAnd}
 use Rattle.wm_keeper.specs.declared.row.Row.{Row}
-use Rattle.wm_script.specs.declared.lines.Limit.{Limit}
-use Rattle.wm_script.specs.declared.lines.Limit.TheVariants.{Bytes}
-use Rattle.wm_script.specs.declared.lines.TheConstants.{MAX_SCRIPT_BYTES}
+use Rattle.wm_script.specs.Limits.{first_limit}
+use Rattle.wm_script.specs.declared.limits.Limit.{Limit}
 use Rattle.wm_session.specs.declared.status.Status.{Status}
 use Rattle.wm_session.specs.declared.status.Status.TheVariants as status
 
--- where the source tells what it has left, it is longer than the limit on a script's bytes
-abbrev pub IsTooLong : Option (List ℕ) → Type 0
-IsTooLong left = IfSome left (λ all. MAX_SCRIPT_BYTES < length all)
+-- the source tells what it has left, and this is the first limit that it passes
+abbrev pub IsToldTooLong : Limit → Option (List ℕ) → Type 0
+IsToldTooLong limit left = IsSomeAnd left (λ all. first_limit all ≡ Some limit)
 
--- the source tells what it has left, and it is longer than the limit
-abbrev pub IsToldTooLong : Option (List ℕ) → Type 0
-IsToldTooLong left = IsSomeAnd left (λ all. MAX_SCRIPT_BYTES < length all)
-
--- the source tells what it has left, and it is within the limit
+-- the source tells what it has left, and it passes no limit
 abbrev pub IsToldWithin : Option (List ℕ) → Type 0
-IsToldWithin left = IsSomeAnd left (λ all. length all ≤ MAX_SCRIPT_BYTES)
+IsToldWithin left = IsSomeAnd left (λ all. first_limit all ≡ None)
 
--- the limit is the one on bytes, the source didn't fail, and where it tells what it has left, that is too long
+-- the source didn't fail, and where it tells what it has left, this is the first limit that it passes
 pub record IsPastLimit (limit : Limit) (before now : ℕ) (left : Option (List ℕ)) : Type 0 where
-  pub limit_is : limit ≡ Bytes
   pub no_fault : now ≡ before
-  pub too_long : IsTooLong left
+  pub too_long : IfSome left (λ all. first_limit all ≡ Some limit)
 
--- `ScriptTooLong` names the limit on bytes, and comes only where the source didn't fail and the script is too long
+-- `ScriptTooLong` names the first limit that the script passes, and comes only where the source didn't fail
 abbrev pub LimitCause : Status → ℕ → ℕ → Option (List ℕ) → Type 0
 LimitCause (status.ScriptTooLong limit) before now left = IsPastLimit limit before now left
 LimitCause _ before now left = Unit {0}

@@ -1,17 +1,17 @@
 -- What reading the commands of a script answers. This project's own choice.
-use Rattle.std.specs.Prelude.{◌≡◌, ℕ, ◌≤◌, List, length, Option}
+use Rattle.std.specs.Prelude.{◌≡◌, ℕ, List, Option, None}
 use Rattle.wm_cli.specs.Causes.{IsPastLimit}
 use Rattle.wm_cli.specs.Ended.{ForScript}
 use Rattle.wm_session.specs.declared.status.Status.{Status}
 use Rattle.wm_session.specs.declared.status.Status.TheVariants as status
 use Rattle.wm_faults.specs.Faults.{Failed}
+use Rattle.wm_script.specs.Limits.{first_limit}
 use Rattle.wm_script.specs.Lines.{commands_in}
 use Rattle.wm_machine.specs.declared.command.Command.{Command}
-use Rattle.wm_script.specs.declared.lines.TheConstants.{MAX_SCRIPT_BYTES}
 
--- the commands are those of the script, which is within the limit
+-- the commands are those of the script, which passes no limit
 abbrev pub AreCommandsOf : Option (List ℕ) → List Command → Type 0
-AreCommandsOf left commands = ForScript left (λ bytes. (commands ≡ commands_in bytes) × (length bytes ≤ MAX_SCRIPT_BYTES))
+AreCommandsOf left commands = ForScript left (λ bytes. (commands ≡ commands_in bytes) × (first_limit bytes ≡ None))
 
 -- each status that ends a run before its store is opened, with its cause
 abbrev pub IsReadStatus : Status → ℕ → ℕ → Option (List ℕ) → Type 0

@@ -12,8 +12,8 @@ ghost use Rattle.wm_faults.specs.Faults.{Failed};
 ghost use Rattle.wm_keeper.specs.declared.row.Row.{Row};
 ghost use Rattle.wm_machine.specs.Outcome.{IsBuilt};
 ghost use Rattle.wm_machine.specs.Opened.{opening_state};
-ghost use Rattle.wm_script.specs.declared.lines.Limit.{Limit};
-ghost use Rattle.wm_script.specs.declared.lines.TheConstants.{MAX_SCRIPT_BYTES};
+ghost use Rattle.wm_script.specs.declared.limits.Limit.{Limit};
+ghost use Rattle.wm_script.specs.declared.limits.TheConstants.{MAX_SCRIPT_BYTES};
 ghost use Rattle.wm_session.specs.Bench.{place_diaries};
 ghost use Rattle.wm_session.specs.Inputs.{inputs_of};
 ghost use Rattle.wm_session.specs.Ended.{IsSerialEnd, IsTextWritten};
@@ -36,6 +36,7 @@ use wm_table::{Table, TableEnd};
 use wm_worker::Worker;
 
 /// Reads the commands of a script, or says with which status a run ends without them.
+#[tactic(auto, using(crate::proofs::ScriptLimits::read_whole))]
 fn read_commands<S: Source>(alloc: Global, source: &mut S) -> Result<Items<Command>, Status>
     ensures commands { IfOk result (AreCommandsOf (S.left source.old)) }
     ensures built { IfOk result (AllByRecursion IsBuilt) }
@@ -214,7 +215,7 @@ pub fn run<S: Source, W: Sink + Send, K: Keeper + Send, B: Worker>(
     ensures serial { IsSerialOver (S.left source.old) result.status
         result.first result.log result.last }
 
-    // At most one byte more than a script has is read.
+    // At most one byte more than a script may have is read.
     ensures reads { IsTakenWithin (MAX_SCRIPT_BYTES + 1) (S.left source.old) (S.left source.new) }
 
     // The causes: when each status comes. Memory alone is free.
@@ -232,10 +233,10 @@ pub fn run<S: Source, W: Sink + Send, K: Keeper + Send, B: Worker>(
         (S.faults source.old) (S.faults source.new) (S.left source.old) }
     ensures script_too_long_keeps { (limit : Limit) → result.status ≡ Status.ScriptTooLong limit
         → (result.keeper ≡ keeper) × (result.sink ≡ sink) }
-    ensures long_script { IsSome (store_named (map string_bytes words.now))
-        → IsToldTooLong (S.left source.old)
+    ensures long_script { (limit : Limit) → IsSome (store_named (map string_bytes words.now))
+        → IsToldTooLong limit (S.left source.old)
         → ¬ Failed (S.faults source.old) (S.faults source.new)
-        → IsUnlessMemory result.status (Status.ScriptTooLong Limit.Bytes) }
+        → IsUnlessMemory result.status (Status.ScriptTooLong limit) }
     ensures keeper_fault { result.status ≡ Status.KeeperFault
         → Failed (K.faults keeper) (K.faults result.keeper) }
     ensures sink_fault { result.status ≡ Status.SinkFault
@@ -247,7 +248,7 @@ pub fn run<S: Source, W: Sink + Send, K: Keeper + Send, B: Worker>(
         → K.held keeper ≡ Some (row ∷ rest) → ¬ Failed (K.faults keeper) (K.faults result.keeper)
         → IsUnlessMemory result.status (Status.BadStore row.seq true) }
 
-    // Completeness: right words, a script within the limit, an empty store and no fault.
+    // Completeness: right words, a script within its limits, an empty store and no fault.
     ensures completes { IsSome (store_named (map string_bytes words.now))
         → IsToldWithin (S.left source.old) → ¬ Failed (S.faults source.old) (S.faults source.new)
         → K.held keeper ≡ Some [] → ¬ Failed (K.faults keeper) (K.faults result.keeper)

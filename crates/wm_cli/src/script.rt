@@ -1,13 +1,13 @@
 ghost use Rattle.std.specs.Prelude.{◌≡◌, ◌+◌, ◌++◌, ◌<◌, ◌≤◌, length, option_map, IfOk, OnOk};
 ghost use Rattle.wm_cli.specs.Script.{IsPieceOf, IsReadFrom, IsTakenWithin, ReadCause};
-ghost use Rattle.wm_script.specs.declared.lines.TheConstants.{MAX_SCRIPT_BYTES};
+ghost use Rattle.wm_script.specs.declared.limits.TheConstants.{MAX_SCRIPT_BYTES};
 
 use std::alloc::{AllocError, Global};
 use wm_io::{Got, Source};
 use wm_script::MAX_SCRIPT_BYTES;
 
 /// How many bytes are asked for in one read.
-const PIECE_BYTES: usize = 4096;
+const PIECE_BYTES: usize = 65_536;
 
 /// Why a script wasn't read.
 #[derive(Clone, Copy, Debug, PartialEq, Eq)]

@@ -1,3 +1,5 @@
+pub mod ObjectsLemmas
+pub mod BuiltCommands
 pub mod LinesLemmas
 pub mod LogTexts
 pub mod TextsLemmas

@@ -1,2 +1,5 @@
+pub mod Limits
 pub mod Lines
+pub mod Objects
 pub mod Texts
+pub mod Works

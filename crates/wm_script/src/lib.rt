@@ -1,11 +1,16 @@
 //! The lines of a script and the texts of a log.
 //!
 //! [`read_lines`] reads the commands of a script's bytes, and [`event_text`] is what is written for
-//! an event. Their definitions are `specs/Lines.antt` and `specs/Texts.antt`.
+//! an event. Their definitions are `specs/Lines.antt`, with `Limits`, `Works` and `Objects`, and
+//! `specs/Texts.antt`.
 #![tactic(auto)]
 
+pub mod limits;
 pub mod lines;
+mod objects;
 pub mod texts;
+mod works;
 
-pub use lines::{Limit, MAX_SCRIPT_BYTES, ScriptFault, read_lines};
+pub use limits::{Limit, MAX_LINE_BYTES, MAX_LINES, MAX_SCRIPT_BYTES, ScriptFault, first_limit};
+pub use lines::read_lines;
 pub use texts::event_text;

@@ -1,87 +1,49 @@
 //! The lines of a script as commands.
-ghost use Rattle.std.specs.Prelude.{◌≡◌, ◌==◌, position, [], ◌∷◌, ◌+◌, ◌<◌, ◌≤◌, length, option_map, option_and_then, Some, Err, IfOk, IfErr, OnOk};
+ghost use Rattle.std.specs.Prelude.{◌≡◌, ◌==◌, position, ◌∷◌, ◌<◌, ◌≤◌, length, option_map, option_and_then, Err, IfOk, IfErr, IfSome, None, Ok, OnOk, Some};
 ghost use Rattle.std.specs.List.{AllByRecursion};
-ghost use Rattle.serde_json.specs.Find.{as_str};
+ghost use Rattle.std.specs.Map.{lookup};
+ghost use Rattle.std.specs.Str.{bytes_eq};
 ghost use Rattle.serde_json.specs.View.{view, items_view};
-ghost use Rattle.uuid.specs.Text.{parsed};
+ghost use Rattle.wm_data.specs.Entries.{IsFaultOf as IsDataFaultOf};
+ghost use Rattle.wm_data.specs.Size.{IsData};
+ghost use Rattle.wm_machine.specs.Limits.{IsShortText};
 ghost use Rattle.wm_machine.specs.Outcome.{IsBuilt};
 ghost use Rattle.wm_machine.specs.Requests.{plain_request};
-ghost use Rattle.wm_script.specs.Lines.{asked_by, both, class_of, command_of, commands_in, cut, enqueue_command, enqueue_of, only, query_of, query_of_all, single, value_of, work_of, IsFaultOf};
+ghost use Rattle.wm_script.specs.Limits.{first_limit, IsFaultOf};
+ghost use Rattle.wm_script.specs.Works.{form_of};
+ghost use Rattle.wm_script.specs.Lines.{asked_by, command_of, commands_in, cut, enqueue_command, enqueue_of, enqueue_with, enqueued_work, input_in, query_of, query_of_all, readers, single, value_of};
 
+use crate::limits::{Limit, ScriptFault, first_limit};
+use crate::objects::has_only;
+use crate::works::{WorkForm, work_of};
 use serde_json::Value;
-use std::alloc::{AllocError, AllocFailed, Global};
+use std::alloc::{AllocError, Global};
 use uuid::Uuid;
 use wm_collections::{Items, Text};
-use wm_data::{Data, Merger};
+use wm_data::{Data, DataFault, Merger};
 use wm_machine::{Backoff, Batch, Command, Constraints, LineFault, Node, Request, WorkQuery};
-
-/// The most bytes that a script has.
-pub const MAX_SCRIPT_BYTES: usize = 65_536;
 
 /// The byte that ends a line.
 const LF: u8 = b'\n';
 
-/// The most bytes that a class has.
-const MAX_CLASS_BYTES: usize = 200;
-
-/// A limit of a script.
-#[derive(Clone, Copy, Debug, PartialEq, Eq)]
-pub enum Limit {
-    /// On all of its bytes.
-    Bytes,
-    /// On the bytes of one line.
-    Line,
-    /// On its lines.
-    Lines,
-}
-
-/// Why a script isn't read.
-#[derive(Clone, Copy, Debug, PartialEq, Eq)]
-pub enum ScriptFault {
-    /// It is longer than a limit allows.
-    TooLong(Limit),
-    /// Memory was refused.
-    Memory,
-}
-
-impl From<AllocError> for ScriptFault {
-    ghost use Rattle.wm_script.specs.declared.lines.ScriptFault.TheVariants.{Memory};
-
-    ghost from_gives = { λ _ fault. fault ≡ Memory };
-
-    fn from(_refused: AllocError) -> ScriptFault {
-        ScriptFault::Memory
-    }
-}
-
-impl<T: Drop> From<AllocFailed<T>> for ScriptFault {
-    ghost use Rattle.wm_script.specs.declared.lines.ScriptFault.TheVariants.{Memory};
-
-    ghost from_gives = { λ _ fault. fault ≡ Memory };
-
-    fn from(_refused: AllocFailed<T>) -> ScriptFault {
-        ScriptFault::Memory
-    }
-}
-
 /// The commands of a script's lines, in their order: one for each line, and a line that isn't in
-/// the grammar gives a [`Command::Faulty`].
+/// the grammar, or whose Data isn't Data, gives a [`Command::Faulty`].
 ///
-/// A script of more than [`MAX_SCRIPT_BYTES`] bytes isn't read, and neither is one for which
-/// memory is refused. The empty script has no line, and takes no memory.
+/// `TooLong` with the first limit that the script passes, and nothing of it is read. The empty
+/// script has no line, and takes no memory.
 pub fn read_lines(alloc: Global, bytes: &[u8]) -> Result<Items<Command>, ScriptFault>
     ensures commands { IfOk result (λ commands. commands ≡ commands_in bytes.now) }
-    ensures within { OnOk result (length bytes.now ≤ MAX_SCRIPT_BYTES) }
-    ensures too_long { MAX_SCRIPT_BYTES < length bytes.now
-        → result ≡ Err (ScriptFault.TooLong Limit.Bytes) }
-    ensures only_bytes { IfErr result (IsFaultOf bytes.now) }
+    ensures within { OnOk result (first_limit bytes.now ≡ None) }
+    ensures too_long { (limit : Limit) → first_limit bytes.now ≡ Some limit
+        → result ≡ Err (ScriptFault.TooLong limit) }
+    ensures fault { IfErr result (IsFaultOf bytes.now) }
 
     // What follows of the commands.
     ensures built { IfOk result (λ commands. AllByRecursion IsBuilt commands) }
     ensures few { IfOk result (λ commands. length commands ≤ length bytes.now) }
 {
-    if bytes.len() > MAX_SCRIPT_BYTES {
-        return Err(ScriptFault::TooLong(Limit::Bytes));
+    if let Some(limit) = first_limit(bytes) {
+        return Err(ScriptFault::TooLong(limit));
     }
     let mut commands = Items::new(alloc);
     let mut rest = bytes;
@@ -95,7 +57,7 @@ pub fn read_lines(alloc: Global, bytes: &[u8]) -> Result<Items<Command>, ScriptF
 
 /// The first line, without its LF, and what stands after that LF.
 #[tactic(auto, using(crate::proofs::LinesLemmas::line_ends))]
-fn first_line(bytes: &[u8]) -> (&[u8], &[u8])
+pub(crate) fn first_line(bytes: &[u8]) -> (&[u8], &[u8])
     requires { 0 < length bytes.now }
     ensures cut { cut bytes.now ≡ result.0.now ∷ cut result.1.now }
     ensures shorter { length result.1.now < length bytes.now }
@@ -149,98 +111,44 @@ fn value_of(alloc: Global, line: &[u8]) -> Result<Option<Value>, AllocError>
 fn asked_by(alloc: Global, value: &Value) -> Result<Option<Command>, AllocError>
     ensures { IfOk result (λ command. command ≡ asked_by (view value.now)) }
 {
-    match enqueue_of(value) {
-        Some(PlainWork { id, class }) => {
-            let request = plain_request(alloc, id, class)?;
-            Ok(Some(enqueue_command(alloc, request)?))
-        }
-        None => Ok(query_of(alloc, value).map(Command::Query)),
+    match value.get("cmd").and_then(Value::as_str) {
+        Some(name) => command_named(alloc, name, value),
+        None => Ok(None),
     }
 }
 
-/// What a line says of the one work that it enqueues.
-#[derive(Clone, Copy)]
-struct PlainWork<'v> {
-    id: Uuid,
-    class: &'v str,
+/// The command of this name that a value asks for, by the reader of that command.
+fn command_named(alloc: Global, name: &str, value: &Value) -> Result<Option<Command>, AllocError>
+    ensures { IfOk result (λ command. command
+        ≡ option_and_then (λ reader. reader (view value.now)) (lookup (bytes_eq name.now) readers)) }
+{
+    match name {
+        "enqueue" => enqueue_of(alloc, value),
+        "query" => Ok(query_of(alloc, value)),
+        _ => Ok(None),
+    }
+}
+
+/// The command that enqueues one work. Its Data is read once the whole line is in the form.
+#[tactic(auto, unfolding(crate::specs::Lines::enqueue_of))]
+fn enqueue_of(alloc: Global, value: &Value) -> Result<Option<Command>, AllocError>
+    ensures { IfOk result (λ command. command ≡ enqueue_of (view value.now)) }
+{
+    match enqueued_work(value) {
+        Some(work) => Ok(Some(enqueue_with(alloc, work)?)),
+        None => Ok(None),
+    }
 }
 
 /// The work of an enqueue of one work.
-#[tactic(auto, unfolding(crate::specs::Lines::enqueue_of))]
-fn enqueue_of(value: &Value) -> Option<PlainWork<'_>>
-    ensures { option_map (λ work. plain_request work.id work.class.now [] Merger.Overwriting) result
-        ≡ enqueue_of (view value.now) }
+#[tactic(auto, unfolding(crate::specs::Lines::enqueued_work))]
+fn enqueued_work(value: &Value) -> Option<WorkForm<'_>>
+    ensures { option_map form_of result ≡ enqueued_work (view value.now) }
 {
-    let (command, works) = both("cmd", "works", value)?;
-    let command = command.as_str()?;
-    let work = single(works.as_array()?)?;
-    if command == "enqueue" {
-        work_of(work)
-    } else {
-        None
-    }
-}
-
-/// The work of an object with an id and a class.
-#[tactic(auto, unfolding(crate::specs::Lines::work_of))]
-fn work_of(value: &Value) -> Option<PlainWork<'_>>
-    ensures { option_map (λ work. plain_request work.id work.class.now [] Merger.Overwriting) result
-        ≡ work_of (view value.now) }
-{
-    let (id, class) = both("id", "class", value)?;
-    Some(PlainWork {
-        id: id_of(id)?,
-        class: class_of(class)?,
-    })
-}
-
-/// The query that a command without further keys asks.
-#[tactic(auto, unfolding(crate::specs::Lines::query_of))]
-fn query_of(alloc: Global, value: &Value) -> Option<WorkQuery>
-    ensures { result ≡ query_of (view value.now) }
-{
-    let command = only("cmd", value)?.as_str()?;
-    if command == "query" {
-        Some(query_of_all(alloc))
-    } else {
-        None
-    }
-}
-
-/// The query that names nothing.
-fn query_of_all(alloc: Global) -> WorkQuery
-    ensures { result ≡ query_of_all }
-{
-    WorkQuery {
-        ids: Items::new(alloc),
-        names: Items::new(alloc),
-        states: Items::new(alloc),
-        tags: Items::new(alloc),
-    }
-}
-
-/// The value of a key, in an object that has no other key.
-#[tactic(auto, using(crate::proofs::LinesLemmas::alone), unfolding(crate::specs::Lines::only))]
-fn only<'v>(key: &str, value: &'v Value) -> Option<&'v Value>
-    ensures { option_map (λ found. view found.now) result ≡ only key.now (view value.now) }
-{
-    if value.as_object()?.len() == 1 {
-        value.get(key)
-    } else {
-        None
-    }
-}
-
-/// The values of two keys, in an object that has both and no other key.
-#[tactic(auto, using(crate::proofs::LinesLemmas::pairs), unfolding(crate::specs::Lines::both))]
-fn both<'v>(key: &str, other: &str, value: &'v Value) -> Option<(&'v Value, &'v Value)>
-    ensures { option_map (λ found. (view found.0.now, view found.1.now)) result
-        ≡ both key.now other.now (view value.now) }
-{
-    if value.as_object()?.len() != 2 {
+    if !has_only(value, &["cmd", "works"]) {
         return None;
     }
-    Some((value.get(key)?, value.get(other)?))
+    work_of(single(value.get("works")?.as_array()?)?)
 }
 
 /// The one item of a list.
@@ -254,36 +162,49 @@ fn single(items: &[Value]) -> Option<&Value>
     Some(item)
 }
 
-/// The id that a value names, in any of `uuid`'s forms.
-fn id_of(value: &Value) -> Option<Uuid>
-    ensures { result ≡ option_and_then parsed (as_str (view value.now)) }
+/// The command of a work, or the fault of its input.
+fn enqueue_with(alloc: Global, work: WorkForm<'_>) -> Result<Command, AllocError>
+    ensures { IfOk result (λ command. command
+        ≡ enqueue_with (form_of work.entry) (input_in (form_of work.entry).input)) }
 {
-    Uuid::try_parse(value.as_str()?).ok()
-}
-
-/// The class that a value names: a text of 1 to [`MAX_CLASS_BYTES`] bytes.
-#[tactic(auto, unfolding(crate::specs::Lines::class_of))]
-fn class_of(value: &Value) -> Option<&str>
-    ensures { option_map (λ class. class.now) result ≡ class_of (view value.now) }
-{
-    let class = value.as_str()?;
-    if class.is_empty() || class.len() > MAX_CLASS_BYTES {
-        None
-    } else {
-        Some(class)
+    match input_in(alloc, work.input) {
+        Ok(input) => enqueue_command(
+            alloc,
+            request_of(alloc, work.id, work.class, input, work.merger)?,
+        ),
+        Err(DataFault::EmptyKey) => Ok(Command::Faulty(LineFault::EmptyKey)),
+        Err(DataFault::BadData { key }) => Ok(Command::Faulty(LineFault::BadData { key })),
+        Err(DataFault::TooLarge { size }) => Ok(Command::Faulty(LineFault::TooLarge { size })),
+        Err(DataFault::Memory) => Err(AllocError),
     }
 }
 
-/// The request for a work with every default.
-fn plain_request(alloc: Global, id: Uuid, class: &str) -> Result<Request, AllocError>
-    ensures { IfOk result (λ request. request
-        ≡ plain_request id class.now [] Merger.Overwriting) }
+/// The Data of an input, which is empty where there is none.
+fn input_in(alloc: Global, input: Option<&Value>) -> Result<Data, DataFault>
+    ensures ok { IfOk result (λ read. input_in (option_map (λ found. view found.now) input.entry) ≡ Ok read) }
+    ensures err { IfErr result (IsDataFaultOf (input_in (option_map (λ found. view found.now) input.entry))) }
+{
+    match input {
+        Some(json) => Data::from_json(alloc, json),
+        None => Ok(Data::empty(alloc)),
+    }
+}
+
+/// The request for a work with this input and merger, and with every other default.
+fn request_of(
+    alloc: Global,
+    id: Uuid,
+    class: &str,
+    input: Data,
+    merger: Merger,
+) -> Result<Request, AllocError>
+    ensures { IfOk result (λ request. request ≡ plain_request id class.now input merger) }
 {
     Ok(Request {
         id,
         class: Text::from_str(alloc, class)?,
-        input: Data::empty(alloc),
-        merger: Merger::Overwriting,
+        input,
+        merger,
         tags: Items::new(alloc),
         constraints: Constraints::NONE,
         backoff: Backoff::DEFAULT,
@@ -305,4 +226,28 @@ fn enqueue_command(alloc: Global, request: Request) -> Result<Command, AllocErro
         named: None,
         batch: Batch { works },
     })
+}
+
+/// The query without further keys, which names nothing.
+#[tactic(auto, unfolding(crate::specs::Lines::query_of))]
+fn query_of(alloc: Global, value: &Value) -> Option<Command>
+    ensures { result ≡ query_of (view value.now) }
+{
+    if has_only(value, &["cmd"]) {
+        Some(Command::Query(query_of_all(alloc)))
+    } else {
+        None
+    }
+}
+
+/// The query that names nothing.
+fn query_of_all(alloc: Global) -> WorkQuery
+    ensures { result ≡ query_of_all }
+{
+    WorkQuery {
+        ids: Items::new(alloc),
+        names: Items::new(alloc),
+        states: Items::new(alloc),
+        tags: Items::new(alloc),
+    }
 }

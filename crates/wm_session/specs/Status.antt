@@ -3,8 +3,8 @@ use Rattle.std.specs.Prelude.{ℕ, ℤ, Bool, List, [], ◌++◌, codes, if◌th
 use Rattle.std.specs.Fmt.{signed_decimal}
 use Rattle.wm_session.specs.declared.status.Status.{Status}
 use Rattle.wm_session.specs.declared.status.Status.TheVariants as status
-use Rattle.wm_script.specs.declared.lines.Limit.{Limit}
-use Rattle.wm_script.specs.declared.lines.Limit.TheVariants.{Bytes, Line, Lines}
+use Rattle.wm_script.specs.declared.limits.Limit.{Limit}
+use Rattle.wm_script.specs.declared.limits.Limit.TheVariants.{Bytes, Line, Lines}
 
 -- the exit status of the program
 abbrev pub code_of : Status → ℕ

@@ -3,7 +3,7 @@ use Rattle.wm_cli.proofs.RunsWithoutEvents.{IsTextWritten-nothing, HasCommands-n
 use Rattle.wm_cli.proofs.Opening.{IsSerialRun-unopened}
 use Rattle.wm_session.specs.Ended.{HasCommands, IsSerialRun}
 use Rattle.wm_session.specs.declared.status.Status.TheVariants.{Done, Usage}
-use Rattle.wm_script.proofs.LinesLemmas.{IsBuilt-commands_in}
+use Rattle.wm_script.proofs.BuiltCommands.{IsBuilt-commands_in}
 use Rattle.wm_script.specs.Lines.{commands_in}
 use Rattle.wm_cli.proofs.program.run.Goals as goal
 

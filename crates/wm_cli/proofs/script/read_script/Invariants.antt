@@ -1,6 +1,6 @@
 use Rattle.std.proofs.Common.{◌≡◌, ◌+◌, ◌-◌, ◌≤◌, length}
 use Rattle.wm_cli.specs.Script.{IsTakenFrom}
-use Rattle.wm_script.specs.declared.lines.TheConstants.{MAX_SCRIPT_BYTES}
+use Rattle.wm_script.specs.declared.limits.TheConstants.{MAX_SCRIPT_BYTES}
 use Rattle.wm_cli.proofs.script.read_script.Given as goal
 
 -- what was read so far stood in front of what is left

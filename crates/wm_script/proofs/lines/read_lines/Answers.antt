@@ -1,7 +1,7 @@
--- At the end no line is left, so the commands are all of the script's, and the laws of these hold.
+-- At the end no line is left, so the commands are all of the script's.
 use Rattle.std.proofs.Common.{◌≡◌, arith}
 use Rattle.std.proofs.lemmas.Grind.{common_steps}
-use Rattle.wm_script.proofs.LinesLemmas.{IsBuilt-commands_in, length-commands_in}
+use Rattle.wm_script.proofs.BuiltCommands.{IsBuilt-commands_in}
 use Rattle.wm_script.specs.Lines.{commands_in}
 use Rattle.wm_script.proofs.lines.read_lines.Goals as goal
 
@@ -9,8 +9,3 @@ pub returns-clause-built : goal.returns-clause-built
 returns-clause-built c =
     let all : c.lines.commands ≡ commands_in c.args.bytes.now = grind (arith, common_steps) in
     rw all (IsBuilt-commands_in c.args.bytes.now)
-
-pub returns-clause-few : goal.returns-clause-few
-returns-clause-few c =
-    let all : c.lines.commands ≡ commands_in c.args.bytes.now = grind (arith, common_steps) in
-    rw all (length-commands_in c.args.bytes.now)
