@@ -1,8 +1,7 @@
 #!/usr/bin/env bash
 # Measures the program on scripts that enqueue works of class Echo: the time of each run and, where
 # valgrind is there, its instructions, which other work on the machine doesn't change; and the ratios
-# of the two runs. The works of the longer script are four times those of the shorter. A script has
-# at most 65,536 bytes, so that 760 works are about the most that one has.
+# of the two runs. The works of the longer script are four times those of the shorter.
 set -euo pipefail
 root=$(cd "$(dirname "${BASH_SOURCE[0]}")/.." && pwd)
 few=${1:-190}

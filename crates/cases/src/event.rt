@@ -1,8 +1,11 @@
 //! The events of a log in words.
 
 use std::alloc::{AllocError, Global};
-use wm_data::Data;
-use wm_machine::{Batch, Command, End, Event, Refusal, Reply};
+use wm_data::{Data, Merger};
+use wm_machine::{Batch, Cause, Command, End, Event, LineFault, Refusal, Reply, Request};
+
+/// Data of more bytes is told by its size alone.
+const MAX_TOLD_BYTES: u64 = 1_000;
 
 /// An event in words.
 pub fn event_words(alloc: Global, event: &Event) -> Result<String, AllocError> {
@@ -22,11 +25,12 @@ pub fn event_words(alloc: Global, event: &Event) -> Result<String, AllocError> {
             instance,
             input,
         } => {
-            let input = data_words(input);
+            let input = data_words(alloc, input)?;
             format!(in alloc; "start of run {run}: work {seq} on instance {instance} with {input}")
         }
         Event::StartFailed { seq, cause } => {
-            format!(in alloc; "no start: work {seq}: {cause:?}")
+            let cause = cause_words(alloc, cause)?;
+            format!(in alloc; "no start: work {seq}: {cause}")
         }
         Event::Finish { run, end } => {
             let end = end_words(alloc, end)?;
@@ -40,21 +44,60 @@ fn command_words(alloc: Global, command: &Command) -> Result<String, AllocError>
     match command {
         Command::Enqueue { named: None, batch } => enqueue_words(alloc, batch),
         Command::Query(_) => String::from_str(alloc, "query"),
-        Command::Faulty(fault) => format!(in alloc; "faulty {fault:?}"),
+        Command::Faulty(fault) => {
+            let fault = fault_words(alloc, fault)?;
+            format!(in alloc; "faulty {fault}")
+        }
         _ => String::from_str(alloc, "a command that isn't built"),
     }
 }
 
-/// An enqueue with the id and the class of each work.
+/// An enqueue with its works.
 fn enqueue_words(alloc: Global, batch: &Batch) -> Result<String, AllocError> {
     let mut words = String::from_str(alloc, "enqueue")?;
     for node in batch.works.as_slice() {
-        let id = node.request.id;
-        let class = node.request.class.as_str();
-        let work = format!(in alloc; " {id} {class:?}")?;
+        let work = work_words(alloc, &node.request)?;
+        words.push(' ')?;
         words.push_str(work.as_str())?;
     }
     Ok(words)
+}
+
+/// The id and the class of a work, and its input and merger where they aren't the defaults.
+fn work_words(alloc: Global, request: &Request) -> Result<String, AllocError> {
+    let id = request.id;
+    let class = request.class.as_str();
+    let mut words = format!(in alloc; "{id} {class:?}")?;
+    if !request.input.is_empty() {
+        words.push(' ')?;
+        words.push_str(data_words(alloc, &request.input)?.as_str())?;
+    }
+    if request.merger == Merger::ArrayCreating {
+        words.push_str(" ARRAY")?;
+    }
+    Ok(words)
+}
+
+fn fault_words(alloc: Global, fault: &LineFault) -> Result<String, AllocError> {
+    match fault {
+        LineFault::BadData { key } => {
+            let key = key.as_str();
+            format!(in alloc; "BadData {key:?}")
+        }
+        LineFault::TooLarge { size } => format!(in alloc; "TooLarge {size}"),
+        _ => format!(in alloc; "{fault:?}"),
+    }
+}
+
+fn cause_words(alloc: Global, cause: &Cause) -> Result<String, AllocError> {
+    match cause {
+        Cause::NoWorker => String::from_str(alloc, "NoWorker"),
+        Cause::Conflict { key } => {
+            let key = key.as_str();
+            format!(in alloc; "Conflict {key:?}")
+        }
+        Cause::TooLarge { size } => format!(in alloc; "TooLarge {size}"),
+    }
 }
 
 fn reply_words(alloc: Global, reply: &Reply) -> Result<String, AllocError> {
@@ -70,7 +113,10 @@ fn reply_words(alloc: Global, reply: &Reply) -> Result<String, AllocError> {
             }
             format!(in alloc; "works {works:?}")
         }
-        Reply::Refused(Refusal::Line(fault)) => format!(in alloc; "refused {fault:?}"),
+        Reply::Refused(Refusal::Line(fault)) => {
+            let fault = fault_words(alloc, fault)?;
+            format!(in alloc; "refused {fault}")
+        }
         Reply::Refused(Refusal::IdInUse { id }) => format!(in alloc; "refused IdInUse {id}"),
         Reply::Refused(refusal) => format!(in alloc; "refused {refusal:?}"),
         _ => String::from_str(alloc, "a reply that isn't built"),
@@ -80,17 +126,22 @@ fn reply_words(alloc: Global, reply: &Reply) -> Result<String, AllocError> {
 fn end_words(alloc: Global, end: &End) -> Result<String, AllocError> {
     match end {
         End::Success(output) => {
-            let output = data_words(output);
+            let output = data_words(alloc, output)?;
             format!(in alloc; "success {output}")
         }
         End::Failure(output) => {
-            let output = data_words(output);
+            let output = data_words(alloc, output)?;
             format!(in alloc; "failure {output}")
         }
         End::Retry => String::from_str(alloc, "retry"),
     }
 }
 
-fn data_words(data: &Data) -> &'static str {
-    if data.is_empty() { "{}" } else { "data" }
+/// The canonical text of Data, or its size where it is large.
+fn data_words(alloc: Global, data: &Data) -> Result<String, AllocError> {
+    if data.size() > MAX_TOLD_BYTES {
+        return format!(in alloc; "Data of {} bytes", data.size());
+    }
+    let text = data.to_text(alloc)?;
+    String::from_str(alloc, text.as_str())
 }

@@ -54,9 +54,14 @@ fn ended(alloc: Global, words: &[&str], bytes: usize) -> Result<(ExitCode, Strin
 fn the_program_ends_with_a_code_and_a_text(rt: HostRuntime) -> Result<(), Fail> {
     let usage = "usage: work --store NAME [--workers N] [--generate SEED]\n";
     let cases: [(&[&str], usize, u8, &str); 3] = [
-        (&["--store", "demo"], 65_536, 0, ""),
+        (&["--store", "demo"], 1_048_576, 0, ""),
         (&["--store"], 1, 2, usage),
-        (&["--store", "demo"], 65_537, 7, "script too long: bytes\n"),
+        (
+            &["--store", "demo"],
+            1_048_577,
+            7,
+            "script too long: line\n",
+        ),
     ];
     for (words, bytes, code, text) in cases {
         let (ended, said) = ended(rt.alloc(), words, bytes)?;
