@@ -13,8 +13,8 @@ use Rattle.wm_machine.specs.Valid.{ArePriorSound, HasOne, IsBefore, IsCurrentOf,
 use Rattle.wm_machine.specs.declared.record.Phase.{Phase}
 use Rattle.wm_machine.specs.declared.record.Phase.TheVariants as phase
 use Rattle.wm_machine.specs.declared.record.Record.{Record}
-use Rattle.wm_machine.specs.declared.request.Request.{Request}
 use Rattle.wm_machine.specs.declared.state.State.{State}
+use Rattle.wm_request.specs.Requests.{RequestFields}
 
 -- two records are of one work that was asked for in one way, with as many retries
 pub record IsSameRequest (one other : Record) : Type 0 where
@@ -42,9 +42,9 @@ keeps_work : (change : Record → Record) → ((work : Record) → IsSameRequest
 keeps_work change same work =
     let is = same work in record {
       seq = is.seq;
-      id = ap (λ (r : Request). r.id) is.request;
+      id = ap (λ (r : RequestFields). r.id) is.request;
       name = is.name;
-      period = ap (λ (r : Request). r.period) is.request;
+      period = ap (λ (r : RequestFields). r.period) is.request;
     }
 
 narrow_same : (one other : Record) → IsSameRequest one other → IsNarrowRecord one → IsNarrowRecord other

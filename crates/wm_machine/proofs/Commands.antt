@@ -2,6 +2,7 @@
 use Rattle.std.proofs.Common.{None, refl}
 use Rattle.wm_machine.proofs.Enqueues.{enqueue-answered}
 use Rattle.wm_machine.proofs.Owed.{IsAnswered}
+use Rattle.wm_machine.proofs.Settings.{conditions-answered, moment-answered}
 use Rattle.wm_machine.specs.Outcome.{IsBuilt}
 use Rattle.wm_machine.specs.Queried.{answer_to}
 use Rattle.wm_machine.specs.declared.command.Command.{Command}
@@ -10,9 +11,13 @@ use Rattle.wm_machine.specs.declared.reply.Refusal.TheVariants.{Line}
 use Rattle.wm_machine.specs.declared.reply.Reply.TheVariants as reply
 use Rattle.wm_machine.specs.declared.state.State.{State}
 
--- each command that is built has a reply, keeps what holds of the states, and changes neither runs nor instances
+-- each command that is built has a reply where no run is unreturned, keeps what holds of the states, and changes neither runs nor instances
 pub answered : (s : State) (asked : Command) → IsBuilt asked → IsAnswered s asked
 answered s (command.Enqueue None batch) built = enqueue-answered s batch built
-answered s (command.Query query) built = record { answer = reply.Query (answer_to s query); answers = refl; reached = λ reached. reached; frame = refl }
-answered s (command.Faulty fault) built = record { answer = reply.Refused (Line fault); answers = refl; reached = λ reached. reached; frame = refl }
+answered s (command.Moment at) built = moment-answered s at built
+answered s (command.Conditions conditions) built = conditions-answered s conditions
+answered s (command.Query query) built =
+    record { answered = λ no_run. (reply.Query (answer_to s query), refl); reached = λ reached. reached; frame = refl }
+answered s (command.Faulty fault) built =
+    record { answered = λ no_run. (reply.Refused (Line fault), refl); reached = λ reached. reached; frame = refl }
 answered s _ built = absurd built

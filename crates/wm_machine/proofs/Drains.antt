@@ -205,10 +205,11 @@ goes_on [] s built reached few = settle (suc (left_to_drain s)) s reached few (o
 goes_on (asked ∷ lines) s built reached few =
     let done = settle (suc (left_to_drain s)) s reached few (omega arith) in
     let t = done.last in
-    let answer = answered t asked built.0 in
-    let e = event.Command 0 asked answer.answer in
-    let legal : Legal t e = (built.0, answer.answers) in
-    let no_run : (after t e).runs ≡ [] = ap (λ (f : Frame). f.runs) answer.frame ∙ done.quiet.no_run in
+    let owed = answered t asked built.0 in
+    let answer = owed.answered done.quiet.no_run in
+    let e = event.Command 0 asked answer.0 in
+    let legal : Legal t e = (built.0, answer.1) in
+    let no_run : (after t e).runs ≡ [] = ap (λ (f : Frame). f.runs) owed.frame ∙ done.quiet.no_run in
     GoesOn-then s (asked ∷ lines) done
     (GoesOn-more t e lines legal done.quiet
     (goes_on lines (after t e) built.1 (IsReached-after t e done.reached legal) (subst (λ (runs : List Run). length runs ≤ 1) (sym no_run) (omega arith))))

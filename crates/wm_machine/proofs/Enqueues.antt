@@ -4,7 +4,7 @@ use Rattle.std.specs.Str.{bytes_eq}
 use Rattle.std.proofs.lemmas.Bool.{and_from, eq-eqb, ltb-false, true≢false}
 use Rattle.wm_machine.proofs.Lists.{All-both, All-push, All-weaker, AllLater-push, HasOne-front, none_pass}
 use Rattle.wm_machine.proofs.Owed.{IsAnswered}
-use Rattle.wm_machine.proofs.Records.{IsNarrowRecord-placed, IsRecord-placed, plain_node, sound-narrow}
+use Rattle.wm_machine.proofs.Records.{IsNarrowRecord-placed, IsRecord-placed, node_of, sound-narrow}
 use Rattle.wm_machine.specs.Built.{IsPlain}
 use Rattle.wm_machine.specs.Enqueued.{enqueued, first_refusal, id_in_use, is_stored, numbers_spent, outcome_by, placed, placed_record, refusal_of, too_many_works, with_work}
 use Rattle.wm_machine.specs.Frame.{untouched}
@@ -16,9 +16,10 @@ use Rattle.wm_machine.specs.declared.record.Phase.TheVariants as phase
 use Rattle.wm_machine.specs.declared.record.Record.{Record}
 use Rattle.wm_machine.specs.declared.reply.Refusal.{Refusal}
 use Rattle.wm_machine.specs.declared.reply.Refusal.TheVariants.{IdInUse, NumbersSpent, TooManyWorks}
-use Rattle.wm_machine.specs.declared.request.Batch.{Batch}
-use Rattle.wm_machine.specs.declared.request.Node.{Node}
 use Rattle.wm_machine.specs.declared.state.State.{State}
+use Rattle.wm_request.specs.Requests.{IsRequest, RequestFields}
+use Rattle.wm_request.specs.declared.request.Batch.{Batch}
+use Rattle.wm_request.specs.declared.request.Node.{Node}
 
 bytes_eq-refl : (text : List ℕ) → bytes_eq text text ≡ true
 bytes_eq-refl [] = refl
@@ -97,20 +98,14 @@ new_id s work none =
     let third = first_refusal-none (id_in_use s works) [] second.1 in
     not_found (is_stored s.works work.request.id) (IdInUse work.request.id) third.0
 
--- the work of a plain batch
-abbrev pub node_of : {works : List Node} → IsPlain works → Node
-node_of plain = plain_node plain.id plain.class plain.input plain.merger
-
-reached-outcome : {works : List Node} (s : State) (plain : IsPlain works) (found : Option Refusal) → refusal_of s None (node_of plain ∷ []) ≡ found
-    → IsReached s → IsReached (outcome_by found s None (node_of plain ∷ [])).state
-reached-outcome s plain (Some found) is reached = reached
-reached-outcome s plain None is reached =
-    let node = node_of plain in
+reached-outcome : (s : State) (request : RequestFields) (found : Option Refusal) → IsRequest request → request.period ≡ None
+    → refusal_of s None (node_of request ∷ []) ≡ found → IsReached s → IsReached (outcome_by found s None (node_of request ∷ [])).state
+reached-outcome s request (Some found) asked one_time is reached = reached
+reached-outcome s request None asked one_time is reached =
+    let node = node_of request in
     let fits = room s (node ∷ []) is in
-    let narrow =
-    IsNarrow-with_work s (placed_record s None node) reached.narrow (IsNarrowRecord-placed s plain.id plain.class plain.input plain.merger) in
-    let fine =
-    IsRecord-placed s plain.id plain.class plain.input plain.merger plain.id_is plain.class_is plain.input_is reached.valid.first fits.1 reached.valid.now in
+    let narrow = IsNarrow-with_work s (placed_record s None node) reached.narrow (IsNarrowRecord-placed s request one_time) in
+    let fine = IsRecord-placed s request asked one_time reached.valid.first fits.1 reached.valid.now in
     record {
       valid = Valid-with_work s (placed_record s None node) reached.valid narrow refl refl (new_id s node is) fine (λ e. cc) fits.0 fits.1;
       narrow = narrow;
@@ -119,7 +114,7 @@ reached-outcome s plain None is reached =
 reached-enqueue : (s : State) (works : List Node) → IsReached s → IsPlain works → IsReached (enqueued s None works).state
 reached-enqueue s works reached plain =
     subst (λ (works : List Node). IsReached (enqueued s None works).state) (sym plain.one)
-    (reached-outcome s plain (refusal_of s None (node_of plain ∷ [])) refl reached)
+    (reached-outcome s plain.request (refusal_of s None (node_of plain.request ∷ [])) plain.within plain.one_time refl reached)
 
 -- ---- the frame
 
@@ -137,8 +132,7 @@ frame-outcome s commands None works = frame-placed s commands None works
 
 pub enqueue-answered : (s : State) (batch : Batch) → IsPlain batch.works → IsAnswered s (command.Enqueue None batch)
 enqueue-answered s batch plain = record {
-  answer = (enqueued s None batch.works).reply;
-  answers = refl;
+  answered = λ no_run. ((enqueued s None batch.works).reply, refl);
   reached = λ reached. reached-enqueue s batch.works reached plain;
   frame = frame-outcome s (command.Enqueue None batch ∷ []) (refusal_of s None batch.works) batch.works;
 }

@@ -3,10 +3,10 @@ use Rattle.std.proofs.Common.{◌≡◌, ℕ, true, false, not, ◌&&◌, cond, 
 use Rattle.std.specs.List.{AllByRecursion}
 use Rattle.std.specs.Prelude.{nat_le}
 use Rattle.std.proofs.lemmas.Bool.{cond_both, and_from, and_parts, not-true}
+use Rattle.wm_conditions.specs.Met.{met}
 use Rattle.wm_machine.proofs.Lists.{All-filter, All-stored, All-weaker, Contains-from_one, find-passes, find-stored, list_any-stored}
 use Rattle.wm_machine.specs.Due.{due_of}
 use Rattle.wm_machine.specs.First.{all_met, comes_before, earlier_of, first_of, has_room, idle_instance, is_idle, is_live, is_startable, is_waiting, least}
-use Rattle.wm_machine.specs.Met.{met}
 use Rattle.wm_machine.specs.Input.{cause_in, input_of}
 use Rattle.wm_machine.specs.Runs.{start_refusal}
 use Rattle.wm_machine.specs.Valid.{HasOne}

@@ -15,13 +15,13 @@ use Rattle.wm_machine.specs.Valid.{HasOne, IsRecord}
 use Rattle.wm_machine.specs.declared.event.Cause.{Cause}
 use Rattle.wm_machine.specs.declared.event.Cause.TheVariants as cause
 use Rattle.wm_machine.specs.declared.record.Record.{Record}
-use Rattle.wm_machine.specs.declared.schedule.Period.{Period}
 use Rattle.wm_machine.specs.declared.state.State.{State}
 use Rattle.wm_merge.proofs.MergedData.{merged-data}
 use Rattle.wm_merge.specs.Merged.{answer_of, arrays, least_conflict, merged}
 use Rattle.wm_merge.specs.Overwriting.{overwritten}
 use Rattle.wm_merge.specs.declared.fault.MergeFault.{MergeFault}
 use Rattle.wm_merge.specs.declared.fault.MergeFault.TheVariants as fault
+use Rattle.wm_schedule.specs.declared.schedule.Period.{Period}
 
 -- ---- it is Data
 

@@ -17,6 +17,7 @@ pub mod Roles
 pub mod Rows
 pub mod Runnings
 pub mod Serials
+pub mod Settings
 pub mod StartFailures
 pub mod Starts
 pub mod Steps

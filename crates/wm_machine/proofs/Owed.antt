@@ -9,10 +9,10 @@ use Rattle.wm_machine.specs.declared.command.Command.{Command}
 use Rattle.wm_machine.specs.declared.reply.Reply.{Reply}
 use Rattle.wm_machine.specs.declared.state.State.{State}
 
--- of a command: it has a reply, keeps what holds of the states that are reached, and changes neither runs nor instances
+-- of a command: where no run is unreturned it has a reply, and it keeps what holds of the states that are reached, and changes neither runs
+-- nor instances
 pub record IsAnswered (s : State) (asked : Command) : Type 0 where
-  pub answer : Reply
-  pub answers : Answers s asked answer
+  pub answered : s.runs ≡ [] → (answer : Reply) × Answers s asked answer
   pub reached : IsReached s → IsReached (after_command s asked)
   pub frame : untouched (after_command s asked) (asked ∷ []) ≡ untouched s (asked ∷ [])
 

@@ -4,23 +4,22 @@ use Rattle.std.specs.List.{AllByRecursion}
 use Rattle.std.proofs.lemmas.Bool.{false≢true}
 use Rattle.wm_data.specs.Size.{IsData}
 use Rattle.wm_data.specs.declared.data.DataEntry.{DataEntry}
-use Rattle.wm_data.specs.declared.merger.Merger.{Merger}
 use Rattle.wm_machine.proofs.Lists.{All-weaker}
 use Rattle.wm_machine.specs.Closed.{closed}
 use Rattle.wm_machine.specs.Ends.{succeeded}
 use Rattle.wm_machine.specs.Enqueued.{placed_record}
 use Rattle.wm_machine.specs.First.{is_waiting}
-use Rattle.wm_machine.specs.Limits.{FitsRow, IsShortText}
+use Rattle.wm_machine.specs.Limits.{FitsRow}
 use Rattle.wm_machine.specs.Narrow.{IsNarrowRecord}
-use Rattle.wm_machine.specs.Requests.{IsRequest, plain_request}
 use Rattle.wm_machine.specs.Runs.{started}
 use Rattle.wm_machine.specs.Valid.{ArePriorSound, IsAttemptIn, IsOfKind, IsOutputIn, IsRecord}
 use Rattle.wm_machine.specs.declared.record.How.TheVariants as how
 use Rattle.wm_machine.specs.declared.record.Phase.{Phase}
 use Rattle.wm_machine.specs.declared.record.Phase.TheVariants as phase
 use Rattle.wm_machine.specs.declared.record.Record.{Record}
-use Rattle.wm_machine.specs.declared.request.Node.{Node}
 use Rattle.wm_machine.specs.declared.state.State.{State}
+use Rattle.wm_request.specs.Requests.{IsRequest, RequestFields}
+use Rattle.wm_request.specs.declared.request.Node.{Node}
 
 -- no entry is Data
 IsData-empty : IsData []
@@ -45,15 +44,12 @@ output-waiting (phase.Done how) output waits is = absurd (false≢true waits)
 
 -- a change that keeps the numbers of a record keeps them within the limits of a row
 FitsRow-kept : (work changed : Record) → changed.seq ≡ work.seq → changed.prior ≡ work.prior → changed.generation ≡ work.generation
-    → changed.enqueued_at ≡ work.enqueued_at → changed.request ≡ work.request → FitsRow work → FitsRow changed
-FitsRow-kept work changed seq prior generation enqueued_at request fits = record {
+    → changed.enqueued_at ≡ work.enqueued_at → FitsRow work → FitsRow changed
+FitsRow-kept work changed seq prior generation enqueued_at fits = record {
   seq = rw seq fits.seq;
   prior = rw prior fits.prior;
   generation = rw generation fits.generation;
   enqueued_at = rw enqueued_at fits.enqueued_at;
-  delay = rw request fits.delay;
-  wait = rw request fits.wait;
-  period = rw request fits.period;
 }
 
 -- one-time work that has run no period has run none after a change either
@@ -65,7 +61,7 @@ IsOfKind-one_time work changed one_time same kind =
 pub IsRecord-started : (work : Record) → is_waiting work.phase ≡ true → IsNarrowRecord work → IsRecord work → IsRecord (started work)
 IsRecord-started work waits narrow is = record {
   number = is.number;
-  fits = FitsRow-kept work (started work) refl refl refl refl refl is.fits;
+  fits = FitsRow-kept work (started work) refl refl refl refl is.fits;
   name = is.name;
   request = is.request;
   prior = is.prior;
@@ -81,7 +77,7 @@ IsRecord-started work waits narrow is = record {
 pub IsRecord-failed : (work : Record) → IsNarrowRecord work → IsRecord work → IsRecord (closed how.Failed work)
 IsRecord-failed work narrow is = record {
   number = is.number;
-  fits = FitsRow-kept work (closed how.Failed work) refl refl refl refl refl is.fits;
+  fits = FitsRow-kept work (closed how.Failed work) refl refl refl refl is.fits;
   name = is.name;
   request = is.request;
   prior = is.prior;
@@ -98,7 +94,7 @@ pub IsRecord-succeeded : (output : List DataEntry) (work : Record) → IsData ou
     → IsRecord (succeeded output work)
 IsRecord-succeeded output work gave running narrow is = record {
   number = is.number;
-  fits = FitsRow-kept work (succeeded output work) refl refl refl refl refl is.fits;
+  fits = FitsRow-kept work (succeeded output work) refl refl refl refl is.fits;
   name = is.name;
   request = is.request;
   prior = is.prior;
@@ -111,52 +107,35 @@ IsRecord-succeeded output work gave running narrow is = record {
   progress = refl;
 }
 
-IsRequest-plain : (id class : List ℕ) (input : List DataEntry) (merger : Merger) → length id ≡ 16 → IsShortText class → IsData input
-    → IsRequest (plain_request id class input merger)
-IsRequest-plain id class input merger sixteen short data_is = record {
-  id = sixteen;
-  class = short;
-  input = data_is;
-  tags = record { few = omega arith; short = tt; ascending = tt };
-  least_wait = omega arith;
-  most_wait = omega arith;
-  delay = omega arith;
-  period = tt;
-}
+-- the work of a batch that names no prerequisite
+abbrev pub node_of : RequestFields → Node
+node_of request = record { request = request; after = [] }
 
--- the work of a plain batch
-abbrev pub plain_node : List ℕ → List ℕ → List DataEntry → Merger → Node
-plain_node id class input merger = record { request = plain_request id class input merger; after = [] }
-
-pub IsRecord-placed : (s : State) (id class : List ℕ) (input : List DataEntry) (merger : Merger) → length id ≡ 16 → IsShortText class → IsData input
-    → 1 ≤ s.next → s.next + 1 ≤ 2 ^ 53 → s.now < 2 ^ 53 → IsRecord (placed_record s None (plain_node id class input merger))
-IsRecord-placed s id class input merger sixteen short data_is first next now = record {
+pub IsRecord-placed : (s : State) (request : RequestFields) → IsRequest request → request.period ≡ None → 1 ≤ s.next → s.next + 1 ≤ 2 ^ 53
+    → s.now < 2 ^ 53 → IsRecord (placed_record s None (node_of request))
+IsRecord-placed s request is one_time first next now = record {
   number = first;
   fits = record {
     seq = omega arith;
     prior = λ k d below. absurd (omega arith);
     generation = omega arith;
     enqueued_at = now;
-    delay = omega arith;
-    wait = omega arith;
-    period = tt;
   };
   name = tt;
-  request = IsRequest-plain id class input merger sixteen short data_is;
+  request = is;
   prior = record { few = omega arith; different = tt; earlier = tt };
   attempt = omega arith;
   started = tt;
   backoff_n = omega arith;
   runs = omega arith;
-  kind = refl;
+  kind = rw one_time refl;
   output = refl;
   progress = refl;
 }
 
-pub IsNarrowRecord-placed : (s : State) (id class : List ℕ) (input : List DataEntry) (merger : Merger)
-    → IsNarrowRecord (placed_record s None (plain_node id class input merger))
-IsNarrowRecord-placed s id class input merger = record {
-  one_time = refl;
+pub IsNarrowRecord-placed : (s : State) (request : RequestFields) → request.period ≡ None → IsNarrowRecord (placed_record s None (node_of request))
+IsNarrowRecord-placed s request one_time = record {
+  one_time = one_time;
   no_prerequisite = refl;
   no_retry = refl;
 }

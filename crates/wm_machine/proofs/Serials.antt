@@ -1,5 +1,5 @@
 -- A log in serial order, with more events.
-use Rattle.std.proofs.Common.{◌≡◌, ℕ, ◌≤◌, List, [], ◌∷◌, ◌++◌, length, sym, ◌∙◌, ap, subst}
+use Rattle.std.proofs.Common.{◌≡◌, ℕ, ◌≤◌, List, [], ◌∷◌, ◌++◌, length, sym, ◌∙◌, ap, subst, arith}
 use Rattle.std.specs.List.{AllByRecursion}
 use Rattle.wm_machine.proofs.Commands.{answered}
 use Rattle.wm_machine.proofs.Drains.{AreInTurn-append, commands_of-append, goes_on, Replay-append}
@@ -53,15 +53,16 @@ begun lines left first now log built whole replays reached few order may =
     }
 
 -- no event yet: the first line comes at once
-unbegun : (asked : Command) (lines : List Command) (first : State) → AllByRecursion IsBuilt (asked ∷ lines) → IsReached first → length first.runs ≤ 1
+unbegun : (asked : Command) (lines : List Command) (first : State) → AllByRecursion IsBuilt (asked ∷ lines) → IsReached first → first.runs ≡ []
     → BeginsSerial (asked ∷ lines) first []
-unbegun asked lines first built reached few =
-    let answer = answered first asked built.0 in
-    let e = event.Command 0 asked answer.answer in
-    let legal : Legal first e = (built.0, answer.answers) in
+unbegun asked lines first built reached no_run =
+    let owed = answered first asked built.0 in
+    let answer = owed.answered no_run in
+    let e = event.Command 0 asked answer.0 in
+    let legal : Legal first e = (built.0, answer.1) in
     let rest =
     goes_on lines (after first e) built.1 (IsReached-after first e reached legal)
-    (subst (λ (runs : List Run). length runs ≤ 1) (sym (ap (λ (f : Frame). f.runs) answer.frame)) few) in
+    (subst (λ (runs : List Run). length runs ≤ 1) (sym (ap (λ (f : Frame). f.runs) owed.frame ∙ no_run)) (omega arith)) in
     record {
       rest = e ∷ rest.log;
       last = rest.last;
@@ -75,14 +76,14 @@ unbegun asked lines first built reached few =
 
 -- a log in serial order with at most one unreturned run goes on to the log of a whole serial run
 goes-on : (lines left : List Command) (first now : State) (log : List Event) → AllByRecursion IsBuilt left → lines ≡ commands_of log ++ left
-    → Replay first log now → IsReached now → length now.runs ≤ 1 → AreInOrder lines first log → BeginsSerial lines first log
-goes-on [] left first now log built whole replays reached few order = begun [] left first now log built whole replays reached few order tt
-goes-on (asked ∷ lines) left first now [] built whole replays reached few order =
-    unbegun asked lines first (subst (AllByRecursion IsBuilt) (sym whole) built) (subst IsReached replays reached) (subst (λ s. length s.runs ≤ 1) replays few)
-goes-on (asked ∷ lines) left first now (e ∷ log) built whole replays reached few order =
+    → first.runs ≡ [] → Replay first log now → IsReached now → length now.runs ≤ 1 → AreInOrder lines first log → BeginsSerial lines first log
+goes-on [] left first now log built whole rest replays reached few order = begun [] left first now log built whole replays reached few order tt
+goes-on (asked ∷ lines) left first now [] built whole rest replays reached few order =
+    unbegun asked lines first (subst (AllByRecursion IsBuilt) (sym whole) built) (subst IsReached replays reached) rest
+goes-on (asked ∷ lines) left first now (e ∷ log) built whole rest replays reached few order =
     begun (asked ∷ lines) left first now (e ∷ log) built whole replays reached few order tt
 
 pub BeginsSerial-goes-on : (lines left : List Command) (first now : State) (log : List Event) → AllByRecursion IsBuilt left → lines ≡ commands_of log ++ left
-    → Replay first log now → Valid now → IsNarrow now → length now.runs ≤ 1 → AreInOrder lines first log → BeginsSerial lines first log
-BeginsSerial-goes-on lines left first now log built whole replays valid narrow few order =
-    goes-on lines left first now log built whole replays (record { valid = valid; narrow = narrow }) few order
+    → first.runs ≡ [] → Replay first log now → Valid now → IsNarrow now → length now.runs ≤ 1 → AreInOrder lines first log → BeginsSerial lines first log
+BeginsSerial-goes-on lines left first now log built whole rest replays valid narrow few order =
+    goes-on lines left first now log built whole rest replays (record { valid = valid; narrow = narrow }) few order

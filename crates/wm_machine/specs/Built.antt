@@ -1,23 +1,15 @@
 -- What is built of the commands. Each step of the work widens it.
-use Rattle.std.specs.Prelude.{◌≡◌, ℕ, List, [], ◌∷◌, length}
-use Rattle.wm_data.specs.Size.{IsData}
-use Rattle.wm_data.specs.declared.data.DataEntry.{DataEntry}
-use Rattle.wm_data.specs.declared.merger.Merger.{Merger}
-use Rattle.wm_machine.specs.Limits.{IsShortText}
-use Rattle.wm_machine.specs.Requests.{plain_request}
-use Rattle.wm_machine.specs.declared.request.Node.{Node}
+use Rattle.std.specs.Prelude.{◌≡◌, List, [], ◌∷◌, None}
 use Rattle.wm_machine.specs.declared.state.WorkQuery.{WorkQuery}
+use Rattle.wm_request.specs.Requests.{IsRequest, RequestFields}
+use Rattle.wm_request.specs.declared.request.Node.{Node}
 
--- one work without a prerequisite, with every default but its input and merger, and within the limits
+-- one one-time work without a prerequisite, within the limits of a request
 pub record IsPlain (works : List Node) : Type 0 where
-  pub id : List ℕ
-  pub class : List ℕ
-  pub input : List DataEntry
-  pub merger : Merger
-  pub id_is : length id ≡ 16
-  pub class_is : IsShortText class
-  pub input_is : IsData input
-  pub one : works ≡ (record { request = plain_request id class input merger; after = [] }) ∷ []
+  pub request : RequestFields
+  pub within : IsRequest request
+  pub one_time : request.period ≡ None
+  pub one : works ≡ (record { request = request; after = [] }) ∷ []
 
 -- a query that names nothing, which matches all
 pub record NamesNothing (query : WorkQuery) : Type 0 where

@@ -12,9 +12,9 @@ use Rattle.wm_machine.specs.declared.event.End.TheVariants.{Success, Failure, Re
 use Rattle.wm_machine.specs.declared.record.How.TheVariants as how
 use Rattle.wm_machine.specs.declared.record.Phase.TheVariants as phase
 use Rattle.wm_machine.specs.declared.record.Record.{Record}
-use Rattle.wm_machine.specs.declared.schedule.Period.{Period}
 use Rattle.wm_machine.specs.declared.state.Run.{Run}
 use Rattle.wm_machine.specs.declared.state.State.{State}
+use Rattle.wm_schedule.specs.declared.schedule.Period.{Period}
 use Rattle.wm_worker.specs.declared.answer.Given.{Given}
 use Rattle.wm_worker.specs.declared.answer.Given.TheVariants as given
 

@@ -13,8 +13,8 @@ use Rattle.wm_machine.specs.declared.record.Record.{Record}
 use Rattle.wm_machine.specs.declared.reply.Refusal.{Refusal}
 use Rattle.wm_machine.specs.declared.reply.Refusal.TheVariants as refusal
 use Rattle.wm_machine.specs.declared.reply.Reply.TheVariants as reply
-use Rattle.wm_machine.specs.declared.request.Node.{Node}
 use Rattle.wm_machine.specs.declared.state.State.{State}
+use Rattle.wm_request.specs.declared.request.Node.{Node}
 
 -- ---- the checks, in their order
 

@@ -5,11 +5,11 @@ use Rattle.wm_data.specs.declared.data.DataEntry.{DataEntry}
 use Rattle.wm_machine.specs.declared.event.Cause.{Cause}
 use Rattle.wm_machine.specs.declared.event.Cause.TheVariants as cause
 use Rattle.wm_machine.specs.declared.record.Record.{Record}
-use Rattle.wm_machine.specs.declared.schedule.Period.{Period}
 use Rattle.wm_machine.specs.declared.state.State.{State}
 use Rattle.wm_merge.specs.Merged.{merged}
 use Rattle.wm_merge.specs.declared.fault.MergeFault.{MergeFault}
 use Rattle.wm_merge.specs.declared.fault.MergeFault.TheVariants as fault
+use Rattle.wm_schedule.specs.declared.schedule.Period.{Period}
 
 -- the record of this number
 abbrev pub work_numbered : ℕ → List Record → Option Record

@@ -9,7 +9,6 @@ pub mod Frame
 pub mod Input
 pub mod Limits
 pub mod Log
-pub mod Met
 pub mod Narrow
 pub mod Opened
 pub mod Outcome
@@ -17,11 +16,11 @@ pub mod Queried
 pub mod Quiet
 pub mod Replay
 pub mod Replied
-pub mod Requests
 pub mod Role
 pub mod Rows
 pub mod Runs
 pub mod Serial
+pub mod Settings
 pub mod Shown
 pub mod Step
 pub mod Valid

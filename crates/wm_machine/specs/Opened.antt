@@ -1,8 +1,8 @@
 -- The state that a store opens to. What becomes of running work is this project's own choice.
 use Rattle.std.specs.Prelude.{◌≡◌, ℕ, ◌+◌, max, false, List, [], ◌∷◌, map}
+use Rattle.wm_conditions.specs.declared.conditions.TheConstants.Conditions.{OPENING}
 use Rattle.wm_keeper.specs.declared.row.Row.{Row}
 use Rattle.wm_machine.specs.Rows.{row_of}
-use Rattle.wm_machine.specs.declared.conditions.TheConstants.Conditions.{OPENING}
 use Rattle.wm_machine.specs.declared.record.Phase.{Phase}
 use Rattle.wm_machine.specs.declared.record.Phase.TheVariants as phase
 use Rattle.wm_machine.specs.declared.record.Record.{Record}

@@ -1,20 +1,20 @@
 -- The rows that are kept for a state. The form is this project's own choice.
 use Rattle.std.specs.Prelude.{ℕ, ◌+◌, ℤ, pos, Bool, List, map, Option, Some, None, if◌then◌else◌}
+use Rattle.wm_conditions.specs.declared.conditions.Constraints.{Constraints}
+use Rattle.wm_conditions.specs.declared.conditions.Network.{Network}
+use Rattle.wm_conditions.specs.declared.conditions.Network.TheVariants as network
 use Rattle.wm_data.specs.DataJson.{data_text}
 use Rattle.wm_data.specs.declared.merger.Merger.{Merger}
 use Rattle.wm_data.specs.declared.merger.Merger.TheVariants.{Overwriting, ArrayCreating}
 use Rattle.wm_keeper.specs.declared.row.Row.{Row}
-use Rattle.wm_machine.specs.declared.conditions.Constraints.{Constraints}
-use Rattle.wm_machine.specs.declared.conditions.Network.{Network}
-use Rattle.wm_machine.specs.declared.conditions.Network.TheVariants as network
 use Rattle.wm_machine.specs.declared.record.How.TheVariants as how
 use Rattle.wm_machine.specs.declared.record.Phase.{Phase}
 use Rattle.wm_machine.specs.declared.record.Phase.TheVariants as phase
 use Rattle.wm_machine.specs.declared.record.Record.{Record}
-use Rattle.wm_machine.specs.declared.schedule.BackoffPolicy.{BackoffPolicy}
-use Rattle.wm_machine.specs.declared.schedule.BackoffPolicy.TheVariants.{Linear, Exponential}
-use Rattle.wm_machine.specs.declared.schedule.Period.{Period}
 use Rattle.wm_machine.specs.declared.state.State.{State}
+use Rattle.wm_schedule.specs.declared.schedule.BackoffPolicy.{BackoffPolicy}
+use Rattle.wm_schedule.specs.declared.schedule.BackoffPolicy.TheVariants.{Linear, Exponential}
+use Rattle.wm_schedule.specs.declared.schedule.Period.{Period}
 
 abbrev pub kind_code : Option Period → ℤ
 kind_code None = pos 0

@@ -4,16 +4,16 @@ use Rattle.std.specs.List.{AllByRecursion, list_any}
 use Rattle.wm_collections.specs.Lists.{AllLater}
 use Rattle.wm_data.specs.Size.{IsData}
 use Rattle.wm_data.specs.declared.data.DataEntry.{DataEntry}
-use Rattle.wm_machine.specs.Limits.{FitsRow, IsShortText}
-use Rattle.wm_machine.specs.Requests.{IsRequest}
+use Rattle.wm_machine.specs.Limits.{FitsRow}
 use Rattle.wm_machine.specs.declared.record.How.TheVariants as how
 use Rattle.wm_machine.specs.declared.record.Phase.{Phase}
 use Rattle.wm_machine.specs.declared.record.Phase.TheVariants as phase
 use Rattle.wm_machine.specs.declared.record.Record.{Record}
-use Rattle.wm_machine.specs.declared.schedule.Period.{Period}
 use Rattle.wm_machine.specs.declared.state.Instance.{Instance}
 use Rattle.wm_machine.specs.declared.state.Run.{Run}
 use Rattle.wm_machine.specs.declared.state.State.{State}
+use Rattle.wm_request.specs.Requests.{IsRequest, IsShortText}
+use Rattle.wm_schedule.specs.declared.schedule.Period.{Period}
 
 -- ---- a record by itself
 

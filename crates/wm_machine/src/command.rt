@@ -1,9 +1,9 @@
-use crate::conditions::Conditions;
-use crate::request::{Batch, Request};
 use crate::state::WorkQuery;
 use std::alloc::{AllocError, Global};
 use uuid::Uuid;
 use wm_collections::{Replica, Text};
+use wm_conditions::Conditions;
+use wm_request::{Batch, Request};
 
 /// What an enqueue does where its unique name is taken, after `androidx.work.ExistingWorkPolicy`
 /// and `ExistingPeriodicWorkPolicy`.

@@ -21,12 +21,12 @@ pub fn every_step_keeps_valid()
         → IsNarrow (after s e) }
 {}
 
-/// A log in serial order, with at most one run unreturned at its end, goes on to the log of a whole
-/// serial run over its lines and those that are left. So a run that stops early, whatever stopped
+/// A log in serial order from a state without runs, with at most one run unreturned at its end, goes
+/// on to the log of a whole serial run over its lines and those that are left. So a run that stops early, whatever stopped
 /// it, leaves a front of a serial log.
 pub fn serial_order_goes_on()
     ensures { (lines left : List Command) (first now : State) (log : List Event)
         → AllByRecursion IsBuilt left → lines ≡ commands_of log ++ left
-        → Replay first log now → Valid now → IsNarrow now → length now.runs ≤ 1
+        → first.runs ≡ [] → Replay first log now → Valid now → IsNarrow now → length now.runs ≤ 1
         → AreInOrder lines first log → BeginsSerial lines first log }
 {}

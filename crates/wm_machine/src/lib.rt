@@ -8,21 +8,15 @@
 #![tactic(auto)]
 
 pub mod command;
-pub mod conditions;
 pub mod event;
 pub mod laws;
 pub mod record;
 pub mod reply;
-pub mod request;
-pub mod schedule;
 pub mod state;
 
 pub use command::{Command, LineFault, Policy, Target, UniqueName};
-pub use conditions::{Conditions, Constraints, Network};
 pub use event::{Cause, End, Event};
 pub use record::{How, Phase, Record, Shown};
 pub use reply::{Applied, Counts, Refusal, Reply, WorkInfo};
-pub use request::{Batch, Node, Request};
-pub use schedule::{Backoff, BackoffPolicy, Period};
 pub use state::{Instance, Run, State, WorkQuery};
 pub use wm_worker::Kind;

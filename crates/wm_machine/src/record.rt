@@ -1,7 +1,7 @@
-use crate::request::Request;
 use std::alloc::{AllocError, Global};
 use wm_collections::{Items, Replica, Text};
 use wm_data::Data;
+use wm_request::Request;
 
 /// How a finished work ended.
 #[derive(Clone, Copy, Debug, PartialEq, Eq)]

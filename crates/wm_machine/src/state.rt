@@ -1,8 +1,8 @@
-use crate::conditions::{Conditions, Constraints};
 use crate::record::{Record, Shown};
 use std::alloc::{AllocError, Global};
 use uuid::Uuid;
 use wm_collections::{Items, Replica, Text};
+use wm_conditions::{Conditions, Constraints};
 use wm_data::Data;
 use wm_worker::Kind;
 

@@ -5,9 +5,11 @@ ghost use Rattle.wm_machine.specs.Rows.{row_of, kind_code, period_code, flex_cod
 use std::alloc::{AllocError, Global};
 use uuid::Uuid;
 use wm_collections::{Items, Replica};
+use wm_conditions::{Constraints, Network};
 use wm_data::Merger;
 use wm_keeper::Row;
-use wm_machine::{BackoffPolicy, Constraints, How, Network, Period, Phase, Record};
+use wm_machine::{How, Phase, Record};
+use wm_schedule::{BackoffPolicy, Period};
 
 /// The form of the rows that are written.
 const ROW_VERSION: i64 = 1;
@@ -127,30 +129,32 @@ pub fn to_row(alloc: Global, work: &Record) -> Result<Row, AllocError>
     ensures { IfOk result (λ row. row ≡ row_of work.now) }
 {
     let request = &work.request;
+    let (constraints, backoff) = (request.constraints(), request.backoff());
+    let period = request.period();
     Ok(Row {
         version: ROW_VERSION,
         seq: stored_number(work.seq),
-        id: stored_id(alloc, &request.id)?,
+        id: stored_id(alloc, &request.id())?,
         name: work.name.replica(alloc)?,
-        class: request.class.replica(alloc)?,
-        kind: kind_code(&request.period),
-        period: period_code(&request.period),
-        flex: flex_code(&request.period),
-        delay: stored_number(request.initial_delay),
-        policy: policy_code(request.backoff.policy),
-        wait: stored_number(request.backoff.delay),
-        merger: merger_code(request.merger),
-        network: network_code(request.constraints.network),
-        flags: flags_code(&request.constraints),
+        class: request.class().replica(alloc)?,
+        kind: kind_code(&period),
+        period: period_code(&period),
+        flex: flex_code(&period),
+        delay: stored_number(request.initial_delay()),
+        policy: policy_code(backoff.policy),
+        wait: stored_number(backoff.delay),
+        merger: merger_code(request.merger()),
+        network: network_code(constraints.network),
+        flags: flags_code(&constraints),
         phase: phase_code(work.phase),
         attempt: i64::from(work.attempt),
         backoff_n: i64::from(work.backoff_n),
         runs: i64::from(work.runs),
         generation: stored_number(work.generation),
         enqueued_at: stored_number(work.enqueued_at),
-        input: request.input.to_text(alloc)?,
+        input: request.input().to_text(alloc)?,
         output: work.output.to_text(alloc)?,
         prior: stored_numbers(alloc, work.prior.as_slice())?,
-        tags: request.tags.replica(alloc)?,
+        tags: request.tags().replica(alloc)?,
     })
 }

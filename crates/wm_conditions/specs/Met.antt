@@ -1,9 +1,9 @@
 -- When the conditions meet the constraints of a work. After the guide's page "Define work requests", "Work constraints".
 use Rattle.std.specs.Prelude.{◌&&◌, ◌||◌, Bool, true, not}
-use Rattle.wm_machine.specs.declared.conditions.Conditions.{Conditions}
-use Rattle.wm_machine.specs.declared.conditions.Constraints.{Constraints}
-use Rattle.wm_machine.specs.declared.conditions.Network.{Network}
-use Rattle.wm_machine.specs.declared.conditions.Network.TheVariants as network
+use Rattle.wm_conditions.specs.declared.conditions.Conditions.{Conditions}
+use Rattle.wm_conditions.specs.declared.conditions.Constraints.{Constraints}
+use Rattle.wm_conditions.specs.declared.conditions.Network.{Network}
+use Rattle.wm_conditions.specs.declared.conditions.Network.TheVariants as network
 
 abbrev pub network_met : Network → Conditions → Bool
 network_met network.NotRequired d = true

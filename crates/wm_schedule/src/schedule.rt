@@ -27,3 +27,18 @@ pub struct Period {
     pub period: u64,
     pub flex: u64,
 }
+
+/// What the moment at which a work is due depends on. Moments and delays are in milliseconds.
+#[derive(Clone, Copy, Debug, PartialEq, Eq)]
+pub struct Times {
+    /// The moment from which its delay counts.
+    pub enqueued_at: u64,
+    pub initial_delay: u64,
+    pub backoff: Backoff,
+    /// The attempt that its backoff counts from, 0 where there is none.
+    pub backoff_n: u32,
+    /// How often it repeats; none for one-time work.
+    pub period: Option<Period>,
+    /// How many periods of it have run.
+    pub runs: u32,
+}

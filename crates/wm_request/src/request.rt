@@ -1,0 +1,147 @@
+ghost use Rattle.std.specs.Prelude.{◌≡◌, IfSome};
+ghost use Rattle.wm_request.specs.Requests.{AreTags, IsShortText, IsWithin};
+ghost use Rattle.wm_schedule.specs.Clamped.{IsBackoffDelay, IsPeriod};
+ghost use Rattle.wm_schedule.specs.Moments.{IsDelay};
+
+use std::alloc::{AllocError, Global};
+use std::marker::Model;
+use uuid::Uuid;
+use wm_collections::{Items, Replica, Text};
+use wm_conditions::Constraints;
+use wm_data::{Data, Merger};
+use wm_schedule::{Backoff, Period};
+
+/// What is asked for, after `androidx.work.WorkRequest`. Its type keeps the limits of a request: of
+/// its class, its tags and its delays. A [`Builder`](crate::Builder) makes it. A contract sees it
+/// as the record of its fields.
+#[derive(Debug, Drop)]
+pub struct Request {
+    pub(crate) id: Uuid,
+    pub(crate) class: Text,
+    pub(crate) input: Data,
+    pub(crate) merger: Merger,
+    pub(crate) tags: Items<Text>,
+    pub(crate) constraints: Constraints,
+    pub(crate) backoff: Backoff,
+    pub(crate) initial_delay: u64,
+    pub(crate) period: Option<Period>,
+}
+
+impl Model for Request {
+    ghost use Rattle.wm_request.specs.Requests.{RequestFields, IsWithin};
+
+    ghost Value = { RequestFields };
+
+    ghost view = { λ r. record {
+      id = r.id;
+      class = r.class;
+      input = r.input;
+      merger = r.merger;
+      tags = r.tags;
+      constraints = r.constraints;
+      backoff = r.backoff;
+      initial_delay = r.initial_delay;
+      period = r.period;
+    } };
+
+    ghost invariant = { λ r. IsWithin r.class r.tags r.backoff r.initial_delay r.period };
+}
+
+impl Request {
+    /// The id by which callers name the work.
+    pub fn id(&self) -> Uuid
+        ensures { result ≡ self.now.id }
+    {
+        self.id
+    }
+
+    /// The class of workers that run it, of 1 to 200 bytes.
+    pub fn class(&self) -> &Text
+        ensures class { result.now ≡ self.now.class }
+        ensures short { IsShortText self.now.class }
+    {
+        &self.class
+    }
+
+    /// Its own input.
+    pub fn input(&self) -> &Data
+        ensures { result.now ≡ self.now.input }
+    {
+        &self.input
+    }
+
+    /// How its input and its prerequisites' outputs become one.
+    pub fn merger(&self) -> Merger
+        ensures { result ≡ self.now.merger }
+    {
+        self.merger
+    }
+
+    /// Its tags, ascending and different, at most 32 of 1 to 200 bytes each.
+    pub fn tags(&self) -> &Items<Text>
+        ensures tags { result.now ≡ self.now.tags }
+        ensures within { AreTags self.now.tags }
+    {
+        &self.tags
+    }
+
+    /// What has to hold for it to run.
+    pub fn constraints(&self) -> Constraints
+        ensures { result ≡ self.now.constraints }
+    {
+        self.constraints
+    }
+
+    /// How long it waits after a retry. Its delay is from 10,000 to 18,000,000 ms.
+    pub fn backoff(&self) -> Backoff
+        ensures backoff { result ≡ self.now.backoff }
+        ensures within { IsBackoffDelay self.now.backoff.delay }
+    {
+        self.backoff
+    }
+
+    /// How long it waits at first, in milliseconds, at most 315,360,000,000.
+    pub fn initial_delay(&self) -> u64
+        ensures delay { result ≡ self.now.initial_delay }
+        ensures within { IsDelay self.now.initial_delay }
+    {
+        self.initial_delay
+    }
+
+    /// How often it repeats; none for one-time work. The period is at most 315,360,000,000 ms.
+    pub fn period(&self) -> Option<Period>
+        ensures period { result ≡ self.now.period }
+        ensures within { IfSome self.now.period (λ period. IsPeriod period × IsDelay period.period) }
+    {
+        self.period
+    }
+}
+
+impl Replica for Request {
+    fn replica(&self, alloc: Global) -> Result<Request, AllocError> {
+        Ok(Request {
+            id: self.id,
+            class: self.class.replica(alloc)?,
+            input: self.input.replica(alloc)?,
+            merger: self.merger,
+            tags: self.tags.replica(alloc)?,
+            constraints: self.constraints,
+            backoff: self.backoff,
+            initial_delay: self.initial_delay,
+            period: self.period,
+        })
+    }
+}
+
+/// A work of a batch: its request, and the ids of its prerequisites.
+#[derive(Debug, Drop)]
+pub struct Node {
+    pub request: Request,
+    pub after: Items<Uuid>,
+}
+
+/// Works that are enqueued together.
+#[derive(Debug, Drop)]
+pub struct Batch {
+    pub works: Items<Node>,
+}
