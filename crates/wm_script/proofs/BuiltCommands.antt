@@ -1,26 +1,32 @@
 -- The commands of lines are built.
-use Rattle.std.proofs.Common.{◌≡◌, ℕ, ◌+◌, zero, suc, Bool, true, false, cond, List, [], ◌∷◌, length, map, Option, Some, None, IfSome, option_and_then, unwrap_or, Result, Ok, Err, IfOk, refl, ap, ◌∙◌, add-one, rules, arith}
-use Rattle.std.specs.Prelude.{◌&&◌, codes, nat_le, nat_lt}
-use Rattle.std.specs.List.{AllByRecursion}
+use Rattle.std.proofs.Common.{◌≡◌, ℕ, ◌+◌, ◌^◌, ◌<◌, zero, suc, Bool, true, false, cond, List, [], ◌∷◌, filter_map, length, map, Option, Some, None, IfSome, is_some, option_and_then, unwrap_or, Result, Ok, Err, IfOk, refl, sym, ap, ◌∙◌, add-one, rules, arith}
+use Rattle.std.specs.Prelude.{codes, nat_lt}
+use Rattle.std.specs.List.{AllByRecursion, cons_option, list_all}
 use Rattle.std.specs.Map.{lookup}
 use Rattle.std.specs.Str.{bytes_eq}
-use Rattle.std.proofs.lemmas.Bool.{and_parts, leb-true, ltb-true}
+use Rattle.std.proofs.lemmas.Bool.{and_parts, ltb-true, true≢false}
 use Rattle.std.proofs.lemmas.List.{length-append}
 use Rattle.serde_json.specs.Data as json
-use Rattle.serde_json.specs.Find.{as_str, get}
+use Rattle.serde_json.specs.Find.{as_array, as_number, as_str, as_u64, get}
 use Rattle.uuid.specs.Text.{by_index, parsed}
 use Rattle.wm_data.proofs.ReadData.{IsData-read_data}
+use Rattle.wm_data.specs.DataRead.{item_list}
 use Rattle.wm_data.specs.Size.{IsData}
 use Rattle.wm_data.specs.declared.data.DataEntry.{DataEntry}
 use Rattle.wm_data.specs.declared.fault.DataFault.{DataFault}
 use Rattle.wm_data.specs.declared.fault.DataFault.TheVariants as data_fault
-use Rattle.wm_machine.specs.Limits.{IsShortText}
 use Rattle.wm_machine.specs.Outcome.{IsBuilt}
 use Rattle.wm_machine.specs.declared.command.Command.{Command}
 use Rattle.wm_machine.specs.declared.command.Command.TheVariants.{Faulty}
 use Rattle.wm_machine.specs.declared.command.LineFault.TheVariants.{NotBuilt}
-use Rattle.wm_script.specs.Lines.{asked_by, command_of, commands_in, cut, enqueue_with, enqueued_work, enqueue_of, input_in, query_of, readers, value_of}
-use Rattle.wm_script.specs.Works.{class_at, id_at, work_of, WorkForm}
+use Rattle.wm_request.proofs.Limits.{built_of-cases, IsShortText-is_short}
+use Rattle.wm_request.proofs.Tags.{AreSortedTags-with_tag}
+use Rattle.wm_request.specs.Building.{built_of, is_short, with_tag, IsBuilding}
+use Rattle.wm_request.specs.Requests.{AreSortedTags, IsShortText}
+use Rattle.wm_schedule.proofs.Clamps.{IsBackoffDelay-clamped}
+use Rattle.wm_script.specs.Lines.{asked_by, command_of, command_with, commands_in, conditions_of, cut, enqueue_with, enqueued_work, enqueue_of, input_in, moment_of, query_of, readers, value_of}
+use Rattle.wm_script.specs.Values.{are_short, short_in, texts_at, texts_of, whole_at, whole_in}
+use Rattle.wm_script.specs.Works.{asked_for, backoff_at, class_at, constraints_at, id_at, merger_at, with_tags, work_of, WorkForm}
 
 -- ---- what holds of a value where there is one
 
@@ -51,56 +57,101 @@ HasSixteen-parsed : (text : List ℕ) → IfSome (parsed text) HasSixteen
 unfolding HasSixteen
 HasSixteen-parsed text = search (rules, either, length-by_index)
 
+-- ---- tags
+
+short_text : (text : List ℕ) (b : Bool) → is_short text ≡ b → is_some (cond b (Some text) None) ≡ true → IsShortText text
+short_text text true is some = IsShortText-is_short text is
+short_text text false is some = absurd (true≢false (sym some))
+
+tag_then : (tag : Option (List ℕ)) (tags : List (List ℕ)) → is_some (option_and_then (λ text. cond (is_short text) (Some text) None) tag) ≡ true
+    → AllByRecursion IsShortText tags → AllByRecursion IsShortText (cons_option tag tags)
+tag_then None tags some short = absurd (true≢false (sym some))
+tag_then (Some text) tags some short = (short_text text (is_short text) refl some, short)
+
+-- items that are all short texts
+short-texts : (items : List json.Data) → list_all (λ item. is_some (short_in item)) items ≡ true → AllByRecursion IsShortText (filter_map as_str items)
+unfolding short_in
+short-texts [] all = tt
+short-texts (item ∷ items) all =
+    let parts = and_parts (is_some (short_in item)) (list_all (λ item. is_some (short_in item)) items) all in
+    tag_then (as_str item) (filter_map as_str items) parts.0 (short-texts items parts.1)
+
+AreShort : List (List ℕ) → Type 0
+AreShort texts = AllByRecursion IsShortText texts
+
+short-if : (items : json.Items) (b : Bool) → are_short items ≡ b → IfSome (cond b (Some (texts_of items)) None) AreShort
+unfolding AreShort
+short-if items true is = short-texts (item_list items) is
+short-if items false is = tt
+
+AreShort-texts_at : (value : Option json.Data) → IfSome (texts_at value) AreShort
+unfolding texts_at AreShort
+AreShort-texts_at None = tt
+AreShort-texts_at (Some d) = then_any AreShort _ (as_array d) (λ items. short-if items (are_short items) refl)
+
 -- ---- a work
 
-IsShortText-if : (text : List ℕ) (b : Bool) → (nat_lt 0 (length text) && nat_le (length text) 200) ≡ b → IfSome (cond b (Some text) None) IsShortText
-IsShortText-if text true is =
-    let parts = and_parts (nat_lt 0 (length text)) (nat_le (length text) 200) is in
-    let more = ltb-true 0 (length text) parts.0 in
-    record { not_empty = omega arith; short = leb-true (length text) 200 parts.1 }
-IsShortText-if text false is = tt
-
--- a work of an id and a class that a request may have
+-- a work of an id and of tags that a request may have
 record IsWithin (work : WorkForm) : Type 0 where
   id : HasSixteen work.id
-  class : IsShortText work.class
+  tags : AreShort work.tags
 
 HasSixteen-id_at : (value : Option json.Data) → IfSome (id_at value) HasSixteen
 unfolding id_at
 HasSixteen-id_at value = search (rules, then_any, HasSixteen-parsed)
 
-IsShortText-class_at : (value : Option json.Data) → IfSome (class_at value) IsShortText
-unfolding class_at
-IsShortText-class_at value =
-    then_any IsShortText _ value (λ d.
-    then_any IsShortText _ (as_str d) (λ text. IsShortText-if text (nat_lt 0 (length text) && nat_le (length text) 200) refl))
-
 id_then : {B : Type 0} (P : B → Type 0) (f : List ℕ → Option B) (value : Option json.Data) → ((id : List ℕ) → HasSixteen id → IfSome (f id) P)
     → IfSome (option_and_then f (id_at value)) P
 id_then P f value = then_of HasSixteen P f (id_at value) (HasSixteen-id_at value)
 
-class_then : {B : Type 0} (P : B → Type 0) (f : List ℕ → Option B) (value : Option json.Data) → ((class : List ℕ) → IsShortText class → IfSome (f class) P)
-    → IfSome (option_and_then f (class_at value)) P
-class_then P f value = then_of IsShortText P f (class_at value) (IsShortText-class_at value)
+tags_then : {B : Type 0} (P : B → Type 0) (f : List (List ℕ) → Option B) (value : Option json.Data)
+    → ((tags : List (List ℕ)) → AreShort tags → IfSome (f tags) P) → IfSome (option_and_then f (texts_at value)) P
+tags_then P f value = then_of AreShort P f (texts_at value) (AreShort-texts_at value)
 
 IsWithin-work_of : (d : json.Data) → IfSome (work_of d) IsWithin
 unfolding work_of
-IsWithin-work_of d = search (rules, either, id_then, class_then, then_any)
+IsWithin-work_of d =
+    either IsWithin _ _ None
+    (id_then IsWithin _ (get (codes "id") d) (λ id sixteen.
+    then_any IsWithin _ (class_at (get (codes "class") d)) (λ class.
+    then_any IsWithin _ (merger_at (get (codes "merger") d)) (λ merger.
+    tags_then IsWithin _ (get (codes "tags") d) (λ tags short.
+    then_any IsWithin _ (constraints_at (get (codes "constraints") d)) (λ constraints.
+    then_any IsWithin _ (backoff_at (get (codes "backoff") d)) (λ backoff.
+    then_any IsWithin _ (whole_at 0 (get (codes "delay") d)) (λ delay. record { id = sixteen; tags = short })))))))) tt
+
+-- the tags of a work are short
+pub short_tags : (d : json.Data) → IfSome (work_of d) (λ work. AllByRecursion IsShortText work.tags)
+unfolding AreShort
+short_tags d = tags_of (work_of d) (IsWithin-work_of d) where
+  tags_of : (o : Option WorkForm) → IfSome o IsWithin → IfSome o (λ work. AllByRecursion IsShortText work.tags)
+  tags_of None h = tt
+  tags_of (Some work) h = h.tags
 
 -- ---- commands
 
+sorted_tags : (tags all : List (List ℕ)) → AllByRecursion IsShortText tags → AreSortedTags all → AreSortedTags (with_tags tags all)
+sorted_tags [] all short sorted = sorted
+sorted_tags (tag ∷ tags) all short sorted = sorted_tags tags (with_tag tag all) short.1 (AreSortedTags-with_tag tag all short.0 sorted)
+
+-- the command of a work with this input
+IsBuilt-request : (work : WorkForm) (input : List DataEntry) → IsWithin work → IsData input → IsBuilt (command_with (built_of (asked_for work input)))
+unfolding HasSixteen AreShort
+IsBuilt-request work input within is_data =
+    let building : IsBuilding (asked_for work input).tags (asked_for work input).backoff None = record {
+      tags_are = sorted_tags work.tags [] within.tags (record { short = tt; ascending = tt });
+      backoff_is = IsBackoffDelay-clamped work.backoff.delay;
+      period_is = tt;
+    } in
+    built_of-cases (λ built. IsBuilt (command_with built)) (asked_for work input) building tt tt tt (λ limits. record {
+      request = asked_for work input;
+      within = record { id = within.id; input = is_data; within = limits };
+      one_time = refl;
+      one = refl;
+    })
+
 IsBuilt-enqueue_with : (work : WorkForm) (read : Result (List DataEntry) DataFault) → IsWithin work → IfOk read IsData → IsBuilt (enqueue_with work read)
-unfolding HasSixteen
-IsBuilt-enqueue_with work (Ok input) within is_data = record {
-  id = work.id;
-  class = work.class;
-  input = input;
-  merger = work.merger;
-  id_is = within.id;
-  class_is = within.class;
-  input_is = is_data;
-  one = refl;
-}
+IsBuilt-enqueue_with work (Ok input) within is_data = IsBuilt-request work input within is_data
 IsBuilt-enqueue_with work (Err data_fault.EmptyKey) within is_data = tt
 IsBuilt-enqueue_with work (Err (data_fault.BadData key)) within is_data = tt
 IsBuilt-enqueue_with work (Err (data_fault.TooLarge size)) within is_data = tt
@@ -116,6 +167,29 @@ IsBuilt-enqueue_of d =
     then_of IsWithin IsBuilt _ (enqueued_work d) (search (rules, either, then_any, IsWithin-work_of))
     (λ work within. IsBuilt-enqueue_with work (input_in work.input) within (IsData-input_in work.input))
 
+IsMoment : ℕ → Type 0
+IsMoment at = at < 2 ^ 53
+
+IsMoment-if : (n : ℕ) (b : Bool) → nat_lt n (2 ^ 53) ≡ b → IfSome (cond b (Some n) None) IsMoment
+unfolding IsMoment
+IsMoment-if n true is = ltb-true n (2 ^ 53) is
+IsMoment-if n false is = tt
+
+IsMoment-whole_in : (d : json.Data) → IfSome (whole_in d) IsMoment
+unfolding whole_in
+IsMoment-whole_in d =
+    then_any IsMoment _ (as_number d) (λ number. then_any IsMoment _ (as_u64 number) (λ n. IsMoment-if n (nat_lt n (2 ^ 53)) refl))
+
+IsBuilt-moment_of : (d : json.Data) → IfSome (moment_of d) IsBuilt
+unfolding moment_of IsMoment
+IsBuilt-moment_of d =
+    either IsBuilt _ _ None
+    (then_any IsBuilt _ (get (codes "at") d) (λ value. then_of IsMoment IsBuilt _ (whole_in value) (IsMoment-whole_in value) (λ at below. below))) tt
+
+IsBuilt-conditions_of : (d : json.Data) → IfSome (conditions_of d) IsBuilt
+unfolding conditions_of
+IsBuilt-conditions_of d = search (rules, either, then_any)
+
 IsBuilt-query_of : (d : json.Data) → IfSome (query_of d) IsBuilt
 unfolding query_of
 IsBuilt-query_of d = search (rules, either)
@@ -126,7 +200,7 @@ AreBuilt table = AllByRecursion (λ reader. (d : json.Data) → IfSome (reader.1
 
 AreBuilt-readers : AreBuilt readers
 unfolding AreBuilt
-AreBuilt-readers = (IsBuilt-enqueue_of, (IsBuilt-query_of, tt))
+AreBuilt-readers = (IsBuilt-enqueue_of, (IsBuilt-moment_of, (IsBuilt-conditions_of, (IsBuilt-query_of, tt))))
 
 found : (b : Bool) (reader : json.Data → Option Command) (rest : Option (json.Data → Option Command)) (d : json.Data) → IfSome (reader d) IsBuilt
     → IfSome (option_and_then (λ reader. reader d) rest) IsBuilt → IfSome (option_and_then (λ reader. reader d) (cond b (Some reader) rest)) IsBuilt

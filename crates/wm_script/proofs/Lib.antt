@@ -3,3 +3,4 @@ pub mod BuiltCommands
 pub mod LinesLemmas
 pub mod LogTexts
 pub mod TextsLemmas
+pub mod ValuesLemmas

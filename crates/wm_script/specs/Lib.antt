@@ -2,4 +2,5 @@ pub mod Limits
 pub mod Lines
 pub mod Objects
 pub mod Texts
+pub mod Values
 pub mod Works

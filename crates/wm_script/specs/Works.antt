@@ -1,19 +1,25 @@
 -- What a line says of a work. The grammar is this project's own choice; which id a text names is `uuid`'s reading.
-use Rattle.std.specs.Prelude.{ℕ, ◌&&◌, List, [], ◌∷◌, length, codes, nat_lt, nat_le, if◌then◌else◌, Option, Some, None, option_and_then, option_map}
-use Rattle.std.specs.Map.{lookup}
-use Rattle.std.specs.Str.{bytes_eq}
+use Rattle.std.specs.Prelude.{ℕ, List, [], ◌∷◌, codes, if◌then◌else◌, Option, Some, None, option_map}
 use Rattle.serde_json.specs.Data as json
 use Rattle.serde_json.specs.Find.{as_str, get}
-use Rattle.serde_json.specs.View.{view}
+use Rattle.serde_json.specs.View.{items_view, view}
 use Rattle.uuid.specs.Text.{parsed}
+use Rattle.wm_conditions.specs.declared.conditions.Constraints.{Constraints}
+use Rattle.wm_conditions.specs.declared.conditions.Network.{Network}
+use Rattle.wm_conditions.specs.declared.conditions.Network.TheVariants as network
+use Rattle.wm_conditions.specs.declared.conditions.TheConstants.Constraints.{NONE}
+use Rattle.wm_data.specs.declared.data.DataEntry.{DataEntry}
 use Rattle.wm_data.specs.declared.merger.Merger.{Merger}
 use Rattle.wm_data.specs.declared.merger.Merger.TheVariants.{Overwriting, ArrayCreating}
+use Rattle.wm_request.specs.Building.{backoff_of, with_tag}
+use Rattle.wm_request.specs.Requests.{RequestFields}
+use Rattle.wm_schedule.specs.declared.schedule.Backoff.{Backoff}
+use Rattle.wm_schedule.specs.declared.schedule.BackoffPolicy.{BackoffPolicy}
+use Rattle.wm_schedule.specs.declared.schedule.BackoffPolicy.TheVariants.{Linear, Exponential}
+use Rattle.wm_schedule.specs.declared.schedule.TheConstants.Backoff.{DEFAULT}
 use Rattle.wm_script.specs.Objects.{has_only}
+use Rattle.wm_script.specs.Values.{◌>>=◌, flag_at, named_at, texts_at, texts_of, whole_at}
 use Rattle.wm_script.specs.declared.works.WorkForm.{WorkForm as ReadWork}
-
-infixl 10 ◌>>=◌
-abbrev pub ◌>>=◌ : {A B : Type 0} → Option A → (A → Option B) → Option B
-o >>= f = option_and_then f o
 
 -- ---- the keys of a work: the reader of each, with what an absent one stands for
 
@@ -24,27 +30,71 @@ id_at value = do
   text ← as_str d
   parsed text
 
--- a class: a text of 1 to 200 bytes; there has to be one
+-- a class: a text; an empty one, which is no class, where there is none
 unfoldable pub class_at : Option json.Data → Option (List ℕ)
-class_at value = do
-  d ← value
-  text ← as_str d
-  if nat_lt 0 (length text) && nat_le (length text) 200 then Some text else None
+class_at None = Some []
+class_at (Some d) = as_str d
 
 abbrev pub mergers : List (List ℕ × Merger)
 mergers = (codes "OVERWRITING", Overwriting) ∷ (codes "ARRAY", ArrayCreating) ∷ []
 
 -- a merger by its name; OVERWRITING where there is none
 unfoldable pub merger_at : Option json.Data → Option Merger
-merger_at None = Some Overwriting
-merger_at (Some d) = do
-  name ← as_str d
-  lookup (bytes_eq name) mergers
+merger_at value = named_at mergers Overwriting value
+
+abbrev pub networks : List (List ℕ × Network)
+networks =
+    (codes "NOT_REQUIRED", network.NotRequired) ∷
+    (codes "CONNECTED", network.Connected) ∷
+    (codes "UNMETERED", network.Unmetered) ∷
+    (codes "NOT_ROAMING", network.NotRoaming) ∷
+    (codes "METERED", network.Metered) ∷ []
+
+-- a network by its name; NOT_REQUIRED where there is none
+unfoldable pub network_at : Option json.Data → Option Network
+network_at value = named_at networks network.NotRequired value
+
+abbrev pub constraint_keys : List (List ℕ)
+constraint_keys =
+    codes "battery_not_low" ∷ codes "charging" ∷ codes "idle" ∷ codes "network" ∷ codes "storage_not_low" ∷ []
+
+-- constraints, each of which may be absent; no constraint where there are none
+unfoldable pub constraints_at : Option json.Data → Option Constraints
+constraints_at None = Some NONE
+constraints_at (Some d) = if has_only constraint_keys d then (do
+  network ← network_at (get (codes "network") d)
+  charging ← flag_at (get (codes "charging") d)
+  idle ← flag_at (get (codes "idle") d)
+  battery_not_low ← flag_at (get (codes "battery_not_low") d)
+  storage_not_low ← flag_at (get (codes "storage_not_low") d)
+  Some (record {
+    network = network;
+    charging = charging;
+    idle = idle;
+    battery_not_low = battery_not_low;
+    storage_not_low = storage_not_low;
+  })) else None
+
+abbrev pub backoff_policies : List (List ℕ × BackoffPolicy)
+backoff_policies = (codes "LINEAR", Linear) ∷ (codes "EXPONENTIAL", Exponential) ∷ []
+
+-- a policy by its name; EXPONENTIAL where there is none
+unfoldable pub backoff_policy_at : Option json.Data → Option BackoffPolicy
+backoff_policy_at value = named_at backoff_policies Exponential value
+
+-- a backoff with its delay as it is asked for; EXPONENTIAL from 30,000 ms where there is none
+unfoldable pub backoff_at : Option json.Data → Option Backoff
+backoff_at None = Some DEFAULT
+backoff_at (Some d) = if has_only (codes "delay" ∷ codes "policy" ∷ []) d then (do
+  policy ← backoff_policy_at (get (codes "policy") d)
+  delay ← whole_at 30000 (get (codes "delay") d)
+  Some (record { policy = policy; delay = delay })) else None
 
 -- ---- a work
 
 abbrev pub work_keys : List (List ℕ)
-work_keys = codes "class" ∷ codes "id" ∷ codes "input" ∷ codes "merger" ∷ []
+work_keys =
+    codes "backoff" ∷ codes "class" ∷ codes "constraints" ∷ codes "delay" ∷ codes "id" ∷ codes "input" ∷ codes "merger" ∷ codes "tags" ∷ []
 
 -- a work as it stands in a line, where its input may be anything
 pub record WorkForm : Type 0 where
@@ -52,6 +102,10 @@ pub record WorkForm : Type 0 where
   pub class : List ℕ
   pub input : Option json.Data
   pub merger : Merger
+  pub tags : List (List ℕ)
+  pub constraints : Constraints
+  pub backoff : Backoff
+  pub delay : ℕ
 
 -- the same, of a work that points to the value of its line
 abbrev pub form_of : ReadWork → WorkForm
@@ -60,6 +114,10 @@ form_of work = record {
   class = work.class.now;
   input = option_map (λ input. view input.now) work.input;
   merger = work.merger;
+  tags = texts_of (items_view work.tags.now);
+  constraints = work.constraints;
+  backoff = work.backoff;
+  delay = work.delay;
 }
 
 -- the work that an object is, which has no other key than these
@@ -68,4 +126,38 @@ work_of d = if has_only work_keys d then (do
   id ← id_at (get (codes "id") d)
   class ← class_at (get (codes "class") d)
   merger ← merger_at (get (codes "merger") d)
-  Some (record { id = id; class = class; input = get (codes "input") d; merger = merger })) else None
+  tags ← texts_at (get (codes "tags") d)
+  constraints ← constraints_at (get (codes "constraints") d)
+  backoff ← backoff_at (get (codes "backoff") d)
+  delay ← whole_at 0 (get (codes "delay") d)
+  Some (record {
+    id = id;
+    class = class;
+    input = get (codes "input") d;
+    merger = merger;
+    tags = tags;
+    constraints = constraints;
+    backoff = backoff;
+    delay = delay;
+  })) else None
+
+-- ---- its request
+
+-- tags with more of them, one after another
+abbrev pub with_tags : List (List ℕ) → List (List ℕ) → List (List ℕ)
+with_tags [] tags = tags
+with_tags (tag ∷ more) tags = with_tags more (with_tag tag tags)
+
+-- what is asked for by a work with this input
+abbrev pub asked_for : WorkForm → List DataEntry → RequestFields
+asked_for work input = record {
+  id = work.id;
+  class = work.class;
+  input = input;
+  merger = work.merger;
+  tags = with_tags work.tags [];
+  constraints = work.constraints;
+  backoff = backoff_of work.backoff.policy work.backoff.delay;
+  initial_delay = work.delay;
+  period = None;
+}

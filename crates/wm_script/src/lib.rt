@@ -1,14 +1,16 @@
 //! The lines of a script and the texts of a log.
 //!
 //! [`read_lines`] reads the commands of a script's bytes, and [`event_text`] is what is written for
-//! an event. Their definitions are `specs/Lines.antt`, with `Limits`, `Works` and `Objects`, and
+//! an event. Their definitions are `specs/Lines.antt`, with `Limits`, `Works`, `Objects` and `Values`, and
 //! `specs/Texts.antt`.
 #![tactic(auto)]
 
 pub mod limits;
 pub mod lines;
 mod objects;
+mod requests;
 pub mod texts;
+mod values;
 mod works;
 
 pub use limits::{Limit, MAX_LINE_BYTES, MAX_LINES, MAX_SCRIPT_BYTES, ScriptFault, first_limit};

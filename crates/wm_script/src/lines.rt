@@ -6,22 +6,25 @@ ghost use Rattle.std.specs.Str.{bytes_eq};
 ghost use Rattle.serde_json.specs.View.{view, items_view};
 ghost use Rattle.wm_data.specs.Entries.{IsFaultOf as IsDataFaultOf};
 ghost use Rattle.wm_data.specs.Size.{IsData};
-ghost use Rattle.wm_machine.specs.Limits.{IsShortText};
 ghost use Rattle.wm_machine.specs.Outcome.{IsBuilt};
-ghost use Rattle.wm_machine.specs.Requests.{plain_request};
+ghost use Rattle.wm_request.specs.Building.{built_of};
+ghost use Rattle.wm_request.specs.Requests.{IsShortText};
 ghost use Rattle.wm_script.specs.Limits.{first_limit, IsFaultOf};
-ghost use Rattle.wm_script.specs.Works.{form_of};
-ghost use Rattle.wm_script.specs.Lines.{asked_by, command_of, commands_in, cut, enqueue_command, enqueue_of, enqueue_with, enqueued_work, input_in, query_of, query_of_all, readers, single, value_of};
+ghost use Rattle.wm_script.specs.Works.{asked_for, form_of};
+ghost use Rattle.wm_script.specs.Lines.{asked_by, command_of, command_with, commands_in, conditions_of, cut, enqueue_command, enqueue_of, enqueue_with, enqueued_work, input_in, moment_of, query_of, query_of_all, readers, single, value_of};
 
 use crate::limits::{Limit, ScriptFault, first_limit};
 use crate::objects::has_only;
+use crate::requests::request_of;
+use crate::values::{flag_at, whole_in};
 use crate::works::{WorkForm, work_of};
 use serde_json::Value;
 use std::alloc::{AllocError, Global};
-use uuid::Uuid;
-use wm_collections::{Items, Text};
-use wm_data::{Data, DataFault, Merger};
-use wm_machine::{Backoff, Batch, Command, Constraints, LineFault, Node, Request, WorkQuery};
+use wm_collections::Items;
+use wm_conditions::Conditions;
+use wm_data::{Data, DataFault};
+use wm_machine::{Command, LineFault, WorkQuery};
+use wm_request::{Batch, Node, Request, RequestFault};
 
 /// The byte that ends a line.
 const LF: u8 = b'\n';
@@ -124,6 +127,8 @@ fn command_named(alloc: Global, name: &str, value: &Value) -> Result<Option<Comm
 {
     match name {
         "enqueue" => enqueue_of(alloc, value),
+        "moment" => Ok(moment_of(value)),
+        "conditions" => Ok(conditions_of(value)),
         "query" => Ok(query_of(alloc, value)),
         _ => Ok(None),
     }
@@ -135,7 +140,7 @@ fn enqueue_of(alloc: Global, value: &Value) -> Result<Option<Command>, AllocErro
     ensures { IfOk result (λ command. command ≡ enqueue_of (view value.now)) }
 {
     match enqueued_work(value) {
-        Some(work) => Ok(Some(enqueue_with(alloc, work)?)),
+        Some(work) => Ok(Some(enqueue_with(alloc, &work)?)),
         None => Ok(None),
     }
 }
@@ -143,7 +148,8 @@ fn enqueue_of(alloc: Global, value: &Value) -> Result<Option<Command>, AllocErro
 /// The work of an enqueue of one work.
 #[tactic(auto, unfolding(crate::specs::Lines::enqueued_work))]
 fn enqueued_work(value: &Value) -> Option<WorkForm<'_>>
-    ensures { option_map form_of result ≡ enqueued_work (view value.now) }
+    ensures work { option_map form_of result ≡ enqueued_work (view value.now) }
+    ensures short { IfSome result (λ work. AllByRecursion IsShortText (form_of work).tags) }
 {
     if !has_only(value, &["cmd", "works"]) {
         return None;
@@ -162,20 +168,33 @@ fn single(items: &[Value]) -> Option<&Value>
     Some(item)
 }
 
-/// The command of a work, or the fault of its input.
-fn enqueue_with(alloc: Global, work: WorkForm<'_>) -> Result<Command, AllocError>
+/// The command of a work, or its fault: that of its input, and then that of its request.
+fn enqueue_with(alloc: Global, work: &WorkForm<'_>) -> Result<Command, AllocError>
+    requires { AllByRecursion IsShortText (form_of work.now).tags }
     ensures { IfOk result (λ command. command
-        ≡ enqueue_with (form_of work.entry) (input_in (form_of work.entry).input)) }
+        ≡ enqueue_with (form_of work.entry.now) (input_in (form_of work.entry.now).input)) }
 {
     match input_in(alloc, work.input) {
-        Ok(input) => enqueue_command(
-            alloc,
-            request_of(alloc, work.id, work.class, input, work.merger)?,
-        ),
+        Ok(input) => requested(alloc, work, input),
         Err(DataFault::EmptyKey) => Ok(Command::Faulty(LineFault::EmptyKey)),
         Err(DataFault::BadData { key }) => Ok(Command::Faulty(LineFault::BadData { key })),
         Err(DataFault::TooLarge { size }) => Ok(Command::Faulty(LineFault::TooLarge { size })),
         Err(DataFault::Memory) => Err(AllocError),
+    }
+}
+
+/// The command of a work with this input, or the fault of its request.
+fn requested(alloc: Global, work: &WorkForm<'_>, input: Data) -> Result<Command, AllocError>
+    requires { AllByRecursion IsShortText (form_of work.now).tags }
+    ensures { IfOk result (λ command. command
+        ≡ command_with (built_of (asked_for (form_of work.entry.now) input))) }
+{
+    match request_of(alloc, work, input) {
+        Ok(request) => enqueue_command(alloc, request),
+        Err(RequestFault::NoClass) => Ok(Command::Faulty(LineFault::NoClass)),
+        Err(RequestFault::TooManyTags) => Ok(Command::Faulty(LineFault::TooManyTags)),
+        Err(RequestFault::DelayTooLong) => Ok(Command::Faulty(LineFault::DelayTooLong)),
+        Err(RequestFault::Memory) => Err(AllocError),
     }
 }
 
@@ -188,29 +207,6 @@ fn input_in(alloc: Global, input: Option<&Value>) -> Result<Data, DataFault>
         Some(json) => Data::from_json(alloc, json),
         None => Ok(Data::empty(alloc)),
     }
-}
-
-/// The request for a work with this input and merger, and with every other default.
-fn request_of(
-    alloc: Global,
-    id: Uuid,
-    class: &str,
-    input: Data,
-    merger: Merger,
-) -> Result<Request, AllocError>
-    ensures { IfOk result (λ request. request ≡ plain_request id class.now input merger) }
-{
-    Ok(Request {
-        id,
-        class: Text::from_str(alloc, class)?,
-        input,
-        merger,
-        tags: Items::new(alloc),
-        constraints: Constraints::NONE,
-        backoff: Backoff::DEFAULT,
-        initial_delay: 0,
-        period: None,
-    })
 }
 
 /// The command that enqueues one work.
@@ -226,6 +222,48 @@ fn enqueue_command(alloc: Global, request: Request) -> Result<Command, AllocErro
         named: None,
         batch: Batch { works },
     })
+}
+
+/// The command that sets the moment.
+#[tactic(auto, unfolding(crate::specs::Lines::moment_of))]
+fn moment_of(value: &Value) -> Option<Command>
+    ensures { result ≡ moment_of (view value.now) }
+{
+    if !has_only(value, &["at", "cmd"]) {
+        return None;
+    }
+    Some(Command::Moment(whole_in(value.get("at")?)?))
+}
+
+/// The command that sets all seven conditions, each false where it is absent.
+#[tactic(auto, unfolding(crate::specs::Lines::conditions_of))]
+fn conditions_of(value: &Value) -> Option<Command>
+    ensures { result ≡ conditions_of (view value.now) }
+{
+    if !has_only(
+        value,
+        &[
+            "battery_low",
+            "charging",
+            "cmd",
+            "connected",
+            "idle",
+            "metered",
+            "roaming",
+            "storage_low",
+        ],
+    ) {
+        return None;
+    }
+    Some(Command::Conditions(Conditions {
+        connected: flag_at(value.get("connected"))?,
+        metered: flag_at(value.get("metered"))?,
+        roaming: flag_at(value.get("roaming"))?,
+        charging: flag_at(value.get("charging"))?,
+        idle: flag_at(value.get("idle"))?,
+        battery_low: flag_at(value.get("battery_low"))?,
+        storage_low: flag_at(value.get("storage_low"))?,
+    }))
 }
 
 /// The query without further keys, which names nothing.

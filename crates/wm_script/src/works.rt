@@ -1,33 +1,55 @@
 //! A work as it stands in a line.
 ghost use Rattle.std.specs.Prelude.{◌≡◌, option_map, IfSome};
+ghost use Rattle.std.specs.List.{AllByRecursion};
 ghost use Rattle.serde_json.specs.View.{view};
-ghost use Rattle.wm_machine.specs.Limits.{IsShortText};
-ghost use Rattle.wm_script.specs.Works.{class_at, id_at, form_of, merger_at, work_of};
+ghost use Rattle.wm_request.specs.Requests.{IsShortText};
+ghost use Rattle.wm_script.specs.Works.{backoff_at, backoff_policy_at, class_at, constraints_at, form_of, id_at, merger_at, network_at, work_of};
 
 use crate::objects::has_only;
+use crate::values::{flag_at, texts_at, whole_at};
 use serde_json::Value;
 use uuid::Uuid;
+use wm_conditions::{Constraints, Network};
 use wm_data::Merger;
-
-/// The most bytes that a class has.
-const MAX_CLASS_BYTES: usize = 200;
+use wm_schedule::{Backoff, BackoffPolicy};
 
 /// A work as it stands in a line, where its input may be anything.
 #[derive(Clone, Copy)]
 pub struct WorkForm<'v> {
     pub id: Uuid,
+    /// A text of any length; empty where there is none.
     pub class: &'v str,
     pub input: Option<&'v Value>,
     pub merger: Merger,
+    /// Texts of 1 to 200 bytes, in any order.
+    pub tags: &'v [Value],
+    pub constraints: Constraints,
+    /// With its delay as it is asked for, in milliseconds.
+    pub backoff: Backoff,
+    /// The initial delay, in milliseconds.
+    pub delay: u64,
 }
 
 /// The work that an object is, which has no other key than these. A key that is absent has its
 /// default.
 #[tactic(auto, unfolding(crate::specs::Works::work_of))]
 pub fn work_of(value: &Value) -> Option<WorkForm<'_>>
-    ensures { option_map form_of result ≡ work_of (view value.now) }
+    ensures work { option_map form_of result ≡ work_of (view value.now) }
+    ensures short { IfSome result (λ work. AllByRecursion IsShortText (form_of work).tags) }
 {
-    if !has_only(value, &["class", "id", "input", "merger"]) {
+    if !has_only(
+        value,
+        &[
+            "backoff",
+            "class",
+            "constraints",
+            "delay",
+            "id",
+            "input",
+            "merger",
+            "tags",
+        ],
+    ) {
         return None;
     }
     Some(WorkForm {
@@ -35,6 +57,10 @@ pub fn work_of(value: &Value) -> Option<WorkForm<'_>>
         class: class_at(value.get("class"))?,
         input: value.get("input"),
         merger: merger_at(value.get("merger"))?,
+        tags: texts_at(value.get("tags"))?,
+        constraints: constraints_at(value.get("constraints"))?,
+        backoff: backoff_at(value.get("backoff"))?,
+        delay: whole_at(0, value.get("delay"))?,
     })
 }
 
@@ -46,17 +72,15 @@ fn id_at(value: Option<&Value>) -> Option<Uuid>
     Uuid::try_parse(value?.as_str()?).ok()
 }
 
-/// A class: a text of 1 to [`MAX_CLASS_BYTES`] bytes. There has to be one.
+/// A class: a text, and an empty one where there is none.
 #[tactic(auto, unfolding(crate::specs::Works::class_at))]
 fn class_at(value: Option<&Value>) -> Option<&str>
     ensures { option_map (λ class. class.now) result
         ≡ class_at (option_map (λ found. view found.now) value.entry) }
 {
-    let class = value?.as_str()?;
-    if class.is_empty() || class.len() > MAX_CLASS_BYTES {
-        None
-    } else {
-        Some(class)
+    match value {
+        Some(value) => value.as_str(),
+        None => Some(""),
     }
 }
 
@@ -73,4 +97,83 @@ fn merger_at(value: Option<&Value>) -> Option<Merger>
         "ARRAY" => Some(Merger::ArrayCreating),
         _ => None,
     }
+}
+
+/// A network by its name; NotRequired where there is none.
+#[tactic(auto, unfolding(crate::specs::Works::network_at))]
+fn network_at(value: Option<&Value>) -> Option<Network>
+    ensures { result ≡ network_at (option_map (λ found. view found.now) value.entry) }
+{
+    let Some(value) = value else {
+        return Some(Network::NotRequired);
+    };
+    match value.as_str()? {
+        "NOT_REQUIRED" => Some(Network::NotRequired),
+        "CONNECTED" => Some(Network::Connected),
+        "UNMETERED" => Some(Network::Unmetered),
+        "NOT_ROAMING" => Some(Network::NotRoaming),
+        "METERED" => Some(Network::Metered),
+        _ => None,
+    }
+}
+
+/// Constraints, each of which may be absent; none is set where there are none.
+#[tactic(auto, unfolding(crate::specs::Works::constraints_at))]
+fn constraints_at(value: Option<&Value>) -> Option<Constraints>
+    ensures { result ≡ constraints_at (option_map (λ found. view found.now) value.entry) }
+{
+    let Some(value) = value else {
+        return Some(Constraints::NONE);
+    };
+    if !has_only(
+        value,
+        &[
+            "battery_not_low",
+            "charging",
+            "idle",
+            "network",
+            "storage_not_low",
+        ],
+    ) {
+        return None;
+    }
+    Some(Constraints {
+        network: network_at(value.get("network"))?,
+        charging: flag_at(value.get("charging"))?,
+        idle: flag_at(value.get("idle"))?,
+        battery_not_low: flag_at(value.get("battery_not_low"))?,
+        storage_not_low: flag_at(value.get("storage_not_low"))?,
+    })
+}
+
+/// A policy by its name; Exponential where there is none.
+#[tactic(auto, unfolding(crate::specs::Works::backoff_policy_at))]
+fn backoff_policy_at(value: Option<&Value>) -> Option<BackoffPolicy>
+    ensures { result ≡ backoff_policy_at (option_map (λ found. view found.now) value.entry) }
+{
+    let Some(value) = value else {
+        return Some(BackoffPolicy::Exponential);
+    };
+    match value.as_str()? {
+        "LINEAR" => Some(BackoffPolicy::Linear),
+        "EXPONENTIAL" => Some(BackoffPolicy::Exponential),
+        _ => None,
+    }
+}
+
+/// A backoff with its delay as it is asked for; the default where there is none.
+#[tactic(auto, unfolding(crate::specs::Works::backoff_at))]
+fn backoff_at(value: Option<&Value>) -> Option<Backoff>
+    ensures { result ≡ backoff_at (option_map (λ found. view found.now) value.entry) }
+{
+    let Some(value) = value else {
+        return Some(Backoff::DEFAULT);
+    };
+    if !has_only(value, &["delay", "policy"]) {
+        return None;
+    }
+    Some(Backoff {
+        policy: backoff_policy_at(value.get("policy"))?,
+        delay: whole_at(Backoff::DEFAULT.delay, value.get("delay"))?,
+    })
 }

@@ -1,0 +1,77 @@
+//! How single values are read, and what an absent one stands for.
+ghost use Rattle.std.specs.Prelude.{◌≡◌, ◌^◌, ◌<◌, is_some, option_map, IfSome};
+ghost use Rattle.serde_json.specs.View.{view, items_view};
+ghost use Rattle.wm_script.specs.Values.{are_short, flag_at, short_in, texts_at, texts_of, whole_at, whole_in};
+
+use serde_json::Value;
+use wm_request::MAX_TEXT_BYTES;
+
+/// The number after the greatest that a line may hold.
+const NUMBERS_END: u64 = 1 << 53;
+
+/// A truth value; false where there is none.
+#[tactic(auto, unfolding(crate::specs::Values::flag_at))]
+pub fn flag_at(value: Option<&Value>) -> Option<bool>
+    ensures { result ≡ flag_at (option_map (λ found. view found.now) value.entry) }
+{
+    match value {
+        Some(value) => value.as_bool(),
+        None => Some(false),
+    }
+}
+
+/// A whole number from 0 to 2^53 - 1, which isn't written with a fraction or an exponent.
+#[tactic(auto, unfolding(crate::specs::Values::whole_in))]
+pub fn whole_in(value: &Value) -> Option<u64>
+    ensures whole { result ≡ whole_in (view value.now) }
+    ensures within { IfSome result (λ whole. whole < 2 ^ 53) }
+{
+    let whole = value.as_u64()?;
+    if whole < NUMBERS_END {
+        Some(whole)
+    } else {
+        None
+    }
+}
+
+/// Such a number, or this one where there is none.
+#[tactic(auto, unfolding(crate::specs::Values::whole_at))]
+pub fn whole_at(default: u64, value: Option<&Value>) -> Option<u64>
+    ensures { result ≡ whole_at default (option_map (λ found. view found.now) value.entry) }
+{
+    match value {
+        Some(value) => whole_in(value),
+        None => Some(default),
+    }
+}
+
+/// Whether it is a text of 1 to 200 bytes.
+#[tactic(auto, unfolding(crate::specs::Values::short_in))]
+fn is_short(value: &Value) -> bool
+    ensures { result ≡ is_some (short_in (view value.now)) }
+{
+    match value.as_str() {
+        Some(text) => !text.is_empty() && text.len() <= MAX_TEXT_BYTES,
+        None => false,
+    }
+}
+
+/// Whether each of a list's items is such a text.
+fn are_short(items: &[Value]) -> bool
+    ensures { result ≡ are_short (items_view items.now) }
+{
+    items.iter().all(is_short)
+}
+
+/// The items of a list of texts of 1 to 200 bytes; no item where there is no list.
+#[tactic(auto, unfolding(crate::specs::Values::texts_at))]
+pub fn texts_at(value: Option<&Value>) -> Option<&[Value]>
+    ensures { option_map (λ items. texts_of (items_view items.now)) result
+        ≡ texts_at (option_map (λ found. view found.now) value.entry) }
+{
+    let Some(value) = value else {
+        return Some(&[]);
+    };
+    let items = value.as_array()?.as_slice();
+    if are_short(items) { Some(items) } else { None }
+}
