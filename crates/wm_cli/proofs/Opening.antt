@@ -22,7 +22,7 @@ pub BeginsSerial-nothing : (lines : List Command) (instances : List Instance) (f
 BeginsSerial-nothing lines instances first log built fresh opened none =
     let opening = opening_state [] instances in
     rw (none, opened)
-    (BeginsSerial-goes-on lines lines opening opening [] built refl refl
+    (BeginsSerial-goes-on lines lines opening opening [] built refl refl refl
     (Valid-opening instances fresh) (IsNarrow-opening instances fresh) (omega arith) (AreInOrder-nothing lines opening))
 
 -- a run that ended early

@@ -106,9 +106,9 @@ MayGoOn-push (asked ∷ lines) (d ∷ log) e = tt
 module _ {K W B : Type 0} (held : K → Option (List Row)) (lines : List Command) (e : Event) (old new : BookState K W B)
     (step : IsOneStep held e old.table new.table) (few : length new.table.state.runs ≤ 1) where
   -- an event that keeps the order
-  GoesInOrder-event : AreInOrder lines old.table.first (old.table.log ++ e ∷ []) → GoesInOrder lines new
-  GoesInOrder-event in_order = record {
-    order = record { in_order = rw (step.first, step.appended) in_order; few_runs = few };
+  GoesInOrder-event : old.table.first.runs ≡ [] → AreInOrder lines old.table.first (old.table.log ++ e ∷ []) → GoesInOrder lines new
+  GoesInOrder-event from_rest in_order = record {
+    order = record { in_order = rw (step.first, step.appended) in_order; few_runs = few; from_rest = rw step.first from_rest };
     may_go_on = λ going. rw step.appended (MayGoOn-push lines old.table.log e);
   }
 
@@ -116,12 +116,16 @@ module _ {K W B : Type 0} (held : K → Option (List Row)) (lines : List Command
   GoesInOrder-step : Replay old.table.first old.table.log old.table.state → old.status ≡ None → IsInTurn old.table.state e → GoesInOrder lines old
       → GoesInOrder lines new
   GoesInOrder-step replays going turn goes =
-      GoesInOrder-event
+      GoesInOrder-event goes.order.from_rest
       (AreInOrder-push lines old.table.first old.table.log old.table.state e goes.order.in_order replays (goes.may_go_on going) turn)
 
 module _ {K W B : Type 0} (held : K → Option (List Row)) (lines : List Command) (old new : BookState K W B) (same : IsUntouched held old.table new.table) where
   IsInOrder-same : IsInOrder lines old → IsInOrder lines new
-  IsInOrder-same order = record { in_order = rw (same.first, same.log) order.in_order; few_runs = rw same.state order.few_runs }
+  IsInOrder-same order = record {
+    in_order = rw (same.first, same.log) order.in_order;
+    few_runs = rw same.state order.few_runs;
+    from_rest = rw same.first order.from_rest;
+  }
 
   GoesInOrder-stopped : IsSome new.status → GoesInOrder lines old → GoesInOrder lines new
   GoesInOrder-stopped stopped goes = record { order = IsInOrder-same goes.order; may_go_on = no_longer new.status stopped }
@@ -292,7 +296,7 @@ module _ {K W B : Type 0} {held : K → Option (List Row)} {old new : BookState 
   pub GoesInOrder-line : (lines : List Command) → old.status ≡ None → IsLineDone held old new → IsReady lines old → GoesInOrder lines new
   GoesInOrder-line lines going done ready =
       let e = event.Command (old.line + 1) done.command done.reply in
-      GoesInOrder-event held lines e old new done.step (rw (line_none going done) (omega arith))
+      GoesInOrder-event held lines e old new done.step (rw (line_none going done) (omega arith)) ready.order.from_rest
       (elim (ready.next going) [
         | inl quiet ↦ AreInOrder-push lines old.table.first old.table.log old.table.state e ready.order.in_order rest.replay quiet.1 quiet.0
         | inr begins ↦ rw (begins.0, begins.1, done.next) tt
@@ -327,7 +331,11 @@ IsBetweenRuns-begin begins =
 -- and in order, for its lines
 pub IsReady-begin : {K W B : Type 0} {lines : List Command} {book : BookState K W B} → IsAtBegin lines book → IsReady lines book
 IsReady-begin {lines = lines} {book = book} begins = record {
-  order = record { in_order = rw begins.log (AreInOrder-nothing lines book.table.first); few_runs = rw begins.no_run (omega arith) };
+  order = record {
+    in_order = rw begins.log (AreInOrder-nothing lines book.table.first);
+    few_runs = rw begins.no_run (omega arith);
+    from_rest = ap (λ (s : State). s.runs) (sym begins.begun) ∙ begins.no_run;
+  };
   next = λ going. inr (begins.log, begins.lines_are);
 }
 
@@ -343,12 +351,13 @@ built_left (asked ∷ done) left built = built_left done left built.1
 
 -- a log in order is that of a serial run, once all is done, and else begins one
 pub IsSerialRun-order : (lines : List Command) (ended : Status) (first last : State) (log : List Event) → AllByRecursion IsBuilt lines
-    → HasCommands lines ended log → Replay first log last → Valid last → IsNarrow last → length last.runs ≤ 1 → AreInOrder lines first log
+    → HasCommands lines ended log → first.runs ≡ [] → Replay first log last → Valid last → IsNarrow last → length last.runs ≤ 1
+    → AreInOrder lines first log
     → (ended ≡ status.Done → IsQuiet last) → IsSerialRun lines ended first log last
-IsSerialRun-order lines status.Done first last log built commands replays valid narrow few order quiet =
+IsSerialRun-order lines status.Done first last log built commands from_rest replays valid narrow few order quiet =
     record { replay = replays; commands = commands.all refl; in_order = order; quiet = quiet refl }
-IsSerialRun-order lines _ first last log built commands replays valid narrow few order quiet =
+IsSerialRun-order lines _ first last log built commands from_rest replays valid narrow few order quiet =
     let left = commands.front.0 in
     let whole = commands.front.1 in
     BeginsSerial-goes-on lines left first last log
-    (built_left (commands_of log) left (subst (AllByRecursion IsBuilt) whole built)) whole replays valid narrow few order
+    (built_left (commands_of log) left (subst (AllByRecursion IsBuilt) whole built)) whole from_rest replays valid narrow few order

@@ -37,10 +37,11 @@ KeepDiaries diary_of diaries book = book.status ≡ None → place_diaries diary
 
 -- ---- the serial order
 
--- the log is in serial order over these lines, and at most one run is unreturned
+-- the log is in serial order over these lines, from a state without runs, and at most one run is unreturned
 pub record IsInOrder {K W B : Type 0} (lines : List Command) (book : BookState K W B) : Type 0 where
   pub in_order : AreInOrder lines book.table.first book.table.log
   pub few_runs : length book.table.state.runs ≤ 1
+  pub from_rest : book.table.first.runs ≡ []
 
 -- the log is in order, and while the session goes on runs may start
 pub record GoesInOrder {K W B : Type 0} (lines : List Command) (book : BookState K W B) : Type 0 where

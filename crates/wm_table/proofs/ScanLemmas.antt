@@ -2,16 +2,9 @@
 use Rattle.std.proofs.Common.{◌≡◌, ℕ, zero, suc, ◌+◌, ◌<◌, ◌≤◌, true, List, ◌∷◌, drop, filter, get_or, length, slice_get, Option, Some, None, IfSome, MatchOption, refl, arith}
 use Rattle.std.specs.Option.{option_and_then}
 use Rattle.std.proofs.lemmas.List.{drop_more}
-use Rattle.wm_machine.specs.Due.{due_of}
 use Rattle.wm_machine.specs.First.{earlier_of, first_of, is_startable, least}
-use Rattle.wm_machine.specs.Narrow.{IsNarrowRecord}
 use Rattle.wm_machine.specs.declared.record.Record.{Record}
 use Rattle.wm_machine.specs.declared.state.State.{State}
-
--- a one-time work that isn't retried is due after its initial delay
-pub due_of-narrow : (work : Record) → IsNarrowRecord work → due_of work ≡ work.enqueued_at + work.request.initial_delay
-unfolding due_of
-due_of-narrow work narrow = rw (narrow.no_retry) (rw (narrow.one_time) refl)
 
 -- the startable work from an index on that starts next
 abbrev pub first_from : State → ℕ → Option Record

@@ -13,10 +13,11 @@ use Rattle.wm_machine.specs.declared.record.Record.{Record}
 use Rattle.wm_machine.specs.declared.reply.Reply.{Reply}
 use Rattle.wm_machine.specs.declared.state.State.{State}
 use Rattle.wm_merge.specs.declared.fault.MergeFault.{MergeFault}
-use Rattle.wm_table.specs.StepChanges.{row_changes, telling, IsStepOf}
+use Rattle.wm_table.specs.StepChanges.{row_changes, setting, telling, IsStepOf}
 use Rattle.wm_table.specs.Table.{ChangesRows, IsTicketIn}
 use Rattle.wm_table.specs.declared.table.Claim.{Claim}
 use Rattle.wm_table.specs.declared.table.Claim.TheVariants as claim
+use Rattle.wm_table.specs.declared.table.change.SettingChange.{SettingChange}
 use Rattle.wm_table.specs.declared.table.change.StepChange.{StepChange}
 use Rattle.wm_table.specs.declared.table.commands.Executed.{Executed}
 use Rattle.wm_table.specs.declared.table.starting.Claiming.{Claiming}
@@ -35,6 +36,10 @@ pub record IsExecuted (s : State) (line : ℕ) (asked : Command) (executed : Exe
 -- a command that only has a reply
 abbrev pub answering : ℕ → Command → Reply → Executed
 answering line asked answer = record { change = telling (event.Command line asked answer); reply = answer }
+
+-- a command that sets the moment or the conditions
+abbrev pub setting_by : ℕ → Command → Reply → SettingChange → Executed
+setting_by line asked answer to = record { change = setting to (event.Command line asked answer); reply = answer }
 
 -- ---- a claim
 

@@ -1,6 +1,7 @@
 -- What the change of a step makes of a state and of the rows held, and when it fits a state. This project's own choice.
 use Rattle.std.specs.Prelude.{◌≡◌, ℕ, ◌+◌, ◌^◌, ◌==◌, ◌≤◌, pos, true, false, not, List, [], ◌∷◌, ◌++◌, length, map, filter, slice_get, slice_set, Some}
 use Rattle.std.specs.List.{AllByRecursion}
+use Rattle.wm_conditions.specs.declared.conditions.Conditions.{Conditions}
 use Rattle.wm_keeper.specs.Keeper.{AreOfDifferentNumbers}
 use Rattle.wm_keeper.specs.declared.row.Change.{Change}
 use Rattle.wm_keeper.specs.declared.row.Change.TheVariants.{Put, Remove}
@@ -17,6 +18,8 @@ use Rattle.wm_machine.specs.declared.state.State.{State}
 use Rattle.wm_table.specs.declared.table.change.Replacement.{Replacement}
 use Rattle.wm_table.specs.declared.table.change.RunChange.{RunChange}
 use Rattle.wm_table.specs.declared.table.change.RunChange.TheVariants.{Unchanged, Begin, End}
+use Rattle.wm_table.specs.declared.table.change.SettingChange.{SettingChange}
+use Rattle.wm_table.specs.declared.table.change.SettingChange.TheVariants as set
 use Rattle.wm_table.specs.declared.table.change.StepChange.{StepChange}
 
 -- ---- the state
@@ -53,6 +56,15 @@ next_run_by Unchanged next = next
 next_run_by (Begin run) next = next + 1
 next_run_by (End run instance) next = next
 
+-- the moment and the conditions, where they are set
+abbrev pub now_by : SettingChange → ℕ → ℕ
+now_by (set.Moment at) now = at
+now_by _ now = now
+
+abbrev pub conditions_by : SettingChange → Conditions → Conditions
+conditions_by (set.Conditions conditions) before = conditions
+conditions_by _ before = before
+
 -- the state after a change: works without the removed ones, with the replaced ones in place and the placed ones at the end
 abbrev pub changed_state : StepChange → State → State
 changed_state change s = record s {
@@ -61,6 +73,8 @@ changed_state change s = record s {
   instances = instances_by change.run s.instances;
   next = s.next + length change.placed;
   next_run = next_run_by change.run s.next_run;
+  now = now_by change.setting s.now;
+  conditions = conditions_by change.setting s.conditions;
 }
 
 -- ---- the rows
@@ -113,12 +127,16 @@ pub record IsStepOf (s : State) (change : StepChange) : Type 0 where
 
 -- only the log changes
 abbrev pub telling : Event → StepChange
-telling event = record { replaced = []; removed = []; placed = []; run = Unchanged; event = event }
+telling event = record { replaced = []; removed = []; placed = []; run = Unchanged; setting = set.Unchanged; event = event }
+
+-- the moment or the conditions are set
+abbrev pub setting : SettingChange → Event → StepChange
+setting to event = record (telling event) { setting = to }
 
 -- one record is replaced
 abbrev pub replacing : ℕ → Record → RunChange → Event → StepChange
-replacing index work run event = record { replaced = record { index = index; work = work } ∷ []; removed = []; placed = []; run = run; event = event }
+replacing index work run event = record (telling event) { replaced = record { index = index; work = work } ∷ []; run = run }
 
 -- one record is placed
 abbrev pub placing : Record → Event → StepChange
-placing work event = record { replaced = []; removed = []; placed = work ∷ []; run = Unchanged; event = event }
+placing work event = record (telling event) { placed = work ∷ [] }

@@ -3,7 +3,8 @@ ghost use Rattle.wm_machine.specs.Opened.{opening_state};
 
 use std::alloc::Global;
 use wm_collections::Items;
-use wm_machine::{Conditions, Instance, State};
+use wm_conditions::Conditions;
+use wm_machine::{Instance, State};
 
 /// The state that an empty store opens to, with these instances. It takes no memory.
 pub fn opening_state(alloc: Global, instances: Items<Instance>) -> State

@@ -6,11 +6,11 @@ ghost use Rattle.wm_keeper.specs.Keeper.{changed, AreOfDifferentNumbers};
 ghost use Rattle.wm_machine.specs.Limits.{FitsRow};
 ghost use Rattle.wm_machine.specs.Runs.{other_runs, with_out};
 ghost use Rattle.wm_machine.specs.Valid.{Valid};
-ghost use Rattle.wm_table.specs.StepChanges.{changed_state, instances_by, next_run_by, other_works, row_changes, runs_by, with_replaced, without, Fits};
+ghost use Rattle.wm_table.specs.StepChanges.{changed_state, conditions_by, instances_by, next_run_by, now_by, other_works, row_changes, runs_by, with_replaced, without, Fits};
 ghost use Rattle.wm_table.specs.Table.{TroubleCause};
 
 use crate::table::Trouble;
-use crate::table::change::{Replacement, RunChange, StepChange};
+use crate::table::change::{Replacement, RunChange, SettingChange, StepChange};
 use crate::table::row_changes::row_changes;
 use std::alloc::{AllocError, Global};
 use std::mem;
@@ -80,6 +80,8 @@ impl Lists {
           instances = instances_by change.run state.old.instances;
           next = state.old.next + length change.placed;
           next_run = next_run_by change.run state.old.next_run;
+          now = now_by change.setting state.old.now;
+          conditions = conditions_by change.setting state.old.conditions;
         } }
     {
         let StepChange {
@@ -87,6 +89,7 @@ impl Lists {
             removed,
             placed,
             run,
+            setting,
             event,
         } = change;
         let next_run = number_after(state.next_run, self.log.as_slice());
@@ -95,6 +98,7 @@ impl Lists {
         remove_works(&mut self.works, removed.as_slice());
         append(&mut self.works, placed);
         change_runs(alloc, &mut self.runs, state, run, next_run);
+        change_setting(state, setting);
         self.log.push_reserved(event);
     }
 }
@@ -177,6 +181,20 @@ fn change_runs(
             remove_run(runs, run);
             set_out(alloc, &mut state.instances, instance, false);
         }
+    }
+}
+
+/// Changes the moment and the conditions.
+fn change_setting(state: &mut State, setting: SettingChange)
+    ensures { state.new ≡ record state.old {
+      now = now_by setting state.old.now;
+      conditions = conditions_by setting state.old.conditions;
+    } }
+{
+    match setting {
+        SettingChange::Unchanged => {}
+        SettingChange::Moment(at) => state.now = at,
+        SettingChange::Conditions(conditions) => state.conditions = conditions,
     }
 }
 

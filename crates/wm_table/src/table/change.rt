@@ -1,10 +1,11 @@
 //! What a step is about to do.
 ghost use Rattle.std.specs.Prelude.{◌≡◌, IfOk};
-ghost use Rattle.wm_table.specs.StepChanges.{placing, replacing, telling};
+ghost use Rattle.wm_table.specs.StepChanges.{placing, replacing, setting, telling};
 
 use crate::table::joins::{one, with};
 use std::alloc::{AllocError, Global};
 use wm_collections::Items;
+use wm_conditions::Conditions;
 use wm_machine::{Event, Record, Run};
 
 /// A record that takes the place of the one at an index.
@@ -25,6 +26,17 @@ pub enum RunChange {
     End { run: u64, instance: u32 },
 }
 
+/// What becomes of the moment and the conditions in a step.
+#[derive(Drop)]
+pub enum SettingChange {
+    /// They stay as they are.
+    Unchanged,
+    /// This is the moment.
+    Moment(u64),
+    /// These are the conditions.
+    Conditions(Conditions),
+}
+
 /// All that one step is about to do, with its memory taken.
 #[derive(Drop)]
 pub struct StepChange {
@@ -36,6 +48,8 @@ pub struct StepChange {
     pub placed: Items<Record>,
     /// What becomes of runs and instances.
     pub run: RunChange,
+    /// What becomes of the moment and the conditions.
+    pub setting: SettingChange,
     /// The event of the step.
     pub event: Event,
 }
@@ -50,6 +64,21 @@ impl StepChange {
             removed: Items::new(alloc),
             placed: Items::new(alloc),
             run: RunChange::Unchanged,
+            setting: SettingChange::Unchanged,
+            event,
+        }
+    }
+
+    /// A change of the moment or the conditions.
+    pub fn setting(alloc: Global, to: SettingChange, event: Event) -> StepChange
+        ensures { result ≡ setting to event }
+    {
+        StepChange {
+            replaced: Items::new(alloc),
+            removed: Items::new(alloc),
+            placed: Items::new(alloc),
+            run: RunChange::Unchanged,
+            setting: to,
             event,
         }
     }
@@ -71,6 +100,7 @@ impl StepChange {
             removed: Items::new(alloc),
             placed: Items::new(alloc),
             run,
+            setting: SettingChange::Unchanged,
             event,
         })
     }
@@ -85,6 +115,7 @@ impl StepChange {
             removed: Items::new(alloc),
             placed,
             run: RunChange::Unchanged,
+            setting: SettingChange::Unchanged,
             event,
         })
     }

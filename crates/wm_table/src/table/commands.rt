@@ -1,16 +1,17 @@
 //! What each command comes to: the change of its step, and its reply. A command has a file of its
 //! own.
-ghost use Rattle.std.specs.Prelude.{◌≡◌, IfOk};
+ghost use Rattle.std.specs.Prelude.{◌≡◌, [], IfOk};
 ghost use Rattle.wm_machine.specs.Outcome.{IsBuilt};
-ghost use Rattle.wm_machine.specs.Narrow.{IsNarrow};
 ghost use Rattle.wm_machine.specs.Valid.{Valid};
-ghost use Rattle.wm_table.specs.Builds.{answering, IsExecuted};
+ghost use Rattle.wm_table.specs.Builds.{answering, setting_by, IsExecuted};
 
+mod conditions;
 mod enqueue;
 mod faulty;
+mod moment;
 mod query;
 
-use crate::table::change::StepChange;
+use crate::table::change::{SettingChange, StepChange};
 use crate::table::joins::copied;
 use std::alloc::{AllocError, Global};
 use wm_machine::{Command, Event, Reply, State};
@@ -43,6 +44,28 @@ impl Executed {
             reply,
         })
     }
+
+    /// A command that sets the moment or the conditions.
+    fn setting(
+        alloc: Global,
+        line: u32,
+        command: Command,
+        reply: Reply,
+        to: SettingChange,
+    ) -> Result<Executed, AllocError>
+        ensures { IfOk result (λ executed. executed ≡ setting_by line command reply to) }
+    {
+        let (reply, logged, command) = copied(alloc, reply, command)?;
+        let event = Event::Command {
+            line,
+            command,
+            reply: logged,
+        };
+        Ok(Executed {
+            change: StepChange::setting(alloc, to, event),
+            reply,
+        })
+    }
 }
 
 /// What the command of a line comes to in a state.
@@ -53,12 +76,14 @@ pub fn execute(
     command: Command,
 ) -> Result<Executed, AllocError>
     requires valid { Valid state.now }
-    requires narrow { IsNarrow state.now }
+    requires no_run { state.now.runs ≡ [] }
     requires built { IsBuilt command }
     ensures { IfOk result (IsExecuted state.entry.now line command) }
 {
     match command {
         Command::Enqueue { named: None, batch } => enqueue::execute(alloc, state, line, batch),
+        Command::Moment(at) => moment::execute(alloc, state, line, at),
+        Command::Conditions(conditions) => conditions::execute(alloc, state, line, conditions),
         Command::Query(query) => query::execute(alloc, state, line, query),
         Command::Faulty(fault) => faulty::execute(alloc, line, fault),
         _ => unreachable!(),

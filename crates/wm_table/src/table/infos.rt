@@ -1,6 +1,5 @@
 //! What is told of the works of a state.
 ghost use Rattle.std.specs.Prelude.{◌≡◌, IfOk};
-ghost use Rattle.wm_machine.specs.Narrow.{IsNarrow, IsNarrowRecord};
 ghost use Rattle.wm_machine.specs.Shown.{due_shown, info_in, info_of, infos_of, shown_in};
 ghost use Rattle.wm_machine.specs.Valid.{Valid, IsRecord};
 
@@ -26,7 +25,6 @@ fn shown_in(phase: Phase, all_met: bool) -> Shown
 /// When a work in this shown state is due, where that is told.
 fn due_shown(state: Shown, work: &Record) -> Option<u64>
     requires record { IsRecord work.now }
-    requires narrow { IsNarrowRecord work.now }
     ensures { result ≡ due_shown state work.now }
 {
     match state {
@@ -38,12 +36,11 @@ fn due_shown(state: Shown, work: &Record) -> Option<u64>
 /// What is told of a work in this shown state.
 fn info(alloc: Global, work: &Record, state: Shown) -> Result<WorkInfo, AllocError>
     requires record { IsRecord work.now }
-    requires narrow { IsNarrowRecord work.now }
     ensures { IfOk result (λ info. info ≡ info_in work.entry.now state) }
 {
     Ok(WorkInfo {
         seq: work.seq,
-        id: work.request.id,
+        id: work.request.id(),
         name: work.name.replica(alloc)?,
         state,
         attempt: work.attempt,
@@ -51,7 +48,7 @@ fn info(alloc: Global, work: &Record, state: Shown) -> Result<WorkInfo, AllocErr
         generation: work.generation,
         output: work.output.replica(alloc)?,
         progress: work.progress.replica(alloc)?,
-        tags: work.request.tags.replica(alloc)?,
+        tags: work.request.tags().replica(alloc)?,
     })
 }
 
@@ -59,7 +56,6 @@ fn info(alloc: Global, work: &Record, state: Shown) -> Result<WorkInfo, AllocErr
 #[tactic(auto, unfolding(wm_machine::specs::Shown::infos_of))]
 pub fn infos_of(alloc: Global, state: &State) -> Result<Items<WorkInfo>, AllocError>
     requires valid { Valid state.now }
-    requires narrow { IsNarrow state.now }
     ensures { IfOk result (λ infos. infos ≡ infos_of state.entry.now) }
 {
     let works = state.works.as_slice();

@@ -3,47 +3,36 @@
 ghost use Rattle.std.specs.List.{AllByRecursion};
 ghost use Rattle.std.specs.Option.{option_copied};
 ghost use Rattle.std.specs.Prelude.{◌≡◌, ◌<◌, length, Some, None, slice_get, option_and_then, IfSome, MatchOption};
-ghost use Rattle.wm_machine.specs.Due.{due_of};
+ghost use Rattle.wm_machine.specs.Due.{due_of, times_of};
 ghost use Rattle.wm_machine.specs.First.{all_met, comes_before, earlier_of, first_of, has_room, has_succeeded, idle_instance, is_idle, is_live, is_startable, is_succeeded, is_waiting};
-ghost use Rattle.wm_machine.specs.Met.{met, network_met};
-ghost use Rattle.wm_machine.specs.Narrow.{IsNarrow, IsNarrowRecord};
 ghost use Rattle.wm_machine.specs.Valid.{Valid, IsRecord};
 ghost use Rattle.wm_machine.specs.declared.record.Record.{Record};
 
-use wm_machine::{Conditions, Constraints, How, Instance, Network, Phase, Record, State};
+use wm_conditions::met;
+use wm_machine::{How, Instance, Phase, Record, State};
+use wm_schedule::Times;
 
-/// Whether the network that is needed is there.
-fn network_met(network: Network, conditions: &Conditions) -> bool
-    ensures { result ≡ network_met network conditions.now }
+/// What the moment from which on a work may start depends on.
+fn times_of(work: &Record) -> Times
+    ensures { result ≡ times_of work.now }
 {
-    match network {
-        Network::NotRequired => true,
-        Network::Connected => conditions.connected,
-        Network::Unmetered => conditions.connected && !conditions.metered,
-        Network::NotRoaming => conditions.connected && !conditions.roaming,
-        Network::Metered => conditions.connected && conditions.metered,
+    Times {
+        enqueued_at: work.enqueued_at,
+        initial_delay: work.request.initial_delay(),
+        backoff: work.request.backoff(),
+        backoff_n: work.backoff_n,
+        period: work.request.period(),
+        runs: work.runs,
     }
 }
 
-/// Whether the conditions meet all constraints of a work.
-#[tactic(auto, unfolding(wm_machine::specs::Met::met))]
-fn met(constraints: &Constraints, conditions: &Conditions) -> bool
-    ensures { result ≡ met constraints.now conditions.now }
-{
-    network_met(constraints.network, conditions)
-        && (!constraints.charging || conditions.charging)
-        && (!constraints.idle || conditions.idle)
-        && (!constraints.battery_not_low || !conditions.battery_low)
-        && (!constraints.storage_not_low || !conditions.storage_low)
-}
-
-/// The moment from which on a work may start. Every work is one-time and none is retried yet.
+/// The moment from which on a work may start.
+#[tactic(auto, unfolding(wm_machine::specs::Due::due_of))]
 pub fn due(work: &Record) -> u64
-    requires record { IsRecord work.now }
-    requires narrow { IsNarrowRecord work.now }
+    requires { IsRecord work.now }
     ensures { result ≡ due_of work.now }
 {
-    work.enqueued_at + work.request.initial_delay
+    wm_schedule::due(&times_of(work))
 }
 
 fn is_waiting(phase: Phase) -> bool
@@ -111,22 +100,19 @@ fn has_room(instances: &[Instance], class: &str) -> bool
 #[tactic(auto, unfolding(wm_machine::specs::First::is_startable))]
 fn is_startable(state: &State, work: &Record) -> bool
     requires record { IsRecord work.now }
-    requires narrow { IsNarrowRecord work.now }
     ensures { result ≡ is_startable state.entry.now work.now }
 {
     is_waiting(work.phase)
         && all_met(state.works.as_slice(), work)
         && due(work) <= state.now
-        && met(&work.request.constraints, &state.conditions)
-        && has_room(state.instances.as_slice(), work.request.class.as_str())
+        && met(&work.request.constraints(), &state.conditions)
+        && has_room(state.instances.as_slice(), work.request.class().as_str())
 }
 
 /// Whether the one work starts before the other.
 fn comes_before(one: &Record, other: &Record) -> bool
     requires one { IsRecord one.now }
     requires other { IsRecord other.now }
-    requires narrow { IsNarrowRecord one.now }
-    requires narrow_other { IsNarrowRecord other.now }
     ensures { result ≡ comes_before one.now other.now }
 {
     due(one) < due(other) || due(one) == due(other) && one.seq < other.seq
@@ -135,7 +121,6 @@ fn comes_before(one: &Record, other: &Record) -> bool
 /// The index of the work that starts next. The records are looked at from the last to the first.
 pub fn first_index(state: &State) -> Option<usize>
     requires valid { Valid state.now }
-    requires narrow { IsNarrow state.now }
     ensures { MatchOption result (first_of state.entry.now ≡ None)
         (λ index. (index < length state.entry.now.works)
         × (first_of state.entry.now ≡ slice_get state.entry.now.works index)) }
@@ -155,7 +140,6 @@ pub fn first_index(state: &State) -> Option<usize>
 /// Of the work at an index and another, the index of the one that starts first.
 fn earlier(works: &[Record], index: usize, other: Option<usize>) -> usize
     requires records { AllByRecursion IsRecord works.now }
-    requires narrow { AllByRecursion IsNarrowRecord works.now }
     requires index { index < length works.now }
     requires other { IfSome other (λ other. other < length works.now) }
     ensures in_range { result < length works.now }

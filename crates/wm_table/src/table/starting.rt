@@ -36,7 +36,7 @@ pub fn claim_first(alloc: Global, state: &State) -> Result<Option<Claiming>, All
         return Ok(None);
     };
     let work = at(state.works.as_slice(), index);
-    match scan::idle_in(state.instances.as_slice(), work.request.class.as_str()) {
+    match scan::idle_in(state.instances.as_slice(), work.request.class().as_str()) {
         Some(idle) => Ok(Some(start_merged(alloc, state, index, work, idle)?)),
         None => Ok(Some(fail(alloc, state, index, work, Cause::NoWorker)?)),
     }
@@ -130,7 +130,7 @@ fn taken_by(alloc: Global, work: &Record) -> Result<Result<Data, Cause>, AllocEr
         (merged work.entry.now.request.merger (work.entry.now.request.input ∷ []))) }
 {
     let inputs = inputs_for(alloc, work)?;
-    match merge(alloc, work.request.merger, inputs.as_slice()) {
+    match merge(alloc, work.request.merger(), inputs.as_slice()) {
         Ok(input) => Ok(Ok(input)),
         Err(fault) => Ok(Err(cause_of(fault)?)),
     }
@@ -141,7 +141,7 @@ fn taken_by(alloc: Global, work: &Record) -> Result<Result<Data, Cause>, AllocEr
 fn inputs_for(alloc: Global, work: &Record) -> Result<Items<Data>, AllocError>
     ensures { IfOk result (λ inputs. inputs ≡ work.entry.now.request.input ∷ []) }
 {
-    one(alloc, work.request.input.replica(alloc)?)
+    one(alloc, work.request.input().replica(alloc)?)
 }
 
 /// Why a work whose inputs don't become one can't start.
@@ -167,7 +167,7 @@ fn run_on(state: &State, work: &Record, attempt: u32, instance: &Instance, input
         input,
         kind: instance.kind,
         instance: instance.number,
-        constraints: work.request.constraints,
+        constraints: work.request.constraints(),
         turn: 0,
         current: true,
     }

@@ -28,6 +28,6 @@ returns g c =
           rw (back.hands, back.first, back.log)
           (hand_diaries-places diary_of book.places executed.rest.idle
           ∙ executed.diaries diaries (KeepDiaries-begin diary_of c.args.book c.requires.begins.log) (c.finish.ensures.done done));
-      serial = IsSerialRun-order lines last.status last.first last.last last.log c.requires.built session.commands session.replay back.valid back.narrow
-          (rw back.last order.few_runs) in_order (λ done. rw back.last (executed.quiet (c.finish.ensures.done done)));
+      serial = IsSerialRun-order lines last.status last.first last.last last.log c.requires.built session.commands (rw back.first order.from_rest)
+          session.replay back.valid back.narrow (rw back.last order.few_runs) in_order (λ done. rw back.last (executed.quiet (c.finish.ensures.done done)));
     }

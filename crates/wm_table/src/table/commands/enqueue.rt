@@ -12,7 +12,8 @@ use std::alloc::{AllocError, Global};
 use uuid::Uuid;
 use wm_collections::{Items, Replica};
 use wm_data::Data;
-use wm_machine::{Batch, Command, Event, Node, Phase, Record, Refusal, Reply, State};
+use wm_machine::{Command, Event, Phase, Record, Refusal, Reply, State};
+use wm_request::{Batch, Node};
 
 /// The most records that a state has.
 const MAX_WORKS: usize = 100_000;
@@ -24,7 +25,7 @@ const NUMBERS_END: u64 = 1 << 53;
 fn is_stored(works: &[Record], id: Uuid) -> bool
     ensures { result ≡ is_stored works.now id }
 {
-    works.iter().any(|work| work.request.id == id)
+    works.iter().any(|work| work.request.id() == id)
 }
 
 /// The first work of a batch whose id a stored record has.
@@ -32,9 +33,9 @@ fn id_in_use(state: &State, works: &[Node]) -> Option<Refusal>
     ensures { result ≡ id_in_use state.entry.now works.now }
 {
     for work in works {
-        if is_stored(state.works.as_slice(), work.request.id) {
+        if is_stored(state.works.as_slice(), work.request.id()) {
             return Some(Refusal::IdInUse {
-                id: work.request.id,
+                id: work.request.id(),
             });
         }
     }

@@ -1,7 +1,6 @@
 //! A query is answered by what is told of the works.
 ghost use Rattle.std.specs.Prelude.{◌≡◌, IfOk};
 ghost use Rattle.wm_machine.specs.Built.{NamesNothing};
-ghost use Rattle.wm_machine.specs.Narrow.{IsNarrow};
 ghost use Rattle.wm_machine.specs.Valid.{Valid};
 ghost use Rattle.wm_table.specs.Builds.{IsExecuted};
 
@@ -18,7 +17,6 @@ pub fn execute(
     query: WorkQuery,
 ) -> Result<Executed, AllocError>
     requires valid { Valid state.now }
-    requires narrow { IsNarrow state.now }
     requires all { NamesNothing query }
     ensures { IfOk result (IsExecuted state.entry.now line (Command.Query query)) }
 {
