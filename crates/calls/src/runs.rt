@@ -3,7 +3,7 @@ ghost use Rattle.std.specs.Prelude.{◌≡◌, ◌≤◌, vec_len, IfOk};
 ghost use Rattle.wm_bench.specs.declared.bench.TheConstants.{MAX_HANDS};
 ghost use Rattle.wm_session.specs.Hands.{AreEchoes};
 
-use crate::diarist::{Diarist, told_runs};
+use parts::diarist::{Diarist, told_runs};
 use std::alloc::{AllocError, Global};
 use std::process::Abort;
 use std::test::Fail;
@@ -21,6 +21,8 @@ use wm_worker::{Kind, Worker};
 fn name_of(command: &Command) -> &'static str {
     match command {
         Command::Enqueue { .. } => "enqueue",
+        Command::Moment(_) => "moment",
+        Command::Conditions(_) => "conditions",
         Command::Query(_) => "query",
         Command::Faulty(LineFault::NotBuilt) => "not built",
         _ => "another",
@@ -45,9 +47,18 @@ fn lines_are_commands(rt: HostRuntime) -> Result<(), Fail> {
         r#"{"cmd":"enqueue","works":[{"class":"Nope","id":"00000000-0000-0000-0000-000000000001"}]}
 {"cmd":"query"}
 not json
-{"cmd":"prune"}"#,
+{"cmd":"prune"}
+{"cmd":"moment","at":0}
+{"cmd":"conditions"}"#,
     )?;
-    let expected = ["enqueue", "query", "not built", "not built"];
+    let expected = [
+        "enqueue",
+        "query",
+        "not built",
+        "not built",
+        "moment",
+        "conditions",
+    ];
     assert_eq!(rt; names.as_slice(), expected.as_slice());
     Ok(())
 }

@@ -1,6 +1,7 @@
 //! The table of `wm_session`, over a keeper that fails at the commits that it is told to.
-ghost use Rattle.std.specs.Prelude.{◌≡◌, [], IfOk};
+ghost use Rattle.std.specs.Prelude.{◌≡◌, [], IfOk, None};
 ghost use Rattle.wm_machine.specs.Outcome.{IsBuilt};
+ghost use Rattle.wm_request.specs.Requests.{IsRequest};
 ghost use Rattle.wm_table.specs.Table.{AreFresh, Stands};
 
 use std::alloc::{AllocError, Global};
@@ -9,10 +10,8 @@ use uuid::Uuid;
 use wm_collections::{Items, Replica, Text};
 use wm_data::{Data, DataBuilder, Merger, Value};
 use wm_keeper::MemoryKeeper;
-use wm_machine::{
-    Backoff, Batch, Cause, Command, Constraints, How, Instance, Kind, Node, Phase, Record, Reply,
-    Request,
-};
+use wm_machine::{Cause, Command, How, Instance, Kind, Phase, Record, Reply};
+use wm_request::{Batch, Builder, Node, Request};
 use wm_table::{Claim, Table, TableEnd, Ticket, Trouble, TurnAnswer};
 use wm_worker::{Answer, Task, Told};
 
@@ -43,21 +42,39 @@ fn letters(alloc: Global, count: usize) -> Result<Data, Fail> {
     Ok(builder.build()?)
 }
 
+/// Reads a request, which its types keep within its limits.
+fn look_at(request: &Request)
+    ensures { IsRequest request.now }
+{
+    let id = request.id();
+    let _bytes = id.as_bytes();
+    let _size = request.input().size();
+    let _class = request.class();
+    let _tags = request.tags();
+    let _backoff = request.backoff();
+    let _delay = request.initial_delay();
+    let _period = request.period();
+}
+
+/// The request of one-time work of class Echo, with this merger and input.
+fn request(alloc: Global, merger: Merger, input: Data) -> Result<Request, Fail>
+    ensures within { IfOk result IsRequest }
+    ensures one_time { IfOk result (λ request. request.period ≡ None) }
+{
+    let class = String::from_str(alloc, "Echo")?;
+    let mut builder = Builder::one_time(alloc, Uuid::from_u128(1), class);
+    builder.merger(merger);
+    builder.input(input);
+    let request = builder.build()?;
+    look_at(&request);
+    Ok(request)
+}
+
 /// An enqueue of one work of class Echo, with this merger and input.
-fn enqueue(alloc: Global, merger: Merger, input: Data) -> Result<Command, AllocError>
+fn enqueue(alloc: Global, merger: Merger, input: Data) -> Result<Command, Fail>
     ensures { IfOk result IsBuilt }
 {
-    let request = Request {
-        id: Uuid::from_u128(1),
-        class: Text::from_str(alloc, "Echo")?,
-        input,
-        merger,
-        tags: Items::new(alloc),
-        constraints: Constraints::NONE,
-        backoff: Backoff::DEFAULT,
-        initial_delay: 0,
-        period: None,
-    };
+    let request = request(alloc, merger, input)?;
     let mut works = Items::new(alloc);
     works.push(Node {
         request,

@@ -1,5 +1,5 @@
 //! The texts of events and the rows of records, of `wm_machine`.
-ghost use Rattle.std.specs.Prelude.{◌≡◌, [], ◌∷◌, Some, IfOk};
+ghost use Rattle.std.specs.Prelude.{◌≡◌, [], ◌∷◌, IfOk};
 ghost use Rattle.wm_machine.specs.Limits.{FitsRow};
 
 use std::alloc::{AllocError, Global};
@@ -7,12 +7,13 @@ use std::process::Abort;
 use std::test::Fail;
 use uuid::Uuid;
 use wm_collections::{Items, Replica, Text};
+use wm_conditions::{Constraints, Network};
 use wm_data::{Data, DataBuilder, DataFault, Merger, Value};
 use wm_keeper::Row;
 use wm_machine::{
-    Applied, Backoff, Command, Constraints, Counts, Event, How, LineFault, Network, Period, Phase,
-    Record, Refusal, Reply, Request, Shown, WorkInfo,
+    Applied, Command, Counts, Event, How, LineFault, Phase, Record, Refusal, Reply, Shown, WorkInfo,
 };
+use wm_request::{Builder, Request};
 use wm_rows::to_row;
 use wm_script::event_text;
 
@@ -317,34 +318,24 @@ fn replies_alone_are_written(rt: HostRuntime) -> Result<(), Fail> {
 }
 
 /// A request of the second work under a period, with an input and a tag.
-fn request(alloc: Global) -> Result<Request, DataFault>
-    ensures delay { IfOk result (λ request. request.initial_delay ≡ 3) }
-    ensures wait { IfOk result (λ request. request.backoff.delay ≡ 30000) }
-    ensures period { IfOk result (λ request. request.period ≡ Some (record { period = 900000; flex = 300000 })) }
-{
-    let tags = alone(alloc, Text::from_str(alloc, "a")?)?;
-    Ok(Request {
-        id: Uuid::from_u128(2),
-        class: Text::from_str(alloc, "Echo")?,
-        input: number(alloc, "x", 5)?,
-        merger: Merger::ArrayCreating,
-        tags,
-        constraints: Constraints {
-            network: Network::Metered,
-            charging: true,
-            ..Constraints::NONE
-        },
-        backoff: Backoff::DEFAULT,
-        initial_delay: 3,
-        period: Some(Period {
-            period: 900_000,
-            flex: 300_000,
-        }),
-    })
+fn request(alloc: Global) -> Result<Request, Fail> {
+    let class = String::from_str(alloc, "Echo")?;
+    let id = Uuid::from_u128(2);
+    let mut builder = Builder::periodic(alloc, id, class, 900_000, Some(300_000));
+    builder.input(number(alloc, "x", 5)?);
+    builder.merger(Merger::ArrayCreating);
+    builder.constraints(Constraints {
+        network: Network::Metered,
+        charging: true,
+        ..Constraints::NONE
+    });
+    builder.initial_delay(3);
+    builder.tag(String::from_str(alloc, "a")?)?;
+    Ok(builder.build()?)
 }
 
 /// The record of the second work, which came after the first and has succeeded, with an output.
-fn record(alloc: Global) -> Result<Record, DataFault>
+fn record(alloc: Global) -> Result<Record, Fail>
     ensures fits { IfOk result (λ work. FitsRow work) }
 {
     let prior = alone(alloc, 1)?;
