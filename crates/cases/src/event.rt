@@ -1,8 +1,11 @@
 //! The events of a log in words.
 
 use std::alloc::{AllocError, Global};
+use wm_conditions::{Conditions, Constraints, Network};
 use wm_data::{Data, Merger};
-use wm_machine::{Batch, Cause, Command, End, Event, LineFault, Refusal, Reply, Request};
+use wm_machine::{Cause, Command, End, Event, LineFault, Refusal, Reply};
+use wm_request::{Batch, Request};
+use wm_schedule::{Backoff, BackoffPolicy};
 
 /// Data of more bytes is told by its size alone.
 const MAX_TOLD_BYTES: u64 = 1_000;
@@ -43,6 +46,8 @@ pub fn event_words(alloc: Global, event: &Event) -> Result<String, AllocError> {
 fn command_words(alloc: Global, command: &Command) -> Result<String, AllocError> {
     match command {
         Command::Enqueue { named: None, batch } => enqueue_words(alloc, batch),
+        Command::Moment(at) => format!(in alloc; "moment {at}"),
+        Command::Conditions(conditions) => conditions_words(alloc, conditions),
         Command::Query(_) => String::from_str(alloc, "query"),
         Command::Faulty(fault) => {
             let fault = fault_words(alloc, fault)?;
@@ -63,19 +68,106 @@ fn enqueue_words(alloc: Global, batch: &Batch) -> Result<String, AllocError> {
     Ok(words)
 }
 
-/// The id and the class of a work, and its input and merger where they aren't the defaults.
+/// The id and the class of a work, and each of its other fields that isn't the default.
 fn work_words(alloc: Global, request: &Request) -> Result<String, AllocError> {
-    let id = request.id;
-    let class = request.class.as_str();
+    let id = request.id();
+    let class = request.class().as_str();
     let mut words = format!(in alloc; "{id} {class:?}")?;
-    if !request.input.is_empty() {
+    if !request.input().is_empty() {
         words.push(' ')?;
-        words.push_str(data_words(alloc, &request.input)?.as_str())?;
+        words.push_str(data_words(alloc, request.input())?.as_str())?;
     }
-    if request.merger == Merger::ArrayCreating {
+    if request.merger() == Merger::ArrayCreating {
         words.push_str(" ARRAY")?;
     }
+    add_tags(alloc, &mut words, request)?;
+    add_constraints(&mut words, request.constraints())?;
+    add_delays(alloc, &mut words, request)?;
     Ok(words)
+}
+
+/// Adds the tags of a work where it has any.
+fn add_tags(alloc: Global, words: &mut String, request: &Request) -> Result<(), AllocError> {
+    let mut tags = Vec::new(alloc);
+    for tag in request.tags().as_slice() {
+        tags.push(tag.as_str())?;
+    }
+    if !tags.is_empty() {
+        words.push_str(format!(in alloc; " tags {tags:?}")?.as_str())?;
+    }
+    Ok(())
+}
+
+/// Adds the constraints of a work where it has any.
+fn add_constraints(words: &mut String, constraints: Constraints) -> Result<(), AllocError> {
+    if constraints == Constraints::NONE {
+        return Ok(());
+    }
+    words.push_str(" constraints")?;
+    let network = constraints.network;
+    add_names(
+        words,
+        &[
+            ("CONNECTED", network == Network::Connected),
+            ("UNMETERED", network == Network::Unmetered),
+            ("NOT_ROAMING", network == Network::NotRoaming),
+            ("METERED", network == Network::Metered),
+            ("charging", constraints.charging),
+            ("idle", constraints.idle),
+            ("battery_not_low", constraints.battery_not_low),
+            ("storage_not_low", constraints.storage_not_low),
+        ],
+    )
+}
+
+/// Adds the backoff and the initial delay of a work where they aren't the defaults.
+fn add_delays(alloc: Global, words: &mut String, request: &Request) -> Result<(), AllocError> {
+    let backoff = request.backoff();
+    if backoff != Backoff::DEFAULT {
+        let policy = match backoff.policy {
+            BackoffPolicy::Linear => "LINEAR",
+            BackoffPolicy::Exponential => "EXPONENTIAL",
+        };
+        let delay = backoff.delay;
+        words.push_str(format!(in alloc; " backoff {policy} {delay}")?.as_str())?;
+    }
+    let delay = request.initial_delay();
+    if delay > 0 {
+        words.push_str(format!(in alloc; " delay {delay}")?.as_str())?;
+    }
+    Ok(())
+}
+
+/// The conditions that hold.
+fn conditions_words(alloc: Global, conditions: &Conditions) -> Result<String, AllocError> {
+    let mut words = String::from_str(alloc, "conditions")?;
+    if *conditions == Conditions::OPENING {
+        words.push_str(" none")?;
+    }
+    add_names(
+        &mut words,
+        &[
+            ("connected", conditions.connected),
+            ("metered", conditions.metered),
+            ("roaming", conditions.roaming),
+            ("charging", conditions.charging),
+            ("idle", conditions.idle),
+            ("battery_low", conditions.battery_low),
+            ("storage_low", conditions.storage_low),
+        ],
+    )?;
+    Ok(words)
+}
+
+/// Adds the names of those that hold.
+fn add_names(words: &mut String, names: &[(&str, bool)]) -> Result<(), AllocError> {
+    for (name, holds) in names {
+        if *holds {
+            words.push(' ')?;
+            words.push_str(name)?;
+        }
+    }
+    Ok(())
 }
 
 fn fault_words(alloc: Global, fault: &LineFault) -> Result<String, AllocError> {
@@ -113,9 +205,14 @@ fn reply_words(alloc: Global, reply: &Reply) -> Result<String, AllocError> {
             }
             format!(in alloc; "works {works:?}")
         }
+        Reply::Moment => String::from_str(alloc, "moment"),
+        Reply::Conditions { stopped } => format!(in alloc; "conditions stopped {stopped}"),
         Reply::Refused(Refusal::Line(fault)) => {
             let fault = fault_words(alloc, fault)?;
             format!(in alloc; "refused {fault}")
+        }
+        Reply::Refused(Refusal::MomentBack { now }) => {
+            format!(in alloc; "refused MomentBack now {now}")
         }
         Reply::Refused(Refusal::IdInUse { id }) => format!(in alloc; "refused IdInUse {id}"),
         Reply::Refused(refusal) => format!(in alloc; "refused {refusal:?}"),
