@@ -16,18 +16,18 @@ use Rattle.wm_machine.specs.declared.record.Record.{Record}
 use Rattle.wm_machine.specs.declared.state.State.{State}
 use Rattle.wm_request.specs.Requests.{RequestFields}
 
--- two records are of one work that was asked for in one way, with as many retries
+-- two records are of one work that was asked for in one way
 pub record IsSameRequest (one other : Record) : Type 0 where
   pub seq : other.seq ≡ one.seq
   pub name : other.name ≡ one.name
   pub request : other.request ≡ one.request
   pub prior : other.prior ≡ one.prior
-  pub backoff_n : other.backoff_n ≡ one.backoff_n
 
 -- a change of works in such a phase, which keeps what was asked for and what holds of every record
 pub record IsFine (P : Phase → Type 0) (change : Record → Record) : Type 0 where
   pub same : (work : Record) → IsSameRequest work (change work)
   pub fits : (work : Record) → P work.phase → IsNarrowRecord work → IsRecord work → IsRecord (change work)
+  pub narrow : (work : Record) → IsNarrowRecord work → IsNarrowRecord (change work)
 
 -- what holds of these as the records of a state
 pub record AreFine (s : State) (works : List Record) : Type 0 where
@@ -47,20 +47,13 @@ keeps_work change same work =
       period = ap (λ (r : RequestFields). r.period) is.request;
     }
 
-narrow_same : (one other : Record) → IsSameRequest one other → IsNarrowRecord one → IsNarrowRecord other
-narrow_same one other same is = record {
-  one_time = rw same.request is.one_time;
-  no_prerequisite = rw same.prior is.no_prerequisite;
-  no_retry = rw same.backoff_n is.no_retry;
-}
-
 -- the records after such a change of the work of this number
 pub AreFine-changed : (P : Phase → Type 0) (change : Record → Record) (s : State) (seq : ℕ) → IsFine P change → IsReached s
     → AllByRecursion (λ work. work.seq ≡ seq → P work.phase) s.works → AreFine s (changed_work change seq s.works)
 AreFine-changed P change s seq fine reached phases =
     let works = changed_work change seq s.works in
     let narrow =
-    records-changed IsNarrowRecord IsNarrowRecord change seq s.works (λ w e is. narrow_same w (change w) (fine.same w) is) (λ w is. is)
+    records-changed IsNarrowRecord IsNarrowRecord change seq s.works (λ w e is. fine.narrow w is) (λ w is. is)
     reached.narrow.records in
     record {
       numbers = numbers-changed s.next change seq s.works (λ w. (fine.same w).seq) reached.valid.numbers;

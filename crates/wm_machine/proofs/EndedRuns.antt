@@ -70,6 +70,14 @@ ended s run change = record s {
 abbrev pub Runs : Phase → Type 0
 Runs p = p ≡ phase.Running
 
+-- the work of a current run is running
+pub running_of : (s : State) (number : ℕ) (run : Run) → IsReached s → run_numbered number s.runs ≡ Some run → run.current ≡ true
+    → AllByRecursion (λ w. w.seq ≡ run.seq → w.phase ≡ phase.Running) s.works
+running_of s number run reached found current =
+    all_of_number (λ w. w.phase ≡ phase.Running) run.seq s.works reached.valid.in_order
+    (HasOne-weaker (λ w. Unit {0}) (IsWorkOf run) (λ w. (w.seq ≡ run.seq) × (w.phase ≡ phase.Running)) s.works (λ w u of. (of.seq, of.running))
+    (All-any (λ w. Unit {0}) s.works (λ w. tt)) ((found_valid s number run reached.valid found).work current))
+
 -- a change after which it isn't running keeps what holds of the states that are reached
 pub reached-ended : (s : State) (number : ℕ) (run : Run) (change : Record → Record) → IsFine Runs change
     → ((w : Record) → (change w).phase ≡ phase.Running → ⊥) → IsReached s → run_numbered number s.runs ≡ Some run → run.current ≡ true
@@ -80,12 +88,7 @@ reached-ended s number run change fine idle reached found current =
     let told =
     All-both (IsFoundOrApart run.run run) (IsValidRun s) s.runs
     (found_or_apart run.run run s.runs (subst (λ n. run_numbered n s.runs ≡ Some run) (sym same) found) valid.apart) valid.runs in
-    let its = found_valid s number run valid found in
-    let running =
-    all_of_number (λ w. w.phase ≡ phase.Running) run.seq s.works valid.in_order
-    (HasOne-weaker (λ w. Unit {0}) (IsWorkOf run) (λ w. (w.seq ≡ run.seq) × (w.phase ≡ phase.Running)) s.works (λ w u of. (of.seq, of.running))
-    (All-any (λ w. Unit {0}) s.works (λ w. tt)) (its.work current)) in
-    let works = AreFine-changed Runs change s run.seq fine reached running in
+    let works = AreFine-changed Runs change s run.seq fine reached (running_of s number run reached found current) in
     let narrow : IsNarrow (ended s run change) = record {
       records = works.narrow;
       runs = All-filter IsNarrowRun (stays run) s.runs

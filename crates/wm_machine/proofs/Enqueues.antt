@@ -98,14 +98,14 @@ new_id s work none =
     let third = first_refusal-none (id_in_use s works) [] second.1 in
     not_found (is_stored s.works work.request.id) (IdInUse work.request.id) third.0
 
-reached-outcome : (s : State) (request : RequestFields) (found : Option Refusal) → IsRequest request → request.period ≡ None
+reached-outcome : (s : State) (request : RequestFields) (found : Option Refusal) → IsRequest request
     → refusal_of s None (node_of request ∷ []) ≡ found → IsReached s → IsReached (outcome_by found s None (node_of request ∷ [])).state
-reached-outcome s request (Some found) asked one_time is reached = reached
-reached-outcome s request None asked one_time is reached =
+reached-outcome s request (Some found) asked is reached = reached
+reached-outcome s request None asked is reached =
     let node = node_of request in
     let fits = room s (node ∷ []) is in
-    let narrow = IsNarrow-with_work s (placed_record s None node) reached.narrow (IsNarrowRecord-placed s request one_time) in
-    let fine = IsRecord-placed s request asked one_time reached.valid.first fits.1 reached.valid.now in
+    let narrow = IsNarrow-with_work s (placed_record s None node) reached.narrow (IsNarrowRecord-placed s request) in
+    let fine = IsRecord-placed s request asked reached.valid.first fits.1 reached.valid.now in
     record {
       valid = Valid-with_work s (placed_record s None node) reached.valid narrow refl refl (new_id s node is) fine (λ e. cc) fits.0 fits.1;
       narrow = narrow;
@@ -114,7 +114,7 @@ reached-outcome s request None asked one_time is reached =
 reached-enqueue : (s : State) (works : List Node) → IsReached s → IsPlain works → IsReached (enqueued s None works).state
 reached-enqueue s works reached plain =
     subst (λ (works : List Node). IsReached (enqueued s None works).state) (sym plain.one)
-    (reached-outcome s plain.request (refusal_of s None (node_of plain.request ∷ [])) plain.within plain.one_time refl reached)
+    (reached-outcome s plain.request (refusal_of s None (node_of plain.request ∷ [])) plain.within refl reached)
 
 -- ---- the frame
 

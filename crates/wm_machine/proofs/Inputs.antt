@@ -63,6 +63,10 @@ input_of-alone s work one_time none =
     ∙ ap (λ numbers. merged work.request.merger
     (work.request.input ∷ filter_map (λ seq. option_map (λ (prior : Record). prior.output) (work_numbered seq s.works)) numbers)) none
 
+-- periodic work takes its own input as it is
+pub input_of-periodic : (s : State) (work : Record) (period : Period) → work.request.period ≡ Some period → input_of s work ≡ Ok work.request.input
+input_of-periodic s work period repeats = ap (λ kind. input_by kind s.works work) repeats
+
 -- ---- there is none
 
 -- why a work with a worker can't start whose inputs don't become one

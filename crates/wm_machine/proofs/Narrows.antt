@@ -1,19 +1,20 @@
--- What the rules come to where no work names a prerequisite or is periodic, and every worker is an Echo.
-use Rattle.std.proofs.Common.{◌≡◌, ℕ, Bool, true, false, cond, eqb, ◌||◌, ◌&&◌, List, [], ◌∷◌, Option, Some, None, refl, sym, ◌∙◌, ap, subst, inl, inr}
+-- What the rules come to where no work names a prerequisite, and every worker is an Echo.
+use Rattle.std.proofs.Common.{◌≡◌, ℕ, Bool, true, false, cond, eqb, ◌||◌, ◌&&◌, List, [], ◌∷◌, Option, Some, None, refl, sym, ◌∙◌, ap, subst, inl, inr, arith}
 use mathlib.Core.List.{map-id, reverse}
 use Rattle.std.specs.List.{AllByRecursion, list_any}
 use Rattle.std.specs.Option.{option_and_then}
 use Rattle.std.proofs.lemmas.Bool.{and_from, and_right, cases_Bool, cond_both, eq-eqb, eqb-true, false≢true, ne_eqb, or_cases, or_left, or_right}
+use Rattle.wm_collections.specs.Lists.{AllLater}
 use Rattle.wm_data.specs.declared.data.DataEntry.{DataEntry}
 use Rattle.wm_machine.proofs.Lists.{All-any, All-both, All-find, All-map, All-reverse, All-stored, All-weaker, HasOne-reverse, HasOne-weaker, list_any-false, map-same, one_gives}
 use Rattle.wm_machine.proofs.Runnings.{changed, changed_both, IsAlone}
 use Rattle.wm_machine.specs.Closed.{closed, descendants, is_among, is_open, is_reached, with_closed}
-use Rattle.wm_machine.specs.Ends.{is_freed, period_of, succeeded, with_end, with_freed, with_start_failed, works_after_end, works_not_started}
+use Rattle.wm_machine.specs.Ends.{ended, ended_as, enqueued_again, is_freed, not_started, not_started_as, period_of, succeeded, with_end, with_freed, with_start_failed, works_after_end, works_not_started}
 use Rattle.wm_machine.specs.First.{all_met, is_waiting}
 use Rattle.wm_machine.specs.Input.{work_numbered}
 use Rattle.wm_machine.specs.Narrow.{IsNarrow, IsNarrowRecord, IsNarrowRun}
 use Rattle.wm_machine.specs.Runs.{changed_work, other_runs, run_numbered, with_out}
-use Rattle.wm_machine.specs.Valid.{HasOne, IsInstanceOf, IsValidRun, Valid}
+use Rattle.wm_machine.specs.Valid.{HasOne, IsBefore, IsInstanceOf, IsValidRun, Valid}
 use Rattle.wm_machine.specs.declared.event.End.TheVariants.{Success}
 use Rattle.wm_machine.specs.declared.record.How.{How}
 use Rattle.wm_machine.specs.declared.record.How.TheVariants as how
@@ -108,26 +109,47 @@ with_freed-none now seq works none =
 
 -- ---- periods
 
--- no record is periodic
-pub period_of-none : (seq : ℕ) (works : List Record) → AllByRecursion (λ work. work.request.period ≡ None) works → period_of seq works ≡ None
-period_of-none seq [] none = refl
-period_of-none seq (work ∷ works) none =
+-- what is so of the record of this number
+abbrev OfNumber : ℕ → (Record → Type 0) → Record → Type 0
+OfNumber seq P work = work.seq ≡ seq → P work
+
+-- each record of the number has the period that is found for it
+same_period : (seq : ℕ) (works : List Record) → AllLater IsBefore works
+    → AllByRecursion (OfNumber seq (λ work. work.request.period ≡ period_of seq works)) works
+same_period seq [] order = tt
+same_period seq (work ∷ works) order =
     cond_both (eqb work.seq seq) (Some work) (work_numbered seq works)
-    (λ (found : Option Record). option_and_then (λ (w : Record). w.request.period) found ≡ None) (λ e. none.0) (λ e. period_of-none seq works none.1)
+    (λ (found : Option Record).
+    AllByRecursion (OfNumber seq (λ w. w.request.period ≡ option_and_then (λ (w : Record). w.request.period) found)) (work ∷ works))
+    (λ e. (
+      λ same. refl,
+      All-weaker (IsBefore work) (OfNumber seq (λ w. w.request.period ≡ work.request.period)) works
+          (λ w before same. let here = eqb-true work.seq seq e in let above = before.number in absurd (omega arith)) order.0,
+    ))
+    (λ e. (λ same. absurd (false≢true (sym e ∙ eq-eqb work.seq seq same)), same_period seq works order.1))
+
+-- two changes that are the same of the record of the number
+changed-same : (one other : Record → Record) (seq : ℕ) (works : List Record) → AllByRecursion (OfNumber seq (λ work. one work ≡ other work)) works
+    → changed_work one seq works ≡ changed_work other seq works
+changed-same one other seq works same =
+    map-same (changed one seq) (changed other seq) works
+    (All-weaker (OfNumber seq (λ work. one work ≡ other work)) (λ work. changed one seq work ≡ changed other seq work) works
+    (λ work is. cond_both (eqb work.seq seq) (one work) work (λ w. w ≡ changed other seq work)
+    (λ e. is (eqb-true work.seq seq e) ∙ sym (ap (λ b. cond b (other work) work) e)) (λ e. sym (ap (λ b. cond b (other work) work) e))) same)
 
 -- ---- states
 
--- a run is over and its work has succeeded
-abbrev pub with_success : State → Run → List DataEntry → State
-with_success s run output = record s {
-  works = changed_work (succeeded output) run.seq s.works;
+-- a run is over, and its work is changed as its success asks
+abbrev pub with_ended : State → Run → List DataEntry → State
+with_ended s run output = record s {
+  works = changed_work (ended s.now (Success output)) run.seq s.works;
   runs = other_runs run.run s.runs;
   instances = with_out false run.instance s.instances;
 }
 
--- a work fails
-abbrev pub with_failure : State → ℕ → State
-with_failure s seq = record s { works = changed_work (closed how.Failed) seq s.works }
+-- a work is changed as its failed start asks
+abbrev pub with_not_started : State → ℕ → State
+with_not_started s seq = record s { works = changed_work (not_started s.now) seq s.works }
 
 NamesNone-changed : (change : Record → Record) (seq : ℕ) (works : List Record) → ((work : Record) → (change work).prior ≡ work.prior)
     → AllByRecursion NamesNone works → AllByRecursion NamesNone (changed_work change seq works)
@@ -136,19 +158,30 @@ NamesNone-changed change seq works keeps all =
     (λ work none. changed_both NamesNone change seq work (λ e. keeps work ∙ none) (λ e. none)) all
 
 -- a success changes the work alone
-pub with_end-success : (s : State) (run : Run) (output : List DataEntry) → AllByRecursion IsNarrowRecord s.works
-    → with_end s run (Success output) ≡ with_success s run output
-with_end-success s run output narrow =
+works-ended : (period : Option Period) (now seq : ℕ) (output : List DataEntry) (works : List Record) → AllByRecursion NamesNone works
+    → AllByRecursion (OfNumber seq (λ work. work.request.period ≡ period)) works
+    → works_after_end now seq period (Success output) works ≡ changed_work (ended now (Success output)) seq works
+works-ended None now seq output works none same =
+    with_freed-none now seq (changed_work (succeeded output) seq works) (NamesNone-changed (succeeded output) seq works (λ work. refl) none)
+    ∙ changed-same (succeeded output) (ended now (Success output)) seq works
+    (All-weaker (OfNumber seq (λ work. work.request.period ≡ None)) (OfNumber seq (λ work. succeeded output work ≡ ended now (Success output) work)) works
+    (λ work is e. sym (ap (λ kind. ended_as kind now (Success output) work) (is e))) same)
+works-ended (Some period) now seq output works none same =
+    changed-same (enqueued_again now) (ended now (Success output)) seq works
+    (All-weaker (OfNumber seq (λ work. work.request.period ≡ Some period))
+    (OfNumber seq (λ work. enqueued_again now work ≡ ended now (Success output) work)) works
+    (λ work is e. sym (ap (λ kind. ended_as kind now (Success output) work) (is e))) same)
+
+pub with_end-success : (s : State) (run : Run) (output : List DataEntry) → AllLater IsBefore s.works → AllByRecursion IsNarrowRecord s.works
+    → with_end s run (Success output) ≡ with_ended s run output
+with_end-success s run output order narrow =
     let none = All-weaker IsNarrowRecord NamesNone s.works (λ work is. is.no_prerequisite) narrow in
-    let one_time = All-weaker IsNarrowRecord (λ work. work.request.period ≡ None) s.works (λ work is. is.one_time) narrow in
-    let changes = changed_work (succeeded output) run.seq s.works in
     ap (λ (works : List Record). record s {
       works = works;
       runs = other_runs run.run s.runs;
       instances = with_out false run.instance s.instances;
     })
-    (ap (λ (period : Option Period). works_after_end s.now run.seq period (Success output) s.works) (period_of-none run.seq s.works one_time)
-    ∙ with_freed-none s.now run.seq changes (NamesNone-changed (succeeded output) run.seq s.works (λ work. refl) none))
+    (works-ended (period_of run.seq s.works) s.now run.seq output s.works none (same_period run.seq s.works order))
 
 open-waiting : (p : Phase) → is_waiting p ≡ true → is_open p ≡ true
 open-waiting phase.Waiting is = refl
@@ -156,17 +189,28 @@ open-waiting phase.Running is = refl
 open-waiting (phase.Done how) is = absurd (false≢true is)
 
 -- a failed start changes the work alone
-pub with_start_failed-alone : (s : State) (work : Record) → AllByRecursion IsNarrowRecord s.works → AllByRecursion (IsAlone work) s.works
-    → is_waiting work.phase ≡ true → with_start_failed s work.seq ≡ with_failure s work.seq
-with_start_failed-alone s work narrow alone waits =
+works-not_started : (period : Option Period) (now seq : ℕ) (works : List Record) → AllByRecursion NamesNone works
+    → AllByRecursion (OfNumber seq (λ work. is_open work.phase ≡ true)) works → AllByRecursion (OfNumber seq (λ work. work.request.period ≡ period)) works
+    → works_not_started now seq period works ≡ changed_work (not_started now) seq works
+works-not_started None now seq works none opens same =
+    with_closed-alone how.Failed seq works none opens
+    ∙ changed-same (closed how.Failed) (not_started now) seq works
+    (All-weaker (OfNumber seq (λ work. work.request.period ≡ None)) (OfNumber seq (λ work. closed how.Failed work ≡ not_started now work)) works
+    (λ work is e. sym (ap (λ kind. not_started_as kind now work) (is e))) same)
+works-not_started (Some period) now seq works none opens same =
+    changed-same (enqueued_again now) (not_started now) seq works
+    (All-weaker (OfNumber seq (λ work. work.request.period ≡ Some period)) (OfNumber seq (λ work. enqueued_again now work ≡ not_started now work)) works
+    (λ work is e. sym (ap (λ kind. not_started_as kind now work) (is e))) same)
+
+pub with_start_failed-alone : (s : State) (work : Record) → AllLater IsBefore s.works → AllByRecursion IsNarrowRecord s.works
+    → AllByRecursion (IsAlone work) s.works → is_waiting work.phase ≡ true → with_start_failed s work.seq ≡ with_not_started s work.seq
+with_start_failed-alone s work order narrow alone waits =
     let none = All-weaker IsNarrowRecord NamesNone s.works (λ work is. is.no_prerequisite) narrow in
-    let one_time = All-weaker IsNarrowRecord (λ work. work.request.period ≡ None) s.works (λ work is. is.one_time) narrow in
     let opens =
     All-weaker (IsAlone work) (λ other. other.seq ≡ work.seq → is_open other.phase ≡ true) s.works
     (λ other same e. subst (λ (w : Record). is_open w.phase ≡ true) (sym (same e)) (open-waiting work.phase waits)) alone in
     ap (λ (works : List Record). record s { works = works })
-    (ap (λ (period : Option Period). works_not_started s.now work.seq period s.works) (period_of-none work.seq s.works one_time)
-    ∙ with_closed-alone how.Failed work.seq s.works none opens)
+    (works-not_started (period_of work.seq s.works) s.now work.seq s.works none opens (same_period work.seq s.works order))
 
 -- ---- runs
 

@@ -12,7 +12,7 @@ use Rattle.wm_machine.proofs.Lists.{All-both, All-map, All-push, All-weaker, All
 use Rattle.wm_machine.proofs.Owed.{IsKept}
 use Rattle.wm_machine.proofs.Records.{IsRecord-started}
 use Rattle.wm_machine.proofs.Runnings.{AreNumberedInOrder-made, changed, changed_both, changed_there, IsAlone-stored, made, made_both, made_there, old_work, other_number, same_instance}
-use Rattle.wm_machine.proofs.Waitings.{left_to_drain-started}
+use Rattle.wm_machine.proofs.Waitings.{gone-idle, left_to_drain-started}
 use Rattle.wm_machine.specs.First.{first_of, idle_instance}
 use Rattle.wm_machine.specs.Frame.{begun_frame, Frame, frame_of, frame_to, IsBegunIn}
 use Rattle.wm_machine.specs.Narrow.{IsNarrow, IsNarrowRun, IsReached}
@@ -85,8 +85,9 @@ IsOutForRun-made runs run other out =
 
 IsFine-started : IsFine Waits started
 IsFine-started = record {
-  same = λ work. record { seq = refl; name = refl; request = refl; prior = refl; backoff_n = refl };
+  same = λ work. record { seq = refl; name = refl; request = refl; prior = refl };
   fits = IsRecord-started;
+  narrow = λ work is. record { no_prerequisite = is.no_prerequisite; no_retry = is.no_retry };
 }
 
 reached-start : (s : State) (work : Record) (idle : Instance) (input : List DataEntry) → IsReached s → first_of s ≡ Some work
@@ -155,5 +156,5 @@ start-kept s run seq instance input reached legal =
     let alone = IsAlone-stored legal.work s.works reached.valid.in_order stored in
     rw (after_start s run seq instance input legal) record {
       reached = reached-start s legal.work legal.idle input reached legal.is_first legal.is_idle taken;
-      left = left_to_drain-started s legal.work started legal.is_first alone (λ other. refl) (λ other. refl);
+      left = left_to_drain-started s legal.work started legal.is_first alone (λ other. refl) (gone-idle s.now started legal.work.seq s.works (λ other. refl));
     }

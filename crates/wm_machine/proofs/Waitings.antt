@@ -1,23 +1,29 @@
 -- How many works a drain may still start, after one of them is changed.
-use Rattle.std.proofs.Common.{◌≡◌, ◌&&◌, ◌||◌, ℕ, ◌+◌, ◌<◌, ◌≤◌, Bool, true, false, not, cond, eqb, List, [], ◌∷◌, map, Some, refl, sym, ◌∙◌, ap, inl, inr, arith}
+use Rattle.std.proofs.Common.{◌≡◌, ◌&&◌, ◌||◌, ℕ, ◌+◌, ◌<◌, ◌≤◌, Bool, true, false, not, cond, eqb, List, [], ◌∷◌, map, min, Option, Some, None, IfSome, refl, subst, sym, ◌∙◌, ap, inl, inr, arith}
 use Rattle.std.specs.List.{AllByRecursion}
 use Rattle.std.specs.Prelude.{count_by, nat_le}
-use Rattle.std.proofs.lemmas.Bool.{and_from, and_left, and_parts, cond_both, false≢true, or_cases, or_left, or_right}
+use Rattle.std.proofs.lemmas.Bool.{and_from, and_left, and_parts, cond_both, false≢true, lt-leb, ne_eqb, or_cases, or_left, or_right}
 use Rattle.std.proofs.lemmas.List.Sums.{sum_by-cons}
 use Rattle.wm_data.specs.declared.data.DataEntry.{DataEntry}
 use Rattle.wm_machine.proofs.Firsts.{first_of-startable, first_of-stored, IsStartable-from}
 use Rattle.wm_machine.proofs.Lists.{All-any, All-weaker, HasOne-weaker, list_all-weaker, list_any-map}
 use Rattle.wm_machine.proofs.Runnings.{changed, changed_both, IsAlone}
 use Rattle.wm_machine.specs.Due.{due_of}
-use Rattle.wm_machine.specs.Ends.{succeeded}
+use Rattle.wm_machine.specs.Ends.{ended, ended_as, enqueued_again, not_started, not_started_as}
 use Rattle.wm_machine.specs.First.{all_met, first_of, has_succeeded, is_succeeded, is_waiting}
+use Rattle.wm_machine.specs.Narrow.{IsNarrowRecord}
 use Rattle.wm_machine.specs.Runs.{changed_work}
-use Rattle.wm_machine.specs.Valid.{HasOne}
+use Rattle.wm_machine.specs.Valid.{HasOne, IsRecord}
 use Rattle.wm_machine.specs.Waiting.{is_left, left_among, left_to_drain}
+use Rattle.wm_machine.specs.declared.event.End.TheVariants.{Success}
 use Rattle.wm_machine.specs.declared.record.Phase.{Phase}
 use Rattle.wm_machine.specs.declared.record.Phase.TheVariants as phase
 use Rattle.wm_machine.specs.declared.record.Record.{Record}
 use Rattle.wm_machine.specs.declared.state.State.{State}
+use Rattle.wm_schedule.specs.Clamped.{IsPeriod}
+use Rattle.wm_schedule.specs.Due.{due_at}
+use Rattle.wm_schedule.specs.Moments.{IsDelay}
+use Rattle.wm_schedule.specs.declared.schedule.Period.{Period}
 
 -- ---- counts
 
@@ -98,17 +104,23 @@ left-before now works then work still left =
       | inr blocked ↦ or_right _ _ (still_blocked (all_met works work) (all_met then work) (met-map works then work still) blocked)
     ])
 
--- ---- a change of one work, which waits no longer
+-- ---- a change of one work, which isn't left to a drain any more
+
+-- after a change of the work of this number it isn't left, whatever the others are
+pub IsGone : ℕ → (Record → Record) → ℕ → Record → Type 0
+IsGone now change seq work = work.seq ≡ seq → (works : List Record) → is_left now works (change work) ≡ false
 
 module _ (now : ℕ) (change : Record → Record) (seq : ℕ) (works : List Record) (keeps : (work : Record) → (change work).seq ≡ work.seq)
-    (ends : (work : Record) → is_waiting (change work).phase ≡ false)
+    (gone : AllByRecursion (IsGone now change seq) works)
     (stays : AllByRecursion (λ work. work.seq ≡ seq → is_succeeded work.phase ≡ true → is_succeeded (change work).phase ≡ true) works) where
   implied : AllByRecursion (λ work. is_left now (changed_work change seq works) (changed change seq work) ≡ true → is_left now works work ≡ true) works
+  unfolding IsGone
   implied =
-      All-any (λ work. is_left now (changed_work change seq works) (changed change seq work) ≡ true → is_left now works work ≡ true) works
-      (λ work. changed_both (λ w. is_left now (changed_work change seq works) w ≡ true → is_left now works work ≡ true) change seq work
-      (λ e left. absurd (false≢true (sym (and_left (is_waiting (change work).phase) _ (ends work)) ∙ left)))
-      (λ e left. left-before now works (changed_work change seq works) work (λ number. has_succeeded-map change seq number works keeps stays) left))
+      All-weaker (IsGone now change seq)
+      (λ work. is_left now (changed_work change seq works) (changed change seq work) ≡ true → is_left now works work ≡ true) works
+      (λ work is. changed_both (λ w. is_left now (changed_work change seq works) w ≡ true → is_left now works work ≡ true) change seq work
+      (λ e left. absurd (false≢true (sym (is e (changed_work change seq works)) ∙ left)))
+      (λ e left. left-before now works (changed_work change seq works) work (λ number. has_succeeded-map change seq number works keeps stays) left)) gone
 
   -- no more are left
   pub left_among-changed : left_among now (changed_work change seq works) ≤ left_among now works
@@ -117,12 +129,37 @@ module _ (now : ℕ) (change : Record → Record) (seq : ℕ) (works : List Reco
   -- fewer are left, where this one was
   pub left_among-fewer : HasOne (λ work. (work.seq ≡ seq) × (is_left now works work ≡ true)) works
       → left_among now (changed_work change seq works) < left_among now works
+  unfolding IsGone
   left_among-fewer one =
       count-fewer (is_left now works) (is_left now (changed_work change seq works)) (changed change seq) works implied
-      (HasOne-weaker (λ work. Unit {0}) (λ work. (work.seq ≡ seq) × (is_left now works work ≡ true))
-      (λ work. (is_left now works work ≡ true) × (is_left now (changed_work change seq works) (changed change seq work) ≡ false)) works (λ work u is.
-      (is.1, changed_both (λ w. is_left now (changed_work change seq works) w ≡ false) change seq work (λ e. and_left _ _ (ends work)) (λ e. absurd (e is.0))))
-      (All-any (λ work. Unit {0}) works (λ work. tt)) one)
+      (HasOne-weaker (IsGone now change seq) (λ work. (work.seq ≡ seq) × (is_left now works work ≡ true))
+      (λ work. (is_left now works work ≡ true) × (is_left now (changed_work change seq works) (changed change seq work) ≡ false)) works (λ work away is. (
+        is.1,
+        changed_both (λ w. is_left now (changed_work change seq works) w ≡ false) change seq work (λ e. away e (changed_work change seq works))
+            (λ e. absurd (e is.0)),
+      )) gone one)
+
+-- work that doesn't wait isn't left
+pub gone-idle : (now : ℕ) (change : Record → Record) (seq : ℕ) (works : List Record) → ((work : Record) → is_waiting (change work).phase ≡ false)
+    → AllByRecursion (IsGone now change seq) works
+unfolding IsGone
+gone-idle now change seq works ends = All-any (IsGone now change seq) works (λ work e others. and_left _ _ (ends work))
+
+-- periodic work that is enqueued again is due after now
+due-again : (period : Period) (now : ℕ) (work : Record) → work.request.period ≡ Some period → IsRecord work
+    → nat_le (due_of (enqueued_again now work)) now ≡ false
+unfolding due_of due_at
+due-again period now work repeats is =
+    let limits = subst (λ kind. IfSome kind (λ p. IsPeriod p × IsDelay p.period)) repeats is.request.within.period_is in
+    let later : eqb (min (work.runs + 1) 1000000) 0 ≡ false = ne_eqb (min (work.runs + 1) 1000000) 0 (λ e. absurd (omega arith)) in
+    let least = limits.0.least in
+    rw (repeats, later) (lt-leb (now + period.period) now (omega arith))
+
+-- and isn't left, where it names no prerequisite
+pub left-again : (period : Period) (now : ℕ) (works : List Record) (work : Record) → work.request.period ≡ Some period → work.prior ≡ [] → IsRecord work
+    → is_left now works (enqueued_again now work) ≡ false
+unfolding all_met
+left-again period now works work repeats none is = rw (due-again period now work repeats is, none) refl
 
 not_succeeded : (p : Phase) → is_waiting p ≡ true → is_succeeded p ≡ true → ⊥
 not_succeeded phase.Waiting waits succeeded = false≢true succeeded
@@ -131,23 +168,52 @@ not_succeeded (phase.Done how) waits succeeded = false≢true waits
 
 -- fewer are left to a drain, once the first of them is started or fails
 pub left_to_drain-started : (s : State) (work : Record) (change : Record → Record) → first_of s ≡ Some work → AllByRecursion (IsAlone work) s.works
-    → ((other : Record) → (change other).seq ≡ other.seq) → ((other : Record) → is_waiting (change other).phase ≡ false)
+    → ((other : Record) → (change other).seq ≡ other.seq) → AllByRecursion (IsGone s.now change work.seq) s.works
     → left_among s.now (changed_work change work.seq s.works) < left_to_drain s
-left_to_drain-started s work change first alone keeps ends =
+left_to_drain-started s work change first alone keeps gone =
     let startable = IsStartable-from s work (first_of-startable s work first) in
     let left : is_left s.now s.works work ≡ true = and_from _ _ startable.waiting (or_left _ _ startable.due) in
     let stays =
     All-weaker (IsAlone work) (λ other. other.seq ≡ work.seq → is_succeeded other.phase ≡ true → is_succeeded (change other).phase ≡ true) s.works
     (λ other same e succeeded. absurd
     (not_succeeded work.phase startable.waiting (sym (ap (λ (w : Record). is_succeeded w.phase) (same e)) ∙ succeeded))) alone in
-    left_among-fewer s.now change work.seq s.works keeps ends stays
+    left_among-fewer s.now change work.seq s.works keeps gone stays
     (HasOne-weaker (λ other. Unit {0}) (λ other. other ≡ work) (λ other. (other.seq ≡ work.seq) × (is_left s.now s.works other ≡ true)) s.works
     (λ other u is. (ap (λ (w : Record). w.seq) is, ap (is_left s.now s.works) is ∙ left)) (All-any (λ other. Unit {0}) s.works (λ other. tt))
     (first_of-stored s work first))
 
--- and no more are, once a work has succeeded
-pub left_to_drain-succeeded : (now : ℕ) (output : List DataEntry) (seq : ℕ) (works : List Record)
-    → left_among now (changed_work (succeeded output) seq works) ≤ left_among now works
-left_to_drain-succeeded now output seq works =
-    left_among-changed now (succeeded output) seq works (λ work. refl) (λ work. refl)
-    (All-any (λ work. work.seq ≡ seq → is_succeeded work.phase ≡ true → is_succeeded (succeeded output work).phase ≡ true) works (λ work e succeeded. refl))
+-- and no more are, once a running work has ended
+pub left_to_drain-ended : (now : ℕ) (change : Record → Record) (seq : ℕ) (works : List Record) → ((work : Record) → (change work).seq ≡ work.seq)
+    → AllByRecursion (IsGone now change seq) works → AllByRecursion (λ work. work.seq ≡ seq → work.phase ≡ phase.Running) works
+    → left_among now (changed_work change seq works) ≤ left_among now works
+left_to_drain-ended now change seq works keeps gone running =
+    left_among-changed now change seq works keeps gone
+    (All-weaker (λ work. work.seq ≡ seq → work.phase ≡ phase.Running)
+    (λ work. work.seq ≡ seq → is_succeeded work.phase ≡ true → is_succeeded (change work).phase ≡ true) works
+    (λ work runs e succeeded. absurd (false≢true (sym (ap is_succeeded (runs e)) ∙ succeeded))) running)
+
+-- ---- what becomes of work of either kind
+
+ended-gone : (period : Option Period) (now : ℕ) (output : List DataEntry) (works : List Record) (work : Record) → work.request.period ≡ period
+    → work.prior ≡ [] → IsRecord work → is_left now works (ended_as period now (Success output) work) ≡ false
+ended-gone None now output works work kind none is = refl
+ended-gone (Some period) now output works work kind none is = left-again period now works work kind none is
+
+pub gone-ended : (now : ℕ) (output : List DataEntry) (seq : ℕ) (works : List Record) → AllByRecursion (λ work. IsNarrowRecord work × IsRecord work) works
+    → AllByRecursion (IsGone now (ended now (Success output)) seq) works
+unfolding IsGone
+gone-ended now output seq works are =
+    All-weaker (λ work. IsNarrowRecord work × IsRecord work) (IsGone now (ended now (Success output)) seq) works
+    (λ work is e others. ended-gone work.request.period now output others work refl is.0.no_prerequisite is.1) are
+
+not_started-gone : (period : Option Period) (now : ℕ) (works : List Record) (work : Record) → work.request.period ≡ period → work.prior ≡ [] → IsRecord work
+    → is_left now works (not_started_as period now work) ≡ false
+not_started-gone None now works work kind none is = refl
+not_started-gone (Some period) now works work kind none is = left-again period now works work kind none is
+
+pub gone-not_started : (now seq : ℕ) (works : List Record) → AllByRecursion (λ work. IsNarrowRecord work × IsRecord work) works
+    → AllByRecursion (IsGone now (not_started now) seq) works
+unfolding IsGone
+gone-not_started now seq works are =
+    All-weaker (λ work. IsNarrowRecord work × IsRecord work) (IsGone now (not_started now) seq) works
+    (λ work is e others. not_started-gone work.request.period now others work refl is.0.no_prerequisite is.1) are

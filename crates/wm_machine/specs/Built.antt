@@ -1,14 +1,13 @@
 -- What is built of the commands. Each step of the work widens it.
-use Rattle.std.specs.Prelude.{◌≡◌, List, [], ◌∷◌, None}
+use Rattle.std.specs.Prelude.{◌≡◌, List, [], ◌∷◌}
 use Rattle.wm_machine.specs.declared.state.WorkQuery.{WorkQuery}
 use Rattle.wm_request.specs.Requests.{IsRequest, RequestFields}
 use Rattle.wm_request.specs.declared.request.Node.{Node}
 
--- one one-time work without a prerequisite, within the limits of a request
+-- one work without a prerequisite, within the limits of a request
 pub record IsPlain (works : List Node) : Type 0 where
   pub request : RequestFields
   pub within : IsRequest request
-  pub one_time : request.period ≡ None
   pub one : works ≡ (record { request = request; after = [] }) ∷ []
 
 -- a query that names nothing, which matches all

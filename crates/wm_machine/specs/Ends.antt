@@ -3,7 +3,7 @@
 use Rattle.std.specs.Prelude.{ℕ, ◌+◌, ◌&&◌, Bool, false, List, [], map, min, if◌then◌else◌, Option, Some, None}
 use Rattle.std.specs.Option.{option_and_then}
 use Rattle.wm_data.specs.declared.data.DataEntry.{DataEntry}
-use Rattle.wm_machine.specs.Closed.{is_among, with_closed}
+use Rattle.wm_machine.specs.Closed.{closed, is_among, with_closed}
 use Rattle.wm_machine.specs.First.{all_met, is_waiting}
 use Rattle.wm_machine.specs.Input.{work_numbered}
 use Rattle.wm_machine.specs.Runs.{changed_work, other_runs, with_out}
@@ -48,6 +48,25 @@ enqueued_again now work = record work {
   output = [];
   progress = [];
 }
+
+-- What a run that ended so at this moment makes of its work: a retry puts it back; else periodic work is enqueued again, and one-time work is
+-- finished with what it gave.
+abbrev pub ended_as : Option Period → ℕ → End → Record → Record
+ended_as _ now Retry work = retried now work
+ended_as (Some period) now _ work = enqueued_again now work
+ended_as None now (Success output) work = succeeded output work
+ended_as None now (Failure output) work = with_output output (closed how.Failed work)
+
+abbrev pub ended : ℕ → End → Record → Record
+ended now end work = ended_as work.request.period now end work
+
+-- what a start that fails makes of its work: one-time work has failed without having given anything, and periodic work is enqueued again
+abbrev pub not_started_as : Option Period → ℕ → Record → Record
+not_started_as None now work = closed how.Failed work
+not_started_as (Some period) now work = enqueued_again now work
+
+abbrev pub not_started : ℕ → Record → Record
+not_started now work = not_started_as work.request.period now work
 
 -- ---- the records of a state
 

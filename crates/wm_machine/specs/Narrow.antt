@@ -1,6 +1,6 @@
 -- What is narrower for now than the rules allow, because little is built. Each step of the work takes facts away here, and none is added.
 -- This project's own choice.
-use Rattle.std.specs.Prelude.{◌≡◌, true, [], None}
+use Rattle.std.specs.Prelude.{◌≡◌, true, []}
 use Rattle.std.specs.List.{AllByRecursion}
 use Rattle.wm_machine.specs.Valid.{Valid}
 use Rattle.wm_machine.specs.declared.record.Record.{Record}
@@ -8,9 +8,8 @@ use Rattle.wm_machine.specs.declared.state.Run.{Run}
 use Rattle.wm_machine.specs.declared.state.State.{State}
 use Rattle.wm_worker.specs.declared.kind.Kind.TheVariants.{Echo}
 
--- a one-time work without prerequisites and retries
+-- a work without prerequisites and retries
 pub record IsNarrowRecord (work : Record) : Type 0 where
-  pub one_time : work.request.period ≡ None
   pub no_prerequisite : work.prior ≡ []
   pub no_retry : work.backoff_n ≡ 0
 

@@ -1,0 +1,98 @@
+ghost use Rattle.std.specs.Prelude.{◌≡◌, IfOk};
+ghost use Rattle.wm_machine.specs.Closed.{closed};
+ghost use Rattle.wm_machine.specs.Ends.{ended, enqueued_again, not_started, retried, succeeded, with_output};
+ghost use Rattle.wm_machine.specs.Runs.{started};
+
+use std::alloc::{AllocError, Global};
+use wm_collections::Replica;
+use wm_data::Data;
+use wm_machine::{End, How, Phase, Record};
+
+/// Attempts and periods are counted up to this number.
+const MAX_COUNT: u32 = 1_000_000;
+
+/// The record of a work whose run begins: one attempt more, without progress.
+pub fn started(alloc: Global, work: &Record) -> Result<Record, AllocError>
+    ensures { IfOk result (λ changed. changed ≡ started work.entry.now) }
+{
+    let mut changed = work.replica(alloc)?;
+    changed.phase = Phase::Running;
+    changed.attempt = work.attempt.saturating_add(1).min(MAX_COUNT);
+    changed.progress = Data::empty(alloc);
+    Ok(changed)
+}
+
+/// The record of a work whose run ended so at this moment, in milliseconds. A retry puts it back,
+/// with a backoff that counts from its attempt. Else periodic work is enqueued again, and one-time
+/// work has succeeded or failed with its output.
+pub fn ended(alloc: Global, work: &Record, end: &End, now: u64) -> Result<Record, AllocError>
+    ensures { IfOk result (λ changed. changed ≡ ended now end.now work.entry.now) }
+{
+    match end {
+        End::Retry => retried(alloc, work, now),
+        End::Success(_) | End::Failure(_) if work.request.period().is_some() => {
+            enqueued_again(alloc, work, now)
+        }
+        End::Success(output) => finished(alloc, work, How::Succeeded, output),
+        End::Failure(output) => finished(alloc, work, How::Failed, output),
+    }
+}
+
+/// The record of a work whose run had no turn left at this moment: it is put back as for a retry.
+pub fn timed_out(alloc: Global, work: &Record, now: u64) -> Result<Record, AllocError>
+    ensures { IfOk result (λ changed. changed ≡ retried now work.entry.now) }
+{
+    retried(alloc, work, now)
+}
+
+/// The record of a work that couldn't start at this moment: one-time work has failed without an
+/// output, and periodic work is enqueued again.
+pub fn not_started(alloc: Global, work: &Record, now: u64) -> Result<Record, AllocError>
+    ensures { IfOk result (λ changed. changed ≡ not_started now work.entry.now) }
+{
+    if work.request.period().is_some() {
+        return enqueued_again(alloc, work, now);
+    }
+    let mut changed = work.replica(alloc)?;
+    changed.phase = Phase::Done(How::Failed);
+    changed.progress = Data::empty(alloc);
+    Ok(changed)
+}
+
+/// A work that waits again, for the attempt after this one.
+fn retried(alloc: Global, work: &Record, now: u64) -> Result<Record, AllocError>
+    ensures { IfOk result (λ changed. changed ≡ retried now work.entry.now) }
+{
+    let mut changed = work.replica(alloc)?;
+    changed.phase = Phase::Waiting;
+    changed.backoff_n = work.attempt;
+    changed.enqueued_at = now;
+    changed.progress = Data::empty(alloc);
+    Ok(changed)
+}
+
+/// A periodic work that waits for its next period.
+fn enqueued_again(alloc: Global, work: &Record, now: u64) -> Result<Record, AllocError>
+    ensures { IfOk result (λ changed. changed ≡ enqueued_again now work.entry.now) }
+{
+    let mut changed = work.replica(alloc)?;
+    changed.phase = Phase::Waiting;
+    changed.attempt = 0;
+    changed.backoff_n = 0;
+    changed.runs = work.runs.saturating_add(1).min(MAX_COUNT);
+    changed.enqueued_at = now;
+    changed.output = Data::empty(alloc);
+    changed.progress = Data::empty(alloc);
+    Ok(changed)
+}
+
+/// A one-time work that has ended for good with this output.
+fn finished(alloc: Global, work: &Record, how: How, output: &Data) -> Result<Record, AllocError>
+    ensures { IfOk result (λ changed. changed ≡ with_output output.now (closed how work.entry.now)) }
+{
+    let mut changed = work.replica(alloc)?;
+    changed.phase = Phase::Done(how);
+    changed.output = output.replica(alloc)?;
+    changed.progress = Data::empty(alloc);
+    Ok(changed)
+}
