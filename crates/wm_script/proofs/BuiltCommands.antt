@@ -1,5 +1,5 @@
 -- The commands of lines are built.
-use Rattle.std.proofs.Common.{◌≡◌, ℕ, ◌+◌, ◌^◌, ◌<◌, zero, suc, Bool, true, false, cond, List, [], ◌∷◌, filter_map, length, map, Option, Some, None, IfSome, is_some, option_and_then, unwrap_or, Result, Ok, Err, IfOk, refl, sym, ap, ◌∙◌, add-one, rules, arith}
+use Rattle.std.proofs.Common.{◌≡◌, ℕ, ◌+◌, ◌^◌, ◌<◌, zero, suc, Bool, true, false, cond, List, [], ◌∷◌, filter_map, length, map, Option, Some, None, IfSome, is_some, option_and_then, option_map, unwrap_or, Result, Ok, Err, IfOk, refl, sym, ap, ◌∙◌, add-one, rules, arith}
 use Rattle.std.specs.Prelude.{codes, nat_lt}
 use Rattle.std.specs.List.{AllByRecursion, cons_option, list_all}
 use Rattle.std.specs.Map.{lookup}
@@ -23,10 +23,11 @@ use Rattle.wm_request.proofs.Limits.{built_of-cases, IsShortText-is_short}
 use Rattle.wm_request.proofs.Tags.{AreSortedTags-with_tag}
 use Rattle.wm_request.specs.Building.{built_of, is_short, with_tag, IsBuilding}
 use Rattle.wm_request.specs.Requests.{AreSortedTags, IsShortText}
-use Rattle.wm_schedule.proofs.Clamps.{IsBackoffDelay-clamped}
+use Rattle.wm_schedule.proofs.Clamps.{IsBackoffDelay-clamped, IsPeriod-clamped}
+use Rattle.wm_schedule.specs.Clamped.{clamped_period, IsPeriod}
 use Rattle.wm_script.specs.Lines.{asked_by, command_of, command_with, commands_in, conditions_of, cut, enqueue_with, enqueued_work, enqueue_of, input_in, moment_of, query_of, readers, value_of}
 use Rattle.wm_script.specs.Values.{are_short, short_in, texts_at, texts_of, whole_at, whole_in}
-use Rattle.wm_script.specs.Works.{asked_for, backoff_at, class_at, constraints_at, id_at, merger_at, with_tags, work_of, WorkForm}
+use Rattle.wm_script.specs.Works.{asked_for, backoff_at, class_at, constraints_at, id_at, merger_at, period_at, with_tags, work_of, PeriodForm, WorkForm}
 
 -- ---- what holds of a value where there is one
 
@@ -118,7 +119,8 @@ IsWithin-work_of d =
     tags_then IsWithin _ (get (codes "tags") d) (λ tags short.
     then_any IsWithin _ (constraints_at (get (codes "constraints") d)) (λ constraints.
     then_any IsWithin _ (backoff_at (get (codes "backoff") d)) (λ backoff.
-    then_any IsWithin _ (whole_at 0 (get (codes "delay") d)) (λ delay. record { id = sixteen; tags = short })))))))) tt
+    then_any IsWithin _ (whole_at 0 (get (codes "delay") d)) (λ delay.
+    then_any IsWithin _ (period_at (get (codes "period") d) (get (codes "flex") d)) (λ period. record { id = sixteen; tags = short }))))))))) tt
 
 -- the tags of a work are short
 pub short_tags : (d : json.Data) → IfSome (work_of d) (λ work. AllByRecursion IsShortText work.tags)
@@ -134,19 +136,22 @@ sorted_tags : (tags all : List (List ℕ)) → AllByRecursion IsShortText tags �
 sorted_tags [] all short sorted = sorted
 sorted_tags (tag ∷ tags) all short sorted = sorted_tags tags (with_tag tag all) short.1 (AreSortedTags-with_tag tag all short.0 sorted)
 
+IsPeriod-asked : (period : Option PeriodForm) → IfSome (option_map (λ p. clamped_period p.period p.flex) period) IsPeriod
+IsPeriod-asked None = tt
+IsPeriod-asked (Some p) = IsPeriod-clamped p.period p.flex
+
 -- the command of a work with this input
 IsBuilt-request : (work : WorkForm) (input : List DataEntry) → IsWithin work → IsData input → IsBuilt (command_with (built_of (asked_for work input)))
 unfolding HasSixteen AreShort
 IsBuilt-request work input within is_data =
-    let building : IsBuilding (asked_for work input).tags (asked_for work input).backoff None = record {
+    let building : IsBuilding (asked_for work input).tags (asked_for work input).backoff (asked_for work input).period = record {
       tags_are = sorted_tags work.tags [] within.tags (record { short = tt; ascending = tt });
       backoff_is = IsBackoffDelay-clamped work.backoff.delay;
-      period_is = tt;
+      period_is = IsPeriod-asked work.period;
     } in
     built_of-cases (λ built. IsBuilt (command_with built)) (asked_for work input) building tt tt tt (λ limits. record {
       request = asked_for work input;
       within = record { id = within.id; input = is_data; within = limits };
-      one_time = refl;
       one = refl;
     })
 

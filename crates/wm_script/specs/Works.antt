@@ -13,12 +13,14 @@ use Rattle.wm_data.specs.declared.merger.Merger.{Merger}
 use Rattle.wm_data.specs.declared.merger.Merger.TheVariants.{Overwriting, ArrayCreating}
 use Rattle.wm_request.specs.Building.{backoff_of, with_tag}
 use Rattle.wm_request.specs.Requests.{RequestFields}
+use Rattle.wm_schedule.specs.Clamped.{clamped_period}
 use Rattle.wm_schedule.specs.declared.schedule.Backoff.{Backoff}
 use Rattle.wm_schedule.specs.declared.schedule.BackoffPolicy.{BackoffPolicy}
 use Rattle.wm_schedule.specs.declared.schedule.BackoffPolicy.TheVariants.{Linear, Exponential}
 use Rattle.wm_schedule.specs.declared.schedule.TheConstants.Backoff.{DEFAULT}
 use Rattle.wm_script.specs.Objects.{has_only}
-use Rattle.wm_script.specs.Values.{◌>>=◌, flag_at, named_at, texts_at, texts_of, whole_at}
+use Rattle.wm_script.specs.Values.{◌>>=◌, flag_at, named_at, texts_at, texts_of, whole_at, whole_in}
+use Rattle.wm_script.specs.declared.works.PeriodForm.{PeriodForm as ReadPeriod}
 use Rattle.wm_script.specs.declared.works.WorkForm.{WorkForm as ReadWork}
 
 -- ---- the keys of a work: the reader of each, with what an absent one stands for
@@ -90,11 +92,32 @@ backoff_at (Some d) = if has_only (codes "delay" ∷ codes "policy" ∷ []) d th
   delay ← whole_at 30000 (get (codes "delay") d)
   Some (record { policy = policy; delay = delay })) else None
 
+-- a period with its flex interval, as they are asked for
+pub record PeriodForm : Type 0 where
+  pub period : ℕ
+  pub flex : Option ℕ
+
+-- a flex interval of a period, where there is one
+abbrev pub with_flex : ℕ → Option json.Data → Option (Option PeriodForm)
+with_flex period None = Some (Some (record { period = period; flex = None }))
+with_flex period (Some d) = do
+  flex ← whole_in d
+  Some (Some (record { period = period; flex = Some flex }))
+
+-- work is periodic where it has a period; a flex interval doesn't stand without one
+unfoldable pub period_at : Option json.Data → Option json.Data → Option (Option PeriodForm)
+period_at None None = Some None
+period_at None (Some flex) = None
+period_at (Some d) flex = do
+  period ← whole_in d
+  with_flex period flex
+
 -- ---- a work
 
 abbrev pub work_keys : List (List ℕ)
 work_keys =
-    codes "backoff" ∷ codes "class" ∷ codes "constraints" ∷ codes "delay" ∷ codes "id" ∷ codes "input" ∷ codes "merger" ∷ codes "tags" ∷ []
+    codes "backoff" ∷ codes "class" ∷ codes "constraints" ∷ codes "delay" ∷ codes "flex" ∷ codes "id" ∷ codes "input" ∷ codes "merger"
+    ∷ codes "period" ∷ codes "tags" ∷ []
 
 -- a work as it stands in a line, where its input may be anything
 pub record WorkForm : Type 0 where
@@ -106,6 +129,10 @@ pub record WorkForm : Type 0 where
   pub constraints : Constraints
   pub backoff : Backoff
   pub delay : ℕ
+  pub period : Option PeriodForm
+
+abbrev pub period_of : Option ReadPeriod → Option PeriodForm
+period_of period = option_map (λ p. record { period = p.period; flex = p.flex }) period
 
 -- the same, of a work that points to the value of its line
 abbrev pub form_of : ReadWork → WorkForm
@@ -118,6 +145,7 @@ form_of work = record {
   constraints = work.constraints;
   backoff = work.backoff;
   delay = work.delay;
+  period = period_of work.period;
 }
 
 -- the work that an object is, which has no other key than these
@@ -130,6 +158,7 @@ work_of d = if has_only work_keys d then (do
   constraints ← constraints_at (get (codes "constraints") d)
   backoff ← backoff_at (get (codes "backoff") d)
   delay ← whole_at 0 (get (codes "delay") d)
+  period ← period_at (get (codes "period") d) (get (codes "flex") d)
   Some (record {
     id = id;
     class = class;
@@ -139,6 +168,7 @@ work_of d = if has_only work_keys d then (do
     constraints = constraints;
     backoff = backoff;
     delay = delay;
+    period = period;
   })) else None
 
 -- ---- its request
@@ -159,5 +189,5 @@ asked_for work input = record {
   constraints = work.constraints;
   backoff = backoff_of work.backoff.policy work.backoff.delay;
   initial_delay = work.delay;
-  period = None;
+  period = option_map (λ p. clamped_period p.period p.flex) work.period;
 }

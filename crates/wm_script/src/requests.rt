@@ -19,7 +19,11 @@ pub fn request_of(alloc: Global, work: &WorkForm<'_>, input: Data) -> Result<Req
     ensures ok { IfOk result (λ request. built_of (asked_for (form_of work.entry.now) input) ≡ Ok request) }
     ensures err { IfErr result (IsFaultOf (built_of (asked_for (form_of work.entry.now) input))) }
 {
-    let mut builder = Builder::one_time(alloc, work.id, String::from_str(alloc, work.class)?);
+    let class = String::from_str(alloc, work.class)?;
+    let mut builder = match work.period {
+        Some(form) => Builder::periodic(alloc, work.id, class, form.period, form.flex),
+        None => Builder::one_time(alloc, work.id, class),
+    };
     builder.input(input);
     builder.merger(work.merger);
     builder.constraints(work.constraints);

@@ -3,10 +3,10 @@ ghost use Rattle.std.specs.Prelude.{◌≡◌, option_map, IfSome};
 ghost use Rattle.std.specs.List.{AllByRecursion};
 ghost use Rattle.serde_json.specs.View.{view};
 ghost use Rattle.wm_request.specs.Requests.{IsShortText};
-ghost use Rattle.wm_script.specs.Works.{backoff_at, backoff_policy_at, class_at, constraints_at, form_of, id_at, merger_at, network_at, work_of};
+ghost use Rattle.wm_script.specs.Works.{backoff_at, backoff_policy_at, class_at, constraints_at, form_of, id_at, merger_at, network_at, period_at, period_of, work_of};
 
 use crate::objects::has_only;
-use crate::values::{flag_at, texts_at, whole_at};
+use crate::values::{flag_at, texts_at, whole_at, whole_in};
 use serde_json::Value;
 use uuid::Uuid;
 use wm_conditions::{Constraints, Network};
@@ -28,6 +28,15 @@ pub struct WorkForm<'v> {
     pub backoff: Backoff,
     /// The initial delay, in milliseconds.
     pub delay: u64,
+    /// How often it repeats, and its flex interval, as they are asked for, in milliseconds.
+    pub period: Option<PeriodForm>,
+}
+
+/// A period, in milliseconds, and a flex interval where there is one.
+#[derive(Clone, Copy)]
+pub struct PeriodForm {
+    pub period: u64,
+    pub flex: Option<u64>,
 }
 
 /// The work that an object is, which has no other key than these. A key that is absent has its
@@ -44,9 +53,11 @@ pub fn work_of(value: &Value) -> Option<WorkForm<'_>>
             "class",
             "constraints",
             "delay",
+            "flex",
             "id",
             "input",
             "merger",
+            "period",
             "tags",
         ],
     ) {
@@ -61,7 +72,25 @@ pub fn work_of(value: &Value) -> Option<WorkForm<'_>>
         constraints: constraints_at(value.get("constraints"))?,
         backoff: backoff_at(value.get("backoff"))?,
         delay: whole_at(0, value.get("delay"))?,
+        period: period_at(value.get("period"), value.get("flex"))?,
     })
+}
+
+/// A period with its flex interval; no flex interval stands without a period.
+#[tactic(auto, unfolding(crate::specs::Works::period_at))]
+fn period_at(period: Option<&Value>, flex: Option<&Value>) -> Option<Option<PeriodForm>>
+    ensures { option_map period_of result ≡ period_at (option_map (λ found. view found.now) period.entry)
+        (option_map (λ found. view found.now) flex.entry) }
+{
+    let Some(period) = period else {
+        return if flex.is_some() { None } else { Some(None) };
+    };
+    let period = whole_in(period)?;
+    let flex = match flex {
+        Some(flex) => Some(whole_in(flex)?),
+        None => None,
+    };
+    Some(Some(PeriodForm { period, flex }))
 }
 
 /// An id, in any of `uuid`'s forms. There has to be one.

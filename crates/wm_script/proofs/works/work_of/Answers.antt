@@ -8,7 +8,7 @@ use Rattle.wm_request.specs.Requests.{IsShortText}
 use Rattle.wm_script.proofs.BuiltCommands.{short_tags}
 use Rattle.wm_script.specs.Objects.{has_only}
 use Rattle.wm_script.specs.Values.{texts_at, texts_of, whole_at}
-use Rattle.wm_script.specs.Works.{backoff_at, class_at, constraints_at, id_at, merger_at, work_keys, work_of}
+use Rattle.wm_script.specs.Works.{backoff_at, class_at, constraints_at, id_at, merger_at, period_at, period_of, work_keys, work_of}
 use Rattle.wm_script.proofs.works.work_of.Goals as goal
 
 pub returns-then-not-has_only-clause-work : goal.returns-then-not-has_only-clause-work
@@ -32,7 +32,8 @@ returns-clause-work c =
     let constraints : constraints_at (get (codes "constraints") d) ≡ Some c.in_ok-constraints_at.field-0 = search rules in
     let backoff : backoff_at (get (codes "backoff") d) ≡ Some c.in_ok-backoff_at.field-0 = search rules in
     let delay : whole_at 0 (get (codes "delay") d) ≡ Some c.in_ok-whole_at.field-0 = search rules in
-    rw (← tested, admitted, id, class, merger, tags, constraints, backoff, delay, input) refl
+    let period : period_at (get (codes "period") d) (get (codes "flex") d) ≡ Some (period_of c.in_ok-period_at.field-0) = search rules in
+    rw (← tested, admitted, id, class, merger, tags, constraints, backoff, delay, period, input) refl
 
 pub returns-clause-short : goal.returns-clause-short
 returns-clause-short c =
