@@ -17,7 +17,6 @@ mod commands;
 mod finishing;
 mod infos;
 mod joins;
-mod lifecycle;
 mod row_changes;
 mod scan;
 mod starting;

@@ -10,11 +10,10 @@ ghost use Rattle.wm_worker.specs.Answers.{given_of};
 
 use crate::table::change::{RunChange, StepChange};
 use crate::table::joins::{at, with};
-use crate::table::lifecycle;
 use crate::table::ticket::Ticket;
 use std::alloc::{AllocError, Global};
 use wm_collections::Replica;
-use wm_data::Data;
+use wm_lifecycle::ended;
 use wm_machine::{End, Event, Kind, Record, Run, State};
 use wm_worker::{Answer, Told};
 
@@ -80,15 +79,15 @@ pub fn counts_in(state: &State, ticket: &Ticket, told: &Told) -> bool
     }
 }
 
-/// The output of a report that an Echo gave: its input.
-fn output_of(told: &Told) -> &Data
+/// The end of a run that an Echo reported: its success, with its input.
+fn end_of(alloc: Global, told: &Told) -> Result<End, AllocError>
     requires echo { told.now.kind ≡ Kind.Echo }
     requires given { IsSome (given_of told.now.answer) }
-    ensures answer { told.now.answer ≡ Answer.Success result.now }
-    ensures input { result.now ≡ told.now.input }
+    ensures end { IfOk result (λ end. end ≡ End.Success told.entry.now.input) }
+    ensures answer { IfOk result (λ _. told.entry.now.answer ≡ Answer.Success told.entry.now.input) }
 {
     match told.answer() {
-        Answer::Success(output) => output,
+        Answer::Success(output) => Ok(End::Success(output.replica(alloc)?)),
         _ => unreachable!(),
     }
 }
@@ -112,23 +111,13 @@ pub fn finish(
         unreachable!();
     };
     let work = at(state.works.as_slice(), index);
-    let output = output_of(told);
-    let changed = lifecycle::succeeded(alloc, work, output)?;
-    let event = finish_event(alloc, run.run, output);
-    let (changed, event) = with(changed, event)?;
-    let end = RunChange::End {
+    let end = end_of(alloc, told)?;
+    let changed = ended(alloc, work, &end, state.now);
+    let (end, changed) = with(end, changed)?;
+    let over = RunChange::End {
         run: run.run,
         instance: run.instance,
     };
-    StepChange::replacing(alloc, index, changed, end, event)
-}
-
-/// The event by which a run succeeds with an output.
-fn finish_event(alloc: Global, run: u64, output: &Data) -> Result<Event, AllocError>
-    ensures { IfOk result (λ event. event ≡ Event.Finish run (End.Success output.now)) }
-{
-    Ok(Event::Finish {
-        run,
-        end: End::Success(output.replica(alloc)?),
-    })
+    let event = Event::Finish { run: run.run, end };
+    StepChange::replacing(alloc, index, changed, over, event)
 }

@@ -12,10 +12,11 @@ ghost use Rattle.wm_table.specs.TableState.{task_in};
 use crate::table::change::{RunChange, StepChange};
 use crate::table::joins::{at, copied, one, with};
 use crate::table::ticket::Ticket;
-use crate::table::{Claim, lifecycle, scan};
+use crate::table::{Claim, scan};
 use std::alloc::{AllocError, Global};
 use wm_collections::{Items, Replica};
 use wm_data::Data;
+use wm_lifecycle::{not_started, started};
 use wm_machine::{Cause, Event, Instance, Record, Run, State};
 use wm_merge::{MergeFault, merge};
 use wm_worker::Task;
@@ -78,7 +79,7 @@ fn start(
     requires input { input_of state.now work.now ≡ Ok input }
     ensures { IfOk result (IsClaiming state.entry.now) }
 {
-    let (input, changed) = with(input, lifecycle::started(alloc, work))?;
+    let (input, changed) = with(input, started(alloc, work))?;
     let run = run_on(state, work, changed.attempt, idle, input);
     let said = said_of(alloc, &run);
     let ((changed, run), (event, task)) = with((changed, run), said)?;
@@ -109,7 +110,7 @@ fn fail(
     requires refused { start_refusal state.now work.now ≡ Some cause }
     ensures { IfOk result (IsClaiming state.entry.now) }
 {
-    let (cause, changed) = with(cause, lifecycle::not_started(alloc, work))?;
+    let (cause, changed) = with(cause, not_started(alloc, work, state.now))?;
     let (cause, logged, changed) = copied(alloc, cause, changed)?;
     let event = Event::StartFailed {
         seq: work.seq,
@@ -124,8 +125,21 @@ fn fail(
     Ok(Claiming { change, claim })
 }
 
-/// What a run of a work takes, or why its inputs don't become one.
+/// What a run of a work that names no prerequisite takes, or why it takes nothing: of periodic work
+/// its own input, and of one-time work what its merger makes of that.
 fn taken_by(alloc: Global, work: &Record) -> Result<Result<Data, Cause>, AllocError>
+    requires { work.now.prior ≡ [] }
+    ensures { IfOk result (λ taken. (s : State) → IsTaken (input_of s work.entry.now) taken) }
+{
+    if work.request.period().is_some() {
+        Ok(Ok(work.request.input().replica(alloc)?))
+    } else {
+        merged_by(alloc, work)
+    }
+}
+
+/// What a work's merger makes of its own input, or why that doesn't become one.
+fn merged_by(alloc: Global, work: &Record) -> Result<Result<Data, Cause>, AllocError>
     ensures { IfOk result (IsTaken
         (merged work.entry.now.request.merger (work.entry.now.request.input ∷ []))) }
 {

@@ -55,7 +55,7 @@ placing-executed s line batch plain valid accepted =
           placed = (refl, tt);
           numbers = fits.1;
           replaced_rows = tt;
-          placed_rows = ((IsRecord-placed s plain.request plain.within plain.one_time valid.first fits.1 valid.now).fits, tt);
+          placed_rows = ((IsRecord-placed s plain.request plain.within valid.first fits.1 valid.now).fits, tt);
           apart = (tt, tt);
         };
         legal = (plain, sym (ap (λ (o : Outcome). o.reply) done));
