@@ -4,6 +4,8 @@
 #![tactic(auto)]
 
 #[cfg(test)]
+mod lifecycle;
+#[cfg(test)]
 mod runs;
 #[cfg(test)]
 mod table;

@@ -5,7 +5,7 @@ use wm_conditions::{Conditions, Constraints, Network};
 use wm_data::{Data, Merger};
 use wm_machine::{Cause, Command, End, Event, LineFault, Refusal, Reply};
 use wm_request::{Batch, Request};
-use wm_schedule::{Backoff, BackoffPolicy};
+use wm_schedule::{Backoff, BackoffPolicy, Period};
 
 /// Data of more bytes is told by its size alone.
 const MAX_TOLD_BYTES: u64 = 1_000;
@@ -83,6 +83,7 @@ fn work_words(alloc: Global, request: &Request) -> Result<String, AllocError> {
     add_tags(alloc, &mut words, request)?;
     add_constraints(&mut words, request.constraints())?;
     add_delays(alloc, &mut words, request)?;
+    add_period(alloc, &mut words, request)?;
     Ok(words)
 }
 
@@ -134,6 +135,14 @@ fn add_delays(alloc: Global, words: &mut String, request: &Request) -> Result<()
     let delay = request.initial_delay();
     if delay > 0 {
         words.push_str(format!(in alloc; " delay {delay}")?.as_str())?;
+    }
+    Ok(())
+}
+
+/// Adds the period and the flex interval of a work where it is periodic.
+fn add_period(alloc: Global, words: &mut String, request: &Request) -> Result<(), AllocError> {
+    if let Some(Period { period, flex }) = request.period() {
+        words.push_str(format!(in alloc; " period {period} flex {flex}")?.as_str())?;
     }
     Ok(())
 }

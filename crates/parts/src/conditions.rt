@@ -67,7 +67,7 @@ fn expect_network(rt: &impl Abort, network: Network, alone: u32) {
 }
 
 #[test]
-fn conditions_meet_what_they_leave_nothing_unmet_of(rt: HostRuntime) {
+fn constraints_are_met_where_nothing_is_missing(rt: HostRuntime) {
     for (network, alone) in [
         (Network::NotRequired, 128),
         (Network::Connected, 64),
@@ -79,7 +79,7 @@ fn conditions_meet_what_they_leave_nothing_unmet_of(rt: HostRuntime) {
     }
 }
 
-/// What holds at opening meets the constraints that rule conditions out, and no other.
+/// At opening no condition holds, which meets the flags of battery and storage alone.
 #[test]
 fn no_condition_holds_at_opening(rt: HostRuntime) {
     assert_eq!(rt; Conditions::OPENING, conditions(0));

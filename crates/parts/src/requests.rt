@@ -119,7 +119,7 @@ fn all_set(alloc: Global) -> Result<Request, Fail> {
     Ok(builder.build()?)
 }
 
-/// A request is that one.
+/// A request has the fields of that one.
 fn expect_all_set(rt: &impl Abort, alloc: Global, request: &Request) -> Result<(), AllocError> {
     assert_eq!(rt; request.id(), Uuid::from_u128(9));
     assert_eq!(rt; request.class().as_str(), "Sum");
