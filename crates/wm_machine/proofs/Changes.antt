@@ -1,5 +1,5 @@
 -- What a change of one work keeps of the records of a state, and of the state where that work waits.
-use Rattle.std.proofs.Common.{◌≡◌, ℕ, ◌<◌, ◌≤◌, true, List, length, ap, subst, sym}
+use Rattle.std.proofs.Common.{◌≡◌, ◌∙◌, ℕ, ◌<◌, ◌≤◌, true, List, length, ap, subst, sym}
 use Rattle.std.specs.List.{AllByRecursion}
 use Rattle.std.proofs.lemmas.List.{length-map}
 use Rattle.wm_collections.specs.Lists.{AllLater}
@@ -7,7 +7,7 @@ use Rattle.wm_machine.proofs.Lists.{All-both, All-map, All-weaker}
 use Rattle.wm_machine.proofs.Records.{sound-narrow}
 use Rattle.wm_machine.proofs.Runnings.{changed, changed_both, in_order-changed, IsAlone, IsAlone-stored, KeepsWork, old_work, numbers-changed, records-changed}
 use Rattle.wm_machine.specs.First.{is_waiting}
-use Rattle.wm_machine.specs.Narrow.{IsNarrowRecord, IsReached}
+use Rattle.wm_machine.specs.Narrow.{IsReached, NamesNone}
 use Rattle.wm_machine.specs.Runs.{changed_work}
 use Rattle.wm_machine.specs.Valid.{ArePriorSound, HasOne, IsBefore, IsCurrentOf, IsRecord, IsValidRun, Valid}
 use Rattle.wm_machine.specs.declared.record.Phase.{Phase}
@@ -26,8 +26,7 @@ pub record IsSameRequest (one other : Record) : Type 0 where
 -- a change of works in such a phase, which keeps what was asked for and what holds of every record
 pub record IsFine (P : Phase → Type 0) (change : Record → Record) : Type 0 where
   pub same : (work : Record) → IsSameRequest work (change work)
-  pub fits : (work : Record) → P work.phase → IsNarrowRecord work → IsRecord work → IsRecord (change work)
-  pub narrow : (work : Record) → IsNarrowRecord work → IsNarrowRecord (change work)
+  pub fits : (work : Record) → P work.phase → IsRecord work → IsRecord (change work)
 
 -- what holds of these as the records of a state
 pub record AreFine (s : State) (works : List Record) : Type 0 where
@@ -36,7 +35,7 @@ pub record AreFine (s : State) (works : List Record) : Type 0 where
   pub records : AllByRecursion IsRecord works
   pub in_order : AllLater IsBefore works
   pub sound : AllByRecursion (λ work. ArePriorSound works work.phase work.prior) works
-  pub narrow : AllByRecursion IsNarrowRecord works
+  pub narrow : AllByRecursion NamesNone works
 
 keeps_work : (change : Record → Record) → ((work : Record) → IsSameRequest work (change work)) → KeepsWork change
 keeps_work change same work =
@@ -53,15 +52,13 @@ pub AreFine-changed : (P : Phase → Type 0) (change : Record → Record) (s : S
 AreFine-changed P change s seq fine reached phases =
     let works = changed_work change seq s.works in
     let narrow =
-    records-changed IsNarrowRecord IsNarrowRecord change seq s.works (λ w e is. fine.narrow w is) (λ w is. is)
+    records-changed NamesNone NamesNone change seq s.works (λ w e none. (fine.same w).prior ∙ none) (λ w none. none)
     reached.narrow.records in
     record {
       numbers = numbers-changed s.next change seq s.works (λ w. (fine.same w).seq) reached.valid.numbers;
       few = subst (λ n. n ≤ 100000) (sym (length-map s.works (changed change seq))) reached.valid.few_works;
-      records = records-changed (λ w. (w.seq ≡ seq → P w.phase) × (IsNarrowRecord w × IsRecord w)) IsRecord change seq s.works
-          (λ w e is. fine.fits w (is.0 e) is.1.0 is.1.1) (λ w is. is.1.1)
-          (All-both (λ w. w.seq ≡ seq → P w.phase) (λ w. IsNarrowRecord w × IsRecord w) s.works phases
-          (All-both IsNarrowRecord IsRecord s.works reached.narrow.records reached.valid.records));
+      records = records-changed (λ w. (w.seq ≡ seq → P w.phase) × IsRecord w) IsRecord change seq s.works (λ w e is. fine.fits w (is.0 e) is.1)
+          (λ w is. is.1) (All-both (λ w. w.seq ≡ seq → P w.phase) IsRecord s.works phases reached.valid.records);
       in_order = in_order-changed change seq s.works (keeps_work change fine.same) reached.valid.in_order;
       sound = sound-narrow works works narrow;
       narrow = narrow;
@@ -115,4 +112,4 @@ reached-changed s work change fine idle reached stored waits =
       few_observers = valid.few_observers;
       now = valid.now;
     } in
-    record { valid = valid_then; narrow = record { records = works.narrow; runs = reached.narrow.runs; echoes = reached.narrow.echoes } }
+    record { valid = valid_then; narrow = record { records = works.narrow; runs = reached.narrow.runs } }

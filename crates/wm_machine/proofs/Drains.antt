@@ -1,15 +1,16 @@
 -- From every valid state with at most one unreturned run a serial run goes on to its end.
-use Rattle.std.proofs.Common.{◌≡◌, ℕ, ◌<◌, ◌≤◌, zero, suc, cond, List, [], ◌∷◌, ◌++◌, length, Option, Some, None, Result, Ok, Err, refl, sym, ◌∙◌, ap, subst, arith, append_assoc}
+use Rattle.std.proofs.Common.{◌≡◌, ℕ, ◌+◌, ◌-◌, ◌<◌, ◌≤◌, zero, suc, cond, List, [], ◌∷◌, ◌++◌, length, Option, Some, None, Result, Ok, Err, refl, sym, ◌∙◌, ap, subst, arith, append_assoc}
 use Rattle.std.specs.List.{AllByRecursion}
 use Rattle.std.proofs.lemmas.Bool.{eq-eqb}
 use Rattle.wm_data.specs.declared.data.DataEntry.{DataEntry}
 use Rattle.wm_machine.proofs.Commands.{answered}
 use Rattle.wm_machine.proofs.Firsts.{first_of-no_worker, start_refusal-no_worker}
 use Rattle.wm_machine.proofs.Inputs.{start_refusal-some}
-use Rattle.wm_machine.proofs.Narrows.{found_narrow, found_valid, run_kind}
-use Rattle.wm_machine.proofs.Roles.{closed, Closes, opened, Opens}
+use Rattle.wm_machine.proofs.Narrows.{found_narrow, found_valid}
+use Rattle.wm_machine.proofs.Roles.{closed, Closes, continued, Continues, opened, Opens}
 use Rattle.wm_machine.proofs.Steps.{framed, IsReached-after, kept}
 use Rattle.wm_machine.specs.Outcome.{IsBuilt}
+use Rattle.wm_machine.specs.Ends.{given_by}
 use Rattle.wm_machine.specs.First.{first_of, idle_instance}
 use Rattle.wm_machine.specs.Frame.{Frame, frame_of}
 use Rattle.wm_machine.specs.Input.{input_of}
@@ -20,12 +21,14 @@ use Rattle.wm_machine.specs.Replay.{Replay}
 use Rattle.wm_machine.specs.Role.{Role}
 use Rattle.wm_machine.specs.Runs.{run_numbered, start_refusal}
 use Rattle.wm_machine.specs.Serial.{AreInTurn, IsInTurn}
-use Rattle.wm_machine.specs.Step.{after, Legal, role_of}
+use Rattle.wm_machine.specs.Step.{after, IsReport, Legal, role_of}
+use Rattle.wm_machine.specs.Turns.{turned}
 use Rattle.wm_machine.specs.Waiting.{left_to_drain}
 use Rattle.wm_machine.specs.declared.command.Command.{Command}
 use Rattle.wm_machine.specs.declared.event.Cause.{Cause}
 use Rattle.wm_machine.specs.declared.event.Cause.TheVariants.{NoWorker}
-use Rattle.wm_machine.specs.declared.event.End.TheVariants.{Success}
+use Rattle.wm_machine.specs.declared.event.End.{End}
+use Rattle.wm_machine.specs.declared.event.End.TheVariants.{Success, Failure, Retry}
 use Rattle.wm_machine.specs.declared.event.Event.{Event}
 use Rattle.wm_machine.specs.declared.event.Event.TheVariants as event
 use Rattle.wm_machine.specs.declared.record.Record.{Record}
@@ -33,7 +36,9 @@ use Rattle.wm_machine.specs.declared.state.Instance.{Instance}
 use Rattle.wm_machine.specs.declared.state.Run.{Run}
 use Rattle.wm_machine.specs.declared.state.State.{State}
 use Rattle.wm_merge.specs.declared.fault.MergeFault.{MergeFault}
+use Rattle.wm_worker.proofs.Giving.{has_given}
 use Rattle.wm_worker.specs.Answers.{MayGive}
+use Rattle.wm_worker.specs.declared.answer.Given.{Given}
 use Rattle.wm_worker.specs.declared.answer.Given.TheVariants as given
 
 -- ---- two logs, one after the other
@@ -141,22 +146,39 @@ start_or_fail s work (Some idle) (Ok input) first found taken = record {
 }
 start_or_fail s work (Some idle) (Err fault) first found taken = let refused = start_refusal-some s work fault taken in fails s work refused.0 first refused.1
 
--- the one run gives its input
-gives : (s : State) (run : Run) → IsReached s → s.runs ≡ run ∷ [] → HasNext Closes s
-gives s run reached one =
-    let found : run_numbered run.run s.runs ≡ Some run =
-    ap (run_numbered run.run) one ∙ ap (λ b. cond b (Some run) None) (eq-eqb run.run run.run refl) in
-    let echo = run_kind s run reached.narrow (found_valid s run.run run reached.valid found) in
-    record {
-      e = event.Finish run.run (Success run.input);
-      legal = record {
-        run = run;
-        is_running = found;
-        is_current = (found_narrow s run.run run reached.narrow found).current;
-        may_give = subst (λ kind. MayGive kind run.input run.attempt run.turn (given.Success run.input)) (sym echo) refl;
-      };
-      role_is = tt;
-    }
+-- the one run is found by its number
+found_one : (s : State) (run : Run) → s.runs ≡ run ∷ [] → run_numbered run.run s.runs ≡ Some run
+found_one s run one = ap (run_numbered run.run) one ∙ ap (λ b. cond b (Some run) None) (eq-eqb run.run run.run refl)
+
+-- its worker may give this
+reports : (s : State) (run : Run) (gave : Given) → IsReached s → s.runs ≡ run ∷ [] → MayGive run.kind run.input run.attempt run.turn gave
+    → IsReport s run.run gave
+reports s run gave reached one may =
+    let found = found_one s run one in
+    record { run = run; is_running = found; is_current = found_narrow s run.run run reached.narrow found; may_give = may }
+
+finishes : (s : State) (run : Run) (end : End) → IsReached s → s.runs ≡ run ∷ [] → MayGive run.kind run.input run.attempt run.turn (given_by end)
+    → HasNext Closes s
+finishes s run end reached one may =
+    record { e = event.Finish run.run end; legal = reports s run (given_by end) reached one may; role_is = tt }
+
+times_out : (s : State) (run : Run) (progress : Option (List DataEntry)) → IsReached s → s.runs ≡ run ∷ []
+    → MayGive run.kind run.input run.attempt run.turn (given.More progress) → run.turn ≡ 999 → HasNext Closes s
+unfolding reports
+times_out s run progress reached one may last = record {
+  e = event.TimedOut run.run;
+  legal = record { progress = progress; report = reports s run (given.More progress) reached one may; none_left = last };
+  role_is = tt;
+}
+
+goes_to_next : (s : State) (run : Run) (progress : Option (List DataEntry)) → IsReached s → s.runs ≡ run ∷ []
+    → MayGive run.kind run.input run.attempt run.turn (given.More progress) → run.turn < 999 → HasNext Continues s
+unfolding reports
+goes_to_next s run progress reached one may early = record {
+  e = event.Turn run.run progress;
+  legal = record { report = reports s run (given.More progress) reached one may; turns_left = early };
+  role_is = tt;
+}
 
 -- ---- a drain
 
@@ -175,10 +197,9 @@ from_rest s (Some work) first recur reached no_run =
     opened (role_of e) s (frame_of s e) (left_to_drain s) (left_to_drain (after s e)) next.role_is (framed s e next.legal) keeps.left no_run in
     GoesOn-silent s e next.legal is.turn is.silent (recur (after s e) keeps.reached is.few is.fewer)
 
--- one run is unreturned: it comes back
-from_run : (s : State) (run : Run) → Recur (left_to_drain s) → IsReached s → s.runs ≡ run ∷ [] → GoesOn [] s
-from_run s run recur reached one =
-    let next = gives s run reached one in
+-- one run is unreturned and is over: all else follows
+from_end : (s : State) (run : Run) → HasNext Closes s → Recur (left_to_drain s) → IsReached s → s.runs ≡ run ∷ [] → GoesOn [] s
+from_end s run next recur reached one =
     let e = next.e in
     let t = after s e in
     let keeps = kept s e reached next.legal in
@@ -186,6 +207,32 @@ from_run s run recur reached one =
     let no_more : left_to_drain t ≤ left_to_drain s = is.no_more in
     GoesOn-silent s e next.legal is.turn is.silent
     (from_rest t (first_of t) refl (λ u v few fewer. recur u v few (omega arith)) keeps.reached is.none)
+
+-- one run is unreturned, with so many turns left, and its worker gives this: it is over, or at its next turn gives again
+from_gave : (turns : ℕ) (s : State) (run : Run) (gave : Given) → MayGive run.kind run.input run.attempt run.turn gave → run.turn + turns ≡ 999
+    → Recur (left_to_drain s) → IsReached s → s.runs ≡ run ∷ [] → GoesOn [] s
+from_gave turns s run (given.Success output) may so recur reached one = from_end s run (finishes s run (Success output) reached one may) recur reached one
+from_gave turns s run (given.Failure output) may so recur reached one = from_end s run (finishes s run (Failure output) reached one may) recur reached one
+from_gave turns s run given.Retry may so recur reached one = from_end s run (finishes s run Retry reached one may) recur reached one
+from_gave zero s run (given.More progress) may so recur reached one =
+    from_end s run (times_out s run progress reached one may (omega (arith, so))) recur reached one
+from_gave (suc turns) s run (given.More progress) may so recur reached one =
+    let next = goes_to_next s run progress reached one may (omega (arith, so)) in
+    let e = next.e in
+    let t = after s e in
+    let keeps = kept s e reached next.legal in
+    let is = continued (role_of e) s (frame_of s e) (left_to_drain s) (left_to_drain t) run next.role_is (framed s e next.legal) keeps.left one in
+    let no_more : left_to_drain t ≤ left_to_drain s = is.no_more in
+    let then = has_given run.kind run.input run.attempt (run.turn + 1) in
+    GoesOn-silent s e next.legal is.turn is.silent
+    (from_gave turns t (turned run) then.gave then.may_give (omega (arith, so)) (λ u v few fewer. recur u v few (omega arith)) keeps.reached is.one)
+
+-- one run is unreturned: it comes to its end
+from_run : (s : State) (run : Run) → Recur (left_to_drain s) → IsReached s → s.runs ≡ run ∷ [] → GoesOn [] s
+from_run s run recur reached one =
+    let gives = has_given run.kind run.input run.attempt run.turn in
+    let most = (found_valid s run.run run reached.valid (found_one s run one)).turn in
+    from_gave (999 - run.turn) s run gives.gave gives.may_give (omega (arith, most)) recur reached one
 
 settle_by : (s : State) (runs : List Run) → s.runs ≡ runs → Recur (left_to_drain s) → IsReached s → length runs ≤ 1 → GoesOn [] s
 settle_by s [] is recur reached few = from_rest s (first_of s) refl recur reached is

@@ -6,7 +6,7 @@ use Rattle.wm_machine.proofs.Changes.{AreFine-changed, IsFine}
 use Rattle.wm_machine.proofs.Lists.{All-any, All-both, All-filter, All-map, All-weaker, AllLater-filter, find-passes, HasOne-filter, HasOne-weaker, list_any-false, list_any-filter}
 use Rattle.wm_machine.proofs.Narrows.{found_valid}
 use Rattle.wm_machine.proofs.Runnings.{all_of_number, AreNumberedInOrder-made, changed, changed_both, found_or_apart, IsFoundOrApart, made, made_both, other_work, same_instance}
-use Rattle.wm_machine.specs.Narrow.{IsNarrow, IsNarrowRun, IsReached}
+use Rattle.wm_machine.specs.Narrow.{IsNarrow, IsReached}
 use Rattle.wm_machine.specs.Runs.{changed_work, other_runs, run_numbered, with_out}
 use Rattle.wm_machine.specs.Valid.{AreApart, HasOne, IsCurrentOf, IsOutForRun, IsValidRun, IsWorkOf, Valid}
 use Rattle.wm_machine.specs.declared.record.Phase.{Phase}
@@ -15,7 +15,6 @@ use Rattle.wm_machine.specs.declared.record.Record.{Record}
 use Rattle.wm_machine.specs.declared.state.Instance.{Instance}
 use Rattle.wm_machine.specs.declared.state.Run.{Run}
 use Rattle.wm_machine.specs.declared.state.State.{State}
-use Rattle.wm_worker.specs.declared.kind.Kind.TheVariants.{Echo}
 
 -- ---- the other runs
 
@@ -91,10 +90,8 @@ reached-ended s number run change fine idle reached found current =
     let works = AreFine-changed Runs change s run.seq fine reached (running_of s number run reached found current) in
     let narrow : IsNarrow (ended s run change) = record {
       records = works.narrow;
-      runs = All-filter IsNarrowRun (stays run) s.runs
-          (All-weaker IsNarrowRun (λ r. stays run r ≡ true → IsNarrowRun r) s.runs (λ r is stay. is) reached.narrow.runs);
-      echoes = All-map (λ i. i.kind ≡ Echo) (λ i. i.kind ≡ Echo) (made false run.instance) s.instances
-          (λ i echo. made_both (λ i. i.kind ≡ Echo) false run.instance i (λ e. echo) (λ e. echo)) reached.narrow.echoes;
+      runs = All-filter (λ r. r.current ≡ true) (stays run) s.runs
+          (All-weaker (λ r. r.current ≡ true) (λ r. stays run r ≡ true → r.current ≡ true) s.runs (λ r is stay. is) reached.narrow.runs);
     } in
     let valid_then : Valid (ended s run change) = record {
       numbers = works.numbers;

@@ -4,11 +4,11 @@ use Rattle.std.specs.Str.{bytes_eq}
 use Rattle.std.proofs.lemmas.Bool.{and_from, eq-eqb, ltb-false, true≢false}
 use Rattle.wm_machine.proofs.Lists.{All-both, All-push, All-weaker, AllLater-push, HasOne-front, none_pass}
 use Rattle.wm_machine.proofs.Owed.{IsAnswered}
-use Rattle.wm_machine.proofs.Records.{IsNarrowRecord-placed, IsRecord-placed, node_of, sound-narrow}
+use Rattle.wm_machine.proofs.Records.{IsRecord-placed, node_of, sound-narrow}
 use Rattle.wm_machine.specs.Built.{IsPlain}
 use Rattle.wm_machine.specs.Enqueued.{enqueued, first_refusal, id_in_use, is_stored, numbers_spent, outcome_by, placed, placed_record, refusal_of, too_many_works, with_work}
 use Rattle.wm_machine.specs.Frame.{untouched}
-use Rattle.wm_machine.specs.Narrow.{IsNarrow, IsNarrowRecord, IsReached}
+use Rattle.wm_machine.specs.Narrow.{IsNarrow, IsReached, NamesNone}
 use Rattle.wm_machine.specs.Valid.{HasOne, IsBefore, IsCurrentOf, IsRecord, IsValidRun, IsWorkOf, Valid}
 use Rattle.wm_machine.specs.declared.command.Command.{Command}
 use Rattle.wm_machine.specs.declared.command.Command.TheVariants as command
@@ -64,11 +64,10 @@ Valid-with_work s work valid narrow numbered unnamed new fine idle room numbers 
       now = valid.now;
     }
 
-IsNarrow-with_work : (s : State) (work : Record) → IsNarrow s → IsNarrowRecord work → IsNarrow (with_work s work)
+IsNarrow-with_work : (s : State) (work : Record) → IsNarrow s → NamesNone work → IsNarrow (with_work s work)
 IsNarrow-with_work s work narrow is = record {
-  records = All-push IsNarrowRecord s.works work narrow.records is;
+  records = All-push NamesNone s.works work narrow.records is;
   runs = narrow.runs;
-  echoes = narrow.echoes;
 }
 
 first_refusal-none : (check : Option Refusal) (checks : List (Option Refusal)) → first_refusal (check ∷ checks) ≡ None
@@ -104,7 +103,7 @@ reached-outcome s request (Some found) asked is reached = reached
 reached-outcome s request None asked is reached =
     let node = node_of request in
     let fits = room s (node ∷ []) is in
-    let narrow = IsNarrow-with_work s (placed_record s None node) reached.narrow (IsNarrowRecord-placed s request) in
+    let narrow = IsNarrow-with_work s (placed_record s None node) reached.narrow refl in
     let fine = IsRecord-placed s request asked reached.valid.first fits.1 reached.valid.now in
     record {
       valid = Valid-with_work s (placed_record s None node) reached.valid narrow refl refl (new_id s node is) fine (λ e. cc) fits.0 fits.1;

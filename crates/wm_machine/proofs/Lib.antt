@@ -13,6 +13,7 @@ pub mod Narrows
 pub mod Owed
 pub mod Queries
 pub mod Records
+pub mod Reports
 pub mod Roles
 pub mod Rows
 pub mod Runnings
@@ -21,4 +22,5 @@ pub mod Settings
 pub mod StartFailures
 pub mod Starts
 pub mod Steps
+pub mod Turns
 pub mod Waitings

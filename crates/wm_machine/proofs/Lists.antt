@@ -1,8 +1,10 @@
 -- What holds of each element of a list, or of one of them.
-use Rattle.std.proofs.Common.{◌≡◌, ◌⊎◌, Bool, true, false, ◌||◌, List, [], ◌∷◌, ◌++◌, map, filter, find, Option, Some, Contains, refl, sym, ◌∙◌, ap, subst, inl, inr, arith, suc}
+use Rattle.std.proofs.Common.{◌≡◌, ◌⊎◌, ℕ, ◌+◌, ◌<◌, ◌≤◌, cond, Bool, true, false, ◌||◌, List, [], ◌∷◌, ◌++◌, map, filter, find, Option, Some, Contains, refl, sym, ◌∙◌, ap, subst, inl, inr, arith, suc}
 use mathlib.Core.List.{reverse, reverse_aux}
 use Rattle.std.specs.List.{AllByRecursion, list_all, list_any}
+use Rattle.std.specs.Prelude.{count_by}
 use Rattle.std.proofs.lemmas.Bool.{and_from, and_parts, cond_both, false≢true, or_cases, or_left, or_parts, or_right}
+use Rattle.std.proofs.lemmas.List.Sums.{sum_by-cons}
 use Rattle.wm_collections.specs.Lists.{AllLater}
 use Rattle.wm_machine.specs.Valid.{HasOne}
 
@@ -196,3 +198,89 @@ list_any-filter {T} test keep (x ∷ xs) all =
     let rest = list_any-filter test keep xs all.1 in
     cond_both (keep x) (x ∷ filter keep xs) (filter keep xs) (λ (l : List T). list_any test l ≡ (test x || list_any test xs)) (λ e. ap (λ b. test x || b) rest)
     (λ e. rw (all.0 e) rest)
+
+-- a test that is the same of each element after a change
+pub list_any-same : {T : Type 0} (test : T → Bool) (f : T → T) (xs : List T) → ((x : T) → test (f x) ≡ test x)
+    → list_any test (map f xs) ≡ list_any test xs
+list_any-same test f [] same = refl
+list_any-same test f (x ∷ xs) same = rw (same x, list_any-same test f xs same) refl
+
+-- ---- how many pass
+
+-- one where a test passes
+abbrev pub weight : Bool → ℕ
+weight passes = cond passes 1 0
+
+pub count-cons : {T : Type 0} (test : T → Bool) (x : T) (xs : List T) → count_by test (x ∷ xs) ≡ weight (test x) + count_by test xs
+count-cons {T} test x xs = sum_by-cons (λ (y : T). cond (test y) 1 0) x xs
+
+-- one more that fails
+pub count-failing : {T : Type 0} (test : T → Bool) (x : T) (xs : List T) → test x ≡ false → count_by test (x ∷ xs) ≡ count_by test xs
+count-failing test x xs fails =
+    let all = count-cons test x xs in
+    let here : weight (test x) ≡ 0 = ap weight fails in
+    omega (arith, all, here)
+
+weight-less : (before now : Bool) → (now ≡ true → before ≡ true) → weight now ≤ weight before
+weight-less true now implied = cond_both now 1 0 (λ (n : ℕ). n ≤ 1) (λ e. omega arith) (λ e. omega arith)
+weight-less false true implied = absurd (false≢true (implied refl))
+weight-less false false implied = omega arith
+
+-- as many pass at most, where each that passes after a change did before
+pub count-map : {T : Type 0} (before now : T → Bool) (change : T → T) (xs : List T) → AllByRecursion (λ x. now (change x) ≡ true → before x ≡ true) xs
+    → count_by now (map change xs) ≤ count_by before xs
+count-map before now change [] implied = omega arith
+count-map before now change (x ∷ xs) implied =
+    let then = count-cons before x xs in
+    let here = count-cons now (change x) (map change xs) in
+    let one = weight-less (before x) (now (change x)) implied.0 in
+    let rest = count-map before now change xs implied.1 in
+    omega (arith, then, here, one, rest)
+
+-- and fewer, where one did that doesn't now
+pub count-fewer : {T : Type 0} (before now : T → Bool) (change : T → T) (xs : List T) → AllByRecursion (λ x. now (change x) ≡ true → before x ≡ true) xs
+    → HasOne (λ x. (before x ≡ true) × (now (change x) ≡ false)) xs → count_by now (map change xs) < count_by before xs
+count-fewer before now change [] implied one = absurd one
+count-fewer before now change (x ∷ xs) implied (inl is) =
+    let then = count-cons before x xs in
+    let here = count-cons now (change x) (map change xs) in
+    let more : weight (before x) ≡ 1 = ap weight is.0 in
+    let less : weight (now (change x)) ≡ 0 = ap weight is.1 in
+    let rest = count-map before now change xs implied.1 in
+    omega (arith, then, here, more, less, rest)
+count-fewer before now change (x ∷ xs) implied (inr one) =
+    let then = count-cons before x xs in
+    let here = count-cons now (change x) (map change xs) in
+    let less = weight-less (before x) (now (change x)) implied.0 in
+    let rest = count-fewer before now change xs implied.1 one in
+    omega (arith, then, here, less, rest)
+
+-- as many pass, where a change makes no difference to the test
+pub count-same : {T : Type 0} (test : T → Bool) (change : T → T) (xs : List T) → ((x : T) → test (change x) ≡ test x)
+    → count_by test (map change xs) ≡ count_by test xs
+count-same test change [] same = refl
+count-same test change (x ∷ xs) same =
+    count-cons test (change x) (map change xs) ∙ rw (same x, count-same test change xs same) (sym (count-cons test x xs))
+
+pub count-push : {T : Type 0} (test : T → Bool) (xs : List T) (x : T) → count_by test (xs ++ x ∷ []) ≡ count_by test xs + weight (test x)
+count-push test [] x = let one = count-cons test x [] in omega (arith, one)
+count-push test (y ∷ xs) x =
+    let then = count-cons test y xs in
+    let here = count-cons test y (xs ++ x ∷ []) in
+    let rest = count-push test xs x in
+    omega (arith, then, here, rest)
+
+-- none passes, where each fails
+pub count-none : {T : Type 0} (test : T → Bool) (xs : List T) → AllByRecursion (λ x. test x ≡ false) xs → count_by test xs ≡ 0
+count-none test [] fails = refl
+count-none test (x ∷ xs) fails = count-failing test x xs fails.0 ∙ count-none test xs fails.1
+
+-- a filter that keeps all that pass
+pub count-filter : {T : Type 0} (test keep : T → Bool) (xs : List T) → AllByRecursion (λ x. keep x ≡ false → test x ≡ false) xs
+    → count_by test (filter keep xs) ≡ count_by test xs
+count-filter test keep [] drops = refl
+count-filter {T} test keep (x ∷ xs) drops =
+    let rest = count-filter test keep xs drops.1 in
+    cond_both (keep x) (x ∷ filter keep xs) (filter keep xs) (λ (l : List T). count_by test l ≡ count_by test (x ∷ xs))
+    (λ e. count-cons test x (filter keep xs) ∙ rw rest (sym (count-cons test x xs)))
+    (λ e. rest ∙ sym (count-failing test x xs (drops.0 e)))

@@ -1,21 +1,21 @@
--- What the rules come to where no work names a prerequisite, and every worker is an Echo.
+-- What the rules come to where no work names a prerequisite.
 use Rattle.std.proofs.Common.{◌≡◌, ℕ, Bool, true, false, cond, eqb, ◌||◌, ◌&&◌, List, [], ◌∷◌, Option, Some, None, refl, sym, ◌∙◌, ap, subst, inl, inr, arith}
 use mathlib.Core.List.{map-id, reverse}
 use Rattle.std.specs.List.{AllByRecursion, list_any}
 use Rattle.std.specs.Option.{option_and_then}
 use Rattle.std.proofs.lemmas.Bool.{and_from, and_right, cases_Bool, cond_both, eq-eqb, eqb-true, false≢true, ne_eqb, or_cases, or_left, or_right}
 use Rattle.wm_collections.specs.Lists.{AllLater}
-use Rattle.wm_data.specs.declared.data.DataEntry.{DataEntry}
-use Rattle.wm_machine.proofs.Lists.{All-any, All-both, All-find, All-map, All-reverse, All-stored, All-weaker, HasOne-reverse, HasOne-weaker, list_any-false, map-same, one_gives}
+use Rattle.wm_machine.proofs.Lists.{All-any, All-both, All-find, All-map, All-reverse, All-stored, All-weaker, HasOne-reverse, HasOne-weaker, list_any-false, map-same}
 use Rattle.wm_machine.proofs.Runnings.{changed, changed_both, IsAlone}
 use Rattle.wm_machine.specs.Closed.{closed, descendants, is_among, is_open, is_reached, with_closed}
-use Rattle.wm_machine.specs.Ends.{ended, ended_as, enqueued_again, is_freed, not_started, not_started_as, period_of, succeeded, with_end, with_freed, with_start_failed, works_after_end, works_not_started}
+use Rattle.wm_machine.specs.Ends.{ended, ended_as, enqueued_again, is_freed, not_started, not_started_as, period_of, retried, succeeded, with_end, with_freed, with_output, with_start_failed, works_after_end, works_not_started}
 use Rattle.wm_machine.specs.First.{all_met, is_waiting}
 use Rattle.wm_machine.specs.Input.{work_numbered}
-use Rattle.wm_machine.specs.Narrow.{IsNarrow, IsNarrowRecord, IsNarrowRun}
+use Rattle.wm_machine.specs.Narrow.{IsNarrow, NamesNone}
 use Rattle.wm_machine.specs.Runs.{changed_work, other_runs, run_numbered, with_out}
-use Rattle.wm_machine.specs.Valid.{HasOne, IsBefore, IsInstanceOf, IsValidRun, Valid}
-use Rattle.wm_machine.specs.declared.event.End.TheVariants.{Success}
+use Rattle.wm_machine.specs.Valid.{HasOne, IsBefore, IsValidRun, Valid}
+use Rattle.wm_machine.specs.declared.event.End.{End}
+use Rattle.wm_machine.specs.declared.event.End.TheVariants.{Success, Failure, Retry}
 use Rattle.wm_machine.specs.declared.record.How.{How}
 use Rattle.wm_machine.specs.declared.record.How.TheVariants as how
 use Rattle.wm_machine.specs.declared.record.Phase.{Phase}
@@ -24,13 +24,8 @@ use Rattle.wm_machine.specs.declared.record.Record.{Record}
 use Rattle.wm_machine.specs.declared.state.Run.{Run}
 use Rattle.wm_machine.specs.declared.state.State.{State}
 use Rattle.wm_schedule.specs.declared.schedule.Period.{Period}
-use Rattle.wm_worker.specs.declared.kind.Kind.TheVariants.{Echo}
 
 -- ---- descendants
-
--- a record names no prerequisite
-abbrev pub NamesNone : Record → Type 0
-NamesNone work = work.prior ≡ []
 
 -- the only descendant is the work itself
 descendants-self : (seq : ℕ) (works : List Record) → AllByRecursion NamesNone works → AllByRecursion (λ number. number ≡ seq) (descendants seq works)
@@ -137,12 +132,23 @@ changed-same one other seq works same =
     (λ work is. cond_both (eqb work.seq seq) (one work) work (λ w. w ≡ changed other seq work)
     (λ e. is (eqb-true work.seq seq e) ∙ sym (ap (λ b. cond b (other work) work) e)) (λ e. sym (ap (λ b. cond b (other work) work) e))) same)
 
+-- one change after another of the record of a number
+changed_twice : (one other : Record → Record) (seq : ℕ) (works : List Record) → ((work : Record) → (one work).seq ≡ work.seq)
+    → changed_work other seq (changed_work one seq works) ≡ changed_work (λ work. other (one work)) seq works
+changed_twice one other seq [] keeps = refl
+changed_twice one other seq (work ∷ works) keeps =
+    let here : changed other seq (changed one seq work) ≡ changed (λ work. other (one work)) seq work =
+    cond_both (eqb work.seq seq) (one work) work (λ w. changed other seq w ≡ changed (λ work. other (one work)) seq work)
+    (λ e. ap (λ b. cond b (other (one work)) (one work)) (ap (λ n. eqb n seq) (keeps work) ∙ e) ∙ sym (ap (λ b. cond b (other (one work)) work) e))
+    (λ e. ap (λ b. cond b (other work) work) e ∙ sym (ap (λ b. cond b (other (one work)) work) e)) in
+    rw (here, changed_twice one other seq works keeps) refl
+
 -- ---- states
 
--- a run is over, and its work is changed as its success asks
-abbrev pub with_ended : State → Run → List DataEntry → State
-with_ended s run output = record s {
-  works = changed_work (ended s.now (Success output)) run.seq s.works;
+-- a run is over, and its work is changed as its end asks
+abbrev pub with_ended : State → Run → End → State
+with_ended s run end = record s {
+  works = changed_work (ended s.now end) run.seq s.works;
   runs = other_runs run.run s.runs;
   instances = with_out false run.instance s.instances;
 }
@@ -157,31 +163,47 @@ NamesNone-changed change seq works keeps all =
     All-map NamesNone NamesNone (changed change seq) works
     (λ work none. changed_both NamesNone change seq work (λ e. keeps work ∙ none) (λ e. none)) all
 
--- a success changes the work alone
-works-ended : (period : Option Period) (now seq : ℕ) (output : List DataEntry) (works : List Record) → AllByRecursion NamesNone works
-    → AllByRecursion (OfNumber seq (λ work. work.request.period ≡ period)) works
-    → works_after_end now seq period (Success output) works ≡ changed_work (ended now (Success output)) seq works
-works-ended None now seq output works none same =
-    with_freed-none now seq (changed_work (succeeded output) seq works) (NamesNone-changed (succeeded output) seq works (λ work. refl) none)
-    ∙ changed-same (succeeded output) (ended now (Success output)) seq works
-    (All-weaker (OfNumber seq (λ work. work.request.period ≡ None)) (OfNumber seq (λ work. succeeded output work ≡ ended now (Success output) work)) works
-    (λ work is e. sym (ap (λ kind. ended_as kind now (Success output) work) (is e))) same)
-works-ended (Some period) now seq output works none same =
-    changed-same (enqueued_again now) (ended now (Success output)) seq works
-    (All-weaker (OfNumber seq (λ work. work.request.period ≡ Some period))
-    (OfNumber seq (λ work. enqueued_again now work ≡ ended now (Success output) work)) works
-    (λ work is e. sym (ap (λ kind. ended_as kind now (Success output) work) (is e))) same)
+-- the works of a number are of this kind, and their end is this change
+ended-of : (period : Option Period) (now : ℕ) (end : End) (change : Record → Record) (seq : ℕ) (works : List Record)
+    → ((work : Record) → change work ≡ ended_as period now end work) → AllByRecursion (OfNumber seq (λ work. work.request.period ≡ period)) works
+    → changed_work change seq works ≡ changed_work (ended now end) seq works
+ended-of period now end change seq works is same =
+    changed-same change (ended now end) seq works
+    (All-weaker (OfNumber seq (λ work. work.request.period ≡ period)) (OfNumber seq (λ work. change work ≡ ended now end work)) works
+    (λ work kind e. is work ∙ sym (ap (λ kind. ended_as kind now end work) (kind e))) same)
 
-pub with_end-success : (s : State) (run : Run) (output : List DataEntry) → AllLater IsBefore s.works → AllByRecursion IsNarrowRecord s.works
-    → with_end s run (Success output) ≡ with_ended s run output
-with_end-success s run output order narrow =
-    let none = All-weaker IsNarrowRecord NamesNone s.works (λ work is. is.no_prerequisite) narrow in
+-- an end changes the work alone
+works-ended : (period : Option Period) (now seq : ℕ) (end : End) (works : List Record) → AllByRecursion NamesNone works
+    → AllByRecursion (OfNumber seq (λ work. is_open work.phase ≡ true)) works → AllByRecursion (OfNumber seq (λ work. work.request.period ≡ period)) works
+    → works_after_end now seq period end works ≡ changed_work (ended now end) seq works
+works-ended period now seq Retry works none opens same = ended-of period now Retry (retried now) seq works (λ work. refl) same
+works-ended None now seq (Success output) works none opens same =
+    with_freed-none now seq (changed_work (succeeded output) seq works) (NamesNone-changed (succeeded output) seq works (λ work. refl) none)
+    ∙ ended-of None now (Success output) (succeeded output) seq works (λ work. refl) same
+works-ended None now seq (Failure output) works none opens same =
+    ap (changed_work (with_output output) seq) (with_closed-alone how.Failed seq works none opens)
+    ∙ changed_twice (closed how.Failed) (with_output output) seq works (λ work. refl)
+    ∙ ended-of None now (Failure output) (λ work. with_output output (closed how.Failed work)) seq works (λ work. refl) same
+works-ended (Some period) now seq (Success output) works none opens same =
+    ended-of (Some period) now (Success output) (enqueued_again now) seq works (λ work. refl) same
+works-ended (Some period) now seq (Failure output) works none opens same =
+    ended-of (Some period) now (Failure output) (enqueued_again now) seq works (λ work. refl) same
+
+open-running : (p : Phase) → p ≡ phase.Running → is_open p ≡ true
+open-running p running = ap is_open running
+
+pub with_end-alone : (s : State) (run : Run) (end : End) → AllLater IsBefore s.works → AllByRecursion NamesNone s.works
+    → AllByRecursion (OfNumber run.seq (λ work. work.phase ≡ phase.Running)) s.works → with_end s run end ≡ with_ended s run end
+with_end-alone s run end order none running =
+    let opens =
+    All-weaker (OfNumber run.seq (λ work. work.phase ≡ phase.Running)) (OfNumber run.seq (λ work. is_open work.phase ≡ true)) s.works
+    (λ work is e. open-running work.phase (is e)) running in
     ap (λ (works : List Record). record s {
       works = works;
       runs = other_runs run.run s.runs;
       instances = with_out false run.instance s.instances;
     })
-    (works-ended (period_of run.seq s.works) s.now run.seq output s.works none (same_period run.seq s.works order))
+    (works-ended (period_of run.seq s.works) s.now run.seq end s.works none opens (same_period run.seq s.works order))
 
 open-waiting : (p : Phase) → is_waiting p ≡ true → is_open p ≡ true
 open-waiting phase.Waiting is = refl
@@ -202,10 +224,9 @@ works-not_started (Some period) now seq works none opens same =
     (All-weaker (OfNumber seq (λ work. work.request.period ≡ Some period)) (OfNumber seq (λ work. enqueued_again now work ≡ not_started now work)) works
     (λ work is e. sym (ap (λ kind. not_started_as kind now work) (is e))) same)
 
-pub with_start_failed-alone : (s : State) (work : Record) → AllLater IsBefore s.works → AllByRecursion IsNarrowRecord s.works
+pub with_start_failed-alone : (s : State) (work : Record) → AllLater IsBefore s.works → AllByRecursion NamesNone s.works
     → AllByRecursion (IsAlone work) s.works → is_waiting work.phase ≡ true → with_start_failed s work.seq ≡ with_not_started s work.seq
-with_start_failed-alone s work order narrow alone waits =
-    let none = All-weaker IsNarrowRecord NamesNone s.works (λ work is. is.no_prerequisite) narrow in
+with_start_failed-alone s work order none alone waits =
     let opens =
     All-weaker (IsAlone work) (λ other. other.seq ≡ work.seq → is_open other.phase ≡ true) s.works
     (λ other same e. subst (λ (w : Record). is_open w.phase ≡ true) (sym (same e)) (open-waiting work.phase waits)) alone in
@@ -214,15 +235,10 @@ with_start_failed-alone s work order narrow alone waits =
 
 -- ---- runs
 
--- a run is on an Echo
-pub run_kind : (s : State) (run : Run) → IsNarrow s → IsValidRun s run → run.kind ≡ Echo
-run_kind s run narrow is =
-    one_gives (λ instance. instance.kind ≡ Echo) (IsInstanceOf run) (run.kind ≡ Echo) s.instances
-    (λ i echo of. sym of.kind ∙ echo) narrow.echoes is.instance
-
 -- a run that was found is valid
 pub found_valid : (s : State) (number : ℕ) (run : Run) → Valid s → run_numbered number s.runs ≡ Some run → IsValidRun s run
 found_valid s number run valid found = All-find (IsValidRun s) (λ r. eqb r.run number) s.runs run found valid.runs
 
-pub found_narrow : (s : State) (number : ℕ) (run : Run) → IsNarrow s → run_numbered number s.runs ≡ Some run → IsNarrowRun run
-found_narrow s number run narrow found = All-find IsNarrowRun (λ r. eqb r.run number) s.runs run found narrow.runs
+-- and current
+pub found_narrow : (s : State) (number : ℕ) (run : Run) → IsNarrow s → run_numbered number s.runs ≡ Some run → run.current ≡ true
+found_narrow s number run narrow found = All-find (λ r. r.current ≡ true) (λ r. eqb r.run number) s.runs run found narrow.runs

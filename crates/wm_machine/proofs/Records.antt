@@ -1,19 +1,21 @@
 -- What a change keeps of a record.
-use Rattle.std.proofs.Common.{◌≡◌, ℕ, ◌+◌, ◌^◌, ◌<◌, ◌≤◌, true, List, [], length, Option, Some, None, refl, sym, ◌∙◌, subst, arith}
+use Rattle.std.proofs.Common.{◌≡◌, ℕ, ◌+◌, ◌^◌, ◌<◌, ◌≤◌, true, List, [], Option, Some, None, IfSome, refl, sym, ◌∙◌, subst, arith}
 use Rattle.std.specs.List.{AllByRecursion}
 use Rattle.std.proofs.lemmas.Bool.{false≢true}
 use Rattle.wm_data.specs.Size.{IsData}
 use Rattle.wm_data.specs.declared.data.DataEntry.{DataEntry}
 use Rattle.wm_machine.proofs.Lists.{All-weaker}
 use Rattle.wm_machine.specs.Closed.{closed}
-use Rattle.wm_machine.specs.Ends.{ended, ended_as, enqueued_again, not_started, not_started_as, succeeded}
+use Rattle.wm_machine.specs.Ends.{ended, ended_as, enqueued_again, given_by, not_started, not_started_as, retried, succeeded, with_output}
 use Rattle.wm_machine.specs.Enqueued.{placed_record}
 use Rattle.wm_machine.specs.First.{is_waiting}
 use Rattle.wm_machine.specs.Limits.{FitsRow}
-use Rattle.wm_machine.specs.Narrow.{IsNarrowRecord}
+use Rattle.wm_machine.specs.Narrow.{NamesNone}
 use Rattle.wm_machine.specs.Runs.{started}
-use Rattle.wm_machine.specs.Valid.{ArePriorSound, IsAttemptIn, IsOfKind, IsOutputIn, IsPeriodic, IsRecord}
-use Rattle.wm_machine.specs.declared.event.End.TheVariants.{Success}
+use Rattle.wm_machine.specs.Turns.{telling}
+use Rattle.wm_machine.specs.Valid.{ArePriorSound, IsAttemptIn, IsOfKind, IsOutputIn, IsPeriodic, IsPeriodicPhase, IsProgressIn, IsRecord}
+use Rattle.wm_machine.specs.declared.event.End.{End}
+use Rattle.wm_machine.specs.declared.event.End.TheVariants.{Success, Failure, Retry}
 use Rattle.wm_machine.specs.declared.record.How.TheVariants as how
 use Rattle.wm_machine.specs.declared.record.Phase.{Phase}
 use Rattle.wm_machine.specs.declared.record.Phase.TheVariants as phase
@@ -22,6 +24,7 @@ use Rattle.wm_machine.specs.declared.state.State.{State}
 use Rattle.wm_request.specs.Requests.{IsRequest, RequestFields}
 use Rattle.wm_request.specs.declared.request.Node.{Node}
 use Rattle.wm_schedule.specs.declared.schedule.Period.{Period}
+use Rattle.wm_worker.specs.Answers.{GivesData}
 
 -- no entry is Data
 IsData-empty : IsData []
@@ -54,10 +57,12 @@ FitsRow-kept work changed seq prior generation enqueued_at fits = record {
   enqueued_at = rw enqueued_at fits.enqueued_at;
 }
 
--- what is of a kind is so once it has started
-IsOfKind-started : (period : Option Period) (work : Record) → IsOfKind period work → IsOfKind period (started work)
-IsOfKind-started None work kind = kind
-IsOfKind-started (Some period) work kind = record { phase_is = tt; no_output = kind.no_output; no_prerequisite = kind.no_prerequisite }
+-- what is of a kind stays so, where it is put into a phase of that kind
+IsOfKind-kept : (period : Option Period) (work changed : Record) → IsPeriodicPhase changed.phase → changed.runs ≡ work.runs → changed.output ≡ work.output
+    → changed.prior ≡ work.prior → IsOfKind period work → IsOfKind period changed
+IsOfKind-kept None work changed phase_is runs output prior kind = runs ∙ kind
+IsOfKind-kept (Some period) work changed phase_is runs output prior kind =
+    record { phase_is = phase_is; no_output = output ∙ kind.no_output; no_prerequisite = prior ∙ kind.no_prerequisite }
 
 -- one-time work that has run no period has run none after a change either
 IsOfKind-one_time : (work changed : Record) → work.request.period ≡ None → changed.runs ≡ work.runs → IsOfKind work.request.period work
@@ -65,8 +70,8 @@ IsOfKind-one_time : (work changed : Record) → work.request.period ≡ None →
 IsOfKind-one_time work changed one_time same kind =
     subst (λ period. IsOfKind period changed) (sym one_time) (same ∙ subst (λ period. IsOfKind period work) one_time kind)
 
-pub IsRecord-started : (work : Record) → is_waiting work.phase ≡ true → IsNarrowRecord work → IsRecord work → IsRecord (started work)
-IsRecord-started work waits narrow is = record {
+pub IsRecord-started : (work : Record) → is_waiting work.phase ≡ true → IsRecord work → IsRecord (started work)
+IsRecord-started work waits is = record {
   number = is.number;
   fits = FitsRow-kept work (started work) refl refl refl refl is.fits;
   name = is.name;
@@ -76,15 +81,53 @@ IsRecord-started work waits narrow is = record {
   started = omega arith;
   backoff_n = let few = is.backoff_n in let most = is.attempt in omega arith;
   runs = is.runs;
-  kind = IsOfKind-started work.request.period work is.kind;
+  kind = IsOfKind-kept work.request.period work (started work) tt refl refl refl is.kind;
   output = output-waiting work.phase work.output waits is.output;
   progress = IsData-empty;
 }
 
-IsRecord-failed : (work : Record) → work.request.period ≡ None → IsRecord work → IsRecord (closed how.Failed work)
-IsRecord-failed work one_time is = record {
+-- a work that runs may tell progress
+pub IsRecord-telling : (progress : Option (List DataEntry)) (work : Record) → IfSome progress IsData → work.phase ≡ phase.Running → IsRecord work
+    → IsRecord (telling progress work)
+IsRecord-telling None work told running is = is
+IsRecord-telling (Some progress) work told running is = record {
   number = is.number;
-  fits = FitsRow-kept work (closed how.Failed work) refl refl refl refl is.fits;
+  fits = FitsRow-kept work (telling (Some progress) work) refl refl refl refl is.fits;
+  name = is.name;
+  request = is.request;
+  prior = is.prior;
+  attempt = is.attempt;
+  started = is.started;
+  backoff_n = is.backoff_n;
+  runs = is.runs;
+  kind = IsOfKind-kept work.request.period work (telling (Some progress) work) (subst IsPeriodicPhase (sym running) tt) refl refl refl is.kind;
+  output = is.output;
+  progress = subst (λ phase. IsProgressIn phase progress) (sym running) told;
+}
+
+-- a work whose attempt is to be retried
+IsRecord-retried : (now : ℕ) (work : Record) → now < 2 ^ 53 → work.phase ≡ phase.Running → IsRecord work → IsRecord (retried now work)
+IsRecord-retried now work below running is = record {
+  number = is.number;
+  fits = record { seq = is.fits.seq; prior = is.fits.prior; generation = is.fits.generation; enqueued_at = below };
+  name = is.name;
+  request = is.request;
+  prior = is.prior;
+  attempt = is.attempt;
+  started = tt;
+  backoff_n = omega arith;
+  runs = is.runs;
+  kind = IsOfKind-kept work.request.period work (retried now work) tt refl refl refl is.kind;
+  output = subst (λ phase. IsOutputIn phase work.output) running is.output;
+  progress = refl;
+}
+
+-- a one-time work that fails, with what it gave
+IsRecord-failed : (output : List DataEntry) (work : Record) → IsData output → work.request.period ≡ None → IsRecord work
+    → IsRecord (with_output output (closed how.Failed work))
+IsRecord-failed output work gave one_time is = record {
+  number = is.number;
+  fits = FitsRow-kept work (with_output output (closed how.Failed work)) refl refl refl refl is.fits;
   name = is.name;
   request = is.request;
   prior = is.prior;
@@ -92,11 +135,12 @@ IsRecord-failed work one_time is = record {
   started = tt;
   backoff_n = is.backoff_n;
   runs = is.runs;
-  kind = IsOfKind-one_time work (closed how.Failed work) one_time refl is.kind;
-  output = IsData-output work is;
+  kind = IsOfKind-one_time work (with_output output (closed how.Failed work)) one_time refl is.kind;
+  output = gave;
   progress = refl;
 }
 
+-- a one-time work that succeeds
 IsRecord-succeeded : (output : List DataEntry) (work : Record) → IsData output → work.phase ≡ phase.Running → work.request.period ≡ None → IsRecord work
     → IsRecord (succeeded output work)
 IsRecord-succeeded output work gave running one_time is = record {
@@ -137,39 +181,27 @@ IsRecord-again period now work below repeats is = record {
 
 -- ---- of either kind
 
-ended-record : (period : Option Period) (now : ℕ) (output : List DataEntry) (work : Record) → work.request.period ≡ period → now < 2 ^ 53 → IsData output
-    → work.phase ≡ phase.Running → IsRecord work → IsRecord (ended_as period now (Success output) work)
-ended-record None now output work kind below gave running is = IsRecord-succeeded output work gave running kind is
-ended-record (Some period) now output work kind below gave running is = IsRecord-again period now work below kind is
+ended-record : (period : Option Period) (now : ℕ) (end : End) (work : Record) → work.request.period ≡ period → now < 2 ^ 53 → GivesData (given_by end)
+    → work.phase ≡ phase.Running → IsRecord work → IsRecord (ended_as period now end work)
+ended-record period now Retry work kind below gave running is = IsRecord-retried now work below running is
+ended-record None now (Success output) work kind below gave running is = IsRecord-succeeded output work gave running kind is
+ended-record None now (Failure output) work kind below gave running is = IsRecord-failed output work gave kind is
+ended-record (Some period) now (Success output) work kind below gave running is = IsRecord-again period now work below kind is
+ended-record (Some period) now (Failure output) work kind below gave running is = IsRecord-again period now work below kind is
 
--- work that succeeds
-pub IsRecord-ended : (now : ℕ) (output : List DataEntry) (work : Record) → now < 2 ^ 53 → IsData output → work.phase ≡ phase.Running → IsRecord work
-    → IsRecord (ended now (Success output) work)
-IsRecord-ended now output work below gave running is = ended-record work.request.period now output work refl below gave running is
+-- work whose run ended
+pub IsRecord-ended : (now : ℕ) (end : End) (work : Record) → now < 2 ^ 53 → GivesData (given_by end) → work.phase ≡ phase.Running → IsRecord work
+    → IsRecord (ended now end work)
+IsRecord-ended now end work below gave running is = ended-record work.request.period now end work refl below gave running is
 
 not_started-record : (period : Option Period) (now : ℕ) (work : Record) → work.request.period ≡ period → now < 2 ^ 53 → IsRecord work
     → IsRecord (not_started_as period now work)
-not_started-record None now work kind below is = IsRecord-failed work kind is
+not_started-record None now work kind below is = IsRecord-failed work.output work (IsData-output work is) kind is
 not_started-record (Some period) now work kind below is = IsRecord-again period now work below kind is
 
 -- work that can't start
 pub IsRecord-not_started : (now : ℕ) (work : Record) → now < 2 ^ 53 → IsRecord work → IsRecord (not_started now work)
 IsRecord-not_started now work below is = not_started-record work.request.period now work refl below is
-
-ended-narrow : (period : Option Period) (now : ℕ) (output : List DataEntry) (work : Record) → IsNarrowRecord work
-    → IsNarrowRecord (ended_as period now (Success output) work)
-ended-narrow None now output work is = record { no_prerequisite = is.no_prerequisite; no_retry = is.no_retry }
-ended-narrow (Some period) now output work is = record { no_prerequisite = is.no_prerequisite; no_retry = refl }
-
-pub IsNarrowRecord-ended : (now : ℕ) (output : List DataEntry) (work : Record) → IsNarrowRecord work → IsNarrowRecord (ended now (Success output) work)
-IsNarrowRecord-ended now output work is = ended-narrow work.request.period now output work is
-
-not_started-narrow : (period : Option Period) (now : ℕ) (work : Record) → IsNarrowRecord work → IsNarrowRecord (not_started_as period now work)
-not_started-narrow None now work is = record { no_prerequisite = is.no_prerequisite; no_retry = is.no_retry }
-not_started-narrow (Some period) now work is = record { no_prerequisite = is.no_prerequisite; no_retry = refl }
-
-pub IsNarrowRecord-not_started : (now : ℕ) (work : Record) → IsNarrowRecord work → IsNarrowRecord (not_started now work)
-IsNarrowRecord-not_started now work is = not_started-narrow work.request.period now work is
 
 -- ---- new work
 
@@ -204,12 +236,6 @@ IsRecord-placed s request is first next now = record {
   progress = refl;
 }
 
-pub IsNarrowRecord-placed : (s : State) (request : RequestFields) → IsNarrowRecord (placed_record s None (node_of request))
-IsNarrowRecord-placed s request = record {
-  no_prerequisite = refl;
-  no_retry = refl;
-}
-
 -- where no record names a prerequisite, each is sound among the others
 pub ArePriorSound-none : (works : List Record) (phase : Phase) (prior : List ℕ) → prior ≡ [] → ArePriorSound works phase prior
 ArePriorSound-none works phase.Waiting prior none = subst (λ prior. ArePriorSound works phase.Waiting prior) (sym none) tt
@@ -220,7 +246,6 @@ ArePriorSound-none works (phase.Done how.Failed) prior none = tt
 ArePriorSound-none works (phase.Done how.Cancelled) prior none = tt
 
 -- what is sound among these records, where none names a prerequisite
-pub sound-narrow : (works among : List Record) → AllByRecursion IsNarrowRecord works → AllByRecursion (λ work. ArePriorSound among work.phase work.prior) works
-sound-narrow works among narrow =
-    All-weaker IsNarrowRecord (λ work. ArePriorSound among work.phase work.prior) works
-    (λ work is. ArePriorSound-none among work.phase work.prior is.no_prerequisite) narrow
+pub sound-narrow : (works among : List Record) → AllByRecursion NamesNone works → AllByRecursion (λ work. ArePriorSound among work.phase work.prior) works
+sound-narrow works among none =
+    All-weaker NamesNone (λ work. ArePriorSound among work.phase work.prior) works (λ work is. ArePriorSound-none among work.phase work.prior is) none

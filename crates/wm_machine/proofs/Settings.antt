@@ -1,5 +1,5 @@
 -- What is owed for the commands that set the moment and the conditions.
-use Rattle.std.proofs.Common.{◌≡◌, ℕ, ◌^◌, ◌<◌, Bool, true, false, cond, ltb, List, [], ◌∷◌, Option, Some, None, refl, ap, sym, ◌∙◌}
+use Rattle.std.proofs.Common.{◌≡◌, ℕ, ◌^◌, ◌<◌, Bool, true, false, cond, ltb, List, [], ◌∷◌, Option, Some, None, refl}
 use Rattle.std.specs.List.{list_any}
 use Rattle.wm_conditions.specs.declared.conditions.Conditions.{Conditions}
 use Rattle.wm_machine.proofs.Lists.{All-weaker}
@@ -7,15 +7,13 @@ use Rattle.wm_machine.proofs.Owed.{IsAnswered}
 use Rattle.wm_machine.specs.Frame.{untouched}
 use Rattle.wm_machine.specs.Narrow.{IsReached}
 use Rattle.wm_machine.specs.Replied.{Outcome, unchanged}
-use Rattle.wm_machine.specs.Settings.{conditioned, is_stopped_by, moved}
+use Rattle.wm_machine.specs.Settings.{is_stopped_by, moved}
 use Rattle.wm_machine.specs.Step.{Answers, state_by}
 use Rattle.wm_machine.specs.Valid.{IsValidRun, Valid}
 use Rattle.wm_machine.specs.declared.command.Command.{Command}
 use Rattle.wm_machine.specs.declared.command.Command.TheVariants as command
 use Rattle.wm_machine.specs.declared.reply.Refusal.TheVariants.{MomentBack}
-use Rattle.wm_machine.specs.declared.reply.Reply.{Reply}
 use Rattle.wm_machine.specs.declared.reply.Reply.TheVariants as reply
-use Rattle.wm_machine.specs.declared.state.Run.{Run}
 use Rattle.wm_machine.specs.declared.state.State.{State}
 
 -- another moment and other conditions
@@ -49,7 +47,7 @@ reached-set s at conditions below reached =
     } in
     record {
       valid = valid_then;
-      narrow = record { records = reached.narrow.records; runs = reached.narrow.runs; echoes = reached.narrow.echoes };
+      narrow = record { records = reached.narrow.records; runs = reached.narrow.runs };
     }
 
 -- ---- the moment

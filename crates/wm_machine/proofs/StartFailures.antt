@@ -5,11 +5,11 @@ use Rattle.wm_machine.proofs.Firsts.{first_of-stored, first_of-waiting}
 use Rattle.wm_machine.proofs.Lists.{All-both}
 use Rattle.wm_machine.proofs.Narrows.{with_not_started, with_start_failed-alone}
 use Rattle.wm_machine.proofs.Owed.{IsKept}
-use Rattle.wm_machine.proofs.Records.{IsNarrowRecord-not_started, IsRecord-not_started}
+use Rattle.wm_machine.proofs.Records.{IsRecord-not_started}
 use Rattle.wm_machine.proofs.Runnings.{IsAlone-stored}
 use Rattle.wm_machine.proofs.Waitings.{gone-not_started, left_to_drain-started}
 use Rattle.wm_machine.specs.Ends.{not_started, not_started_as, with_start_failed}
-use Rattle.wm_machine.specs.Narrow.{IsNarrowRecord, IsReached}
+use Rattle.wm_machine.specs.Narrow.{IsReached, NamesNone}
 use Rattle.wm_machine.specs.Role as role
 use Rattle.wm_machine.specs.Step.{after, IsStartFailure}
 use Rattle.wm_machine.specs.Valid.{IsRecord}
@@ -38,8 +38,7 @@ same-not_started (Some period) now work = record { seq = refl; name = refl; requ
 IsFine-not_started : (now : ℕ) → now < 2 ^ 53 → IsFine Waits (not_started now)
 IsFine-not_started now below = record {
   same = λ work. same-not_started work.request.period now work;
-  fits = λ work waits narrow is. IsRecord-not_started now work below is;
-  narrow = λ work is. IsNarrowRecord-not_started now work is;
+  fits = λ work waits is. IsRecord-not_started now work below is;
 }
 
 idle-not_started : (period : Option Period) (now : ℕ) (work : Record) → (not_started_as period now work).phase ≡ phase.Running → ⊥
@@ -52,7 +51,7 @@ start_failed-kept s seq cause reached legal =
     let work = legal.work in
     let stored = first_of-stored s work legal.is_first in
     let alone = IsAlone-stored work s.works reached.valid.in_order stored in
-    let both = All-both IsNarrowRecord IsRecord s.works reached.narrow.records reached.valid.records in
+    let both = All-both NamesNone IsRecord s.works reached.narrow.records reached.valid.records in
     rw (after_start_failed s seq cause reached legal) record {
       reached = reached-changed s work (not_started s.now) (IsFine-not_started s.now reached.valid.now) (λ w. idle-not_started w.request.period s.now w)
           reached stored (first_of-waiting s work legal.is_first);

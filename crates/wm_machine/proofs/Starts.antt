@@ -14,8 +14,9 @@ use Rattle.wm_machine.proofs.Records.{IsRecord-started}
 use Rattle.wm_machine.proofs.Runnings.{AreNumberedInOrder-made, changed, changed_both, changed_there, IsAlone-stored, made, made_both, made_there, old_work, other_number, same_instance}
 use Rattle.wm_machine.proofs.Waitings.{gone-idle, left_to_drain-started}
 use Rattle.wm_machine.specs.First.{first_of, idle_instance}
+use Rattle.wm_machine.specs.Diaries.{Began}
 use Rattle.wm_machine.specs.Frame.{begun_frame, Frame, frame_of, frame_to, IsBegunIn}
-use Rattle.wm_machine.specs.Narrow.{IsNarrow, IsNarrowRun, IsReached}
+use Rattle.wm_machine.specs.Narrow.{IsNarrow, IsReached}
 use Rattle.wm_machine.specs.Role as role
 use Rattle.wm_machine.specs.Runs.{run_on, start_on, started, with_out, with_start}
 use Rattle.wm_machine.specs.Step.{after, IsStart, start_of}
@@ -26,8 +27,6 @@ use Rattle.wm_machine.specs.declared.record.Record.{Record}
 use Rattle.wm_machine.specs.declared.state.Instance.{Instance}
 use Rattle.wm_machine.specs.declared.state.Run.{Run}
 use Rattle.wm_machine.specs.declared.state.State.{State}
-use Rattle.wm_worker.specs.declared.answer.Entry.TheVariants.{Begun}
-use Rattle.wm_worker.specs.declared.kind.Kind.TheVariants.{Echo}
 
 -- ---- the state after it, and its frame
 
@@ -41,13 +40,13 @@ after_start s run seq instance input legal =
 pub frame-start : (s : State) (run seq instance : ℕ) (input : List DataEntry) (legal : IsStart s run seq instance input)
     → frame_of s (event.Start run seq instance input) ≡ begun_frame s run instance (run_on s legal.work legal.idle input)
 frame-start s run seq instance input legal =
-    ap (λ (t : State). frame_to t [] (λ worker. cond (eqb instance worker) (Begun run ∷ []) [])) (after_start s run seq instance input legal)
+    ap (λ (t : State). frame_to t [] (λ worker. cond (eqb instance worker) (Began run ∷ []) [])) (after_start s run seq instance input legal)
     ∙ ap (λ n. let f : Frame = record {
       commands = [];
       runs = s.runs ++ run_on s legal.work legal.idle input ∷ [];
       instances = with_out true n s.instances;
       next_run = s.next_run + 1;
-      entries = λ worker. cond (eqb instance worker) (Begun run ∷ []) [];
+      lines = λ worker. cond (eqb instance worker) (Began run ∷ []) [];
     } in f) (sym legal.instance_is)
 
 pub start-framed : (s : State) (run seq instance : ℕ) (input : List DataEntry) → IsStart s run seq instance input
@@ -55,6 +54,7 @@ pub start-framed : (s : State) (run seq instance : ℕ) (input : List DataEntry)
 start-framed s run seq instance input legal = record {
   run = run_on s legal.work legal.idle input;
   number_is = legal.run_is;
+  is_next = legal.run_is;
   instance_is = legal.instance_is;
   frame_is = frame-start s run seq instance input legal;
 }
@@ -87,7 +87,6 @@ IsFine-started : IsFine Waits started
 IsFine-started = record {
   same = λ work. record { seq = refl; name = refl; request = refl; prior = refl };
   fits = IsRecord-started;
-  narrow = λ work is. record { no_prerequisite = is.no_prerequisite; no_retry = is.no_retry };
 }
 
 reached-start : (s : State) (work : Record) (idle : Instance) (input : List DataEntry) → IsReached s → first_of s ≡ Some work
@@ -103,9 +102,7 @@ reached-start s work idle input reached first found data_is =
     let works = AreFine-changed Waits started s work.seq IsFine-started reached (waits-alone work s.works waiting alone) in
     let narrow : IsNarrow (with_start s work idle input) = record {
       records = works.narrow;
-      runs = All-push IsNarrowRun s.runs run reached.narrow.runs (record { current = refl; turn = refl });
-      echoes = All-map (λ i. i.kind ≡ Echo) (λ i. i.kind ≡ Echo) (made true idle.number) s.instances
-          (λ i echo. made_both (λ i. i.kind ≡ Echo) true idle.number i (λ e. echo) (λ e. echo)) reached.narrow.echoes;
+      runs = All-push (λ r. r.current ≡ true) s.runs run reached.narrow.runs refl;
     } in
     let valid_then : Valid (with_start s work idle input) = record {
       numbers = works.numbers;

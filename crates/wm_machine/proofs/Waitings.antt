@@ -1,73 +1,31 @@
 -- How many works a drain may still start, after one of them is changed.
-use Rattle.std.proofs.Common.{◌≡◌, ◌&&◌, ◌||◌, ℕ, ◌+◌, ◌<◌, ◌≤◌, Bool, true, false, not, cond, eqb, List, [], ◌∷◌, map, min, Option, Some, None, IfSome, refl, subst, sym, ◌∙◌, ap, inl, inr, arith}
+use Rattle.std.proofs.Common.{◌≡◌, ◌&&◌, ◌||◌, ℕ, ◌+◌, ◌-◌, ◌*◌, ◌^◌, ◌<◌, ◌≤◌, Bool, true, false, not, eqb, List, [], min, Option, Some, None, IfSome, refl, subst, sym, ◌∙◌, ap, inl, inr, arith}
 use Rattle.std.specs.List.{AllByRecursion}
-use Rattle.std.specs.Prelude.{count_by, nat_le}
-use Rattle.std.proofs.lemmas.Bool.{and_from, and_left, and_parts, cond_both, false≢true, lt-leb, ne_eqb, or_cases, or_left, or_right}
-use Rattle.std.proofs.lemmas.List.Sums.{sum_by-cons}
-use Rattle.wm_data.specs.declared.data.DataEntry.{DataEntry}
+use Rattle.std.specs.Prelude.{nat_le}
+use Rattle.std.proofs.lemmas.Bool.{and_from, and_left, and_parts, false≢true, lt-leb, lt-ltb, ne_eqb, or_cases, or_left, or_right}
+use Rattle.std.proofs.lemmas.Nat.{pow_pos}
 use Rattle.wm_machine.proofs.Firsts.{first_of-startable, first_of-stored, IsStartable-from}
-use Rattle.wm_machine.proofs.Lists.{All-any, All-weaker, HasOne-weaker, list_all-weaker, list_any-map}
+use Rattle.wm_machine.proofs.Lists.{All-any, All-weaker, count-fewer, count-map, HasOne-weaker, list_all-weaker, list_any-map}
 use Rattle.wm_machine.proofs.Runnings.{changed, changed_both, IsAlone}
 use Rattle.wm_machine.specs.Due.{due_of}
-use Rattle.wm_machine.specs.Ends.{ended, ended_as, enqueued_again, not_started, not_started_as}
+use Rattle.wm_machine.specs.Ends.{ended, ended_as, enqueued_again, not_started, not_started_as, retried}
 use Rattle.wm_machine.specs.First.{all_met, first_of, has_succeeded, is_succeeded, is_waiting}
-use Rattle.wm_machine.specs.Narrow.{IsNarrowRecord}
+use Rattle.wm_machine.specs.Narrow.{NamesNone}
 use Rattle.wm_machine.specs.Runs.{changed_work}
-use Rattle.wm_machine.specs.Valid.{HasOne, IsRecord}
+use Rattle.wm_machine.specs.Valid.{HasOne, IsAttemptIn, IsRecord}
 use Rattle.wm_machine.specs.Waiting.{is_left, left_among, left_to_drain}
-use Rattle.wm_machine.specs.declared.event.End.TheVariants.{Success}
+use Rattle.wm_machine.specs.declared.event.End.{End}
+use Rattle.wm_machine.specs.declared.event.End.TheVariants.{Success, Failure, Retry}
 use Rattle.wm_machine.specs.declared.record.Phase.{Phase}
 use Rattle.wm_machine.specs.declared.record.Phase.TheVariants as phase
 use Rattle.wm_machine.specs.declared.record.Record.{Record}
 use Rattle.wm_machine.specs.declared.state.State.{State}
 use Rattle.wm_schedule.specs.Clamped.{IsPeriod}
-use Rattle.wm_schedule.specs.Due.{due_at}
+use Rattle.wm_schedule.specs.Due.{due_at, wait_after}
 use Rattle.wm_schedule.specs.Moments.{IsDelay}
+use Rattle.wm_schedule.specs.declared.schedule.BackoffPolicy.{BackoffPolicy}
+use Rattle.wm_schedule.specs.declared.schedule.BackoffPolicy.TheVariants.{Linear, Exponential}
 use Rattle.wm_schedule.specs.declared.schedule.Period.{Period}
-
--- ---- counts
-
--- one where a test passes
-abbrev weight : Bool → ℕ
-weight passes = cond passes 1 0
-
-count-cons : (test : Record → Bool) (work : Record) (works : List Record) → count_by test (work ∷ works) ≡ weight (test work) + count_by test works
-count-cons test work works = sum_by-cons (λ (w : Record). cond (test w) 1 0) work works
-
-weight-less : (before now : Bool) → (now ≡ true → before ≡ true) → weight now ≤ weight before
-weight-less true now implied = cond_both now 1 0 (λ (n : ℕ). n ≤ 1) (λ e. omega arith) (λ e. omega arith)
-weight-less false true implied = absurd (false≢true (implied refl))
-weight-less false false implied = omega arith
-
--- as many pass at most, where each that passes after a change did before
-count-map : (before now : Record → Bool) (change : Record → Record) (works : List Record)
-    → AllByRecursion (λ work. now (change work) ≡ true → before work ≡ true) works → count_by now (map change works) ≤ count_by before works
-count-map before now change [] implied = omega arith
-count-map before now change (work ∷ works) implied =
-    let then = count-cons before work works in
-    let here = count-cons now (change work) (map change works) in
-    let one = weight-less (before work) (now (change work)) implied.0 in
-    let rest = count-map before now change works implied.1 in
-    omega (arith, then, here, one, rest)
-
--- and fewer, where one did that doesn't now
-count-fewer : (before now : Record → Bool) (change : Record → Record) (works : List Record)
-    → AllByRecursion (λ work. now (change work) ≡ true → before work ≡ true) works
-    → HasOne (λ work. (before work ≡ true) × (now (change work) ≡ false)) works → count_by now (map change works) < count_by before works
-count-fewer before now change [] implied one = absurd one
-count-fewer before now change (work ∷ works) implied (inl is) =
-    let then = count-cons before work works in
-    let here = count-cons now (change work) (map change works) in
-    let more : weight (before work) ≡ 1 = ap weight is.0 in
-    let less : weight (now (change work)) ≡ 0 = ap weight is.1 in
-    let rest = count-map before now change works implied.1 in
-    omega (arith, then, here, more, less, rest)
-count-fewer before now change (work ∷ works) implied (inr one) =
-    let then = count-cons before work works in
-    let here = count-cons now (change work) (map change works) in
-    let less = weight-less (before work) (now (change work)) implied.0 in
-    let rest = count-fewer before now change works implied.1 one in
-    omega (arith, then, here, less, rest)
 
 -- ---- prerequisites
 
@@ -145,6 +103,14 @@ pub gone-idle : (now : ℕ) (change : Record → Record) (seq : ℕ) (works : Li
 unfolding IsGone
 gone-idle now change seq works ends = All-any (IsGone now change seq) works (λ work e others. and_left _ _ (ends work))
 
+-- work that runs isn't left, whatever else changes
+pub gone-running : (now : ℕ) (change : Record → Record) (seq : ℕ) (works : List Record) → ((work : Record) → (change work).phase ≡ work.phase)
+    → AllByRecursion (λ work. work.seq ≡ seq → work.phase ≡ phase.Running) works → AllByRecursion (IsGone now change seq) works
+unfolding IsGone
+gone-running now change seq works keeps running =
+    All-weaker (λ work. work.seq ≡ seq → work.phase ≡ phase.Running) (IsGone now change seq) works
+    (λ work runs e others. and_left _ _ (ap is_waiting (keeps work ∙ runs e))) running
+
 -- periodic work that is enqueued again is due after now
 due-again : (period : Period) (now : ℕ) (work : Record) → work.request.period ≡ Some period → IsRecord work
     → nat_le (due_of (enqueued_again now work)) now ≡ false
@@ -194,26 +160,58 @@ left_to_drain-ended now change seq works keeps gone running =
 
 -- ---- what becomes of work of either kind
 
-ended-gone : (period : Option Period) (now : ℕ) (output : List DataEntry) (works : List Record) (work : Record) → work.request.period ≡ period
-    → work.prior ≡ [] → IsRecord work → is_left now works (ended_as period now (Success output) work) ≡ false
-ended-gone None now output works work kind none is = refl
-ended-gone (Some period) now output works work kind none is = left-again period now works work kind none is
+-- a product with a number of at least one is as great at least
+times-some : (delay n : ℕ) → 1 ≤ n → delay ≤ delay * n
+times-some delay n some = search (arith, some)
 
-pub gone-ended : (now : ℕ) (output : List DataEntry) (seq : ℕ) (works : List Record) → AllByRecursion (λ work. IsNarrowRecord work × IsRecord work) works
-    → AllByRecursion (IsGone now (ended now (Success output)) seq) works
+-- the wait after an attempt isn't nothing
+some_wait : (policy : BackoffPolicy) (delay attempt : ℕ) → 1 ≤ delay → 1 ≤ attempt → 1 ≤ wait_after (record { policy = policy; delay = delay }) attempt
+some_wait Linear delay attempt least some = let grown = times-some delay attempt some in omega (arith, grown, least)
+some_wait Exponential delay attempt least some =
+    let grown = times-some delay (2 ^ (attempt - 1)) (pow_pos (attempt - 1)) in omega (arith, grown, least)
+
+-- work whose attempt is to be retried is due after now
+due-retried : (now : ℕ) (work : Record) → work.phase ≡ phase.Running → IsRecord work → nat_le (due_of (retried now work)) now ≡ false
+unfolding due_of due_at
+due-retried now work running is =
+    let least = is.request.within.backoff_is.least in
+    let some : 1 ≤ work.attempt = subst (λ phase. IsAttemptIn phase work.attempt) running is.started in
+    let wait = some_wait work.request.backoff.policy work.request.backoff.delay work.attempt (omega (arith, least)) some in
+    rw (lt-ltb 0 work.attempt (omega (arith, some))) (lt-leb (now + wait_after work.request.backoff work.attempt) now (omega (arith, wait)))
+
+-- and isn't left, where it names no prerequisite
+left-retried : (now : ℕ) (works : List Record) (work : Record) → work.phase ≡ phase.Running → work.prior ≡ [] → IsRecord work
+    → is_left now works (retried now work) ≡ false
+unfolding all_met
+left-retried now works work running none is = rw (due-retried now work running is, none) refl
+
+ended-gone : (period : Option Period) (now : ℕ) (end : End) (works : List Record) (work : Record) → work.request.period ≡ period
+    → work.phase ≡ phase.Running → work.prior ≡ [] → IsRecord work → is_left now works (ended_as period now end work) ≡ false
+ended-gone period now Retry works work kind running none is = left-retried now works work running none is
+ended-gone None now (Success output) works work kind running none is = refl
+ended-gone None now (Failure output) works work kind running none is = refl
+ended-gone (Some period) now (Success output) works work kind running none is = left-again period now works work kind none is
+ended-gone (Some period) now (Failure output) works work kind running none is = left-again period now works work kind none is
+
+-- a work that runs under this number is without prerequisites, and as every record is
+abbrev IsPlainRun : ℕ → Record → Type 0
+IsPlainRun seq work = (work.seq ≡ seq → work.phase ≡ phase.Running) × (NamesNone work × IsRecord work)
+
+pub gone-ended : (now : ℕ) (end : End) (seq : ℕ) (works : List Record) → AllByRecursion (IsPlainRun seq) works
+    → AllByRecursion (IsGone now (ended now end) seq) works
 unfolding IsGone
-gone-ended now output seq works are =
-    All-weaker (λ work. IsNarrowRecord work × IsRecord work) (IsGone now (ended now (Success output)) seq) works
-    (λ work is e others. ended-gone work.request.period now output others work refl is.0.no_prerequisite is.1) are
+gone-ended now end seq works are =
+    All-weaker (IsPlainRun seq) (IsGone now (ended now end) seq) works
+    (λ work is e others. ended-gone work.request.period now end others work refl (is.0 e) is.1.0 is.1.1) are
 
 not_started-gone : (period : Option Period) (now : ℕ) (works : List Record) (work : Record) → work.request.period ≡ period → work.prior ≡ [] → IsRecord work
     → is_left now works (not_started_as period now work) ≡ false
 not_started-gone None now works work kind none is = refl
 not_started-gone (Some period) now works work kind none is = left-again period now works work kind none is
 
-pub gone-not_started : (now seq : ℕ) (works : List Record) → AllByRecursion (λ work. IsNarrowRecord work × IsRecord work) works
+pub gone-not_started : (now seq : ℕ) (works : List Record) → AllByRecursion (λ work. NamesNone work × IsRecord work) works
     → AllByRecursion (IsGone now (not_started now) seq) works
 unfolding IsGone
 gone-not_started now seq works are =
-    All-weaker (λ work. IsNarrowRecord work × IsRecord work) (IsGone now (not_started now) seq) works
-    (λ work is e others. not_started-gone work.request.period now others work refl is.0.no_prerequisite is.1) are
+    All-weaker (λ work. NamesNone work × IsRecord work) (IsGone now (not_started now) seq) works
+    (λ work is e others. not_started-gone work.request.period now others work refl is.0 is.1) are

@@ -1,35 +1,35 @@
 -- What an event makes of all but the records, by what it is to the runs. This project's own choice.
 use Rattle.std.specs.Prelude.{◌≡◌, ℕ, ◌+◌, ◌==◌, true, false, List, [], ◌∷◌, ◌++◌, Some, if◌then◌else◌}
-use Rattle.wm_machine.specs.Diaries.{event_entries, given_entries}
+use Rattle.wm_machine.specs.Diaries.{event_lines, given_lines, DiaryLine, Began}
 use Rattle.wm_machine.specs.Log.{command_in}
 use Rattle.wm_machine.specs.Role as role
-use Rattle.wm_machine.specs.Role.{Role}
+use Rattle.wm_machine.specs.Role.{Reported, Role, This}
 use Rattle.wm_machine.specs.Runs.{other_runs, run_numbered, with_out}
 use Rattle.wm_machine.specs.Step.{after}
+use Rattle.wm_machine.specs.Turns.{with_turned}
 use Rattle.wm_machine.specs.declared.command.Command.{Command}
 use Rattle.wm_machine.specs.declared.event.Event.{Event}
 use Rattle.wm_machine.specs.declared.state.Instance.{Instance}
 use Rattle.wm_machine.specs.declared.state.Run.{Run}
 use Rattle.wm_machine.specs.declared.state.State.{State}
-use Rattle.wm_worker.specs.declared.answer.Entry.{Entry}
-use Rattle.wm_worker.specs.declared.answer.Entry.TheVariants.{Begun}
 use Rattle.wm_worker.specs.declared.answer.Given.{Given}
 
--- the commands of an event, the runs and instances after it, the number of the next run, and what the worker of each instance writes down
+-- the commands of an event, the runs and instances after it, the number of the next run, and what it tells of the diary of each instance's
+-- worker
 pub record Frame : Type 0 where
   pub commands : List Command
   pub runs : List Run
   pub instances : List Instance
   pub next_run : ℕ
-  pub entries : ℕ → List Entry
+  pub lines : ℕ → List DiaryLine
 
 -- the frame that ends in this state
-abbrev pub frame_to : State → List Command → (ℕ → List Entry) → Frame
-frame_to t commands entries =
-    record { commands = commands; runs = t.runs; instances = t.instances; next_run = t.next_run; entries = entries }
+abbrev pub frame_to : State → List Command → (ℕ → List DiaryLine) → Frame
+frame_to t commands lines =
+    record { commands = commands; runs = t.runs; instances = t.instances; next_run = t.next_run; lines = lines }
 
 abbrev pub frame_of : State → Event → Frame
-frame_of s e = frame_to (after s e) (command_in e) (λ worker. event_entries worker s e)
+frame_of s e = frame_to (after s e) (command_in e) (λ worker. event_lines worker s e)
 
 -- a frame that leaves all as it is, but for these commands
 abbrev pub untouched : State → List Command → Frame
@@ -42,26 +42,42 @@ begun_frame s number instance run = record {
   runs = s.runs ++ run ∷ [];
   instances = with_out true instance s.instances;
   next_run = s.next_run + 1;
-  entries = λ worker. if instance == worker then Begun number ∷ [] else [];
+  lines = λ worker. if instance == worker then Began number ∷ [] else [];
+}
+
+-- the frame in which this run goes on: it is at its next turn, and its worker writes what it gave
+abbrev pub turned_frame : State → Run → Given → Frame
+turned_frame s run gave = record {
+  commands = [];
+  runs = with_turned run.run s.runs;
+  instances = s.instances;
+  next_run = s.next_run;
+  lines = λ worker. given_lines worker (Some run) (This gave);
 }
 
 -- the frame in which this run is over: it is away, its instance isn't out, and its worker writes what it gave
-abbrev pub ended_frame : State → Run → Given → Frame
+abbrev pub ended_frame : State → Run → Reported → Frame
 ended_frame s run gave = record {
   commands = [];
   runs = other_runs run.run s.runs;
   instances = with_out false run.instance s.instances;
   next_run = s.next_run;
-  entries = λ worker. given_entries worker (Some run) gave;
+  lines = λ worker. given_lines worker (Some run) gave;
 }
 
 pub record IsBegunIn (number instance : ℕ) (s : State) (frame : Frame) : Type 0 where
   pub run : Run
   pub number_is : number ≡ run.run
+  pub is_next : number ≡ s.next_run
   pub instance_is : instance ≡ run.instance
   pub frame_is : frame ≡ begun_frame s number instance run
 
-pub record IsEndedIn (number : ℕ) (gave : Given) (s : State) (frame : Frame) : Type 0 where
+pub record IsTurnedIn (number : ℕ) (gave : Given) (s : State) (frame : Frame) : Type 0 where
+  pub run : Run
+  pub is_running : run_numbered number s.runs ≡ Some run
+  pub frame_is : frame ≡ turned_frame s run gave
+
+pub record IsEndedIn (number : ℕ) (gave : Reported) (s : State) (frame : Frame) : Type 0 where
   pub run : Run
   pub is_running : run_numbered number s.runs ≡ Some run
   pub frame_is : frame ≡ ended_frame s run gave
@@ -71,5 +87,6 @@ abbrev pub IsFramed : Role → State → Frame → Type 0
 IsFramed (role.Line asked) s frame = frame ≡ untouched s (asked ∷ [])
 IsFramed (role.Begins run instance) s frame = IsBegunIn run instance s frame
 IsFramed role.Refuses s frame = frame ≡ untouched s []
+IsFramed (role.GoesOn run gave) s frame = IsTurnedIn run gave s frame
 IsFramed (role.Ends run gave) s frame = IsEndedIn run gave s frame
 IsFramed role.Other s frame = frame ≡ untouched s []

@@ -16,6 +16,7 @@ pub mod Queried
 pub mod Quiet
 pub mod Replay
 pub mod Replied
+pub mod Reports
 pub mod Role
 pub mod Rows
 pub mod Runs
@@ -23,6 +24,7 @@ pub mod Serial
 pub mod Settings
 pub mod Shown
 pub mod Step
+pub mod Turns
 pub mod Valid
 pub mod Waiting
 pub use Rattle.wm_data.specs.DataJson

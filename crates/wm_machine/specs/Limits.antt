@@ -1,5 +1,5 @@
 -- The limits of a record's numbers, within which its row has them. This project's own choice.
-use Rattle.std.specs.Prelude.{ℕ, ◌^◌, ◌<◌, All}
+use Rattle.std.specs.Prelude.{◌^◌, ◌<◌, All}
 use Rattle.wm_machine.specs.declared.record.Record.{Record}
 
 -- the numbers of a record are within their limits; those of its request are so by its type

@@ -4,25 +4,16 @@ use Rattle.std.specs.Prelude.{◌≡◌, true, []}
 use Rattle.std.specs.List.{AllByRecursion}
 use Rattle.wm_machine.specs.Valid.{Valid}
 use Rattle.wm_machine.specs.declared.record.Record.{Record}
-use Rattle.wm_machine.specs.declared.state.Run.{Run}
 use Rattle.wm_machine.specs.declared.state.State.{State}
-use Rattle.wm_worker.specs.declared.kind.Kind.TheVariants.{Echo}
 
--- a work without prerequisites and retries
-pub record IsNarrowRecord (work : Record) : Type 0 where
-  pub no_prerequisite : work.prior ≡ []
-  pub no_retry : work.backoff_n ≡ 0
+-- a work without prerequisites
+abbrev pub NamesNone : Record → Type 0
+NamesNone work = work.prior ≡ []
 
--- a run that is current, in its first turn
-pub record IsNarrowRun (run : Run) : Type 0 where
-  pub current : run.current ≡ true
-  pub turn : run.turn ≡ 0
-
--- every record and run is so, and every worker is an Echo
+-- every work is without prerequisites, and every run is current
 pub record IsNarrow (s : State) : Type 0 where
-  pub records : AllByRecursion IsNarrowRecord s.works
-  pub runs : AllByRecursion IsNarrowRun s.runs
-  pub echoes : AllByRecursion (λ instance. instance.kind ≡ Echo) s.instances
+  pub records : AllByRecursion NamesNone s.works
+  pub runs : AllByRecursion (λ run. run.current ≡ true) s.runs
 
 -- a state that the machine reaches for now
 pub record IsReached (s : State) : Type 0 where

@@ -1,6 +1,6 @@
 -- The steps of the machine: which events are legal in a state, the state after them, and what they are to the runs.
 -- Only the events that are built are legal. Each row is a rule of the machine, whose file says where it comes from.
-use Rattle.std.specs.Prelude.{◌≡◌, ℕ, true, List, Option, Some, None, Ok, IsSomeAnd}
+use Rattle.std.specs.Prelude.{◌≡◌, ℕ, ◌<◌, true, List, Option, Some, None, Ok, IsSomeAnd}
 use Rattle.wm_data.specs.declared.data.DataEntry.{DataEntry}
 use Rattle.wm_machine.specs.Outcome.{IsBuilt, outcome}
 use Rattle.wm_machine.specs.Ends.{end_of, given_by, with_start_failed}
@@ -8,11 +8,13 @@ use Rattle.wm_machine.specs.First.{first_of, idle_instance}
 use Rattle.wm_machine.specs.Input.{input_of}
 use Rattle.wm_machine.specs.Replied.{Outcome}
 use Rattle.wm_machine.specs.Role as role
-use Rattle.wm_machine.specs.Role.{Role}
+use Rattle.wm_machine.specs.Role.{Role, This, SomeMore}
 use Rattle.wm_machine.specs.Runs.{run_numbered, start_on, start_refusal}
+use Rattle.wm_machine.specs.Turns.{turn_of}
 use Rattle.wm_machine.specs.declared.command.Command.{Command}
 use Rattle.wm_machine.specs.declared.event.Cause.{Cause}
 use Rattle.wm_machine.specs.declared.event.End.{End}
+use Rattle.wm_machine.specs.declared.event.End.TheVariants.{Retry}
 use Rattle.wm_machine.specs.declared.event.Event.{Event}
 use Rattle.wm_machine.specs.declared.event.Event.TheVariants as event
 use Rattle.wm_machine.specs.declared.record.Record.{Record}
@@ -21,6 +23,8 @@ use Rattle.wm_machine.specs.declared.state.Instance.{Instance}
 use Rattle.wm_machine.specs.declared.state.Run.{Run}
 use Rattle.wm_machine.specs.declared.state.State.{State}
 use Rattle.wm_worker.specs.Answers.{MayGive}
+use Rattle.wm_worker.specs.declared.answer.Given.{Given}
+use Rattle.wm_worker.specs.declared.answer.Given.TheVariants.{More}
 
 -- ---- commands
 
@@ -56,12 +60,27 @@ pub record IsStartFailure (s : State) (seq : ℕ) (cause : Cause) : Type 0 where
   pub refused : start_refusal s work ≡ Some cause
   pub seq_is : seq ≡ work.seq
 
--- the run is current, and a worker of its kind may end it so, with its input in its attempt and turn
-pub record IsEnd (s : State) (number : ℕ) (end : End) : Type 0 where
+-- the run of this number is current, and a worker of its kind may give this, with its input in its attempt and turn
+pub record IsReport (s : State) (number : ℕ) (gave : Given) : Type 0 where
   pub run : Run
   pub is_running : run_numbered number s.runs ≡ Some run
   pub is_current : run.current ≡ true
-  pub may_give : MayGive run.kind run.input run.attempt run.turn (given_by end)
+  pub may_give : MayGive run.kind run.input run.attempt run.turn gave
+
+-- its worker wants one more turn, and it has one: a run has 1,000 turns
+pub record IsTurn (s : State) (number : ℕ) (progress : Option (List DataEntry)) : Type 0 where
+  pub report : IsReport s number (More progress)
+  pub turns_left : report.run.turn < 999
+
+-- its worker wants one more turn after the last
+pub record IsTimeout (s : State) (number : ℕ) : Type 0 where
+  pub progress : Option (List DataEntry)
+  pub report : IsReport s number (More progress)
+  pub none_left : report.run.turn ≡ 999
+
+-- its worker ends it so
+abbrev pub IsEnd : State → ℕ → End → Type 0
+IsEnd s number end = IsReport s number (given_by end)
 
 -- the work that is first starts on the idle instance of its class, with this input
 abbrev pub start_of : State → Option Record → List DataEntry → State
@@ -75,7 +94,9 @@ abbrev pub Legal : State → Event → Type 0
 Legal s (event.Command line asked answer) = IsBuilt asked × Answers s asked answer
 Legal s (event.Start run seq instance input) = IsStart s run seq instance input
 Legal s (event.StartFailed seq cause) = IsStartFailure s seq cause
+Legal s (event.Turn run progress) = IsTurn s run progress
 Legal s (event.Finish run end) = IsEnd s run end
+Legal s (event.TimedOut run) = IsTimeout s run
 Legal s _ = ⊥
 
 -- the state that it gives
@@ -83,7 +104,9 @@ abbrev pub after : State → Event → State
 after s (event.Command line asked answer) = after_command s asked
 after s (event.Start run seq instance input) = start_of s (first_of s) input
 after s (event.StartFailed seq cause) = with_start_failed s seq
+after s (event.Turn run progress) = turn_of s (run_numbered run s.runs) progress
 after s (event.Finish run end) = end_of s (run_numbered run s.runs) end
+after s (event.TimedOut run) = end_of s (run_numbered run s.runs) Retry
 after s _ = s
 
 -- what it is to the runs
@@ -91,7 +114,9 @@ abbrev pub role_of : Event → Role
 role_of (event.Command line asked answer) = role.Line asked
 role_of (event.Start run seq instance input) = role.Begins run instance
 role_of (event.StartFailed seq cause) = role.Refuses
-role_of (event.Finish run end) = role.Ends run (given_by end)
+role_of (event.Turn run progress) = role.GoesOn run (More progress)
+role_of (event.Finish run end) = role.Ends run (This (given_by end))
+role_of (event.TimedOut run) = role.Ends run SomeMore
 role_of _ = role.Other
 
 -- one step of the machine

@@ -1,16 +1,19 @@
 //! Laws of the machine, over its definitions alone. Each is the contract of a function that does
 //! nothing.
-ghost use Rattle.std.specs.Prelude.{◌≡◌, ◌≤◌, ◌+◌, List, [], ◌∷◌, ◌++◌, length};
+ghost use Rattle.std.specs.Prelude.{◌≡◌, ◌≤◌, ◌+◌, ℕ, List, [], ◌∷◌, ◌++◌, length};
 ghost use Rattle.std.specs.List.{AllByRecursion};
 ghost use Rattle.wm_machine.specs.Outcome.{IsBuilt};
 ghost use Rattle.wm_machine.specs.Log.{commands_of};
 ghost use Rattle.wm_machine.specs.Narrow.{IsNarrow};
 ghost use Rattle.wm_machine.specs.Replay.{Replay};
+ghost use Rattle.wm_machine.specs.Reports.{IsReportedOnce};
 ghost use Rattle.wm_machine.specs.Serial.{AreInOrder, BeginsSerial};
 ghost use Rattle.wm_machine.specs.Step.{Legal, after};
 ghost use Rattle.wm_machine.specs.Valid.{Valid};
 ghost use Rattle.wm_machine.specs.declared.command.Command.{Command};
 ghost use Rattle.wm_machine.specs.declared.event.Event.{Event};
+ghost use Rattle.wm_machine.specs.declared.event.Event.TheVariants as event;
+ghost use Rattle.wm_data.specs.declared.data.DataEntry.{DataEntry};
 ghost use Rattle.wm_machine.specs.declared.state.State.{State};
 
 /// Every step keeps what holds of every state that the machine reaches, and what is narrower for now.
@@ -29,4 +32,13 @@ pub fn serial_order_goes_on()
         → AllByRecursion IsBuilt left → lines ≡ commands_of log ++ left
         → first.runs ≡ [] → Replay first log now → Valid now → IsNarrow now → length now.runs ≤ 1
         → AreInOrder lines first log → BeginsSerial lines first log }
+{}
+
+/// Each run that a log starts is reported once: its number is no other start's, no report of it
+/// precedes its start, at most one follows, and just one where there is nothing left to do in the end.
+pub fn each_run_is_reported_once()
+    ensures { (first last : State) (before later : List Event) (run seq instance : ℕ) (input : List DataEntry)
+        → Valid first → IsNarrow first
+        → Replay first (before ++ event.Start run seq instance input ∷ later) last
+        → IsReportedOnce run before later last }
 {}

@@ -3,6 +3,7 @@
 -- within the size of Data; elsewhere a Sum has no answer that a program could make.
 use Rattle.std.specs.Prelude.{◌≡◌, ℕ, ℤ, pos, ◌+◌, ◌+ℤ◌, int_le, int_lt, Bool, List, [], ◌∷◌, map, fold, codes, Option, Some, None, unwrap_or, option_and_then, IfSome, if◌then◌else◌}
 use Rattle.wm_data.specs.Entries.{value_at}
+use Rattle.wm_data.specs.Size.{IsData}
 use Rattle.wm_data.specs.declared.data.DataEntry.{DataEntry}
 use Rattle.wm_data.specs.declared.value.Value.{Value}
 use Rattle.wm_data.specs.declared.value.Value.TheVariants as value
@@ -68,9 +69,21 @@ stock_answer kind.Count input attempt k =
 stock_answer kind.Wait input attempt k = Some (given.More None)
 stock_answer kind.Custom input attempt k = None
 
--- a worker of this kind may give this: the stock answer, and Custom anything
+-- what is given is Data
+abbrev pub GivesData : Given → Type 0
+GivesData (given.More progress) = IfSome progress IsData
+GivesData (given.Success output) = IsData output
+GivesData (given.Failure output) = IsData output
+GivesData given.Retry = Unit {0}
+
+-- the stock answer is given, and where there is none any Data
+abbrev pub IsGivenFor : Option Given → Given → Type 0
+IsGivenFor (Some stock) given = given ≡ stock
+IsGivenFor None given = GivesData given
+
+-- a worker of this kind may give this: the stock answer, and Custom any Data
 abbrev pub MayGive : Kind → List DataEntry → ℕ → ℕ → Given → Type 0
-MayGive kind input attempt k given = IfSome (stock_answer kind input attempt k) (λ stock. given ≡ stock)
+MayGive kind input attempt k given = IsGivenFor (stock_answer kind input attempt k) given
 
 -- what an answer gives; nothing where it was cut
 abbrev pub given_of : Answer → Option Given

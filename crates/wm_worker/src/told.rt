@@ -100,6 +100,13 @@ impl Told {
         &self.answer
     }
 
+    /// The input that the worker was given, out of what was told.
+    pub fn into_input(self) -> Data
+        ensures { result ≡ self.input }
+    {
+        self.input
+    }
+
     /// The answer, out of what was told.
     pub fn into_answer(self) -> Answer
         ensures answer { result ≡ self.answer }

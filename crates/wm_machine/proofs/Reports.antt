@@ -1,0 +1,293 @@
+-- That each run is reported once.
+use Rattle.std.proofs.Common.{◌≡◌, ℕ, ◌+◌, ◌≤◌, ◌<◌, Bool, true, false, eqb, not, List, [], ◌∷◌, ◌++◌, Option, Some, refl, sym, ◌∙◌, ap, subst, arith, inl, inr}
+use Rattle.std.specs.Prelude.{count_by}
+use Rattle.std.proofs.lemmas.Bool.{cases_Bool, cond_both, eq-eqb, eqb-true, ne_eqb, not-false, not-true}
+use Rattle.wm_collections.specs.Lists.{AllLater}
+use Rattle.wm_data.specs.declared.data.DataEntry.{DataEntry}
+use Rattle.wm_machine.proofs.Lists.{All-any, All-filter, All-weaker, count-cons, count-failing, count-filter, count-none, count-push, count-same, find-passes, weight}
+use Rattle.wm_machine.proofs.Narrows.{found_valid}
+use Rattle.wm_machine.proofs.Steps.{framed, IsReached-after}
+use Rattle.wm_machine.proofs.Turns.{turned_at, turned_both}
+use Rattle.wm_machine.specs.Diaries.{DiaryLine}
+use Rattle.wm_machine.specs.Ends.{given_by}
+use Rattle.wm_machine.specs.Frame.{Frame, frame_of, frame_to, IsEndedIn, untouched}
+use Rattle.wm_machine.specs.Narrow.{IsNarrow, IsReached}
+use Rattle.wm_machine.specs.Replay.{Replay}
+use Rattle.wm_machine.specs.Reports.{is_report_of, is_start_of, reports_in, starts_in, IsReportedOnce}
+use Rattle.wm_machine.specs.Role.{Reported, SomeMore, This}
+use Rattle.wm_machine.specs.Runs.{other_runs, run_numbered}
+use Rattle.wm_machine.specs.Step.{after, Legal}
+use Rattle.wm_machine.specs.Turns.{with_turned}
+use Rattle.wm_machine.specs.Valid.{AreApart, IsValidRun, Valid}
+use Rattle.wm_machine.specs.declared.command.Command.{Command}
+use Rattle.wm_machine.specs.declared.event.Event.{Event}
+use Rattle.wm_machine.specs.declared.event.Event.TheVariants as event
+use Rattle.wm_machine.specs.declared.state.Run.{Run}
+use Rattle.wm_machine.specs.declared.state.State.{State}
+
+-- ---- how many runs have a number
+
+abbrev has_number : ℕ → Run → Bool
+has_number number run = eqb run.run number
+
+abbrev runs_with : ℕ → List Run → ℕ
+runs_with number runs = count_by (has_number number) runs
+
+-- a run that is found is the only one of its number
+one_found : (number : ℕ) (run : Run) (runs : List Run) → run_numbered number runs ≡ Some run → AllLater AreApart runs → runs_with number runs ≡ 1
+one_found number run [] found apart = absurd (cc)
+one_found number run (first ∷ runs) found apart =
+    let then = count-cons (has_number number) first runs in
+    cond_both (eqb first.run number) (Some first) (run_numbered number runs) (λ (o : Option Run). o ≡ Some run → runs_with number (first ∷ runs) ≡ 1)
+    (λ e is.
+    let here : weight (has_number number first) ≡ 1 = ap weight e in
+    let others =
+    count-none (has_number number) runs
+    (All-weaker (AreApart first) (λ r. has_number number r ≡ false) runs
+    (λ r a. ne_eqb r.run number (λ same. a.runs (eqb-true first.run number e ∙ sym same))) apart.0) in
+    omega (arith, then, here, others)) (λ e is.
+    let here : weight (has_number number first) ≡ 0 = ap weight e in
+    let others = one_found number run runs is apart.1 in
+    omega (arith, then, here, others)) found
+
+-- none of the others has the number
+none_other : (number : ℕ) (runs : List Run) → runs_with number (other_runs number runs) ≡ 0
+none_other number runs =
+    count-none (has_number number) (other_runs number runs)
+    (All-filter (λ r. has_number number r ≡ false) (λ r. not (eqb r.run number)) runs
+    (All-any (λ r. not (eqb r.run number) ≡ true → has_number number r ≡ false) runs (λ r differs. not-true (eqb r.run number) differs)))
+
+-- the runs of a number, once one is over
+ended_count : (number ended : ℕ) (run : Run) (runs : List Run) → run_numbered ended runs ≡ Some run → AllLater AreApart runs
+    → weight (eqb ended number) + runs_with number (other_runs run.run runs) ≡ runs_with number runs
+ended_count number ended run runs found apart =
+    let same : run.run ≡ ended = eqb-true run.run ended (find-passes (λ r. eqb r.run ended) runs run found) in
+    subst (λ n. weight (eqb ended number) + runs_with number (other_runs n runs) ≡ runs_with number runs) (sym same) (elim (cases_Bool (eqb ended number)) [
+      | inl e ↦
+          let is : ended ≡ number = eqb-true ended number e in
+          let here : weight (eqb ended number) ≡ 1 = ap weight e in
+          let one = subst (λ n. runs_with n runs ≡ 1) is (one_found ended run runs found apart) in
+          let none = subst (λ n. runs_with number (other_runs n runs) ≡ 0) (sym is) (none_other number runs) in
+          omega (arith, here, one, none)
+      | inr e ↦
+          let here : weight (eqb ended number) ≡ 0 = ap weight e in
+          let rest =
+          count-filter (has_number number) (λ r. not (eqb r.run ended)) runs
+          (All-any (λ r. not (eqb r.run ended) ≡ false → has_number number r ≡ false) runs (λ r dropped.
+          ap (λ n. eqb n number) (eqb-true r.run ended (not-false (eqb r.run ended) dropped)) ∙ e)) in
+          omega (arith, here, rest)
+    ])
+
+-- no run of a valid state has the number of the next, or a later one
+none_later : (number : ℕ) (s : State) → Valid s → s.next_run ≤ number → runs_with number s.runs ≡ 0
+none_later number s valid later =
+    count-none (has_number number) s.runs
+    (All-weaker (IsValidRun s) (λ r. has_number number r ≡ false) s.runs
+    (λ r is. ne_eqb r.run number (λ e. let below = is.number in absurd (omega (arith, below, later, e)))) valid.runs)
+
+-- a run that is found has an earlier number than the next
+found_earlier : (number : ℕ) (s : State) (run : Run) → Valid s → run_numbered number s.runs ≡ Some run → number < s.next_run
+found_earlier number s run valid found =
+    let same : run.run ≡ number = eqb-true run.run number (find-passes (λ r. eqb r.run number) s.runs run found) in
+    subst (λ n. n < s.next_run) same (found_valid s number run valid found).number
+
+-- ---- one event
+
+-- the number of the next run doesn't fall, and an event starts or reports only a run whose number is before it
+record IsEarly (number : ℕ) (s : State) (e : Event) (t : State) : Type 0 where
+  grows : s.next_run ≤ t.next_run
+  no_start : t.next_run ≤ number → is_start_of number e ≡ false
+  no_report : s.next_run ≤ number → is_report_of number e ≡ false
+
+-- of a run that has started, an event starts none, and it reports one that it takes away
+record IsCounted (number : ℕ) (s : State) (e : Event) (t : State) : Type 0 where
+  no_start : is_start_of number e ≡ false
+  left : weight (is_report_of number e) + runs_with number t.runs ≡ runs_with number s.runs
+
+-- an event that leaves the runs as they are
+record LeavesRuns (s t : State) : Type 0 where
+  runs_are : t.runs ≡ s.runs
+  next_is : t.next_run ≡ s.next_run
+
+untouched_runs : (s t : State) (commands : List Command) (lines : ℕ → List DiaryLine) → frame_to t commands lines ≡ untouched s commands
+    → LeavesRuns s t
+untouched_runs s t commands lines same = record { runs_are = ap (λ (f : Frame). f.runs) same; next_is = ap (λ (f : Frame). f.next_run) same }
+
+early_untouched : (number : ℕ) (s t : State) (e : Event) → LeavesRuns s t → is_start_of number e ≡ false → is_report_of number e ≡ false
+    → IsEarly number s e t
+early_untouched number s t e same start report =
+    let next = same.next_is in record { grows = omega (arith, next); no_start = λ later. start; no_report = λ later. report }
+
+counted_untouched : (number : ℕ) (s t : State) (e : Event) → LeavesRuns s t → is_start_of number e ≡ false → is_report_of number e ≡ false
+    → IsCounted number s e t
+counted_untouched number s t e same start report =
+    let none : weight (is_report_of number e) ≡ 0 = ap weight report in
+    record { no_start = start; left = rw same.runs_are (omega (arith, none)) }
+
+early_ended : (number ended : ℕ) (told : Reported) (s : State) (e : Event) → Valid s → is_start_of number e ≡ false
+    → is_report_of number e ≡ eqb ended number → IsEndedIn ended told s (frame_of s e) → IsEarly number s e (after s e)
+early_ended number ended told s e valid start report is =
+    let next : (after s e).next_run ≡ s.next_run = ap (λ (f : Frame). f.next_run) is.frame_is in
+    let earlier = found_earlier ended s is.run valid is.is_running in
+    record {
+      grows = omega (arith, next);
+      no_start = λ later. start;
+      no_report = λ later. report ∙ ne_eqb ended number (λ e. absurd (omega (arith, earlier, later, e)));
+    }
+
+counted_ended : (number ended : ℕ) (told : Reported) (s : State) (e : Event) → Valid s → is_start_of number e ≡ false
+    → is_report_of number e ≡ eqb ended number → IsEndedIn ended told s (frame_of s e) → IsCounted number s e (after s e)
+counted_ended number ended told s e valid start report is =
+    let runs : (after s e).runs ≡ other_runs is.run.run s.runs = ap (λ (f : Frame). f.runs) is.frame_is in
+    let count = ended_count number ended is.run s.runs is.is_running valid.apart in
+    let one : weight (is_report_of number e) ≡ weight (eqb ended number) = ap weight report in
+    record { no_start = start; left = rw runs (omega (arith, count, one)) }
+
+early : (number : ℕ) (s : State) (e : Event) → Valid s → Legal s e → IsEarly number s e (after s e)
+early number s (event.Command line asked answer) valid legal =
+    let e = event.Command line asked answer in
+    early_untouched number s (after s e) e (untouched_runs s (after s e) (asked ∷ []) (λ w. []) (framed s e legal)) refl refl
+early number s (event.Start run seq instance input) valid legal =
+    let e = event.Start run seq instance input in
+    let is = framed s e legal in
+    let next : (after s e).next_run ≡ s.next_run + 1 = ap (λ (f : Frame). f.next_run) is.frame_is in
+    let first = is.is_next in
+    record {
+      grows = omega (arith, next);
+      no_start = λ later. ne_eqb run number (λ same. absurd (omega (arith, next, first, later, same)));
+      no_report = λ later. refl;
+    }
+early number s (event.StartFailed seq cause) valid legal =
+    let e = event.StartFailed seq cause in
+    early_untouched number s (after s e) e (untouched_runs s (after s e) [] (λ w. []) (framed s e legal)) refl refl
+early number s (event.Turn run progress) valid legal =
+    let e = event.Turn run progress in
+    let next : (after s e).next_run ≡ s.next_run = ap (λ (f : Frame). f.next_run) (framed s e legal).frame_is in
+    record { grows = omega (arith, next); no_start = λ later. refl; no_report = λ later. refl }
+early number s (event.Finish run end) valid legal =
+    early_ended number run (This (given_by end)) s (event.Finish run end) valid refl refl (framed s (event.Finish run end) legal)
+early number s (event.TimedOut run) valid legal =
+    early_ended number run SomeMore s (event.TimedOut run) valid refl refl (framed s (event.TimedOut run) legal)
+early number s (event.Late run) valid legal = absurd legal
+
+counted : (number : ℕ) (s : State) (e : Event) → Valid s → Legal s e → number < s.next_run → IsCounted number s e (after s e)
+counted number s (event.Command line asked answer) valid legal earlier =
+    let e = event.Command line asked answer in
+    counted_untouched number s (after s e) e (untouched_runs s (after s e) (asked ∷ []) (λ w. []) (framed s e legal)) refl refl
+counted number s (event.Start run seq instance input) valid legal earlier =
+    let e = event.Start run seq instance input in
+    let is = framed s e legal in
+    let runs : (after s e).runs ≡ s.runs ++ is.run ∷ [] = ap (λ (f : Frame). f.runs) is.frame_is in
+    let other : eqb run number ≡ false = let first = is.is_next in ne_eqb run number (λ same. absurd (omega (arith, first, earlier, same))) in
+    let none : weight (has_number number is.run) ≡ 0 = ap weight (ap (λ n. eqb n number) (sym is.number_is) ∙ other) in
+    let more = count-push (has_number number) s.runs is.run in
+    record { no_start = other; left = rw runs (omega (arith, more, none)) }
+counted number s (event.StartFailed seq cause) valid legal earlier =
+    let e = event.StartFailed seq cause in
+    counted_untouched number s (after s e) e (untouched_runs s (after s e) [] (λ w. []) (framed s e legal)) refl refl
+counted number s (event.Turn run progress) valid legal earlier =
+    let e = event.Turn run progress in
+    let is = framed s e legal in
+    let runs : (after s e).runs ≡ with_turned is.run.run s.runs = ap (λ (f : Frame). f.runs) is.frame_is in
+    let same =
+    count-same (has_number number) (turned_at is.run.run) s.runs
+    (λ r. turned_both (λ (x : Run). eqb x.run number ≡ eqb r.run number) is.run.run r (λ e. refl) (λ e. refl)) in
+    record { no_start = refl; left = rw runs (omega (arith, same)) }
+counted number s (event.Finish run end) valid legal earlier =
+    counted_ended number run (This (given_by end)) s (event.Finish run end) valid refl refl (framed s (event.Finish run end) legal)
+counted number s (event.TimedOut run) valid legal earlier =
+    counted_ended number run SomeMore s (event.TimedOut run) valid refl refl (framed s (event.TimedOut run) legal)
+counted number s (event.Late run) valid legal earlier = absurd legal
+
+-- ---- a log
+
+-- a state that a log leads to, in its middle
+record HasMiddle (first : State) (before : List Event) (e : Event) (later : List Event) (last : State) : Type 0 where
+  middle : State
+  to_middle : Replay first before middle
+  legal : Legal middle e
+  from_middle : Replay (after middle e) later last
+
+middle_of : (first : State) (before : List Event) (e : Event) (later : List Event) (last : State) → Replay first (before ++ e ∷ later) last
+    → HasMiddle first before e later last
+middle_of first [] e later last replays = record { middle = first; to_middle = refl; legal = replays.0; from_middle = replays.1 }
+middle_of first (d ∷ before) e later last replays =
+    let rest = middle_of (after first d) before e later last replays.1 in
+    record { middle = rest.middle; to_middle = (replays.0, rest.to_middle); legal = rest.legal; from_middle = rest.from_middle }
+
+reached_by : (first : State) (log : List Event) (last : State) → IsReached first → Replay first log last → IsReached last
+reached_by first [] last reached replays = subst IsReached (sym replays) reached
+reached_by first (e ∷ log) last reached replays = reached_by (after first e) log last (IsReached-after first e reached replays.0) replays.1
+
+-- a log after which the next run has this number, or an earlier one, neither starts nor reports it
+record IsBeforeStart (number : ℕ) (first : State) (log : List Event) (last : State) : Type 0 where
+  grows : first.next_run ≤ last.next_run
+  no_start : last.next_run ≤ number → starts_in log number ≡ 0
+  no_report : last.next_run ≤ number → reports_in log number ≡ 0
+
+before_start : (number : ℕ) (first : State) (log : List Event) (last : State) → IsReached first → Replay first log last
+    → IsBeforeStart number first log last
+before_start number first [] last reached replays =
+    record { grows = rw replays (omega arith); no_start = λ later. refl; no_report = λ later. refl }
+before_start number first (e ∷ log) last reached replays =
+    let t = after first e in
+    let here = early number first e reached.valid replays.0 in
+    let rest = before_start number t log last (IsReached-after first e reached replays.0) replays.1 in
+    let one = here.grows in
+    let more = rest.grows in
+    record {
+      grows = omega (arith, one, more);
+      no_start = λ later. count-failing (is_start_of number) e log (here.no_start (omega (arith, more, later))) ∙ rest.no_start later;
+      no_report = λ later. count-failing (is_report_of number) e log (here.no_report (omega (arith, one, more, later))) ∙ rest.no_report later;
+    }
+
+-- a log from a state in which a run has started never starts it again, and each report of it takes it away
+record IsAfterStart (number : ℕ) (first : State) (log : List Event) (last : State) : Type 0 where
+  no_start : starts_in log number ≡ 0
+  left : reports_in log number + runs_with number last.runs ≡ runs_with number first.runs
+
+after_start : (number : ℕ) (first : State) (log : List Event) (last : State) → IsReached first → Replay first log last → number < first.next_run
+    → IsAfterStart number first log last
+after_start number first [] last reached replays earlier =
+    let same : runs_with number last.runs ≡ runs_with number first.runs = ap (λ (s : State). runs_with number s.runs) replays in
+    record { no_start = refl; left = omega (arith, same) }
+after_start number first (e ∷ log) last reached replays earlier =
+    let t = after first e in
+    let here = counted number first e reached.valid replays.0 earlier in
+    let grows = (early number first e reached.valid replays.0).grows in
+    let rest = after_start number t log last (IsReached-after first e reached replays.0) replays.1 (omega (arith, earlier, grows)) in
+    let one = here.left in
+    let more = rest.left in
+    let all = count-cons (is_report_of number) e log in
+    record {
+      no_start = count-failing (is_start_of number) e log here.no_start ∙ rest.no_start;
+      left = omega (arith, one, more, all);
+    }
+
+-- each run that starts is reported once
+pub reported_once : (first last : State) (before later : List Event) (run seq instance : ℕ) (input : List DataEntry) → Valid first → IsNarrow first
+    → Replay first (before ++ event.Start run seq instance input ∷ later) last → IsReportedOnce run before later last
+reported_once first last before later run seq instance input valid narrow replays =
+    let e = event.Start run seq instance input in
+    let reached : IsReached first = record { valid = valid; narrow = narrow } in
+    let cut = middle_of first before e later last replays in
+    let s = cut.middle in
+    let t = after s e in
+    let at = reached_by first before s reached cut.to_middle in
+    let is = framed s e cut.legal in
+    let next = is.is_next in
+    let runs : t.runs ≡ s.runs ++ is.run ∷ [] = ap (λ (f : Frame). f.runs) is.frame_is in
+    let number : t.next_run ≡ s.next_run + 1 = ap (λ (f : Frame). f.next_run) is.frame_is in
+    let front = before_start run first before s reached cut.to_middle in
+    let back = after_start run t later last (IsReached-after s e at cut.legal) cut.from_middle (omega (arith, number, next)) in
+    let none = none_later run s at.valid (omega (arith, next)) in
+    let its : weight (has_number run is.run) ≡ 1 = ap weight (eq-eqb is.run.run run (sym is.number_is)) in
+    let one : runs_with run t.runs ≡ 1 = rw runs (let more = count-push (has_number run) s.runs is.run in omega (arith, more, none, its)) in
+    let left = back.left in
+    record {
+      not_started_before = front.no_start (omega (arith, next));
+      not_started_later = back.no_start;
+      not_reported_before = front.no_report (omega (arith, next));
+      at_most_once = omega (arith, left, one);
+      just_once = λ quiet. let none_left : runs_with run last.runs ≡ 0 = ap (runs_with run) quiet.no_run in omega (arith, left, one, none_left);
+    }

@@ -1,0 +1,200 @@
+-- A turn after which its run goes on.
+use Rattle.std.proofs.Common.{◌≡◌, ℕ, ◌+◌, ◌<◌, ◌≤◌, true, eqb, cond, List, [], Option, Some, None, IfSome, refl, sym, ◌∙◌, ap, subst, arith, inl, inr}
+use Rattle.std.proofs.lemmas.Bool.{cond_both, eq-eqb, eqb-false, eqb-true, true≢false}
+use Rattle.wm_data.specs.Size.{IsData}
+use Rattle.wm_data.specs.declared.data.DataEntry.{DataEntry}
+use Rattle.wm_machine.proofs.Changes.{AreFine-changed, IsFine, IsSameRequest}
+use Rattle.wm_machine.proofs.EndedRuns.{running_of, Runs}
+use Rattle.wm_machine.proofs.Lists.{All-any, All-both, All-map, All-weaker, AllLater-map, find-passes, HasOne-map, HasOne-weaker, list_any-same}
+use Rattle.wm_machine.proofs.Narrows.{found_valid}
+use Rattle.wm_machine.proofs.Owed.{IsKept}
+use Rattle.wm_machine.proofs.Records.{IsRecord-telling}
+use Rattle.wm_machine.proofs.Runnings.{changed, changed_both, found_or_apart, IsFoundOrApart}
+use Rattle.wm_machine.proofs.Waitings.{gone-running, left_to_drain-ended}
+use Rattle.wm_machine.specs.Diaries.{given_lines}
+use Rattle.wm_machine.specs.Frame.{frame_of, frame_to, IsTurnedIn}
+use Rattle.wm_machine.specs.Narrow.{IsNarrow, IsReached}
+use Rattle.wm_machine.specs.Role as role
+use Rattle.wm_machine.specs.Role.{This}
+use Rattle.wm_machine.specs.Runs.{changed_work, run_numbered}
+use Rattle.wm_machine.specs.Step.{after, IsTurn}
+use Rattle.wm_machine.specs.Turns.{telling, turn_of, turned, with_turn, with_turned}
+use Rattle.wm_machine.specs.Valid.{AreApart, HasOne, IsCurrentOf, IsInstanceOf, IsOutForRun, IsValidRun, IsWorkOf, Valid}
+use Rattle.wm_machine.specs.declared.event.Event.TheVariants as event
+use Rattle.wm_machine.specs.declared.record.Phase.TheVariants as phase
+use Rattle.wm_machine.specs.declared.record.Record.{Record}
+use Rattle.wm_machine.specs.declared.state.Instance.{Instance}
+use Rattle.wm_machine.specs.declared.state.Run.{Run}
+use Rattle.wm_machine.specs.declared.state.State.{State}
+use Rattle.wm_worker.proofs.Giving.{gives_data}
+use Rattle.wm_worker.specs.declared.answer.Given.TheVariants.{More}
+
+-- ---- the state after it, and its frame
+
+pub after_turn : (s : State) (number : ℕ) (progress : Option (List DataEntry)) (legal : IsTurn s number progress)
+    → after s (event.Turn number progress) ≡ with_turn s legal.report.run progress
+after_turn s number progress legal = ap (λ found. turn_of s found progress) legal.report.is_running
+
+pub turn-framed : (s : State) (number : ℕ) (progress : Option (List DataEntry)) → IsTurn s number progress
+    → IsTurnedIn number (More progress) s (frame_of s (event.Turn number progress))
+turn-framed s number progress legal = record {
+  run = legal.report.run;
+  is_running = legal.report.is_running;
+  frame_is =
+      ap (λ (found : Option Run). frame_to (turn_of s found progress) [] (λ worker. given_lines worker found (This (More progress)))) legal.report.is_running;
+}
+
+-- ---- records
+
+-- progress changes neither phase nor attempt, nor what was asked for
+record IsToldOnly (one other : Record) : Type 0 where
+  same : IsSameRequest one other
+  phase_is : other.phase ≡ one.phase
+  attempt : other.attempt ≡ one.attempt
+
+telling-only : (progress : Option (List DataEntry)) (work : Record) → IsToldOnly work (telling progress work)
+telling-only None work = record { same = record { seq = refl; name = refl; request = refl; prior = refl }; phase_is = refl; attempt = refl }
+telling-only (Some progress) work =
+    record { same = record { seq = refl; name = refl; request = refl; prior = refl }; phase_is = refl; attempt = refl }
+
+IsFine-telling : (progress : Option (List DataEntry)) → IfSome progress IsData → IsFine Runs (telling progress)
+IsFine-telling progress told = record {
+  same = λ work. (telling-only progress work).same;
+  fits = λ work running is. IsRecord-telling progress work told running is;
+}
+
+IsWorkOf-told : (run : Run) (one other : Record) → IsToldOnly one other → IsWorkOf run one → IsWorkOf run other
+IsWorkOf-told run one other told of =
+    record { seq = told.same.seq ∙ of.seq; running = told.phase_is ∙ of.running; attempt = told.attempt ∙ of.attempt }
+
+-- ---- runs
+
+-- a run, at its next turn where it has this number
+abbrev pub turned_at : ℕ → Run → Run
+turned_at number run = cond (eqb run.run number) (turned run) run
+
+-- what holds in both cases
+pub turned_both : (P : Run → Type 0) (number : ℕ) (run : Run) → (run.run ≡ number → P (turned run)) → ((run.run ≡ number → ⊥) → P run)
+    → P (turned_at number run)
+turned_both P number run hit miss =
+    cond_both (eqb run.run number) (turned run) run P (λ e. hit (eqb-true run.run number e)) (λ e. miss (eqb-false run.run number e))
+
+AreApart-turned : (number : ℕ) (one other : Run) → AreApart one other → AreApart (turned_at number one) (turned_at number other)
+AreApart-turned number one other apart =
+    turned_both (λ r. AreApart r (turned_at number other)) number one
+    (λ e. turned_both (AreApart (turned one)) number other
+    (λ e. record { runs = apart.runs; works = apart.works; instances = apart.instances })
+    (λ e. record { runs = apart.runs; works = apart.works; instances = apart.instances }))
+    (λ e. turned_both (AreApart one) number other (λ e. record { runs = apart.runs; works = apart.works; instances = apart.instances }) (λ e. apart))
+
+-- a work keeps its run
+current_stays : (number seq : ℕ) (runs : List Run) → HasOne (IsCurrentOf seq) runs → HasOne (IsCurrentOf seq) (with_turned number runs)
+current_stays number seq runs one =
+    HasOne-map (λ r. Unit {0}) (IsCurrentOf seq) (IsCurrentOf seq) (turned_at number) runs (λ r u is.
+    turned_both (IsCurrentOf seq) number r (λ e. record { of = is.of; current = is.current }) (λ e. is)) (All-any (λ r. Unit {0}) runs (λ r. tt)) one
+
+-- a run keeps its work
+work_stays : (progress : Option (List DataEntry)) (seq : ℕ) (works : List Record) (run : Run) → HasOne (IsWorkOf run) works
+    → HasOne (IsWorkOf run) (changed_work (telling progress) seq works)
+work_stays progress seq works run one =
+    HasOne-map (λ w. Unit {0}) (IsWorkOf run) (IsWorkOf run) (changed (telling progress) seq) works (λ w u is.
+    changed_both (IsWorkOf run) (telling progress) seq w (λ e. IsWorkOf-told run w (telling progress w) (telling-only progress w) is) (λ e. is))
+    (All-any (λ w. Unit {0}) works (λ w. tt)) one
+
+-- and at its next turn it has the same work and the same instance
+work_of-turned : (run : Run) (works : List Record) → HasOne (IsWorkOf run) works → HasOne (IsWorkOf (turned run)) works
+work_of-turned run works one =
+    HasOne-weaker (λ w. Unit {0}) (IsWorkOf run) (IsWorkOf (turned run)) works
+    (λ w u of. record { seq = of.seq; running = of.running; attempt = of.attempt }) (All-any (λ w. Unit {0}) works (λ w. tt)) one
+
+instance_of-turned : (run : Run) (instances : List Instance) → HasOne (IsInstanceOf run) instances → HasOne (IsInstanceOf (turned run)) instances
+instance_of-turned run instances one =
+    HasOne-weaker (λ i. Unit {0}) (IsInstanceOf run) (IsInstanceOf (turned run)) instances (λ i u of. record { number = of.number; kind = of.kind })
+    (All-any (λ i. Unit {0}) instances (λ i. tt)) one
+
+-- an instance is out as before
+IsOutForRun-turned : (number : ℕ) (runs : List Run) (i : Instance) → IsOutForRun runs i → IsOutForRun (with_turned number runs) i
+IsOutForRun-turned number runs i out =
+    out ∙ sym
+    (list_any-same (λ r. eqb r.instance i.number) (turned_at number) runs
+    (λ r. turned_both (λ (x : Run). eqb x.instance i.number ≡ eqb r.instance i.number) number r (λ e. refl) (λ e. refl)))
+
+-- ---- the state
+
+-- a running work keeps its run, whatever it tells
+running_stays : (progress : Option (List DataEntry)) (number seq : ℕ) (runs : List Run) (w : Record)
+    → (w.phase ≡ phase.Running → HasOne (IsCurrentOf w.seq) runs)
+    → (changed (telling progress) seq w).phase ≡ phase.Running → HasOne (IsCurrentOf (changed (telling progress) seq w).seq) (with_turned number runs)
+running_stays progress number seq runs w has =
+    let told = telling-only progress w in
+    changed_both (λ c. c.phase ≡ phase.Running → HasOne (IsCurrentOf c.seq) (with_turned number runs)) (telling progress) seq w
+    (λ e running. subst (λ n. HasOne (IsCurrentOf n) (with_turned number runs)) (sym told.same.seq)
+    (current_stays number w.seq runs (has (sym told.phase_is ∙ running)))) (λ e running. current_stays number w.seq runs (has running))
+
+-- a valid run stays valid, whether it is the one that is turned or apart from it
+IsValidRun-turned : (s : State) (run r : Run) (progress : Option (List DataEntry)) → run.turn < 999 → IsFoundOrApart run.run run r → IsValidRun s r
+    → IsValidRun (with_turn s run progress) (turned_at run.run r)
+IsValidRun-turned s run r progress early told is =
+    let works = changed_work (telling progress) run.seq s.works in
+    let work : r.current ≡ true → HasOne (IsWorkOf r) works = λ current. work_stays progress run.seq s.works r (is.work current) in
+    turned_both (IsValidRun (with_turn s run progress)) run.run r (λ e. record {
+      number = is.number;
+      turn = elim told [
+        | inl found ↦ subst (λ (x : Run). x.turn + 1 ≤ 999) (sym found.1) (omega (arith, early))
+        | inr apart ↦ absurd (true≢false (sym (eq-eqb r.run run.run e) ∙ apart.0))
+      ];
+      input = is.input;
+      work = λ current. work_of-turned r works (work current);
+      instance = instance_of-turned r s.instances is.instance;
+    }) (λ e. record { number = is.number; turn = is.turn; input = is.input; work = work; instance = is.instance })
+
+reached-turned : (s : State) (number : ℕ) (run : Run) (progress : Option (List DataEntry)) → IfSome progress IsData → run.turn < 999 → IsReached s
+    → run_numbered number s.runs ≡ Some run → run.current ≡ true → IsReached (with_turn s run progress)
+reached-turned s number run progress told early reached found current =
+    let valid = reached.valid in
+    let same : run.run ≡ number = eqb-true run.run number (find-passes (λ r. eqb r.run number) s.runs run found) in
+    let each =
+    All-both (IsFoundOrApart run.run run) (IsValidRun s) s.runs
+    (found_or_apart run.run run s.runs (subst (λ n. run_numbered n s.runs ≡ Some run) (sym same) found) valid.apart) valid.runs in
+    let works = AreFine-changed Runs (telling progress) s run.seq (IsFine-telling progress told) reached (running_of s number run reached found current) in
+    let narrow : IsNarrow (with_turn s run progress) = record {
+      records = works.narrow;
+      runs = All-map (λ r. r.current ≡ true) (λ r. r.current ≡ true) (turned_at run.run) s.runs
+          (λ r is. turned_both (λ r. r.current ≡ true) run.run r (λ e. is) (λ e. is)) reached.narrow.runs;
+    } in
+    let valid_then : Valid (with_turn s run progress) = record {
+      numbers = works.numbers;
+      first = valid.first;
+      next = valid.next;
+      few_works = works.few;
+      records = works.records;
+      in_order = works.in_order;
+      sound = works.sound;
+      running = All-map (λ w. w.phase ≡ phase.Running → HasOne (IsCurrentOf w.seq) s.runs)
+          (λ w. w.phase ≡ phase.Running → HasOne (IsCurrentOf w.seq) (with_turned run.run s.runs)) (changed (telling progress) run.seq) s.works
+          (λ w has. running_stays progress run.run run.seq s.runs w has) valid.running;
+      runs = All-map (λ r. IsFoundOrApart run.run run r × IsValidRun s r) (IsValidRun (with_turn s run progress)) (turned_at run.run) s.runs
+          (λ r is. IsValidRun-turned s run r progress early is.0 is.1) each;
+      apart = AllLater-map AreApart AreApart (turned_at run.run) s.runs (AreApart-turned run.run) valid.apart;
+      instances = All-weaker (IsOutForRun s.runs) (IsOutForRun (with_turned run.run s.runs)) s.instances (IsOutForRun-turned run.run s.runs) valid.instances;
+      numbered = valid.numbered;
+      few_observers = valid.few_observers;
+      now = valid.now;
+    } in
+    record { valid = valid_then; narrow = narrow }
+
+-- ---- what it keeps
+
+pub turn-kept : (s : State) (number : ℕ) (progress : Option (List DataEntry)) → IsReached s → IsTurn s number progress
+    → IsKept (role.GoesOn number (More progress)) s (after s (event.Turn number progress))
+turn-kept s number progress reached legal =
+    let report = legal.report in
+    let run = report.run in
+    let taken = (found_valid s number run reached.valid report.is_running).input in
+    let running = running_of s number run reached report.is_running report.is_current in
+    rw (after_turn s number progress legal) record {
+      reached = reached-turned s number run progress (gives_data run.kind run.input run.attempt run.turn (More progress) taken report.may_give)
+          legal.turns_left reached report.is_running report.is_current;
+      left = left_to_drain-ended s.now (telling progress) run.seq s.works (λ w. (telling-only progress w).same.seq)
+          (gone-running s.now (telling progress) run.seq s.works (λ w. (telling-only progress w).phase_is) running) running;
+    }
