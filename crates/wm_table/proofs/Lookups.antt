@@ -2,14 +2,15 @@
 use Rattle.std.proofs.Common.{◌≡◌, ℕ, zero, suc, ◌<◌, Bool, true, false, cond, eqb, ltb, List, [], ◌∷◌, ◌++◌, length, find, set, slice_get, Option, Some, None, MatchOption, refl, sym, ◌∙◌, ap, subst, arith, inl, inr}
 use Rattle.std.specs.Prelude.{IfSome, IsSomeAnd}
 use Rattle.std.specs.List.{AllByRecursion, position, position_or_len}
-use Rattle.std.proofs.lemmas.Bool.{eq-eqb, ltb-true, ltb-false, ne_eqb}
+use Rattle.std.proofs.lemmas.Bool.{cases_Bool, eq-eqb, eqb-true, ltb-true, ltb-false, ne_eqb}
 use Rattle.std.proofs.lemmas.List.Folds.{find_at}
 use Rattle.std.proofs.lemmas.Option.{cond_some, none-some, same_Some, slice_get_past}
-use Rattle.wm_machine.proofs.Lists.{one_gives}
+use Rattle.wm_machine.proofs.Lists.{find-passes, one_gives}
 use Rattle.wm_machine.proofs.Narrows.{found_narrow, found_valid}
 use Rattle.wm_machine.proofs.Runnings.{WorksAscend, WorksAscend-in_order}
-use Rattle.wm_machine.specs.Narrow.{IsNarrow, IsNarrowRun}
+use Rattle.wm_machine.specs.Narrow.{IsNarrow}
 use Rattle.wm_machine.specs.Runs.{changed_work, run_numbered}
+use Rattle.wm_machine.specs.Turns.{turned, with_turned}
 use Rattle.wm_machine.specs.Valid.{HasOne, IsValidRun, IsWorkOf, Valid}
 use Rattle.wm_machine.specs.declared.record.Record.{Record}
 use Rattle.wm_machine.specs.declared.state.Run.{Run}
@@ -106,8 +107,23 @@ run_numbered-push number (first ∷ runs) run below is =
     let miss = ne_eqb first.run number (λ e. absurd (omega (arith, below.0))) in
     rw miss (run_numbered-push number runs run below.1 is)
 
+-- a run that is found has the number
+pub found-numbered : (number : ℕ) (runs : List Run) (run : Run) → run_numbered number runs ≡ Some run → run.run ≡ number
+found-numbered number runs run found = eqb-true run.run number (find-passes (λ r. eqb r.run number) runs run found)
+
+-- the run of a number is found at its next turn
+pub run_numbered-turned : (number : ℕ) (runs : List Run) (run : Run) → run_numbered number runs ≡ Some run
+    → run_numbered number (with_turned number runs) ≡ Some (turned run)
+run_numbered-turned number [] run found = absurd (none-some run found)
+run_numbered-turned number (first ∷ runs) run found = elim (cases_Bool (eqb first.run number)) [
+  | inl hit ↦
+      let same : first ≡ run = same_Some first run (rw hit at found) in
+      rw (hit, hit) (ap (λ (r : Run). Some (turned r)) same)
+  | inr miss ↦ rw (miss, miss) (run_numbered-turned number runs run (rw miss at found))
+]
+
 -- a run that is found is as all are
 pub found-fine : (s : State) (number : ℕ) (found : Option Run) → Valid s → IsNarrow s → found ≡ run_numbered number s.runs
-    → IfSome found (λ run. IsValidRun s run × IsNarrowRun run)
+    → IfSome found (λ run. IsValidRun s run × (run.current ≡ true))
 found-fine s number None valid narrow is = tt
 found-fine s number (Some run) valid narrow is = (found_valid s number run valid (sym is), found_narrow s number run narrow (sym is))

@@ -15,17 +15,17 @@ use Rattle.wm_machine.proofs.Rows.{rows_below}
 use Rattle.wm_machine.specs.Rows.{row_of, rows_of}
 use Rattle.wm_machine.specs.Runs.{changed_work}
 use Rattle.wm_machine.specs.Step.{Legal, after}
-use Rattle.wm_machine.specs.Valid.{HasOne, IsRecord, Valid}
+use Rattle.wm_machine.specs.Valid.{HasOne, IsRecord, IsValidRun, Valid}
 use Rattle.wm_machine.specs.declared.event.Event.{Event}
 use Rattle.wm_machine.specs.declared.record.Record.{Record}
 use Rattle.wm_machine.specs.declared.state.State.{State}
 use Rattle.wm_table.proofs.Lookups.{changed_work-at}
-use Rattle.wm_table.specs.StepChanges.{changed_state, next_run_by, other_works, put_replaced, put_work, remove_numbered, replacing, row_changes, seqs_of, with_replaced, without, HaveNextNumbers, Fits, IsStepOf, KeepsNumber}
+use Rattle.wm_table.specs.StepChanges.{changed_state, next_run_by, other_works, put_replaced, put_work, remove_numbered, replacing, row_changes, seqs_of, turning, with_replaced, without, HaveNextNumbers, Fits, IsStepOf, KeepsNumber, KeepsRow}
 use Rattle.wm_table.specs.Table.{HoldsRowsOf, IsOneStep}
 use Rattle.wm_table.specs.TableState.{TableState}
 use Rattle.wm_table.specs.declared.table.change.Replacement.{Replacement}
 use Rattle.wm_table.specs.declared.table.change.RunChange.{RunChange}
-use Rattle.wm_table.specs.declared.table.change.RunChange.TheVariants.{Unchanged, Begin, End}
+use Rattle.wm_table.specs.declared.table.change.RunChange.TheVariants.{Unchanged, Begin, Turn, End}
 use Rattle.wm_table.specs.declared.table.change.StepChange.{StepChange}
 
 -- ---- a record that takes the place of one of its number
@@ -89,6 +89,43 @@ rows-replaced next (replaced ∷ later) works keep below =
     let all = All-set (λ number. number < next) works replaced.index replaced.work keep.0 below.1 in
     let rest = rows-replaced next later (set works replaced.index replaced.work) (still_keep works replaced later keep) (ascend, all) in
     (ap (changed (map put_replaced later)) (put_row-at works replaced.index replaced.work keep.0 below.0) ∙ rest.0, rest.1)
+
+-- ---- a record that takes the place of one of its row
+
+-- a record of the same row has the same number
+number-kept : (works : List Record) (i : ℕ) (new : Record) → slice_get (map row_of works) i ≡ Some (row_of new)
+    → slice_get (seqs_of works) i ≡ Some new.seq
+number-kept [] i new is = absurd (none-some (row_of new) is)
+number-kept (work ∷ works) zero new is =
+    let row : row_of work ≡ row_of new = same_Some (row_of work) (row_of new) is in
+    let number : pos work.seq ≡ pos new.seq = ap (λ (r : Row). r.seq) row in
+    let same : work.seq ≡ new.seq = omega (arith, ints) in
+    ap (λ (n : ℕ). Some n) same
+number-kept (work ∷ works) (suc i) new is = number-kept works i new is
+
+rows-set : (works : List Record) (i : ℕ) (new : Record) → slice_get (map row_of works) i ≡ Some (row_of new)
+    → map row_of (set works i new) ≡ map row_of works
+rows-set [] i new is = refl
+rows-set (work ∷ works) zero new is = ap (λ (row : Row). row ∷ map row_of works) (sym (same_Some (row_of work) (row_of new) is))
+rows-set (work ∷ works) (suc i) new is = ap (λ rest. row_of work ∷ rest) (rows-set works i new is)
+
+-- records that tell something have the same rows and numbers
+record IsTold (next : ℕ) (works new : List Record) : Type 0 where
+  rows : map row_of new ≡ map row_of works
+  numbers : seqs_of new ≡ seqs_of works
+  below : AreBelow next new
+
+rows-told : (next : ℕ) (told : List Replacement) (works : List Record) → AllByRecursion (KeepsRow works) told → AreBelow next works
+    → IsTold next works (with_replaced told works)
+rows-told next [] works keep below = record { rows = refl; numbers = refl; below = below }
+rows-told next (told ∷ later) works keep below =
+    let number = number-kept works told.index told.work keep.0 in
+    let rows = rows-set works told.index told.work keep.0 in
+    let still = subst (λ (rows : List Row). AllByRecursion (λ r. slice_get rows r.index ≡ Some (row_of r.work)) later) (sym rows) keep.1 in
+    let ascend = WorksAscend-set works told.index told.work number below.0 in
+    let all = All-set (λ number. number < next) works told.index told.work number below.1 in
+    let rest = rows-told next later (set works told.index told.work) still (ascend, all) in
+    record { rows = rest.rows ∙ rows; numbers = rest.numbers ∙ seqs-set works told.index told.work number; below = rest.below }
 
 -- ---- records that are removed
 
@@ -159,11 +196,15 @@ rows-changed s change valid fits =
     let puts = map put_replaced change.replaced in
     let removes = map remove_numbered change.removed in
     let placed = map put_work change.placed in
-    let replaced = rows-replaced s.next change.replaced s.works fits.replaced (WorksAscend-in_order s.works valid.in_order, valid.numbers) in
-    let left = rows-removed s.next change.removed (with_replaced change.replaced s.works) replaced.1 in
+    let works = with_replaced change.told s.works in
+    let told = rows-told s.next change.told s.works fits.told (WorksAscend-in_order s.works valid.in_order, valid.numbers) in
+    let keep = subst (λ numbers. AllByRecursion (λ r. slice_get numbers r.index ≡ Some r.work.seq) change.replaced) (sym told.numbers) fits.replaced in
+    let replaced = rows-replaced s.next change.replaced works keep told.below in
+    let left = rows-removed s.next change.removed (with_replaced change.replaced works) replaced.1 in
     changed-append (puts ++ removes) placed (rows_of s)
-    ∙ ap (changed placed) (changed-append puts removes (rows_of s) ∙ ap (changed removes) replaced.0 ∙ left.0)
-    ∙ rows-placed s.next change.placed (without change.removed (with_replaced change.replaced s.works)) fits.placed left.1.1
+    ∙ ap (changed placed)
+    (changed-append puts removes (rows_of s) ∙ ap (changed removes) (ap (changed puts) (sym told.rows) ∙ replaced.0) ∙ left.0)
+    ∙ rows-placed s.next change.placed (without change.removed (with_replaced change.replaced works)) fits.placed left.1.1
 
 -- what makes the rows of one state those of another does so to rows that are held
 rows-held : (s t : State) (change : List Row → List Row) (held : Option (List Row)) → HoldsRowsOf s held → change (rows_of s) ≡ rows_of t
@@ -195,6 +236,7 @@ pub next_run-changed : (s : State) (change : StepChange) → (changed_state chan
 next_run-changed s change = elim change.run as (λ run. next_run_by run s.next_run ≤ s.next_run + 1) [
   | Unchanged ↦ omega arith
   | Begin run ↦ omega arith
+  | Turn run ↦ omega arith
   | End run instance ↦ omega arith
 ]
 
@@ -214,10 +256,22 @@ replaced_within works replaced keep =
     All-weaker (KeepsNumber works) (λ r. r.index < length works) replaced (λ r is.
     omega (arith, slice_get_within (seqs_of works) r.index r.work.seq is, length-map works (λ (work : Record). work.seq))) keep
 
+-- and so are those that tell something
+pub told_within : (works : List Record) (told : List Replacement) → AllByRecursion (KeepsRow works) told
+    → AllByRecursion (λ r. r.index < length works) told
+told_within works told keep =
+    All-weaker (KeepsRow works) (λ r. r.index < length works) told (λ r is.
+    omega (arith, slice_get_within (map row_of works) r.index (row_of r.work) is, length-map works row_of)) keep
+
+-- each run is at one of its turns
+pub turns_left : (s : State) → Valid s → AllByRecursion (λ run. run.turn ≤ 999) s.runs
+turns_left s valid = All-weaker (IsValidRun s) (λ run. run.turn ≤ 999) s.runs (λ run is. is.turn) valid.runs
+
 -- one record that is replaced by one of its number
 Fits-replacing : (s : State) (i : ℕ) (work new : Record) (run : RunChange) (e : Event) → Valid s → slice_get s.works i ≡ Some work → new.seq ≡ work.seq
     → IsRecord new → Fits s (replacing i new run e)
 Fits-replacing s i work new run e valid at keeps is = record {
+  told = tt;
   replaced =
       (slice_get-map (λ (w : Record). w.seq) s.works i ∙ ap (option_map (λ (w : Record). w.seq)) at ∙ ap (λ number. Some number) (sym keeps), tt);
   removed = tt;
@@ -226,6 +280,20 @@ Fits-replacing s i work new run e valid at keeps is = record {
   replaced_rows = (is.fits, tt);
   placed_rows = tt;
   apart = (tt, tt);
+}
+
+-- one record that tells something, with the same row
+Fits-turning : (s : State) (i : ℕ) (work new : Record) (run : ℕ) (e : Event) → Valid s → slice_get s.works i ≡ Some work → row_of new ≡ row_of work
+    → Fits s (turning i new run e)
+Fits-turning s i work new run e valid at keeps = record {
+  told = (slice_get-map row_of s.works i ∙ ap (option_map row_of) at ∙ ap (λ (row : Row). Some row) (sym keeps), tt);
+  replaced = tt;
+  removed = tt;
+  placed = tt;
+  numbers = omega (arith, valid.next);
+  replaced_rows = tt;
+  placed_rows = tt;
+  apart = tt;
 }
 
 -- where nothing is placed, the works have their end and the next number stays
@@ -249,6 +317,17 @@ pub replacing-step : (s t : State) (i : ℕ) (work : Record) (change : Record �
     → after s e ≡ record t { works = changed_work change work.seq s.works } → IsStepOf s (replacing i (change work) run e)
 replacing-step s t i work change run e valid at keeps fine legal made then = record {
   fits = Fits-replacing s i work (change work) run e valid at keeps fine;
+  legal = legal;
+  state = made ∙ state-replacing s t i work change valid at ∙ sym then;
+}
+
+-- a legal event by which one record tells something and its run goes on is made by the change that says so
+pub turning-step : (s t : State) (i : ℕ) (work : Record) (change : Record → Record) (run : ℕ) (e : Event) → Valid s → slice_get s.works i ≡ Some work
+    → row_of (change work) ≡ row_of work → Legal s e
+    → changed_state (turning i (change work) run e) s ≡ record t { works = set s.works i (change work) ++ []; next = t.next + 0 }
+    → after s e ≡ record t { works = changed_work change work.seq s.works } → IsStepOf s (turning i (change work) run e)
+turning-step s t i work change run e valid at keeps legal made then = record {
+  fits = Fits-turning s i work (change work) run e valid at keeps;
   legal = legal;
   state = made ∙ state-replacing s t i work change valid at ∙ sym then;
 }

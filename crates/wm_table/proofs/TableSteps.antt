@@ -18,7 +18,6 @@ use Rattle.wm_machine.specs.declared.state.Instance.{Instance}
 use Rattle.wm_machine.specs.declared.state.State.{State}
 use Rattle.wm_table.specs.Table.{last_of, AreFresh, HoldsRowsOf, IsFresh, IsOneStep, TableInvariant, IsUntouched}
 use Rattle.wm_table.specs.TableState.{TableState}
-use Rattle.wm_worker.specs.declared.kind.Kind.TheVariants.{Echo}
 
 -- ---- the rows held
 
@@ -63,12 +62,8 @@ Valid-opening instances fresh = record {
   now = omega arith;
 }
 
-pub IsNarrow-opening : (instances : List Instance) → AreFresh instances → IsNarrow (opening_state [] instances)
-IsNarrow-opening instances fresh = record {
-  records = tt;
-  runs = tt;
-  echoes = All-weaker IsFresh (λ instance. instance.kind ≡ Echo) instances (λ instance is. is.kind) fresh.all;
-}
+pub IsNarrow-opening : (instances : List Instance) → IsNarrow (opening_state [] instances)
+IsNarrow-opening instances = record { records = tt; runs = tt }
 
 holds_none : (held : Option (List Row)) → IfSome held (λ rows. [] ≡ rows) → held ≡ option_map (λ _. []) held
 holds_none None none = refl
@@ -83,7 +78,7 @@ kept-opening instances rows held first s log fresh told none first_is s_is log_i
     rw (first_is, s_is, log_is) (record {
       replay = refl;
       valid = Valid-opening instances fresh;
-      narrow = IsNarrow-opening instances fresh;
+      narrow = IsNarrow-opening instances;
       rows = holds_none held stored;
       few_runs = omega arith;
     })

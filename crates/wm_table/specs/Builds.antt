@@ -1,29 +1,38 @@
 -- What is built for an event: the change of its step, and what is answered. This project's own choice.
-use Rattle.std.specs.Prelude.{◌≡◌, ◌⊎◌, ℕ, List, [], Some, Result, Ok, Err, slice_get}
+use Rattle.std.specs.Prelude.{◌≡◌, ◌⊎◌, ℕ, Bool, true, List, [], Option, Some, None, IsSomeAnd, Result, Ok, Err, slice_get}
 use Rattle.wm_data.specs.declared.data.DataEntry.{DataEntry}
+use Rattle.wm_machine.specs.Ends.{given_by}
 use Rattle.wm_machine.specs.First.{first_of}
 use Rattle.wm_machine.specs.Input.{cause_in}
 use Rattle.wm_machine.specs.Role as role
+use Rattle.wm_machine.specs.Role.{HasGiven, Reported}
+use Rattle.wm_machine.specs.Runs.{run_numbered}
 use Rattle.wm_machine.specs.Step.{after, role_of}
 use Rattle.wm_machine.specs.declared.command.Command.{Command}
 use Rattle.wm_machine.specs.declared.event.Cause.{Cause}
+use Rattle.wm_machine.specs.declared.event.End.{End}
 use Rattle.wm_machine.specs.declared.event.Event.{Event}
 use Rattle.wm_machine.specs.declared.event.Event.TheVariants as event
 use Rattle.wm_machine.specs.declared.record.Record.{Record}
 use Rattle.wm_machine.specs.declared.reply.Reply.{Reply}
+use Rattle.wm_machine.specs.declared.state.Run.{Run}
 use Rattle.wm_machine.specs.declared.state.State.{State}
 use Rattle.wm_merge.specs.declared.fault.MergeFault.{MergeFault}
 use Rattle.wm_table.specs.StepChanges.{row_changes, setting, telling, IsStepOf}
-use Rattle.wm_table.specs.Table.{ChangesRows, IsTicketIn}
+use Rattle.wm_table.specs.Table.{is_timeout, wants_more, ChangesRows, IsTicketIn}
 use Rattle.wm_table.specs.declared.table.Claim.{Claim}
 use Rattle.wm_table.specs.declared.table.Claim.TheVariants as claim
+use Rattle.wm_table.specs.declared.table.change.RunChange.{RunChange}
+use Rattle.wm_table.specs.declared.table.change.RunChange.TheVariants as runs
 use Rattle.wm_table.specs.declared.table.change.SettingChange.{SettingChange}
 use Rattle.wm_table.specs.declared.table.change.StepChange.{StepChange}
 use Rattle.wm_table.specs.declared.table.commands.Executed.{Executed}
 use Rattle.wm_table.specs.declared.table.starting.Claiming.{Claiming}
 use Rattle.wm_worker.specs.Answers.{given_of}
 use Rattle.wm_worker.specs.Told.{Report}
+use Rattle.wm_worker.specs.declared.answer.Answer.{Answer}
 use Rattle.wm_worker.specs.declared.answer.Given.{Given}
+use Rattle.wm_worker.specs.declared.answer.Given.TheVariants.{More}
 
 -- ---- a command
 
@@ -63,11 +72,33 @@ pub record IsClaiming (s : State) (claiming : Claiming) : Type 0 where
   pub step : IsStepOf s claiming.change
   pub claim : IsClaimOf (after s claiming.change.event) claiming.change.event claiming.claim
 
--- ---- the end of a run
+-- ---- the report of a worker
 
--- the step by which the run of this number is over, as was told
-pub record IsFinish (s : State) (number : ℕ) (told : Report) (change : StepChange) : Type 0 where
+-- what an answer says of a run's end; nothing where its worker wants one more turn
+abbrev pub IsEndOf : Answer → Option End → Type 0
+IsEndOf answer (Some end) = given_of answer ≡ Some (given_by end)
+IsEndOf answer None = wants_more (given_of answer) ≡ true
+
+-- what becomes of the runs and instances where a run is over
+abbrev pub over : Run → RunChange
+over ended = runs.End ended.run ended.instance
+
+-- the step by which the run of this number is over, as was told; whether for want of a turn
+pub record IsFinish (s : State) (number : ℕ) (told : Report) (timed_out : Bool) (change : StepChange) : Type 0 where
+  pub reported : Reported
   pub gave : Given
   pub told_is : given_of told.answer ≡ Some gave
-  pub ends : role_of change.event ≡ role.Ends number gave
+  pub has_given : HasGiven reported gave
+  pub ends : role_of change.event ≡ role.Ends number reported
+  pub how : is_timeout change.event ≡ timed_out
   pub step : IsStepOf s change
+
+-- the step by which the run of this number goes on, as was told, which changes no row
+pub record IsTurning (s : State) (number : ℕ) (told : Report) (change : StepChange) : Type 0 where
+  pub progress : Option (List DataEntry)
+  pub told_is : given_of told.answer ≡ Some (More progress)
+  pub event_is : change.event ≡ event.Turn number progress
+  pub rows : row_changes change ≡ []
+  pub step : IsStepOf s change
+  -- the run keeps what it took
+  pub input : IsSomeAnd (run_numbered number (after s change.event).runs) (λ run. told.input ≡ run.input)

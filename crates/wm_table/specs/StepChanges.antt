@@ -9,6 +9,7 @@ use Rattle.wm_machine.specs.Limits.{FitsRow}
 use Rattle.wm_machine.specs.Rows.{row_of}
 use Rattle.wm_machine.specs.Runs.{other_runs, with_out}
 use Rattle.wm_machine.specs.Step.{Legal, after}
+use Rattle.wm_machine.specs.Turns.{with_turned}
 use Rattle.wm_machine.specs.Valid.{HasOne}
 use Rattle.wm_machine.specs.declared.event.Event.{Event}
 use Rattle.wm_machine.specs.declared.record.Record.{Record}
@@ -17,7 +18,7 @@ use Rattle.wm_machine.specs.declared.state.Run.{Run}
 use Rattle.wm_machine.specs.declared.state.State.{State}
 use Rattle.wm_table.specs.declared.table.change.Replacement.{Replacement}
 use Rattle.wm_table.specs.declared.table.change.RunChange.{RunChange}
-use Rattle.wm_table.specs.declared.table.change.RunChange.TheVariants.{Unchanged, Begin, End}
+use Rattle.wm_table.specs.declared.table.change.RunChange.TheVariants.{Unchanged, Begin, Turn, End}
 use Rattle.wm_table.specs.declared.table.change.SettingChange.{SettingChange}
 use Rattle.wm_table.specs.declared.table.change.SettingChange.TheVariants as set
 use Rattle.wm_table.specs.declared.table.change.StepChange.{StepChange}
@@ -38,22 +39,25 @@ abbrev pub without : List ℕ → List Record → List Record
 without [] works = works
 without (number ∷ numbers) works = without numbers (other_works number works)
 
--- a run begins or is over
+-- a run begins, goes on or is over
 abbrev pub runs_by : RunChange → List Run → List Run
 runs_by Unchanged runs = runs
 runs_by (Begin run) runs = runs ++ run ∷ []
+runs_by (Turn run) runs = with_turned run runs
 runs_by (End run instance) runs = other_runs run runs
 
 -- the instance of a run that begins is out, and that of a run that is over is idle
 abbrev pub instances_by : RunChange → List Instance → List Instance
 instances_by Unchanged instances = instances
 instances_by (Begin run) instances = with_out true run.instance instances
+instances_by (Turn run) instances = instances
 instances_by (End run instance) instances = with_out false instance instances
 
 -- the number after those of the runs
 abbrev pub next_run_by : RunChange → ℕ → ℕ
 next_run_by Unchanged next = next
 next_run_by (Begin run) next = next + 1
+next_run_by (Turn run) next = next
 next_run_by (End run instance) next = next
 
 -- the moment and the conditions, where they are set
@@ -65,10 +69,10 @@ abbrev pub conditions_by : SettingChange → Conditions → Conditions
 conditions_by (set.Conditions conditions) before = conditions
 conditions_by _ before = before
 
--- the state after a change: works without the removed ones, with the replaced ones in place and the placed ones at the end
+-- the state after a change: works without the removed ones, with the told and the replaced ones in place and the placed ones at the end
 abbrev pub changed_state : StepChange → State → State
 changed_state change s = record s {
-  works = without change.removed (with_replaced change.replaced s.works) ++ change.placed;
+  works = without change.removed (with_replaced change.replaced (with_replaced change.told s.works)) ++ change.placed;
   runs = runs_by change.run s.runs;
   instances = instances_by change.run s.instances;
   next = s.next + length change.placed;
@@ -88,7 +92,7 @@ remove_numbered number = Remove (pos number)
 abbrev pub put_work : Record → Change
 put_work work = Put (row_of work)
 
--- what the keeper changes: the rows of the records that are replaced, removed and placed
+-- what the keeper changes: the rows of the records that are replaced, removed and placed; those that are told keep theirs
 abbrev pub row_changes : StepChange → List Change
 row_changes change = map put_replaced change.replaced ++ map remove_numbered change.removed ++ map put_work change.placed
 
@@ -101,12 +105,17 @@ seqs_of works = map (λ work. work.seq) works
 abbrev pub KeepsNumber : List Record → Replacement → Type 0
 KeepsNumber works replaced = slice_get (seqs_of works) replaced.index ≡ Some replaced.work.seq
 
+-- and one of its row
+abbrev pub KeepsRow : List Record → Replacement → Type 0
+KeepsRow works told = slice_get (map row_of works) told.index ≡ Some (row_of told.work)
+
 -- the records have the numbers from this one on, in order
 abbrev pub HaveNextNumbers : ℕ → List Record → Type 0
 HaveNextNumbers next [] = Unit {0}
 HaveNextNumbers next (work ∷ works) = (work.seq ≡ next) × HaveNextNumbers (next + 1) works
 
 pub record Fits (s : State) (change : StepChange) : Type 0 where
+  pub told : AllByRecursion (KeepsRow s.works) change.told
   pub replaced : AllByRecursion (KeepsNumber s.works) change.replaced
   -- the records removed are there
   pub removed : AllByRecursion (λ number. HasOne (λ work. work.seq ≡ number) s.works) change.removed
@@ -127,7 +136,7 @@ pub record IsStepOf (s : State) (change : StepChange) : Type 0 where
 
 -- only the log changes
 abbrev pub telling : Event → StepChange
-telling event = record { replaced = []; removed = []; placed = []; run = Unchanged; setting = set.Unchanged; event = event }
+telling event = record { told = []; replaced = []; removed = []; placed = []; run = Unchanged; setting = set.Unchanged; event = event }
 
 -- the moment or the conditions are set
 abbrev pub setting : SettingChange → Event → StepChange
@@ -136,6 +145,10 @@ setting to event = record (telling event) { setting = to }
 -- one record is replaced
 abbrev pub replacing : ℕ → Record → RunChange → Event → StepChange
 replacing index work run event = record (telling event) { replaced = record { index = index; work = work } ∷ []; run = run }
+
+-- one record tells something, and its run goes on
+abbrev pub turning : ℕ → Record → ℕ → Event → StepChange
+turning index work run event = record (telling event) { told = record { index = index; work = work } ∷ []; run = Turn run }
 
 -- one record is placed
 abbrev pub placing : Record → Event → StepChange

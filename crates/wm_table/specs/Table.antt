@@ -1,12 +1,14 @@
 -- What the calls of the table do to the state, its log and the rows held. This project's own choice.
-use Rattle.std.specs.Prelude.{◌≡◌, ℕ, ◌+◌, ◌≤◌, Bool, true, false, List, [], ◌∷◌, ◌++◌, length, Option, Some, None, IsSome, IsSomeAnd, option_map, Result, Err}
+use Rattle.std.specs.Prelude.{◌≡◌, ℕ, ◌+◌, ◌≤◌, ◌&&◌, Bool, true, false, List, [], ◌∷◌, ◌++◌, length, Option, Some, None, IsSome, IsSomeAnd, nat_lt, option_map, Result, Err}
 use Rattle.std.specs.List.{AllByRecursion}
+use Rattle.wm_data.specs.declared.data.DataEntry.{DataEntry}
 use Rattle.wm_faults.specs.Faults as faults
 use Rattle.wm_keeper.specs.declared.row.Row.{Row}
 use Rattle.wm_machine.specs.First.{first_of}
 use Rattle.wm_machine.specs.Narrow.{IsNarrow}
 use Rattle.wm_machine.specs.Replay.{Replay}
 use Rattle.wm_machine.specs.Role as role
+use Rattle.wm_machine.specs.Role.{HasGiven, Reported}
 use Rattle.wm_machine.specs.Rows.{rows_of}
 use Rattle.wm_machine.specs.Runs.{run_numbered}
 use Rattle.wm_machine.specs.Step.{Legal, after, after_command, role_of}
@@ -29,7 +31,7 @@ use Rattle.wm_table.specs.declared.table.TurnAnswer.TheVariants as turn
 use Rattle.wm_worker.specs.Answers.{given_of}
 use Rattle.wm_worker.specs.Told.{Report, IsReportOf}
 use Rattle.wm_worker.specs.declared.answer.Given.{Given}
-use Rattle.wm_worker.specs.declared.kind.Kind.TheVariants.{Echo}
+use Rattle.wm_worker.specs.declared.answer.Given.TheVariants.{More}
 
 -- ---- one event
 
@@ -58,11 +60,10 @@ TroubleCause result before now = faults.HasCause (is_keeper_fault result) before
 
 -- ---- begin
 
--- an instance that a run is given: neither out nor retired, and an Echo
+-- an instance that a run is given: neither out nor retired
 pub record IsFresh (instance : Instance) : Type 0 where
   pub out : instance.out ≡ false
   pub retired : instance.retired ≡ false
-  pub kind : instance.kind ≡ Echo
 
 -- the instances that a run is given, numbered from 0
 pub record AreFresh (instances : List Instance) : Type 0 where
@@ -122,18 +123,56 @@ pub record Counts (run : Run) (told : Report) : Type 0 where
 abbrev pub CountsIn : State → ℕ → Report → Type 0
 CountsIn s number told = IsSomeAnd (run_numbered number s.runs) (λ run. Counts run told)
 
--- the run of this number is over, by an event that ends it as was told
-pub record IsFinished {K : Type 0} (held : K → Option (List Row)) (number : ℕ) (told : Report) (old new : TableState K) : Type 0 where
+-- whether what was given is the wish for one more turn
+abbrev pub wants_more : Option Given → Bool
+wants_more (Some (More progress)) = true
+wants_more _ = false
+
+-- whether a report is of the wish for one more turn, and the run has one: it has 1,000 turns
+abbrev pub goes_on : Report → Bool
+goes_on told = nat_lt told.k 999 && wants_more (given_of told.answer)
+
+-- whether an event is that a run had no turn left
+abbrev pub is_timeout : Event → Bool
+is_timeout (event.TimedOut run) = true
+is_timeout _ = false
+
+-- the run of this number is over, by an event that ends it as was told; whether for want of a turn
+pub record IsFinished {K : Type 0} (held : K → Option (List Row)) (number : ℕ) (told : Report) (timed_out : Bool) (old new : TableState K) : Type 0 where
   pub ending : Event
+  pub reported : Reported
   pub gave : Given
   pub told_is : given_of told.answer ≡ Some gave
-  pub ends : role_of ending ≡ role.Ends number gave
+  pub has_given : HasGiven reported gave
+  pub ends : role_of ending ≡ role.Ends number reported
+  pub how : is_timeout ending ≡ timed_out
   pub step : IsOneStep held ending old new
 
+-- the run of this number is at its next turn, as was told, by an event of which the keeper learns nothing, and keeps what it took
+pub record IsTurned {K : Type 0} (held : K → Option (List Row)) (number : ℕ) (told : Report) (old new : TableState K) : Type 0 where
+  pub progress : Option (List DataEntry)
+  pub told_is : given_of told.answer ≡ Some (More progress)
+  pub step : IsOneStep held (event.Turn number progress) old new
+  pub keeper : new.keeper ≡ old.keeper
+  pub input : IsSomeAnd (run_numbered number new.state.runs) (λ run. told.input ≡ run.input)
+
 -- the report counts, and the run is over
-pub record IsTurnOver {K : Type 0} (held : K → Option (List Row)) (ticket : TicketState) (told : Report) (old new : TableState K) : Type 0 where
+pub record IsTurnOver {K : Type 0} (held : K → Option (List Row)) (ticket : TicketState) (told : Report) (timed_out : Bool) (old new : TableState K)
+    : Type 0 where
   pub counts : CountsIn old.state ticket.task.run told
-  pub finished : IsFinished held ticket.task.run told old new
+  pub finished : IsFinished held ticket.task.run told timed_out old new
+
+-- the report counts, and the run goes on, by an event of which the keeper learns nothing: the next ticket is of the same run, and holds what
+-- that keeps
+pub record HasGoneOn {K : Type 0} (held : K → Option (List Row)) (ticket : TicketState) (told : Report) (next : TicketState) (old new : TableState K)
+    : Type 0 where
+  pub progress : Option (List DataEntry)
+  pub counts : CountsIn old.state ticket.task.run told
+  pub told_is : given_of told.answer ≡ Some (More progress)
+  pub step : IsOneStep held (event.Turn ticket.task.run progress) old new
+  pub keeper : new.keeper ≡ old.keeper
+  pub same_run : next.task.run ≡ ticket.task.run
+  pub ticket_in : IsTicketIn new.state next
 
 -- the report doesn't count: the ticket is given back, and nothing has changed
 pub record IsTurnKept {K : Type 0} (ticket : TicketState) (told : Report) (back : TicketState) (old new : TableState K) : Type 0 where
@@ -149,9 +188,11 @@ pub record IsTurnRefused {K : Type 0} (held : K → Option (List Row)) (ticket :
   pub same_report : report ≡ told
   pub untouched : IsUntouched held old new
 
--- Finished where the report counts, with its event; Again where it doesn't; Refused where it counts and there is trouble
+-- Go, Finished or TimedOut where the report counts, with its event; Again where it doesn't; Refused where it counts and there is trouble
 abbrev pub IsTurnAnswer : {K : Type 0} → (K → Option (List Row)) → TicketState → Report → TurnAnswer → TableState K → TableState K → Type 0
-IsTurnAnswer held ticket told turn.Finished old new = IsTurnOver held ticket told old new
+IsTurnAnswer held ticket told (turn.Go next) old new = HasGoneOn held ticket told next old new
+IsTurnAnswer held ticket told turn.Finished old new = IsTurnOver held ticket told false old new
+IsTurnAnswer held ticket told turn.TimedOut old new = IsTurnOver held ticket told true old new
 IsTurnAnswer held ticket told (turn.Again back) old new = IsTurnKept ticket told back old new
 IsTurnAnswer held ticket told (turn.Refused back report why) old new = IsTurnRefused held ticket told back report old new
 

@@ -1,5 +1,5 @@
 //! The table: the state, the log of the events that led to it, and the keeper of its rows.
-ghost use Rattle.std.specs.Prelude.{◌≡◌, ◌≢◌, ◌↔◌, [], Err, IsTrue, IfOk, IfErr, IfSome, OnOk, OnErr};
+ghost use Rattle.std.specs.Prelude.{◌≡◌, ◌≢◌, ◌↔◌, [], true, false, Err, IsTrue, IfOk, IfErr, IfSome, OnOk, OnErr};
 ghost use Rattle.std.specs.Option.{option_copied};
 ghost use Rattle.wm_machine.specs.Outcome.{IsBuilt};
 ghost use Rattle.wm_machine.specs.Narrow.{IsNarrow};
@@ -9,7 +9,7 @@ ghost use Rattle.wm_machine.specs.Replay.{Replay};
 ghost use Rattle.wm_machine.specs.Valid.{Valid};
 ghost use Rattle.wm_machine.specs.declared.event.Event.TheVariants as event;
 ghost use Rattle.wm_table.specs.StepChanges.{row_changes, IsStepOf};
-ghost use Rattle.wm_table.specs.Table.{last_of, AreFresh, BeginCause, ChangesNoRow, ChangesRows, CountsIn, HoldsRowsOf, IsClaimAnswer, IsFinished, IsOneStep, IsTurnAnswer, IsUntouched, Stands, TroubleCause, TurnCause};
+ghost use Rattle.wm_table.specs.Table.{goes_on, last_of, AreFresh, BeginCause, ChangesNoRow, ChangesRows, CountsIn, HoldsRowsOf, IsClaimAnswer, IsFinished, IsOneStep, IsTurnAnswer, IsTurned, IsUntouched, Stands, TroubleCause, TurnCause};
 
 mod carry;
 mod change;
@@ -17,16 +17,20 @@ mod commands;
 mod finishing;
 mod infos;
 mod joins;
+mod reports;
 mod row_changes;
 mod scan;
 mod starting;
 pub mod ticket;
+mod turning;
 
 use crate::opening::opening_state;
 use crate::table::carry::carry_out;
 use crate::table::change::StepChange;
 use crate::table::commands::{Executed, execute};
+use crate::table::finishing::{Ending, finish};
 use crate::table::starting::{Claiming, claim_first};
+use crate::table::turning::{next_ticket, next_turn};
 use std::alloc::{AllocError, Global};
 use std::marker::Model;
 use ticket::Ticket;
@@ -98,8 +102,12 @@ impl Claim {
 /// What became of a run whose worker reported.
 #[derive(Debug)]
 pub enum TurnAnswer {
-    /// It is over.
+    /// It goes on: the ticket is for its next turn.
+    Go(Ticket),
+    /// It is over, as its worker reported.
     Finished,
+    /// It is over, since its worker wanted one more turn after the last.
+    TimedOut,
     /// The report isn't one on the run's turn: nothing has changed, and the ticket is as it was.
     Again(Ticket),
     /// There was trouble: nothing has changed.
@@ -228,24 +236,22 @@ impl<K: Keeper> Table<K> {
         }
     }
 
-    /// Ends the turn of a run as its worker told, in one event. Where the report isn't on the run's
-    /// turn, or the worker was cut, nothing changes.
+    /// Ends the turn of a run as its worker told, in one event: the run goes on or is over. Where it
+    /// goes on, the keeper isn't called. Where the report isn't on the run's turn, or the worker was
+    /// cut, nothing changes.
     pub fn turn(&mut self, ticket: Ticket, told: Told) -> TurnAnswer
         requires { Stands self.old.state ticket }
         ensures answer { IsTurnAnswer K.held ticket told result self.old self.new }
         ensures cause { TurnCause result (K.faults self.old.keeper) (K.faults self.new.keeper) }
     {
-        if !finishing::counts_in(&self.state, &ticket, &told) {
+        if !reports::counts_in(&self.state, &ticket, &told) {
             drop(told);
             return TurnAnswer::Again(ticket);
         }
-        match self.finish(&ticket, &told) {
-            Ok(()) => {
-                drop(told);
-                ticket.spend();
-                TurnAnswer::Finished
-            }
-            Err(trouble) => TurnAnswer::Refused(ticket, told, trouble),
+        if reports::goes_on(&told) {
+            self.go_on(ticket, told)
+        } else {
+            self.end_run(ticket, told)
         }
     }
 
@@ -314,15 +320,68 @@ impl<K: Keeper> Table<K> {
 }
 
 impl<K: Keeper> Table<K> {
-    /// Ends a ticket's run, for which the report counts.
-    fn finish(&mut self, ticket: &Ticket, told: &Told) -> Result<(), Trouble>
-        requires { CountsIn self.old.state ticket.now.task.run told.now }
-        ensures ok { OnOk result (IsFinished K.held ticket.now.task.run told.now self.old self.new) }
+    /// Ends the turn of a ticket's run, for which the report counts, and which goes on.
+    fn go_on(&mut self, ticket: Ticket, told: Told) -> TurnAnswer
+        requires counts { CountsIn self.old.state ticket.task.run told }
+        requires goes_on { goes_on told ≡ true }
+        ensures answer { IsTurnAnswer K.held ticket told result self.old self.new }
+        ensures cause { TurnCause result (K.faults self.old.keeper) (K.faults self.new.keeper) }
+    {
+        match self.advance(&ticket, &told) {
+            Ok(()) => {
+                let number = ticket.task().run;
+                ticket.spend();
+                TurnAnswer::Go(next_ticket(&self.state, number, told))
+            }
+            Err(trouble) => TurnAnswer::Refused(ticket, told, trouble),
+        }
+    }
+
+    /// Takes a ticket's run to its next turn. The keeper isn't called.
+    fn advance(&mut self, ticket: &Ticket, told: &Told) -> Result<(), Trouble>
+        requires counts { CountsIn self.old.state ticket.now.task.run told.now }
+        requires goes_on { goes_on told.now ≡ true }
+        ensures ok { OnOk result (IsTurned K.held ticket.now.task.run told.now self.old self.new) }
         ensures err { OnErr result (IsUntouched K.held self.old self.new) }
         ensures cause { TroubleCause result (K.faults self.old.keeper) (K.faults self.new.keeper) }
     {
-        let change = finishing::finish(self.alloc, &self.state, ticket, told)?;
+        let change = next_turn(self.alloc, &self.state, ticket, told)?;
         self.make(change)
+    }
+
+    /// Ends a ticket's run, for which the report counts, and which doesn't go on.
+    fn end_run(&mut self, ticket: Ticket, told: Told) -> TurnAnswer
+        requires counts { CountsIn self.old.state ticket.task.run told }
+        requires over { goes_on told ≡ false }
+        ensures answer { IsTurnAnswer K.held ticket told result self.old self.new }
+        ensures cause { TurnCause result (K.faults self.old.keeper) (K.faults self.new.keeper) }
+    {
+        match self.finish(&ticket, &told) {
+            Ok(timed_out) => {
+                drop(told);
+                ticket.spend();
+                if timed_out {
+                    TurnAnswer::TimedOut
+                } else {
+                    TurnAnswer::Finished
+                }
+            }
+            Err(trouble) => TurnAnswer::Refused(ticket, told, trouble),
+        }
+    }
+
+    /// Ends a ticket's run in one event, and says whether it had no turn left.
+    fn finish(&mut self, ticket: &Ticket, told: &Told) -> Result<bool, Trouble>
+        requires counts { CountsIn self.old.state ticket.now.task.run told.now }
+        requires over { goes_on told.now ≡ false }
+        ensures ok { IfOk result (λ timed_out.
+            IsFinished K.held ticket.now.task.run told.now timed_out self.old self.new) }
+        ensures err { OnErr result (IsUntouched K.held self.old self.new) }
+        ensures cause { TroubleCause result (K.faults self.old.keeper) (K.faults self.new.keeper) }
+    {
+        let Ending { change, timed_out } = finish(self.alloc, &self.state, ticket, told)?;
+        self.make(change)?;
+        Ok(timed_out)
     }
 
     /// Makes the step of a change. Where it changes no row, the keeper is as it was.

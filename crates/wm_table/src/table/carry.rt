@@ -5,6 +5,7 @@ ghost use Rattle.std.specs.List.{AllByRecursion};
 ghost use Rattle.wm_keeper.specs.Keeper.{changed, AreOfDifferentNumbers};
 ghost use Rattle.wm_machine.specs.Limits.{FitsRow};
 ghost use Rattle.wm_machine.specs.Runs.{other_runs, with_out};
+ghost use Rattle.wm_machine.specs.Turns.{with_turned};
 ghost use Rattle.wm_machine.specs.Valid.{Valid};
 ghost use Rattle.wm_table.specs.StepChanges.{changed_state, conditions_by, instances_by, next_run_by, now_by, other_works, row_changes, runs_by, with_replaced, without, Fits};
 ghost use Rattle.wm_table.specs.Table.{TroubleCause};
@@ -67,13 +68,16 @@ impl Lists {
 
     /// Makes the change, for which there is room.
     fn change(&mut self, alloc: Global, state: &mut State, change: StepChange)
+        requires told { AllByRecursion (λ told. told.index < vec_len self.old.works) change.told }
         requires replaced { AllByRecursion (λ replaced. replaced.index < vec_len self.old.works) change.replaced }
+        requires turns { AllByRecursion (λ run. run.turn ≤ 999) self.old.runs.items }
         requires next { state.old.next + length change.placed ≤ 2 ^ 53 }
         requires few_runs { state.old.next_run ≤ vec_len self.old.log + 1 }
         requires works_room { vec_len self.old.works + length change.placed ≤ vec_capacity self.old.works }
         requires run_room { vec_len self.old.runs < vec_capacity self.old.runs }
         requires log_room { vec_len self.old.log < vec_capacity self.old.log }
-        ensures works { self.new.works.items ≡ without change.removed (with_replaced change.replaced self.old.works.items) ++ change.placed }
+        ensures works { self.new.works.items
+            ≡ without change.removed (with_replaced change.replaced (with_replaced change.told self.old.works.items)) ++ change.placed }
         ensures runs { self.new.runs.items ≡ runs_by change.run self.old.runs.items }
         ensures log { self.new.log.items ≡ self.old.log.items ++ change.event ∷ [] }
         ensures state { state.new ≡ record state.old {
@@ -85,6 +89,7 @@ impl Lists {
         } }
     {
         let StepChange {
+            told,
             replaced,
             removed,
             placed,
@@ -94,6 +99,7 @@ impl Lists {
         } = change;
         let next_run = number_after(state.next_run, self.log.as_slice());
         state.next += placed.len() as u64;
+        replace_works(&mut self.works, told.into_vec());
         replace_works(&mut self.works, replaced.into_vec());
         remove_works(&mut self.works, removed.as_slice());
         append(&mut self.works, placed);
@@ -163,6 +169,7 @@ fn change_runs(
     next_run: u64,
 )
     requires room { vec_len runs.old < vec_capacity runs.old }
+    requires turns { AllByRecursion (λ run. run.turn ≤ 999) runs.old.items }
     requires next { next_run ≡ state.old.next_run + 1 }
     ensures runs { runs.new.items ≡ runs_by change runs.old.items }
     ensures state { state.new ≡ record state.old {
@@ -177,6 +184,7 @@ fn change_runs(
             runs.push_reserved(run);
             state.next_run = next_run;
         }
+        RunChange::Turn(run) => turn_run(runs.as_mut_slice(), run),
         RunChange::End { run, instance } => {
             remove_run(runs, run);
             set_out(alloc, &mut state.instances, instance, false);
@@ -195,6 +203,18 @@ fn change_setting(state: &mut State, setting: SettingChange)
         SettingChange::Unchanged => {}
         SettingChange::Moment(at) => state.now = at,
         SettingChange::Conditions(conditions) => state.conditions = conditions,
+    }
+}
+
+/// Has the run of this number at its next turn. It takes no memory.
+fn turn_run(runs: &mut [Run], number: u64)
+    requires { AllByRecursion (λ run. run.turn ≤ 999) runs.old }
+    ensures { runs.new ≡ with_turned number runs.old }
+{
+    for run in runs.iter_mut() {
+        if run.run == number {
+            run.turn += 1;
+        }
     }
 }
 

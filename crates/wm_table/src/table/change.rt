@@ -1,6 +1,6 @@
 //! What a step is about to do.
 ghost use Rattle.std.specs.Prelude.{◌≡◌, IfOk};
-ghost use Rattle.wm_table.specs.StepChanges.{placing, replacing, setting, telling};
+ghost use Rattle.wm_table.specs.StepChanges.{placing, replacing, setting, telling, turning};
 
 use crate::table::joins::{one, with};
 use std::alloc::{AllocError, Global};
@@ -22,6 +22,8 @@ pub enum RunChange {
     Unchanged,
     /// This run begins, and its instance is out.
     Begin(Run),
+    /// The run of this number is at its next turn.
+    Turn(u64),
     /// The run of this number is over, and this instance is idle.
     End { run: u64, instance: u32 },
 }
@@ -40,6 +42,8 @@ pub enum SettingChange {
 /// All that one step is about to do, with its memory taken.
 #[derive(Drop)]
 pub struct StepChange {
+    /// The records that take the place of others of their rows.
+    pub told: Items<Replacement>,
     /// The records that take the place of others of their numbers.
     pub replaced: Items<Replacement>,
     /// The numbers of the records that are removed.
@@ -60,6 +64,7 @@ impl StepChange {
         ensures { result ≡ telling event }
     {
         StepChange {
+            told: Items::new(alloc),
             replaced: Items::new(alloc),
             removed: Items::new(alloc),
             placed: Items::new(alloc),
@@ -74,6 +79,7 @@ impl StepChange {
         ensures { result ≡ setting to event }
     {
         StepChange {
+            told: Items::new(alloc),
             replaced: Items::new(alloc),
             removed: Items::new(alloc),
             placed: Items::new(alloc),
@@ -96,10 +102,34 @@ impl StepChange {
         let replaced = one(alloc, Replacement { index, work });
         let ((run, event), replaced) = with((run, event), replaced)?;
         Ok(StepChange {
+            told: Items::new(alloc),
             replaced,
             removed: Items::new(alloc),
             placed: Items::new(alloc),
             run,
+            setting: SettingChange::Unchanged,
+            event,
+        })
+    }
+
+    /// The change of the record at an index to this one, which has the same row, where the run of
+    /// this number is at its next turn.
+    pub fn turning(
+        alloc: Global,
+        index: usize,
+        work: Record,
+        run: u64,
+        event: Event,
+    ) -> Result<StepChange, AllocError>
+        ensures { IfOk result (λ change. change ≡ turning index work run event) }
+    {
+        let (event, told) = with(event, one(alloc, Replacement { index, work }))?;
+        Ok(StepChange {
+            told,
+            replaced: Items::new(alloc),
+            removed: Items::new(alloc),
+            placed: Items::new(alloc),
+            run: RunChange::Turn(run),
             setting: SettingChange::Unchanged,
             event,
         })
@@ -111,6 +141,7 @@ impl StepChange {
     {
         let (event, placed) = with(event, one(alloc, work))?;
         Ok(StepChange {
+            told: Items::new(alloc),
             replaced: Items::new(alloc),
             removed: Items::new(alloc),
             placed,

@@ -10,7 +10,8 @@ use wm_keeper::Change;
 use wm_machine::Record;
 use wm_rows::to_row;
 
-/// The changes of the rows of the records that are replaced, removed and placed.
+/// The changes of the rows of the records that are replaced, removed and placed. What is told
+/// changes no row.
 pub fn row_changes(alloc: Global, change: &StepChange) -> Result<Vec<Change>, AllocError>
     requires replaced { AllByRecursion (λ replaced. FitsRow replaced.work) change.now.replaced }
     requires removed { AllByRecursion (λ number. number < 2 ^ 53) change.now.removed }

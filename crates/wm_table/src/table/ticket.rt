@@ -1,7 +1,9 @@
 ghost use Rattle.std.specs.Prelude.{◌≡◌};
+ghost use Rattle.wm_table.specs.TableState.{ticket_of};
 
 use std::marker::Model;
-use wm_worker::{Kind, Task};
+use wm_machine::Run;
+use wm_worker::{Kind, Task, Told};
 
 /// The right to report on one run of a work: it names the work, and holds what the run took and
 /// which turn it is at. It must be spent: [`Table::turn`](crate::Table::turn) or
@@ -57,6 +59,24 @@ impl Ticket {
         ensures { result ≡ self.now.k }
     {
         self.k
+    }
+
+    /// The ticket of a run, with its input out of what its worker told. It takes no memory.
+    pub(crate) fn of(run: &Run, told: Told) -> Ticket
+        requires { told.input ≡ run.now.input }
+        ensures { result ≡ ticket_of run.entry.now }
+    {
+        Ticket {
+            seq: run.seq,
+            task: Task {
+                run: run.run,
+                attempt: run.attempt,
+                input: told.into_input(),
+            },
+            kind: run.kind,
+            instance: run.instance,
+            k: run.turn,
+        }
     }
 
     /// Lets the ticket go.

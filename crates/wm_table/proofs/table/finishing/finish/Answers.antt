@@ -1,110 +1,178 @@
-use Rattle.std.proofs.Common.{◌≡◌, ℕ, false, List, Some, rules, slice_get, refl, sym, ◌∙◌, ap, eqb, subst}
-use Rattle.std.specs.Prelude.{IsSomeAnd}
-use Rattle.std.proofs.lemmas.Bool.{eqb-true}
+use Rattle.std.proofs.Common.{◌≡◌, ℕ, ◌≤◌, true, false, ltb, List, Option, Some, None, arith, rules, slice_get, refl, sym, ◌∙◌, ap, subst, inl, inr}
+use Rattle.std.proofs.lemmas.Bool.{and_from, cases_Bool, false≢true, ltb-false, true≢false}
 use Rattle.std.proofs.lemmas.Result.{IfOk-weaker}
 use Rattle.wm_data.specs.declared.data.DataEntry.{DataEntry}
-use Rattle.wm_machine.proofs.Finishes.{after_finish, same-ended}
-use Rattle.wm_machine.proofs.Lists.{find-passes}
-use Rattle.wm_machine.proofs.Narrows.{found_narrow, found_valid, run_kind, with_ended}
+use Rattle.wm_machine.proofs.Finishes.{after_finish, after_timed_out, same-ended}
+use Rattle.wm_machine.proofs.Narrows.{found_narrow, found_valid}
 use Rattle.wm_machine.proofs.Records.{IsRecord-ended}
-use Rattle.wm_machine.specs.Ends.{ended}
-use Rattle.wm_machine.specs.Narrow.{IsNarrow}
+use Rattle.wm_machine.specs.Ends.{ended, given_by, retried}
+use Rattle.wm_machine.specs.Narrow.{IsReached}
 use Rattle.wm_machine.specs.Role as role
+use Rattle.wm_machine.specs.Role.{SomeMore, This}
 use Rattle.wm_machine.specs.Runs.{changed_work, other_runs, run_numbered, with_out}
-use Rattle.wm_machine.specs.Step.{IsEnd}
-use Rattle.wm_machine.specs.Valid.{IsRecord, IsWorkOf, Valid}
-use Rattle.wm_machine.specs.declared.event.End.TheVariants as end
+use Rattle.wm_machine.specs.Step.{IsEnd, IsReport, IsTimeout}
+use Rattle.wm_machine.specs.Valid.{IsRecord, IsWorkOf}
+use Rattle.wm_machine.specs.declared.event.End.{End}
+use Rattle.wm_machine.specs.declared.event.End.TheVariants.{Retry}
 use Rattle.wm_machine.specs.declared.event.Event.TheVariants as event
 use Rattle.wm_machine.specs.declared.record.Record.{Record}
 use Rattle.wm_machine.specs.declared.state.Run.{Run}
 use Rattle.wm_machine.specs.declared.state.State.{State}
-use Rattle.wm_table.proofs.Lookups.{All-at, at-some}
+use Rattle.wm_table.proofs.Lookups.{All-at, at-some, found-numbered}
+use Rattle.wm_table.proofs.Reporting.{counted, may-give}
 use Rattle.wm_table.proofs.StepRows.{replacing-step}
-use Rattle.wm_table.specs.Builds.{IsFinish}
+use Rattle.wm_table.specs.Builds.{over, IsFinish}
 use Rattle.wm_table.specs.StepChanges.{replacing}
-use Rattle.wm_table.specs.Table.{Counts, CountsIn}
-use Rattle.wm_table.specs.declared.table.change.RunChange.TheVariants.{End}
+use Rattle.wm_table.specs.Table.{goes_on, wants_more, CountsIn}
+use Rattle.wm_table.specs.declared.table.finishing.Ending.{Ending}
+use Rattle.wm_worker.proofs.Giving.{gives_data}
 use Rattle.wm_worker.specs.Answers.{given_of, MayGive}
-use Rattle.wm_worker.specs.Told.{Report}
-use Rattle.wm_worker.specs.declared.answer.Answer.TheVariants as answer
+use Rattle.wm_worker.specs.Told.{IsAllowed, Report}
+use Rattle.wm_worker.specs.declared.answer.Answer.{Answer}
+use Rattle.wm_worker.specs.declared.answer.Given.{Given}
 use Rattle.wm_worker.specs.declared.answer.Given.TheVariants as given
-use Rattle.wm_worker.specs.declared.kind.Kind.{Kind}
-use Rattle.wm_worker.specs.declared.kind.Kind.TheVariants.{Echo}
+use Rattle.wm_worker.specs.declared.answer.Given.TheVariants.{Failure, More, Success}
 use Rattle.wm_table.proofs.table.finishing.finish.Goals as goal
 
--- a report that counts for a run is by an Echo, on its input
-record IsCounted (run : Run) (told : Report) : Type 0 where
-  on_echo : run.kind ≡ Echo
-  echo : told.kind ≡ Echo
-  input : told.input ≡ run.input
+-- a run that is found, with its work and the report that counts for it
+record IsReported (s : State) (number i : ℕ) (told : Report) (run : Run) (work : Record) : Type 0 where
+  reached : IsReached s
+  counts : CountsIn s number told
+  allowed : IsAllowed told
+  found : run_numbered number s.runs ≡ Some run
+  at : slice_get s.works i ≡ Some work
+  of : IsWorkOf run work
 
-counted : (s : State) (number : ℕ) (told : Report) (run : Run) → Valid s → IsNarrow s → CountsIn s number told → run_numbered number s.runs ≡ Some run
-    → IsCounted run told
-counted s number told run valid narrow counts found =
-    let of : Counts run told = subst (λ found. IsSomeAnd found (λ r. Counts r told)) found counts in
-    let echo = run_kind s run narrow (found_valid s number run valid found) in
-    record { on_echo = echo; echo = of.about.same_kind ∙ echo; input = of.about.same_input }
+-- what was told is a report of the machine
+may-report : (s : State) (number i : ℕ) (told : Report) (run : Run) (work : Record) (gave : Given) → IsReported s number i told run work
+    → given_of told.answer ≡ Some gave → MayGive run.kind run.input run.attempt run.turn gave
+may-report s number i told run work gave is told_is =
+    may-give run told gave (counted s number told run is.counts is.found) is.allowed told_is
 
--- an Echo may give its input
-echo-gives : (kind : Kind) (input output : List DataEntry) (attempt turn : ℕ) → kind ≡ Echo → output ≡ input
-    → MayGive kind input attempt turn (given.Success output)
-echo-gives kind input output attempt turn echo same =
-    subst (λ k. MayGive k input attempt turn (given.Success output)) (sym echo) (ap (λ (d : List DataEntry). given.Success d) same)
-
--- the run is over, and its work has succeeded or is enqueued again
-finish-step : (s : State) (number i : ℕ) (told : Report) (run : Run) (work : Record) (output : List DataEntry) → Valid s → IsNarrow s
-    → CountsIn s number told → run_numbered number s.runs ≡ Some run → slice_get s.works i ≡ Some work → IsWorkOf run work
-    → told.answer ≡ answer.Success output → output ≡ told.input → IsFinish s number told
-    (replacing i (ended s.now (end.Success output) work) (End run.run run.instance) (event.Finish run.run (end.Success output)))
-finish-step s number i told run work output valid narrow counts found at of told_is output_is =
-    let is = counted s number told run valid narrow counts found in
-    let its = found_valid s number run valid found in
-    let own : output ≡ run.input = output_is ∙ is.input in
-    let named : run.run ≡ number = eqb-true run.run number (find-passes (λ r. eqb r.run number) s.runs run found) in
-    let legal : IsEnd s run.run (end.Success output) = record {
+-- the run is over by this end
+finish-step : (s : State) (number i : ℕ) (told : Report) (run : Run) (work : Record) (end : End) → IsReported s number i told run work
+    → given_of told.answer ≡ Some (given_by end)
+    → IsFinish s number told false (replacing i (ended s.now end work) (over run) (event.Finish run.run end))
+finish-step s number i told run work end is told_is =
+    let valid = is.reached.valid in
+    let named = found-numbered number s.runs run is.found in
+    let may = may-report s number i told run work (given_by end) is told_is in
+    let legal : IsEnd s run.run end = record {
       run = run;
-      is_running = ap (λ n. run_numbered n s.runs) named ∙ found;
-      is_current = (found_narrow s number run narrow found).current;
-      may_give = echo-gives run.kind run.input output run.attempt run.turn is.on_echo own;
+      is_running = ap (λ n. run_numbered n s.runs) named ∙ is.found;
+      is_current = found_narrow s number run is.reached.narrow is.found;
+      may_give = may;
     } in
     let gone : State = record s { runs = other_runs run.run s.runs; instances = with_out false run.instance s.instances } in
-    let change = ended s.now (end.Success output) in
-    let fine = IsRecord-ended s.now run.input work valid.now its.input of.running (All-at IsRecord s.works i work valid.records at) in
+    let change = ended s.now end in
+    let gives = gives_data run.kind run.input run.attempt run.turn (given_by end) (found_valid s number run valid is.found).input may in
+    let fine = IsRecord-ended s.now end work valid.now gives is.of.running (All-at IsRecord s.works i work valid.records is.at) in
     record {
-      gave = given.Success output;
-      told_is = ap given_of told_is;
-      ends = ap (λ n. role.Ends n (given.Success output)) named;
+      reported = This (given_by end);
+      gave = given_by end;
+      told_is = told_is;
+      has_given = refl;
+      ends = ap (λ n. role.Ends n (This (given_by end))) named;
+      how = refl;
       step =
-          replacing-step s gone i work change (End run.run run.instance) (event.Finish run.run (end.Success output)) valid at
-          (same-ended work.request.period s.now output work).seq
-          (subst (λ (given : List DataEntry). IsRecord (ended s.now (end.Success given) work)) (sym own) fine) legal refl
-          (after_finish s run.run (end.Success output) (record { valid = valid; narrow = narrow }) legal
-          ∙ ap (with_ended s run) (sym own)
-          ∙ ap (λ n. record gone { works = changed_work change n s.works }) (sym of.seq));
+          replacing-step s gone i work change (over run) (event.Finish run.run end) valid is.at
+          (same-ended work.request.period s.now end work).seq fine legal refl
+          (after_finish s run.run end is.reached legal ∙ ap (λ n. record gone { works = changed_work change n s.works }) (sym is.of.seq));
     }
 
-pub end_of-requires-clause-echo : goal.end_of-requires-clause-echo
-end_of-requires-clause-echo c =
-    let number = c.args.ticket.now.task.run in
-    let found : run_numbered number c.args.state.now.runs ≡ Some c.in-Some.run'.now = search rules in
-    (counted c.args.state.now number c.args.told.now c.in-Some.run'.now c.requires.valid c.requires.narrow c.requires.counts found).echo
+-- a report that asks for one more turn where the run doesn't go on is in the last one
+last-turn : (told : Report) (progress : Option (List DataEntry)) → goes_on told ≡ false → given_of told.answer ≡ Some (More progress) → 999 ≤ told.k
+last-turn told progress stays told_is = elim (cases_Bool (ltb told.k 999)) [
+  | inl less ↦ absurd (true≢false (sym (and_from (ltb told.k 999) (wants_more (given_of told.answer)) less (ap wants_more told_is)) ∙ stays))
+  | inr not_less ↦ ltb-false told.k 999 not_less
+]
 
-pub returns : goal.returns
-returns c =
+-- the run is over for want of a turn
+timeout-step : (s : State) (number i : ℕ) (told : Report) (run : Run) (work : Record) (progress : Option (List DataEntry))
+    → IsReported s number i told run work → goes_on told ≡ false → given_of told.answer ≡ Some (More progress)
+    → IsFinish s number told true (replacing i (retried s.now work) (over run) (event.TimedOut run.run))
+timeout-step s number i told run work progress is stays told_is =
+    let valid = is.reached.valid in
+    let named = found-numbered number s.runs run is.found in
+    let turn : told.k ≡ run.turn = (counted s number told run is.counts is.found).about.same_turn in
+    let most : run.turn ≤ 999 = (found_valid s number run valid is.found).turn in
+    let last = last-turn told progress stays told_is in
+    let report : IsReport s run.run (More progress) = record {
+      run = run;
+      is_running = ap (λ n. run_numbered n s.runs) named ∙ is.found;
+      is_current = found_narrow s number run is.reached.narrow is.found;
+      may_give = may-report s number i told run work (More progress) is told_is;
+    } in
+    let legal : IsTimeout s run.run = record { progress = progress; report = report; none_left = omega arith } in
+    let gone : State = record s { runs = other_runs run.run s.runs; instances = with_out false run.instance s.instances } in
+    let change = ended s.now Retry in
+    let fine = IsRecord-ended s.now Retry work valid.now tt is.of.running (All-at IsRecord s.works i work valid.records is.at) in
+    record {
+      reported = SomeMore;
+      gave = More progress;
+      told_is = told_is;
+      has_given = (progress, refl);
+      ends = ap (λ n. role.Ends n SomeMore) named;
+      how = refl;
+      step =
+          replacing-step s gone i work change (over run) (event.TimedOut run.run) valid is.at
+          (same-ended work.request.period s.now Retry work).seq fine legal refl
+          (after_timed_out s run.run is.reached legal ∙ ap (λ n. record gone { works = changed_work change n s.works }) (sym is.of.seq));
+    }
+
+-- the wish for one more turn comes with what is told of the progress
+asked-more : (gave : Option Given) → wants_more gave ≡ true → (progress : Option (List DataEntry)) × (gave ≡ Some (More progress))
+asked-more None asks = absurd (false≢true asks)
+asked-more (Some (More progress)) asks = (progress, refl)
+asked-more (Some (Success output)) asks = absurd (false≢true asks)
+asked-more (Some (Failure output)) asks = absurd (false≢true asks)
+asked-more (Some given.Retry) asks = absurd (false≢true asks)
+
+pub returns-in-Some-2 : goal.returns-in-Some-2
+returns-in-Some-2 c =
     let s = c.args.state.now in
     let number = c.args.ticket.now.task.run in
     let told = c.args.told.now in
     let run = c.in-Some.run'.now in
-    let work = c.at-work.result.now in
     let index = c.in-Some-work_index.index in
-    let output = told.input in
-    let found : run_numbered number s.runs ≡ Some run = search rules in
+    let work = c.at-work.result.now in
+    let end = c.in-Some-2.end in
     let work_at : slice_get s.works index ≡ Some work = search rules in
-    let of = at-some (IsWorkOf run) s.works index work work_at c.in-Some-work_index.ensures.1 in
-    let answered : told.answer ≡ answer.Success output = search rules in
-    let built = replacing index c.in_ok-end-2.changed (End run.run run.instance) (event.Finish run.run c.in_ok-end-2.end) in
-    let built_is : built ≡ replacing index (ended s.now (end.Success output) work) (End run.run run.instance) (event.Finish run.run (end.Success output)) =
-    search rules in
-    IfOk-weaker c.replacing.result (λ change. change ≡ built) (IsFinish s number told) (λ change same.
-    subst (IsFinish s number told) (sym (same ∙ built_is))
-    (finish-step s number index told run work output c.requires.valid c.requires.narrow c.requires.counts found work_at of answered refl)) c.replacing.ensures
+    let is : IsReported s number index told run work = record {
+      reached = record { valid = c.requires.valid; narrow = c.requires.narrow };
+      counts = c.requires.counts;
+      allowed = c.answer.ensures.allowed;
+      found = search rules;
+      at = work_at;
+      of = at-some (IsWorkOf run) s.works index work work_at c.in-Some-work_index.ensures.1;
+    } in
+    let said = rw c.in-Some-2.is at c.in_ok-end.ensures in
+    let told_is : given_of told.answer ≡ Some (given_by end) = ap given_of (sym c.answer.ensures.answer) ∙ said in
+    let ending : Ending = record { change = replacing index (ended s.now end work) (over run) (event.Finish run.run end); timed_out = false } in
+    IfOk-weaker c.finish_by.result (λ e. e ≡ ending) (λ e. IsFinish s number told e.timed_out e.change) (λ e same.
+    subst (λ (e : Ending). IsFinish s number told e.timed_out e.change) (sym same) (finish-step s number index told run work end is told_is))
+    c.finish_by.ensures
+
+pub returns-in-None : goal.returns-in-None
+returns-in-None c =
+    let s = c.args.state.now in
+    let number = c.args.ticket.now.task.run in
+    let told = c.args.told.now in
+    let run = c.in-Some.run'.now in
+    let index = c.in-Some-work_index.index in
+    let work = c.at-work.result.now in
+    let work_at : slice_get s.works index ≡ Some work = search rules in
+    let is : IsReported s number index told run work = record {
+      reached = record { valid = c.requires.valid; narrow = c.requires.narrow };
+      counts = c.requires.counts;
+      allowed = c.answer.ensures.allowed;
+      found = search rules;
+      at = work_at;
+      of = at-some (IsWorkOf run) s.works index work work_at c.in-Some-work_index.ensures.1;
+    } in
+    let said = rw c.in-None.is at c.in_ok-end.ensures in
+    let more = asked-more (given_of told.answer) (ap (λ (a : Answer). wants_more (given_of a)) (sym c.answer.ensures.answer) ∙ said) in
+    let ending : Ending = record { change = replacing index (retried s.now work) (over run) (event.TimedOut run.run); timed_out = true } in
+    IfOk-weaker c.time_out.result (λ e. e ≡ ending) (λ e. IsFinish s number told e.timed_out e.change) (λ e same.
+    subst (λ (e : Ending). IsFinish s number told e.timed_out e.change) (sym same)
+    (timeout-step s number index told run work more.0 is c.requires.over more.1)) c.time_out.ensures

@@ -7,7 +7,7 @@ use Rattle.wm_machine.proofs.Records.{IsRecord-started}
 use Rattle.wm_machine.proofs.Starts.{after_start}
 use Rattle.wm_machine.specs.First.{idle_instance}
 use Rattle.wm_machine.specs.Input.{input_of}
-use Rattle.wm_machine.specs.Narrow.{IsNarrow, IsNarrowRecord}
+use Rattle.wm_machine.specs.Narrow.{IsNarrow}
 use Rattle.wm_machine.specs.Runs.{run_on, started, with_start}
 use Rattle.wm_machine.specs.Step.{IsStart}
 use Rattle.wm_machine.specs.Valid.{IsRecord, IsValidRun, Valid}
@@ -59,8 +59,7 @@ start-claims s i work idle input valid narrow first is_idle takes =
       input_is = takes;
     } in
     let reached = after_start s s.next_run work.seq idle.number input legal in
-    let plain = All-at IsNarrowRecord s.works i work narrow.records first.at in
-    let fine = IsRecord-started work (first_of-waiting s work first.is_first) plain (All-at IsRecord s.works i work valid.records first.at) in
+    let fine = IsRecord-started work (first_of-waiting s work first.is_first) (All-at IsRecord s.works i work valid.records first.at) in
     record {
       step =
           replacing-step s (with_start s work idle input) i work started (Begin run) (start_event s work idle input) valid first.at refl fine legal refl

@@ -2,13 +2,13 @@ use Rattle.std.proofs.Common.{refl, ◌∙◌}
 use Rattle.wm_machine.proofs.Firsts.{idle_instance-live}
 use Rattle.wm_machine.proofs.Inputs.{start_refusal-no_input}
 use Rattle.wm_machine.specs.Input.{input_of}
-use Rattle.wm_machine.specs.Narrow.{IsNarrowRecord}
+use Rattle.wm_machine.specs.Narrow.{NamesNone}
 use Rattle.wm_table.proofs.Lookups.{All-at}
 use Rattle.wm_table.proofs.table.starting.start_merged.Goals as goal
 
 pub taken_by-requires : goal.taken_by-requires
 taken_by-requires c =
-    (All-at IsNarrowRecord c.args.state.now.works c.args.index c.args.work.now c.requires.narrow.records c.requires.first.at).no_prerequisite
+    All-at NamesNone c.args.state.now.works c.args.index c.args.work.now c.requires.narrow.records c.requires.first.at
 
 pub start-requires-clause-input : goal.start-requires-clause-input
 start-requires-clause-input c =

@@ -50,6 +50,7 @@ placing-executed s line batch plain valid accepted =
       event = refl;
       step = record {
         fits = record {
+          told = tt;
           replaced = tt;
           removed = tt;
           placed = (refl, tt);

@@ -2,7 +2,7 @@ use Rattle.std.proofs.Common.{◌≡◌, rules}
 use Rattle.std.specs.Option.{option_copied}
 use Rattle.wm_machine.specs.Runs.{run_numbered}
 use Rattle.wm_table.proofs.Lookups.{found-fine}
-use Rattle.wm_table.proofs.table.finishing.run_of.Goals as goal
+use Rattle.wm_table.proofs.table.reports.run_of.Goals as goal
 
 pub returns-clause-run : goal.returns-clause-run
 returns-clause-run c =

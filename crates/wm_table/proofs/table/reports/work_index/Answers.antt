@@ -3,7 +3,7 @@ use Rattle.std.proofs.lemmas.Iterator.{YieldsList-from_slice}
 use Rattle.std.proofs.lemmas.Iterator.Search.{position_from_yields_List}
 use Rattle.wm_machine.specs.declared.record.Record.{Record}
 use Rattle.wm_table.proofs.Lookups.{work-searched}
-use Rattle.wm_table.proofs.table.finishing.work_index.Goals as goal
+use Rattle.wm_table.proofs.table.reports.work_index.Goals as goal
 
 pub returns : goal.returns
 returns c =
