@@ -9,7 +9,7 @@ use Rattle.wm_machine.specs.declared.state.Instance.{Instance}
 use Rattle.wm_machine.specs.declared.state.State.{State}
 use Rattle.wm_session.specs.Bench.{hand_diaries, hand_traits, instance_traits, place_diaries, place_traits}
 use Rattle.wm_session.specs.Ended.{AreHandsBack}
-use Rattle.wm_session.specs.Hands.{instance_of, instances_from, AreEchoes}
+use Rattle.wm_session.specs.Hands.{instance_of, instances_from}
 use Rattle.wm_table.specs.Table.{AreFresh, IsFresh}
 use Rattle.wm_worker.specs.declared.answer.Entry.{Entry}
 use Rattle.wm_worker.specs.declared.kind.Kind.{Kind}
@@ -28,13 +28,13 @@ module _ {B : Type 0} (kind_of : B → Kind) where
   in_order number [] = tt
   in_order number (hand ∷ hands) = (refl, in_order (number + 1) hands)
 
-  fresh : (number : ℕ) (hands : List (Hand B)) → AreEchoes kind_of hands → AllByRecursion IsFresh (instances_from kind_of number hands)
-  fresh number [] echoes = tt
-  fresh number (hand ∷ hands) echoes = (record { out = refl; retired = refl; kind = echoes.0 }, fresh (number + 1) hands echoes.1)
+  fresh : (number : ℕ) (hands : List (Hand B)) → AllByRecursion IsFresh (instances_from kind_of number hands)
+  fresh number [] = tt
+  fresh number (hand ∷ hands) = (record { out = refl; retired = refl }, fresh (number + 1) hands)
 
-  -- workers that are each an Echo are fresh instances
-  pub AreFresh-instances_from : (hands : List (Hand B)) → AreEchoes kind_of hands → AreFresh (instances_from kind_of 0 hands)
-  AreFresh-instances_from hands echoes = record { in_order = in_order 0 hands; all = fresh 0 hands echoes }
+  -- workers are fresh instances
+  pub AreFresh-instances_from : (hands : List (Hand B)) → AreFresh (instances_from kind_of 0 hands)
+  AreFresh-instances_from hands = record { in_order = in_order 0 hands; all = fresh 0 hands }
 
   -- none of them is out
   pub all_in : (number : ℕ) (hands : List (Hand B)) → AllByRecursion (λ (instance : Instance). instance.out ≡ false) (instances_from kind_of number hands)

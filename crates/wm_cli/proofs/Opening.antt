@@ -23,7 +23,7 @@ BeginsSerial-nothing lines instances first log built fresh opened none =
     let opening = opening_state [] instances in
     rw (none, opened)
     (BeginsSerial-goes-on lines lines opening opening [] built refl refl refl
-    (Valid-opening instances fresh) (IsNarrow-opening instances fresh) (omega arith) (AreInOrder-nothing lines opening))
+    (Valid-opening instances fresh) (IsNarrow-opening instances) (omega arith) (AreInOrder-nothing lines opening))
 
 -- a run that ended early
 pub IsSerialRun-early : (lines : List Command) (ended : Status) (first : State) (log : List Event) (last : State) → (ended ≡ status.Done → ⊥)

@@ -24,7 +24,7 @@ use Rattle.wm_session.specs.Bench.{place_diaries}
 use Rattle.wm_session.specs.Causes.{status_by_begin, status_by_keeper}
 use Rattle.wm_session.specs.Ended.{HaveTold, IsSerialEnd, IsSessionStatus, IsUnbegun}
 use Rattle.wm_session.specs.Inputs.{inputs_of}
-use Rattle.wm_session.specs.Hands.{instances_from, AreEchoes}
+use Rattle.wm_session.specs.Hands.{instances_from}
 use Rattle.wm_session.specs.Tells.{Tells}
 use Rattle.wm_session.specs.declared.ended.Ended.{Ended}
 use Rattle.wm_session.specs.declared.status.Status.{Status}
@@ -43,10 +43,10 @@ other_status ended other is differs same = differs (sym is ∙ same)
 -- where an empty store was opened with these workers, a run that ended for want of memory is a serial session that is over
 pub IsSerialEnd-at_once : {K W B : Type 0} (tells : Tells K W B) (commands : List Command) (hands : List (Hand B)) (had : List (Option (List Entry)))
     (table : TableState K) (sink : W) (back : Vec (Hand B) Global) (ended : Ended K W B)
-    → IsEndedAtOnce table sink back ended → HasJustBegun tells.held table → AllByRecursion IsBuilt commands → AreEchoes tells.kind_of hands
+    → IsEndedAtOnce table sink back ended → HasJustBegun tells.held table → AllByRecursion IsBuilt commands
     → table.first ≡ opening_state [] (instances_from tells.kind_of 0 hands) → back.items ≡ hands
     → IsSerialEnd tells (inputs_of tells table commands sink) had ended
-IsSerialEnd-at_once tells commands hands had table sink back ended at begun built echoes opened same =
+IsSerialEnd-at_once tells commands hands had table sink back ended at begun built opened same =
     let instances = instances_from tells.kind_of 0 hands in
     let first : ended.first ≡ opening_state [] instances = at.first ∙ opened in
     let none : ended.log ≡ [] = at.log ∙ begun.log in
@@ -70,7 +70,7 @@ IsSerialEnd-at_once tells commands hands had table sink back ended at begun buil
           (at.last ∙ begun.state ∙ opened) (ap (λ v. v.items) at.hands_are ∙ same);
       diaries = λ done. absurd (early done);
       serial = IsSerialRun-early commands ended.status ended.first ended.log ended.last early
-          (BeginsSerial-nothing commands instances ended.first ended.log built (AreFresh-instances_from tells.kind_of hands echoes) first none);
+          (BeginsSerial-nothing commands instances ended.first ended.log built (AreFresh-instances_from tells.kind_of hands) first none);
     }
 
 -- ---- a run whose table was begun

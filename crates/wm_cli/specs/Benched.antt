@@ -6,15 +6,14 @@ use Rattle.wm_bench.specs.declared.place.Place.{Place}
 use Rattle.wm_keeper.specs.declared.row.Row.{Row}
 use Rattle.wm_machine.specs.Opened.{opening_state}
 use Rattle.wm_machine.specs.declared.state.State.{State}
-use Rattle.wm_session.specs.Hands.{instances_from, AreEchoes}
+use Rattle.wm_session.specs.Hands.{instances_from}
 use Rattle.wm_table.specs.Table.{HoldsRowsOf}
 use Rattle.wm_table.specs.TableState.{TableState}
 use Rattle.wm_worker.specs.declared.kind.Kind.{Kind}
 
--- some workers, each an Echo, are at these places, and an empty store opened to this state with them
+-- some workers are at these places, and an empty store opened to this state with them
 pub record AreBenched {B : Type 0} (kind_of : B → Kind) (places : List (Place B)) (first : State) : Type 0 where
   pub hands : List (Hand B)
-  pub echoes : AreEchoes kind_of hands
   pub at_places : places ≡ map place_of hands
   pub opened : first ≡ opening_state [] (instances_from kind_of 0 hands)
 

@@ -17,7 +17,7 @@ ghost use Rattle.wm_script.specs.declared.limits.TheConstants.{MAX_SCRIPT_BYTES}
 ghost use Rattle.wm_session.specs.Bench.{place_diaries};
 ghost use Rattle.wm_session.specs.Inputs.{inputs_of};
 ghost use Rattle.wm_session.specs.Ended.{IsSerialEnd, IsTextWritten};
-ghost use Rattle.wm_session.specs.Hands.{instances_from, AreEchoes};
+ghost use Rattle.wm_session.specs.Hands.{instances_from};
 ghost use Rattle.wm_session.specs.Tells.{tells_of};
 
 use crate::instances::instances_of;
@@ -68,7 +68,6 @@ fn run_commands<W: Sink, K: Keeper, B: Worker>(
     mut keeper: K,
 ) -> Ended<K, W, B>
     requires few_hands { vec_len hands ≤ MAX_HANDS }
-    requires echoes { AreEchoes B.kind_of hands.items }
     requires built { AllByRecursion IsBuilt commands }
     requires few { length commands < 2 ^ 32 }
     ensures { IsRunEnd (tells_of K.held K.faults W.given W.faults B.kind_of B.diary_of)
@@ -101,7 +100,6 @@ fn run_begun<W: Sink, K: Keeper, B: Worker>(
     sink: W,
 ) -> Ended<K, W, B>
     requires few_hands { vec_len hands ≤ MAX_HANDS }
-    requires echoes { AreEchoes B.kind_of hands.items }
     requires built { AllByRecursion IsBuilt commands }
     requires few { length commands < 2 ^ 32 }
     requires first { table.first ≡ opening_state [] (instances_from B.kind_of 0 hands.items) }
@@ -176,9 +174,9 @@ fn end_at_once<W: Sink, K: Keeper, B: Worker>(
 /// command the works that may start are driven to their ends by the workers.
 ///
 /// The words are those of the command line after the program's name. The workers are boxed by
-/// whoever calls, or of any one type; each is an Echo, and there are at most 10,000. What comes
-/// back is how the run ended, with the log of its events between the first state and the last, the
-/// keeper, the sink and the workers. Each status has its cause: see [`Status`].
+/// whoever calls, or of any one type; they are of any kinds, and at most 10,000. What comes back is
+/// how the run ended, with the log of its events between the first state and the last, the keeper,
+/// the sink and the workers. Each status has its cause: see [`Status`].
 pub fn run<S: Source, W: Sink + Send, K: Keeper + Send, B: Worker>(
     alloc: Global,
     words: &[String],
@@ -188,7 +186,6 @@ pub fn run<S: Source, W: Sink + Send, K: Keeper + Send, B: Worker>(
     keeper: K,
 ) -> Ended<K, W, B>
     requires few_hands { vec_len hands ≤ MAX_HANDS }
-    requires echoes { AreEchoes B.kind_of hands.items }
 
     // The log replays, from the state that the rows held opened to, as the state machine.
     ensures replay { IsReplayed (K.held keeper) (instances_from B.kind_of 0 hands.items)

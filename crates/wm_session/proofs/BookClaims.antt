@@ -1,19 +1,21 @@
 -- A book after a claim: what a start keeps, and one that fails.
-use Rattle.std.proofs.Common.{◌≡◌, ℕ, ◌+◌, true, List, map, Some, None, option_map, refl, sym, ◌∙◌, ap, subst, arith}
+use Rattle.std.proofs.Common.{◌≡◌, ℕ, ◌+◌, true, List, map, Option, Some, None, IsSomeAnd, option_map, refl, sym, ◌∙◌, ap, subst, arith}
 use Rattle.wm_bench.specs.Places.{changed_at, made_away, idle_at}
 use Rattle.wm_bench.specs.Seat.{Seat}
 use Rattle.wm_bench.specs.declared.place.Place.{Place}
 use Rattle.wm_data.specs.declared.data.DataEntry.{DataEntry}
 use Rattle.wm_machine.proofs.Firsts.{idle_instance-idle, idle_instance-stored}
+use Rattle.wm_machine.proofs.Narrows.{found_valid}
 use Rattle.wm_machine.proofs.Steps.{framed, kept as kept_by}
 use Rattle.wm_machine.specs.Frame.{Frame}
 use Rattle.wm_machine.specs.Runs.{run_numbered, with_out}
+use Rattle.wm_machine.specs.Valid.{Valid}
 use Rattle.wm_machine.specs.declared.event.Cause.{Cause}
 use Rattle.wm_machine.specs.declared.event.Event.TheVariants as event
 use Rattle.wm_machine.specs.declared.event.Event.{Event}
+use Rattle.wm_machine.specs.declared.state.Run.{Run}
 use Rattle.wm_machine.specs.declared.state.State.{State}
-use Rattle.wm_session.proofs.PlacesAndInstances.{away-changed, away-taken, idle_at-in, kind-Echo, no_seat, seat_is, traits-taken, traits-with_out}
-use Rattle.wm_session.proofs.BookEvents.{ticket_kind}
+use Rattle.wm_session.proofs.PlacesAndInstances.{away-changed, away-taken, idle_at-in, kind-of_run, no_seat, seat_is, traits-taken, traits-with_out}
 use Rattle.wm_session.proofs.BookParts.{AwayInvariant-from, claimed_step}
 use Rattle.wm_session.specs.Bench.{instance_traits, is_away, place_traits}
 use Rattle.wm_session.specs.Book as book
@@ -22,12 +24,24 @@ use Rattle.wm_session.specs.Inputs.{Inputs}
 use Rattle.wm_session.specs.Invariant.{BookInvariant}
 use Rattle.wm_session.specs.Tells.{Tells}
 use Rattle.wm_table.specs.Table.{IsClaimAnswer, IsOneStep, IsTicketIn}
-use Rattle.wm_table.specs.TableState.{TableState, TicketState}
+use Rattle.wm_table.specs.TableState.{TableState, TicketState, ticket_of}
 use Rattle.wm_session.specs.declared.book.Stop.{Stop}
 use Rattle.wm_table.specs.declared.table.Claim.TheVariants as claim
 use Rattle.wm_table.specs.declared.table.Claim.{Claim}
 use Rattle.wm_worker.specs.Signal.{SignalState}
+use Rattle.wm_worker.specs.declared.kind.Kind.{Kind}
 use Rattle.wm_session.proofs.BookSteps.{IsTold, away_now, reached, reached_after, BookInvariant-event}
+
+-- the worker at the place of a ticket's instance is of the ticket's kind
+ticket_kind : {B : Type 0} (kind_of : B → Kind) (worker : B) (s : State) (ticket : TicketState) (found : Option Run) (places : List (Place B)) → Valid s
+    → map (place_traits kind_of) places ≡ map instance_traits s.instances → run_numbered ticket.task.run s.runs ≡ found
+    → IsSomeAnd found (λ run. ticket ≡ ticket_of run) → idle_at ticket.instance places ≡ Some worker → kind_of worker ≡ ticket.kind
+ticket_kind kind_of worker s ticket None places valid same is stands idle = absurd stands
+ticket_kind kind_of worker s ticket (Some run) places valid same is stands idle =
+    let here : run.instance ≡ 0 + ticket.instance = ap (λ (t : TicketState). t.instance) (sym stands) ∙ omega arith in
+    kind-of_run kind_of worker run ticket.instance 0 places s.instances valid.numbered same
+    (found_valid s ticket.task.run run valid is).instance here idle
+    ∙ ap (λ (t : TicketState). t.kind) (sym stands)
 
 module _ {K W B : Type 0} {run : Inputs} {tells : Tells K W B} where
   -- the worker of the instance that starts is at its place
@@ -43,6 +57,19 @@ module _ {K W B : Type 0} {run : Inputs} {tells : Tells K W B} where
       (idle_instance-stored instances start.work.request.class start.idle start.is_idle)
       (idle_instance-idle instances start.work.request.class start.idle start.is_idle).is_in is
       (no_seat place (idle_at place old.places) none)
+
+  -- the workers are those of the instances after a claim
+  claimed_traits : (claimed : Claim) (old : BookState K W B) (table : TableState K) → BookInvariant run tells old
+      → IsClaimAnswer tells.held (Some claimed) old.table table
+      → map (place_traits tells.kind_of) old.places ≡ map instance_traits table.state.instances
+  claimed_traits (claim.Run ticket) old table kept claimed =
+      let s = old.table.state in
+      let start = event.Start ticket.task.run ticket.seq ticket.instance ticket.task.input in
+      let instances : table.state.instances ≡ with_out true ticket.instance s.instances =
+      ap (λ (t : State). t.instances) claimed.step.state ∙ ap (λ (f : Frame). f.instances) (framed s start claimed.step.legal).frame_is in
+      kept.workers ∙ sym (traits-with_out true ticket.instance s.instances) ∙ ap (map instance_traits) (sym instances)
+  claimed_traits (claim.Failed seq cause) old table kept step =
+      kept.workers ∙ ap (λ (t : State). map instance_traits t.instances) (sym step.state)
 
   -- a run began and was told
   pub BookInvariant-begun : {old : BookState K W B} (table : TableState K) (places : List (Place B)) (pending : List ℕ) (sink : W)
@@ -88,9 +115,9 @@ module _ {K W B : Type 0} {run : Inputs} {tells : Tells K W B} where
         step = step;
         ticket_in = ticket_in;
         number = seated.1 ∙ same;
-        kind = kind-Echo tells.kind_of seat.worker ticket.instance old.places old.table.state.instances kept.narrow.echoes kept.workers there
-            ∙ sym (ticket_kind table.state ticket (run_numbered ticket.task.run table.state.runs)
-            (reached_after start old (record old { table = table; places = places }) kept step) refl ticket_in);
+        kind = ticket_kind tells.kind_of seat.worker table.state ticket (run_numbered ticket.task.run table.state.runs) old.places
+            (reached_after start old (record old { table = table; places = places }) kept step).valid
+            (claimed_traits (claim.Run ticket) old table kept (record { step = step; ticket_in = ticket_in })) refl ticket_in there;
         worker = there;
         places = are ∙ ap (λ n. changed_at (made_away tells.kind_of) n old.places) same;
         signal_is = signal_is;
@@ -128,18 +155,6 @@ module _ {K W B : Type 0} {run : Inputs} {tells : Tells K W B} where
 
   -- ---- a claim that couldn't be told
 
-  untold_traits : (claimed : Claim) (old : BookState K W B) (table : TableState K) → BookInvariant run tells old
-      → IsClaimAnswer tells.held (Some claimed) old.table table
-      → map (place_traits tells.kind_of) old.places ≡ map instance_traits table.state.instances
-  untold_traits (claim.Run ticket) old table kept claimed =
-      let s = old.table.state in
-      let start = event.Start ticket.task.run ticket.seq ticket.instance ticket.task.input in
-      let instances : table.state.instances ≡ with_out true ticket.instance s.instances =
-      ap (λ (t : State). t.instances) claimed.step.state ∙ ap (λ (f : Frame). f.instances) (framed s start claimed.step.legal).frame_is in
-      kept.workers ∙ sym (traits-with_out true ticket.instance s.instances) ∙ ap (map instance_traits) (sym instances)
-  untold_traits (claim.Failed seq cause) old table kept step =
-      kept.workers ∙ ap (λ (t : State). map instance_traits t.instances) (sym step.state)
-
   -- the session stopped while the claim was told, and its ticket was taken back
   pub BookInvariant-untold : {old : BookState K W B} (claimed : Claim) (between table : TableState K) (pending : List ℕ) (sink : W) (stop : Stop)
       → BookInvariant run tells old → old.status ≡ None → IsClaimAnswer tells.held (Some claimed) old.table between → table ≡ between
@@ -150,4 +165,4 @@ module _ {K W B : Type 0} {run : Inputs} {tells : Tells K W B} where
       let step = claimed_step tells.held claimed old.table between done in
       subst (λ t. BookInvariant run tells (record old { table = t; pending = pending; sink = sink; status = Some stop })) (sym same)
       (BookInvariant-event step.0 old between old.places pending sink (Some stop) kept going step.1 step.2 (told step.0 step.1)
-      (untold_traits claimed old between kept done) tt no_fault)
+      (claimed_traits claimed old between kept done) tt no_fault)

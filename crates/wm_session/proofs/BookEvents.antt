@@ -1,22 +1,23 @@
--- What an event tells of the lines, and what one that ends a run makes of a state.
-use Rattle.std.proofs.Common.{◌≡◌, ℕ, ◌+◌, ◌≤◌, List, [], ◌∷◌, ◌++◌, Option, Some, None, IsSomeAnd, sym, ◌∙◌, ap, subst}
-use Rattle.wm_machine.proofs.Narrows.{found_valid, run_kind}
+-- What an event tells of the lines, and what one by which a run ends or goes on makes of a state.
+use Rattle.std.proofs.Common.{◌≡◌, ℕ, ◌+◌, ◌≤◌, cond, eqb, not, List, [], ◌∷◌, ◌++◌, length, Option, Some, refl, sym, ap, subst}
+use Rattle.std.proofs.lemmas.Bool.{cond_both}
+use Rattle.std.proofs.lemmas.List.{length-map}
+use Rattle.wm_data.specs.declared.data.DataEntry.{DataEntry}
 use Rattle.wm_machine.proofs.Steps.{framed, kept as kept_by}
 use Rattle.wm_machine.specs.Frame.{frame_of, Frame, IsEndedIn, IsFramed}
 use Rattle.wm_machine.specs.Role as role
+use Rattle.wm_machine.specs.Role.{Reported}
 use Rattle.wm_machine.specs.Serial.{IsInTurn, IsTurnOf}
-use Rattle.wm_machine.specs.Step.{after, role_of, Legal}
+use Rattle.wm_machine.specs.Step.{after, role_of, IsTurn, Legal}
+use Rattle.wm_machine.specs.Turns.{turned, with_turned}
 use Rattle.wm_machine.specs.Waiting.{left_to_drain, LeavesOf}
-use Rattle.wm_worker.specs.declared.answer.Given.{Given}
 use Rattle.wm_machine.specs.Log.{command_in, AreNumberedFrom}
 use Rattle.wm_machine.specs.Narrow.{IsReached}
-use Rattle.wm_machine.specs.Runs.{run_numbered}
+use Rattle.wm_machine.specs.Runs.{other_runs, run_numbered}
 use Rattle.wm_machine.specs.declared.event.Event.TheVariants as event
 use Rattle.wm_machine.specs.declared.event.Event.{Event}
 use Rattle.wm_machine.specs.declared.state.Run.{Run}
 use Rattle.wm_machine.specs.declared.state.State.{State}
-use Rattle.wm_table.specs.TableState.{TicketState, ticket_of}
-use Rattle.wm_worker.specs.declared.kind.Kind.TheVariants.{Echo}
 
 -- ---- events that aren't commands
 
@@ -30,31 +31,53 @@ AreNumberedFrom-silent line [] e is numbered = numbered_alone line e is
 AreNumberedFrom-silent line (event.Command number asked reply ∷ log) e is numbered = (numbered.0, AreNumberedFrom-silent (line + 1) log e is numbered.1)
 AreNumberedFrom-silent line (_ ∷ log) e is numbered = AreNumberedFrom-silent line log e is numbered
 
--- ---- the kind of a run
-
--- a ticket in a state that is reached is of an Echo
-pub ticket_kind : (s : State) (ticket : TicketState) (found : Option Run) → IsReached s → run_numbered ticket.task.run s.runs ≡ found
-    → IsSomeAnd found (λ run. ticket ≡ ticket_of run) → ticket.kind ≡ Echo
-ticket_kind s ticket None reached is stands = absurd stands
-ticket_kind s ticket (Some run) reached is stands =
-    ap (λ (t : TicketState). t.kind) stands ∙ run_kind s run reached.narrow (found_valid s ticket.task.run run reached.valid is)
-
 -- ---- an event that ends a run
 
 -- what it makes of all but the records
-pub framed_end : (s : State) (number : ℕ) (gave : Given) (e : Event) → role_of e ≡ role.Ends number gave → Legal s e → IsEndedIn number gave s (frame_of s e)
+pub framed_end : (s : State) (number : ℕ) (gave : Reported) (e : Event) → role_of e ≡ role.Ends number gave → Legal s e → IsEndedIn number gave s (frame_of s e)
 framed_end s number gave e ends legal = subst (λ r. IsFramed r s (frame_of s e)) ends (framed s e legal)
 
 -- it is no line
-pub silent_end : (s : State) (number : ℕ) (gave : Given) (e : Event) → role_of e ≡ role.Ends number gave → Legal s e → command_in e ≡ []
+pub silent_end : (s : State) (number : ℕ) (gave : Reported) (e : Event) → role_of e ≡ role.Ends number gave → Legal s e → command_in e ≡ []
 silent_end s number gave e ends legal = ap (λ (f : Frame). f.commands) (framed_end s number gave e ends legal).frame_is
 
 -- it comes in its turn always
-pub end_in_turn : (s : State) (number : ℕ) (gave : Given) (e : Event) → role_of e ≡ role.Ends number gave → IsInTurn s e
+pub end_in_turn : (s : State) (number : ℕ) (gave : Reported) (e : Event) → role_of e ≡ role.Ends number gave → IsInTurn s e
 end_in_turn s number gave e ends = subst (λ r. IsTurnOf r s) (sym ends) tt
 
 -- it leaves no more to drain
-pub no_more_after_end : (s : State) (number : ℕ) (gave : Given) (e : Event) → role_of e ≡ role.Ends number gave → IsReached s → Legal s e
+pub no_more_after_end : (s : State) (number : ℕ) (gave : Reported) (e : Event) → role_of e ≡ role.Ends number gave → IsReached s → Legal s e
     → left_to_drain (after s e) ≤ left_to_drain s
 no_more_after_end s number gave e ends reached legal =
     subst (λ r. LeavesOf r (left_to_drain s) (left_to_drain (after s e))) ends (kept_by s e reached legal).left
+
+-- ---- an event by which a run goes on
+
+-- it leaves no more to drain
+pub no_more_after_turn : (s : State) (number : ℕ) (progress : Option (List DataEntry)) → IsReached s → IsTurn s number progress
+    → left_to_drain (after s (event.Turn number progress)) ≤ left_to_drain s
+no_more_after_turn s number progress reached legal = (kept_by s (event.Turn number progress) reached legal).left
+
+-- the run of its number is at its next turn
+pub run_numbered-turned : (number : ℕ) (runs : List Run) (run : Run) → run_numbered number runs ≡ Some run
+    → run_numbered number (with_turned number runs) ≡ Some (turned run)
+run_numbered-turned number [] run found = absurd (cc)
+run_numbered-turned number (other ∷ runs) run found =
+    cond_both (eqb other.run number) (turned other) other
+    (λ now. cond (eqb now.run number) (Some now) (run_numbered number (with_turned number runs)) ≡ Some (turned run))
+    (λ e. let same : other ≡ run = let is = rw e at found in cc in rw e (ap (λ one. Some (turned one)) same))
+    (λ e. rw e (run_numbered-turned number runs run (rw e at found)))
+
+-- the others stay
+pub other_runs-turned : (number : ℕ) (runs : List Run) → other_runs number (with_turned number runs) ≡ other_runs number runs
+other_runs-turned number [] = refl
+other_runs-turned number (run ∷ runs) =
+    cond_both (eqb run.run number) (turned run) run
+    (λ now. cond (not (eqb now.run number)) (now ∷ other_runs number (with_turned number runs)) (other_runs number (with_turned number runs))
+    ≡ other_runs number (run ∷ runs))
+    (λ e. rw e (other_runs-turned number runs))
+    (λ e. rw e (ap (λ rest. run ∷ rest) (other_runs-turned number runs)))
+
+-- they are as many
+pub length-turned : (number : ℕ) (runs : List Run) → length (with_turned number runs) ≡ length runs
+length-turned number runs = length-map runs (λ (run : Run). cond (eqb run.run number) (turned run) run)

@@ -1,13 +1,18 @@
--- A book after the end of a run.
-use Rattle.std.proofs.Common.{◌≡◌, ℕ, ◌+◌, false, List, map, Option, Some, None, IsSomeAnd, refl, sym, ◌∙◌, ap, subst, arith}
+-- A book after the end of a run, and after a turn by which it goes on.
+use Rattle.std.proofs.Common.{◌≡◌, ◌⊎◌, ℕ, ◌+◌, Bool, true, false, List, map, Option, Some, None, IsSomeAnd, refl, sym, ◌∙◌, ap, subst, inl, inr, arith}
 use Rattle.wm_bench.specs.Places.{changed_at, made_idle, IsAwayAt}
 use Rattle.wm_bench.specs.Seat.{Seat}
 use Rattle.wm_bench.specs.declared.place.Place.{Place}
+use Rattle.wm_keeper.specs.declared.row.Row.{Row}
+use Rattle.wm_machine.proofs.Turns.{after_turn}
 use Rattle.wm_machine.specs.Frame.{Frame}
 use Rattle.wm_machine.specs.Runs.{with_out}
+use Rattle.wm_machine.specs.declared.event.Event.{Event}
+use Rattle.wm_machine.specs.declared.event.Event.TheVariants as event
+use Rattle.wm_machine.specs.declared.state.Instance.{Instance}
 use Rattle.wm_machine.specs.declared.state.State.{State}
 use Rattle.wm_session.proofs.PlacesAndInstances.{away-changed, traits-given, traits-with_out}
-use Rattle.wm_session.proofs.BookEvents.{framed_end, no_more_after_end, silent_end}
+use Rattle.wm_session.proofs.BookEvents.{framed_end, no_more_after_end, no_more_after_turn, silent_end}
 use Rattle.wm_session.proofs.BookParts.{AwayInvariant-from}
 use Rattle.wm_session.specs.Bench.{instance_traits, is_away, place_traits}
 use Rattle.wm_session.specs.Book as book
@@ -15,66 +20,104 @@ use Rattle.wm_session.specs.BookState.{BookState}
 use Rattle.wm_session.specs.Inputs.{Inputs}
 use Rattle.wm_session.specs.Invariant.{BookInvariant}
 use Rattle.wm_session.specs.Tells.{Tells}
-use Rattle.wm_table.specs.Table.{CountsIn, IsFinished, Stands}
+use Rattle.wm_table.specs.Table.{HasGoneOn, IsOneStep, IsTurnAnswer, IsTurnOver, Stands, TurnCause}
+use Rattle.wm_table.specs.declared.table.TurnAnswer.{TurnAnswer}
+use Rattle.wm_table.specs.declared.table.TurnAnswer.TheVariants as turn
 use Rattle.wm_table.specs.TableState.{TableState, TicketState}
 use Rattle.wm_session.specs.declared.book.Stop.{Stop}
 use Rattle.wm_worker.specs.Told.{Report}
 use Rattle.wm_session.proofs.BookSteps.{IsTold, away_now, reached, BookInvariant-event}
 
+-- an answer of the table by which a run is over
+abbrev pub IsEndAnswer : TurnAnswer → Type 0
+IsEndAnswer answer = (answer ≡ turn.Finished) ⊎ (answer ≡ turn.TimedOut)
+
+-- a report counts, and its run is over, for want of a turn or not
+record HasEnded {K : Type 0} (held : K → Option (List Row)) (ticket : TicketState) (told : Report) (old new : TableState K) : Type 0 where
+  timed_out : Bool
+  over : IsTurnOver held ticket told timed_out old new
+
+ended_by : {K : Type 0} (held : K → Option (List Row)) (ticket : TicketState) (told : Report) (answer : TurnAnswer) (old new : TableState K)
+    → IsEndAnswer answer → IsTurnAnswer held ticket told answer old new → HasEnded held ticket told old new
+ended_by held ticket told answer old new (inl is) answered =
+    record { timed_out = false; over = subst (λ a. IsTurnAnswer held ticket told a old new) is answered }
+ended_by held ticket told answer old new (inr is) answered =
+    record { timed_out = true; over = subst (λ a. IsTurnAnswer held ticket told a old new) is answered }
+
+-- and no fault was counted
+unfaulted_end : (answer : TurnAnswer) (before now : ℕ) → IsEndAnswer answer → TurnCause answer before now → now ≡ before
+unfaulted_end answer before now (inl is) cause = subst (λ a. TurnCause a before now) is cause
+unfaulted_end answer before now (inr is) cause = subst (λ a. TurnCause a before now) is cause
+
+-- the instances stay where a run goes on
+turned_instances : {K : Type 0} (held : K → Option (List Row)) (old table : TableState K) (ticket next : TicketState) (told : Report)
+    → HasGoneOn held ticket told next old table → table.state.instances ≡ old.state.instances
+turned_instances held old table ticket next told on =
+    ap (λ (t : State). t.instances) (on.step.state ∙ after_turn old.state ticket.task.run on.progress on.step.legal)
+
 module _ {K W B : Type 0} {run : Inputs} {tells : Tells K W B} where
   pub IsOver-ended : {old : BookState K W B} (table : TableState K) (places : List (Place B)) (pending : List ℕ) (sink : W) (ticket : TicketState)
-      (seat : Seat B) (told : Report)
-      → BookInvariant run tells old → old.status ≡ None → CountsIn old.table.state ticket.task.run told
-      → IsFinished tells.held ticket.task.run told old.table table → places ≡ changed_at (made_idle seat.worker) seat.number old.places
+      (seat : Seat B) (told : Report) (answer : TurnAnswer)
+      → BookInvariant run tells old → old.status ≡ None → IsEndAnswer answer → IsTurnAnswer tells.held ticket told answer old.table table
+      → places ≡ changed_at (made_idle seat.worker) seat.number old.places
       → book.IsOver tells.held ticket seat told old (record old { table = table; places = places; pending = pending; sink = sink })
-  IsOver-ended {old = old} table places pending sink ticket seat told kept going counts ended are = record {
-    goes_on = record { before = going; now = going };
-    counts = counts;
-    ended = ended;
-    places = are;
-    left = refl;
-    no_more = rw ended.step.state
-        (no_more_after_end old.table.state ticket.task.run ended.gave ended.ending ended.ends (reached kept) ended.step.legal);
-  }
+  IsOver-ended {old = old} table places pending sink ticket seat told answer kept going ends answered are =
+      let over = ended_by tells.held ticket told answer old.table table ends answered in
+      let ended = over.over.finished in
+      record {
+        timed_out = over.timed_out;
+        goes_on = record { before = going; now = going };
+        counts = over.over.counts;
+        ended = ended;
+        places = are;
+        left = refl;
+        no_more = rw ended.step.state
+            (no_more_after_end old.table.state ticket.task.run ended.reported ended.ending ended.ends (reached kept) ended.step.legal);
+      }
 
   -- the session stopped while that was told
   pub IsEndUntold-ended : {old : BookState K W B} (table : TableState K) (places : List (Place B)) (pending : List ℕ) (sink : W) (stop : Stop)
-      (ticket : TicketState) (told : Report)
-      → BookInvariant run tells old → old.status ≡ None → CountsIn old.table.state ticket.task.run told
-      → IsFinished tells.held ticket.task.run told old.table table
+      (ticket : TicketState) (told : Report) (answer : TurnAnswer)
+      → BookInvariant run tells old → old.status ≡ None → IsEndAnswer answer → IsTurnAnswer tells.held ticket told answer old.table table
       → book.IsEndUntold tells.held ticket told old
       (record old { table = table; places = places; pending = pending; sink = sink; status = Some stop })
-  IsEndUntold-ended {old = old} table places pending sink stop ticket told kept going counts ended = record {
-    before = going;
-    status = refl;
-    counts = counts;
-    ended = ended;
-    left = refl;
-    no_more = rw ended.step.state
-        (no_more_after_end old.table.state ticket.task.run ended.gave ended.ending ended.ends (reached kept) ended.step.legal);
-  }
+  IsEndUntold-ended {old = old} table places pending sink stop ticket told answer kept going ends answered =
+      let over = ended_by tells.held ticket told answer old.table table ends answered in
+      let ended = over.over.finished in
+      record {
+        timed_out = over.timed_out;
+        before = going;
+        status = refl;
+        counts = over.over.counts;
+        ended = ended;
+        left = refl;
+        no_more = rw ended.step.state
+            (no_more_after_end old.table.state ticket.task.run ended.reported ended.ending ended.ends (reached kept) ended.step.legal);
+      }
 
   -- a run is over, and its text told or not
   pub BookInvariant-over : {old : BookState K W B} (table : TableState K) (places : List (Place B)) (pending : List ℕ) (sink : W) (status : Option Stop)
-      (ticket : TicketState) (place : ℕ) (told : Report) (worker : B) (ended : IsFinished tells.held ticket.task.run told old.table table)
+      (ticket : TicketState) (place : ℕ) (told : Report) (worker : B) (answer : TurnAnswer)
       → BookInvariant run tells old → old.status ≡ None → Stands old.table.state ticket → place ≡ ticket.instance
       → IsAwayAt place (tells.kind_of worker) old.places → places ≡ changed_at (made_idle worker) place old.places
-      → IsTold run tells ended.ending old table pending sink status
-      → tells.keeper_faults table.keeper ≡ tells.keeper_faults old.table.keeper
+      → IsEndAnswer answer → IsTurnAnswer tells.held ticket told answer old.table table
+      → TurnCause answer (tells.keeper_faults old.table.keeper) (tells.keeper_faults table.keeper)
+      → ((e : Event) → IsOneStep tells.held e old.table table → IsTold run tells e old table pending sink status)
       → BookInvariant run tells (record old { table = table; places = places; pending = pending; sink = sink; status = status })
-  BookInvariant-over {old = old} table places pending sink status ticket place told worker ended kept going stands same away are written no_fault =
+  BookInvariant-over {old = old} table places pending sink status ticket place told worker answer kept going stands same away are ends answered cause written =
       let s = old.table.state in
+      let ended = (ended_by tells.held ticket told answer old.table table ends answered).over.finished in
       let number = ticket.task.run in
       let e = ended.ending in
       let step = ended.step in
-      let made = framed_end s number ended.gave e ended.ends step.legal in
+      let made = framed_end s number ended.reported e ended.ends step.legal in
       let on = subst (λ found. IsSomeAnd found (λ run. (run.instance ≡ ticket.instance) × (run.kind ≡ ticket.kind))) made.is_running stands in
       let instances : table.state.instances ≡ with_out false ticket.instance s.instances =
       ap (λ (t : State). t.instances) step.state
       ∙ ap (λ (f : Frame). f.instances) made.frame_is
       ∙ ap (λ number. with_out false number s.instances) on.0 in
       let from_zero : 0 + place ≡ ticket.instance = omega arith ∙ same in
-      BookInvariant-event e old table places pending sink status kept going step (silent_end s number ended.gave e ended.ends step.legal) written
+      BookInvariant-event e old table places pending sink status kept going step (silent_end s number ended.reported e ended.ends step.legal) (written e step)
       (ap (map (place_traits tells.kind_of)) are ∙ traits-given tells.kind_of worker place old.places away ∙ kept.workers ∙ sym
       (traits-with_out false ticket.instance s.instances) ∙ ap (map instance_traits) (sym instances))
       (AwayInvariant-from status (record old { table = table; places = places; pending = pending; sink = sink; status = status })
@@ -82,4 +125,64 @@ module _ {K W B : Type 0} {run : Inputs} {tells : Tells K W B} where
       ∙ away-changed (made_idle worker) false place 0 old.places s.instances (λ place. refl) kept.valid.numbered (away_now old going kept.away)
       ∙ ap (λ n. map (λ instance. instance.out) (with_out false n s.instances)) from_zero
       ∙ ap (map (λ instance. instance.out)) (sym instances)))
+      (unfaulted_end answer (tells.keeper_faults old.table.keeper) (tells.keeper_faults table.keeper) ends cause)
+
+  -- ---- a run goes on
+
+  pub IsTurnTold-made : {old : BookState K W B} (table : TableState K) (pending : List ℕ) (sink : W) (ticket next : TicketState) (seat : Seat B)
+      (told : Report)
+      → BookInvariant run tells old → old.status ≡ None → HasGoneOn tells.held ticket told next old.table table
+      → book.IsTurnTold tells.held ticket next seat seat told old (record old { table = table; pending = pending; sink = sink })
+  IsTurnTold-made {old = old} table pending sink ticket next seat told kept going on = record {
+    goes_on = record { before = going; now = going };
+    turn = on;
+    seat_is = refl;
+    places = refl;
+    left = refl;
+    no_more = rw on.step.state (no_more_after_turn old.table.state ticket.task.run on.progress (reached kept) on.step.legal);
+  }
+
+  -- the session stopped while that was told, and the ticket was taken back
+  pub IsTurnUntold-made : {old : BookState K W B} (between table : TableState K) (places : List (Place B)) (pending : List ℕ) (sink : W) (stop : Stop)
+      (ticket next : TicketState) (told : Report)
+      → BookInvariant run tells old → old.status ≡ None → HasGoneOn tells.held ticket told next old.table between → table ≡ between
+      → book.IsTurnUntold tells.held ticket told old
+      (record old { table = table; places = places; pending = pending; sink = sink; status = Some stop })
+  IsTurnUntold-made {old = old} between table places pending sink stop ticket next told kept going on same = record {
+    next = next;
+    before = going;
+    status = refl;
+    turn = subst (HasGoneOn tells.held ticket told next old.table) (sym same) on;
+    left = refl;
+    no_more = rw (same, on.step.state) (no_more_after_turn old.table.state ticket.task.run on.progress (reached kept) on.step.legal);
+  }
+
+  -- a run goes on, and its text is told
+  pub BookInvariant-turned : {old : BookState K W B} (table : TableState K) (pending : List ℕ) (sink : W) (ticket next : TicketState) (told : Report)
+      → BookInvariant run tells old → old.status ≡ None → HasGoneOn tells.held ticket told next old.table table
+      → ((e : Event) → IsOneStep tells.held e old.table table → IsTold run tells e old table pending sink old.status)
+      → tells.keeper_faults table.keeper ≡ tells.keeper_faults old.table.keeper
+      → BookInvariant run tells (record old { table = table; pending = pending; sink = sink })
+  BookInvariant-turned {old = old} table pending sink ticket next told kept going on written no_fault =
+      let instances = turned_instances tells.held old.table table ticket next told on in
+      BookInvariant-event (event.Turn ticket.task.run on.progress) old table old.places pending sink old.status kept going on.step refl
+      (written (event.Turn ticket.task.run on.progress) on.step)
+      (kept.workers ∙ ap (map instance_traits) (sym instances))
+      (AwayInvariant-from old.status (record old { table = table; pending = pending; sink = sink })
+      (away_now old going kept.away ∙ ap (map (λ (instance : Instance). instance.out)) (sym instances)))
       no_fault
+
+  -- the session stopped while that was told: the ticket was taken back, and the worker is at its place again
+  pub BookInvariant-turn_untold : {old : BookState K W B} (between table : TableState K) (places : List (Place B)) (pending : List ℕ) (sink : W)
+      (stop : Stop) (ticket next : TicketState) (told : Report)
+      → BookInvariant run tells old → old.status ≡ None → HasGoneOn tells.held ticket told next old.table between → table ≡ between
+      → map (place_traits tells.kind_of) places ≡ map (place_traits tells.kind_of) old.places
+      → ((e : Event) → IsOneStep tells.held e old.table between → IsTold run tells e old between pending sink (Some stop))
+      → tells.keeper_faults between.keeper ≡ tells.keeper_faults old.table.keeper
+      → BookInvariant run tells (record old { table = table; places = places; pending = pending; sink = sink; status = Some stop })
+  BookInvariant-turn_untold {old = old} between table places pending sink stop ticket next told kept going on same workers written no_fault =
+      let instances = turned_instances tells.held old.table between ticket next told on in
+      subst (λ t. BookInvariant run tells (record old { table = t; places = places; pending = pending; sink = sink; status = Some stop })) (sym same)
+      (BookInvariant-event (event.Turn ticket.task.run on.progress) old between places pending sink (Some stop) kept going on.step refl
+      (written (event.Turn ticket.task.run on.progress) on.step)
+      (workers ∙ kept.workers ∙ ap (map instance_traits) (sym instances)) tt no_fault)

@@ -9,11 +9,14 @@ use Rattle.wm_bench.specs.declared.place.Place.{Place}
 use Rattle.wm_bench.specs.declared.place.Presence.{Presence}
 use Rattle.wm_bench.specs.declared.place.Presence.TheVariants.{Idle, Away}
 use Rattle.wm_keeper.specs.declared.row.Row.{Row}
-use Rattle.wm_machine.proofs.DiaryLogs.{log_entries-push}
-use Rattle.wm_machine.specs.Diaries.{diaries_after, event_entries, log_entries}
+use Rattle.wm_machine.proofs.DiaryLogs.{log_lines-push}
+use Rattle.wm_machine.specs.Diaries.{event_lines, given_lines, log_lines, AreDiariesAfter, AreEntries, DiaryLine, IsDiaryWith, IsEntry}
+use Rattle.wm_machine.specs.Diaries as diary_line
 use Rattle.wm_session.proofs.BookEvents.{framed_end}
 use Rattle.wm_machine.specs.Frame.{Frame}
+use Rattle.wm_machine.specs.Role.{Reported, This}
 use Rattle.wm_machine.specs.Replay.{Replay}
+use Rattle.wm_machine.specs.Runs.{run_numbered}
 use Rattle.wm_machine.specs.declared.event.Event.{Event}
 use Rattle.wm_machine.specs.declared.event.Event.TheVariants as event
 use Rattle.wm_machine.specs.declared.state.Run.{Run}
@@ -21,7 +24,7 @@ use Rattle.wm_machine.specs.declared.state.State.{State}
 use Rattle.wm_session.specs.Bench.{diary_in, place_diaries}
 use Rattle.wm_session.specs.Book.{GoesOn, IsBegun}
 use Rattle.wm_session.specs.BookState.{BookState}
-use Rattle.wm_session.specs.Drive.{IsLastTurn, IsUnderWay, KeepDiariesWith}
+use Rattle.wm_session.specs.Drive.{IsLastTurn, IsOtherTurn, IsUnderWay, KeepDiariesWith}
 use Rattle.wm_session.specs.BetweenRuns.{IsBetweenRuns, KeepDiaries}
 use Rattle.wm_table.specs.Table.{IsOneStep}
 use Rattle.wm_table.specs.TableState.{TableState, TicketState, ticket_of}
@@ -29,81 +32,100 @@ use Rattle.wm_worker.specs.Diary.{diary_with}
 use Rattle.wm_worker.specs.Signal.{SignalState}
 use Rattle.wm_worker.specs.declared.answer.Entry.{Entry}
 use Rattle.wm_worker.specs.declared.answer.Entry.TheVariants.{Begun, Gave}
+use Rattle.wm_worker.specs.declared.answer.Given.TheVariants.{More}
 use Rattle.wm_worker.specs.declared.kind.Kind.{Kind}
 
 -- ---- one diary
 
-diary_with-append : (some more : List Entry) (diary : Option (List Entry)) → diary_with (some ++ more) diary ≡ diary_with more (diary_with some diary)
-diary_with-append some more None = refl
-diary_with-append some more (Some entries) = ap (λ (all : List Entry). Some all) (sym (append_assoc entries some more))
+-- an entry more, as one line more tells it
+AreEntries-push : (lines : List DiaryLine) (entries : List Entry) (line : DiaryLine) (written : Entry) → AreEntries lines entries → IsEntry line written
+    → AreEntries (lines ++ line ∷ []) (entries ++ written ∷ [])
+AreEntries-push [] [] line written are is = (is, refl)
+AreEntries-push [] (other ∷ entries) line written are is = absurd (cc)
+AreEntries-push (first ∷ lines) [] line written are is = absurd are
+AreEntries-push (first ∷ lines) (other ∷ entries) line written are is = (are.0, AreEntries-push lines entries line written are.1 is)
 
-diary_with-nothing : (diary : Option (List Entry)) → diary_with [] diary ≡ diary
-diary_with-nothing None = refl
-diary_with-nothing (Some entries) = ap (λ (all : List Entry). Some all) (append-nil entries)
+IsDiaryWith-push : (lines : List DiaryLine) (line : DiaryLine) (written : Entry) (before now : Option (List Entry)) → IsDiaryWith lines before now
+    → IsEntry line written → IsDiaryWith (lines ++ line ∷ []) before (diary_with (written ∷ []) now)
+IsDiaryWith-push lines line written None now is entry = ap (diary_with (written ∷ [])) is
+IsDiaryWith-push lines line written (Some entries) now is entry = (
+  is.0 ++ written ∷ [],
+  AreEntries-push lines is.0 line written is.1 entry,
+  ap (diary_with (written ∷ [])) is.2 ∙ ap (λ (all : List Entry). Some all) (append_assoc entries is.0 (written ∷ [])),
+)
+
+IsDiaryWith-nothing : (diary : Option (List Entry)) → IsDiaryWith [] diary diary
+IsDiaryWith-nothing None = refl
+IsDiaryWith-nothing (Some entries) = ([], refl, ap (λ (all : List Entry). Some all) (sym (append-nil entries)))
 
 -- ---- the diaries, numbered
 
--- the diaries from this number on, each with the entries of its number
-abbrev diaries_with : (ℕ → List Entry) → ℕ → List (Option (List Entry)) → List (Option (List Entry))
-diaries_with more number [] = []
-diaries_with more number (diary ∷ diaries) = diary_with (more number) diary ∷ diaries_with more (number + 1) diaries
-
-diaries_with-nothing : (more : ℕ → List Entry) (number : ℕ) (diaries : List (Option (List Entry))) → ((n : ℕ) → number ≤ n → more n ≡ [])
-    → diaries_with more number diaries ≡ diaries
-diaries_with-nothing more number [] none = refl
-diaries_with-nothing more number (diary ∷ diaries) none =
-    rw (none number (omega arith), diary_with-nothing diary, diaries_with-nothing more (number + 1) diaries (λ n above. none n (omega arith))) refl
-
--- where one number alone has entries, its diary alone has more
-diaries_with-one : (more : ℕ → List Entry) (here number at : ℕ) (diary : Option (List Entry)) (diaries : List (Option (List Entry))) → at ≡ here + number
-    → ((n : ℕ) → (n ≡ at → ⊥) → more n ≡ [])
-    → diaries_with more here (slice_set diaries number diary) ≡ slice_set diaries number (diary_with (more at) diary)
-diaries_with-one more here number at diary [] is none = refl
-diaries_with-one more here zero at diary (other ∷ diaries) is none =
-    let same : at ≡ here = omega arith in
-    rw (same, diaries_with-nothing more (here + 1) diaries (λ n above. none n (λ e. absurd (omega arith)))) refl
-diaries_with-one more here (suc number) at diary (other ∷ diaries) is none =
-    let nothing : more here ≡ [] = none here (λ e. absurd (omega arith)) in
-    rw (nothing, diary_with-nothing other, diaries_with-one more (here + 1) number at diary diaries (omega arith) none) refl
-
 -- before any event they are as they were
-pub diaries_after-nothing : (number : ℕ) (first : State) (diaries : List (Option (List Entry))) → diaries_after number first [] diaries ≡ diaries
-diaries_after-nothing number first [] = refl
-diaries_after-nothing number first (diary ∷ diaries) = rw (diary_with-nothing diary, diaries_after-nothing (number + 1) first diaries) refl
+pub AreDiariesAfter-nothing : (number : ℕ) (first : State) (diaries : List (Option (List Entry))) → AreDiariesAfter number first [] diaries diaries
+AreDiariesAfter-nothing number first [] = refl
+AreDiariesAfter-nothing number first (diary ∷ diaries) = (IsDiaryWith-nothing diary, AreDiariesAfter-nothing (number + 1) first diaries)
 
--- a longer log, of which each worker has these entries more
-diaries_after-more : (more : ℕ → List Entry) (number : ℕ) (first : State) (log longer : List Event) (diaries : List (Option (List Entry)))
-    → ((n : ℕ) → log_entries n first longer ≡ log_entries n first log ++ more n)
-    → diaries_after number first longer diaries ≡ diaries_with more number (diaries_after number first log diaries)
-diaries_after-more more number first log longer [] entries = refl
-diaries_after-more more number first log longer (diary ∷ diaries) entries =
-    let rest = diaries_after-more more (number + 1) first log longer diaries entries in
-    rw (entries number, diary_with-append (log_entries number first log) (more number) diary, rest) refl
+-- a longer log that tells nothing more of them
+AreDiariesAfter-same : (number : ℕ) (first : State) (log longer : List Event) (before now : List (Option (List Entry)))
+    → ((n : ℕ) → number ≤ n → log_lines n first longer ≡ log_lines n first log) → AreDiariesAfter number first log before now
+    → AreDiariesAfter number first longer before now
+AreDiariesAfter-same number first log longer [] now same are = are
+AreDiariesAfter-same number first log longer (diary ∷ before) [] same are = absurd are
+AreDiariesAfter-same number first log longer (diary ∷ before) (other ∷ now) same are = (
+  subst (λ lines. IsDiaryWith lines diary other) (sym (same number (omega arith))) are.0,
+  AreDiariesAfter-same (number + 1) first log longer before now (λ n above. same n (omega arith)) are.1,
+)
 
--- one event more
-diaries_after-step : {K : Type 0} (held : K → Option (List Row)) (e : Event) (old new : TableState K) (diaries : List (Option (List Entry)))
-    → Replay old.first old.log old.state → IsOneStep held e old new
-    → diaries_after 0 new.first new.log diaries ≡ diaries_with (λ n. event_entries n old.state e) 0 (diaries_after 0 old.first old.log diaries)
-diaries_after-step held e old new diaries replays step =
+-- a longer log that tells of one entry more, of the diary of one number, which has it
+AreDiariesAfter-one : (here number at : ℕ) (first : State) (log longer : List Event) (line : DiaryLine) (written : Entry) (diary : Option (List Entry))
+    (before now : List (Option (List Entry)))
+    → at ≡ here + number → IsEntry line written → log_lines at first longer ≡ log_lines at first log ++ line ∷ []
+    → ((n : ℕ) → (n ≡ at → ⊥) → log_lines n first longer ≡ log_lines n first log)
+    → AreDiariesAfter here first log before (slice_set now number diary)
+    → AreDiariesAfter here first longer before (slice_set now number (diary_with (written ∷ []) diary))
+AreDiariesAfter-one here number at first log longer line written diary [] [] is entry there elsewhere are = refl
+AreDiariesAfter-one here zero at first log longer line written diary [] (other ∷ now) is entry there elsewhere are = absurd (cc)
+AreDiariesAfter-one here (suc number) at first log longer line written diary [] (other ∷ now) is entry there elsewhere are = absurd (cc)
+AreDiariesAfter-one here number at first log longer line written diary (mine ∷ before) [] is entry there elsewhere are = absurd are
+AreDiariesAfter-one here zero at first log longer line written diary (mine ∷ before) (other ∷ now) is entry there elsewhere are =
+    let same : at ≡ here = omega arith in
+    let longer_by : log_lines here first longer ≡ log_lines here first log ++ line ∷ [] =
+    subst (λ n. log_lines n first longer ≡ log_lines n first log ++ line ∷ []) same there in (
+      subst (λ lines. IsDiaryWith lines mine (diary_with (written ∷ []) diary)) (sym longer_by)
+          (IsDiaryWith-push (log_lines here first log) line written mine diary are.0 entry),
+      AreDiariesAfter-same (here + 1) first log longer before now (λ n above. elsewhere n (λ e. absurd (omega arith))) are.1,
+    )
+AreDiariesAfter-one here (suc number) at first log longer line written diary (mine ∷ before) (other ∷ now) is entry there elsewhere are = (
+  subst (λ lines. IsDiaryWith lines mine other) (sym (elsewhere here (λ e. absurd (omega arith)))) are.0,
+  AreDiariesAfter-one (here + 1) number at first log longer line written diary before now (omega arith) entry there elsewhere are.1,
+)
+
+-- an event of which no worker writes anything down
+AreDiariesAfter-silent : {K : Type 0} (held : K → Option (List Row)) (e : Event) (old new : TableState K) (diaries now : List (Option (List Entry)))
+    → Replay old.first old.log old.state → IsOneStep held e old new → ((n : ℕ) → event_lines n old.state e ≡ [])
+    → AreDiariesAfter 0 old.first old.log diaries now → AreDiariesAfter 0 new.first new.log diaries now
+AreDiariesAfter-silent held e old new diaries now replays step none are =
     rw (step.first, step.appended)
-    (diaries_after-more (λ n. event_entries n old.state e) 0 old.first old.log (old.log ++ e ∷ []) diaries
-    (λ n. log_entries-push n old.first old.log old.state e replays))
+    (AreDiariesAfter-same 0 old.first old.log (old.log ++ e ∷ []) diaries now
+    (λ n above. log_lines-push n old.first old.log old.state e replays
+    ∙ ap (λ more. log_lines n old.first old.log ++ more) (none n)
+    ∙ append-nil (log_lines n old.first old.log)) are)
 
 -- an event of which one worker alone writes something down, as its diary has it
-diaries_after-written : {K : Type 0} (held : K → Option (List Row)) (e : Event) (old new : TableState K) (number : ℕ) (more : List Entry)
-    (diary : Option (List Entry)) (now diaries : List (Option (List Entry)))
-    → Replay old.first old.log old.state → IsOneStep held e old new → ((n : ℕ) → event_entries n old.state e ≡ cond (eqb number n) more [])
-    → slice_set now number diary ≡ diaries_after 0 old.first old.log diaries
-    → slice_set now number (diary_with more diary) ≡ diaries_after 0 new.first new.log diaries
-diaries_after-written held e old new number more diary now diaries replays step entries keep =
-    let of_event : ℕ → List Entry = λ n. event_entries n old.state e in
-    let there : of_event number ≡ more = entries number ∙ ap (λ b. cond b more []) (eq-eqb number number refl) in
-    let elsewhere : (n : ℕ) → (n ≡ number → ⊥) → of_event n ≡ [] =
-    λ n other. entries n ∙ ap (λ b. cond b more []) (ne_eqb number n (λ same. other (sym same))) in
-    ap (λ more. slice_set now number (diary_with more diary)) (sym there)
-    ∙ sym (diaries_with-one of_event 0 number number diary now (omega arith) elsewhere)
-    ∙ ap (diaries_with of_event 0) keep
-    ∙ sym (diaries_after-step held e old new diaries replays step)
+AreDiariesAfter-written : {K : Type 0} (held : K → Option (List Row)) (e : Event) (old new : TableState K) (number : ℕ) (line : DiaryLine) (written : Entry)
+    (diary : Option (List Entry)) (diaries now : List (Option (List Entry)))
+    → Replay old.first old.log old.state → IsOneStep held e old new → ((n : ℕ) → event_lines n old.state e ≡ cond (eqb number n) (line ∷ []) [])
+    → IsEntry line written → AreDiariesAfter 0 old.first old.log diaries (slice_set now number diary)
+    → AreDiariesAfter 0 new.first new.log diaries (slice_set now number (diary_with (written ∷ []) diary))
+AreDiariesAfter-written held e old new number line written diary diaries now replays step lines entry are =
+    let longer : (n : ℕ) → log_lines n old.first (old.log ++ e ∷ []) ≡ log_lines n old.first old.log ++ cond (eqb number n) (line ∷ []) [] =
+    λ n. log_lines-push n old.first old.log old.state e replays ∙ ap (λ more. log_lines n old.first old.log ++ more) (lines n) in
+    rw (step.first, step.appended)
+    (AreDiariesAfter-one 0 number number old.first old.log (old.log ++ e ∷ []) line written diary diaries now (omega arith) entry
+    (longer number ∙ ap (λ b. log_lines number old.first old.log ++ cond b (line ∷ []) []) (eq-eqb number number refl))
+    (λ n other. longer n
+    ∙ ap (λ b. log_lines n old.first old.log ++ cond b (line ∷ []) []) (ne_eqb number n (λ same. other (sym same)))
+    ∙ append-nil (log_lines n old.first old.log)) are)
 
 -- ---- the places
 
@@ -139,13 +161,10 @@ no_longer status stopped going = absurd (false≢true (subst IsSome going stoppe
 -- an event of which no worker writes anything down
 pub KeepDiaries-same : {K W B : Type 0} {held : K → Option (List Row)} {e : Event} {old new : BookState K W B} (diary_of : B → Option (List Entry))
     (diaries : List (Option (List Entry))) → IsBetweenRuns old → GoesOn old new → IsOneStep held e old.table new.table → new.places ≡ old.places
-    → ((number : ℕ) → event_entries number old.table.state e ≡ []) → KeepDiaries diary_of diaries old → KeepDiaries diary_of diaries new
+    → ((number : ℕ) → event_lines number old.table.state e ≡ []) → KeepDiaries diary_of diaries old → KeepDiaries diary_of diaries new
 KeepDiaries-same {held = held} {e = e} {old = old} {new = new} diary_of diaries rest goes step places none keep going =
-    let before = diaries_after 0 old.table.first old.table.log diaries in
     rw places
-    (keep goes.before
-    ∙ sym (diaries_with-nothing (λ n. event_entries n old.table.state e) 0 before (λ n above. none n))
-    ∙ sym (diaries_after-step held e old.table new.table diaries rest.replay step))
+    (AreDiariesAfter-silent held e old.table new.table diaries (place_diaries diary_of old.places) rest.replay step none (keep goes.before))
 
 -- a run starts, whose worker is to write down that it began
 pub KeepDiaries-begun : {K W B : Type 0} {held : K → Option (List Row)} {kind_of : B → Kind} {ticket : TicketState} {seat : Seat B} {signal : SignalState}
@@ -154,16 +173,42 @@ pub KeepDiaries-begun : {K W B : Type 0} {held : K → Option (List Row)} {kind_
     → KeepDiariesWith diary_of ticket.instance (diary_with (Begun ticket.task.run ∷ []) (diary_of seat.worker)) diaries new
 KeepDiaries-begun {held = held} {kind_of = kind_of} {ticket = ticket} {seat = seat} {old = old} {new = new} diary_of diaries rest begun keep going =
     let start = event.Start ticket.task.run ticket.seq ticket.instance ticket.task.input in
-    let began = Begun ticket.task.run ∷ [] in
     let away = place_diaries diary_of (changed_at (made_away kind_of) ticket.instance old.places) in
     rw begun.places
-    (diaries_after-written held start old.table new.table ticket.instance began (diary_of seat.worker) away diaries rest.replay begun.step (λ n. refl)
-    (place_diaries-taken kind_of diary_of seat.worker ticket.instance old.places begun.worker ∙ keep begun.goes_on.before))
+    (AreDiariesAfter-written held start old.table new.table ticket.instance (diary_line.Began ticket.task.run) (Begun ticket.task.run) (diary_of seat.worker)
+    diaries away rest.replay begun.step (λ n. refl) refl
+    (subst (AreDiariesAfter 0 old.table.first old.table.log diaries)
+    (sym (place_diaries-taken kind_of diary_of seat.worker ticket.instance old.places begun.worker)) (keep begun.goes_on.before)))
 
 -- the run that a ticket is of is the one that is found
 pub ticket-found : (ticket : TicketState) {found : Option Run} {run : Run} → IsSomeAnd found (λ run. ticket ≡ ticket_of run) → found ≡ Some run
     → ticket ≡ ticket_of run
 ticket-found ticket of_run is = subst (λ found. IsSomeAnd found (λ run. ticket ≡ ticket_of run)) is of_run
+
+-- what an event tells of the run of a ticket whose worker gave this
+lines_of : (ticket : TicketState) (told : Reported) (found : Option Run) (run : Run) (n : ℕ) → found ≡ Some run → ticket ≡ ticket_of run
+    → given_lines n found told ≡ cond (eqb ticket.instance n) (diary_line.Gave ticket.task.run ticket.k told ∷ []) []
+lines_of ticket told found run n is of_run =
+    ap (λ found. given_lines n found told) is
+    ∙ ap (λ (t : TicketState). cond (eqb t.instance n) (diary_line.Gave t.task.run t.k told ∷ []) []) (sym of_run)
+
+-- a run goes on, and its worker has written down what it gave
+pub KeepDiaries-turned : {K W B : Type 0} {held : K → Option (List Row)} {kind_of : B → Kind} {diary_of : B → Option (List Entry)}
+    {ticket next : TicketState} {worker : B} {seat : Seat B} {old new : BookState K W B} (diaries : List (Option (List Entry)))
+    → IsUnderWay ticket old → IsOtherTurn held kind_of diary_of ticket worker next seat old new
+    → KeepDiariesWith diary_of ticket.instance (diary_of worker) diaries old → KeepDiariesWith diary_of next.instance (diary_of seat.worker) diaries new
+KeepDiaries-turned {held = held} {diary_of = diary_of} {ticket = ticket} {next = next} {worker = worker} {seat = seat} {old = old} {new = new} diaries
+    under_way turned keep going =
+    let s = old.table.state in
+    let number = ticket.task.run in
+    let gave = More turned.progress in
+    let report = turned.step.legal.report in
+    let away = place_diaries diary_of old.places in
+    let of_run = ticket-found ticket under_way.ticket_in report.is_running in
+    rw (turned.places, ap (λ (t : TicketState). t.instance) turned.next_is, turned.diary)
+    (AreDiariesAfter-written held (event.Turn number turned.progress) old.table new.table ticket.instance (diary_line.Gave number ticket.k (This gave))
+    (Gave number ticket.k gave) (diary_of worker) diaries away under_way.replay turned.step
+    (λ n. lines_of ticket (This gave) (run_numbered number s.runs) report.run n report.is_running of_run) (gave, refl, refl) (keep turned.goes_on.before))
 
 -- a run is over, and its worker has written down what it gave
 pub KeepDiaries-last : {K W B : Type 0} {held : K → Option (List Row)} {diary_of : B → Option (List Entry)} {ticket : TicketState} {worker : B}
@@ -172,16 +217,17 @@ pub KeepDiaries-last : {K W B : Type 0} {held : K → Option (List Row)} {diary_
     → KeepDiaries diary_of diaries new
 KeepDiaries-last {held = held} {diary_of = diary_of} {ticket = ticket} {worker = worker} {old = old} {new = new} diaries under_way last keep going =
     let s = old.table.state in
-    let legal = last.step.legal in
-    let gave = Gave ticket.task.run ticket.k last.gave ∷ [] in
-    let ended = framed_end s ticket.task.run last.gave last.ending last.ends legal in
+    let number = ticket.task.run in
+    let told = last.reported in
+    let ended = framed_end s number told last.ending last.ends last.step.legal in
     let away = place_diaries diary_of old.places in
     let of_run = ticket-found ticket under_way.ticket_in ended.is_running in
-    rw last.places
-    (place_diaries-back diary_of last.back ticket.instance old.places
-    ∙ ap (slice_set away ticket.instance) last.diary
-    ∙ diaries_after-written held last.ending old.table new.table ticket.instance gave
-    (diary_of worker) away diaries under_way.replay last.step
-    (λ n. ap (λ (f : Frame). f.entries n) ended.frame_is
-    ∙ ap (λ (t : TicketState). cond (eqb t.instance n) (Gave t.task.run t.k last.gave ∷ []) []) (sym of_run))
-    (keep last.before))
+    let written =
+    AreDiariesAfter-written held last.ending old.table new.table ticket.instance (diary_line.Gave number ticket.k told) (Gave number ticket.k last.gave)
+    (diary_of worker) diaries away under_way.replay last.step
+    (λ n. ap (λ (f : Frame). f.lines n) ended.frame_is ∙ lines_of ticket told (Some ended.run) ended.run n refl of_run)
+    (last.gave, last.has_given, refl) (keep last.before) in
+    subst (AreDiariesAfter 0 new.table.first new.table.log diaries)
+    (sym (ap (place_diaries diary_of) last.places
+    ∙ place_diaries-back diary_of last.back ticket.instance old.places
+    ∙ ap (slice_set away ticket.instance) last.diary)) written

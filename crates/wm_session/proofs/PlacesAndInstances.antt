@@ -8,10 +8,10 @@ use Rattle.wm_bench.specs.declared.place.Presence.TheVariants.{Idle, Away}
 use Rattle.wm_bench.specs.declared.place.Presence.{Presence}
 use Rattle.wm_machine.proofs.Runnings.{made_both}
 use Rattle.wm_machine.specs.Runs.{with_out}
-use Rattle.wm_machine.specs.Valid.{AreNumberedInOrder, HasOne}
+use Rattle.wm_machine.specs.Valid.{AreNumberedInOrder, HasOne, IsInstanceOf}
 use Rattle.wm_machine.specs.declared.state.Instance.{Instance}
+use Rattle.wm_machine.specs.declared.state.Run.{Run}
 use Rattle.wm_session.specs.Bench.{instance_traits, is_away, place_traits, AreIdle, Traits, kind_at}
-use Rattle.wm_worker.specs.declared.kind.Kind.TheVariants.{Echo}
 use Rattle.wm_worker.specs.declared.kind.Kind.{Kind}
 
 -- ---- what stays of a place and of an instance
@@ -175,15 +175,29 @@ kind_at-idle : {B : Type 0} (kind_of : B → Kind) (presence : Presence B) (work
 kind_at-idle kind_of (Idle other) worker is = let same : other ≡ worker = cc in ap kind_of same
 kind_at-idle kind_of (Away kind) worker is = absurd cc
 
--- every worker is an Echo, as every instance is
-pub kind-Echo : {B : Type 0} (kind_of : B → Kind) (worker : B) (number : ℕ) (places : List (Place B)) (instances : List Instance)
-    → AllByRecursion (λ instance. instance.kind ≡ Echo) instances → map (place_traits kind_of) places ≡ map instance_traits instances
-    → idle_at number places ≡ Some worker → kind_of worker ≡ Echo
-kind-Echo kind_of worker number [] instances echoes same is = absurd cc
-kind-Echo kind_of worker number (place ∷ places) [] echoes same is = absurd cc
-kind-Echo kind_of worker zero (place ∷ places) (instance ∷ instances) echoes same is =
+run-from : (first : ℕ) (run : Run) (instances : List Instance) → AreNumberedInOrder first instances → HasOne (IsInstanceOf run) instances
+    → first ≤ run.instance
+run-from first run [] in_order one = absurd one
+run-from first run (instance ∷ instances) in_order (inl is) =
+    let number : instance.number ≡ run.instance = is.number in
+    let here : instance.number ≡ first = in_order.0 in omega arith
+run-from first run (instance ∷ instances) in_order (inr later) =
+    let further : first + 1 ≤ run.instance = run-from (first + 1) run instances in_order.1 later in omega arith
+
+-- the worker at the place of a run's instance is of the kind of the run
+pub kind-of_run : {B : Type 0} (kind_of : B → Kind) (worker : B) (run : Run) (number first : ℕ) (places : List (Place B)) (instances : List Instance)
+    → AreNumberedInOrder first instances → map (place_traits kind_of) places ≡ map instance_traits instances → HasOne (IsInstanceOf run) instances
+    → run.instance ≡ first + number → idle_at number places ≡ Some worker → kind_of worker ≡ run.kind
+kind-of_run kind_of worker run number first [] instances in_order same one here is = absurd cc
+kind-of_run kind_of worker run number first (place ∷ places) [] in_order same one here is = absurd cc
+kind-of_run kind_of worker run zero first (place ∷ places) (instance ∷ instances) in_order same (inl own) here is =
     let head : place_traits kind_of place ≡ instance_traits instance = cc in
-    sym (kind_at-idle kind_of place.presence worker is) ∙ ap (λ (traits : Traits). traits.kind) head ∙ echoes.0
-kind-Echo kind_of worker (suc number) (place ∷ places) (instance ∷ instances) echoes same is =
+    sym (kind_at-idle kind_of place.presence worker is) ∙ ap (λ (traits : Traits). traits.kind) head ∙ own.kind
+kind-of_run kind_of worker run zero first (place ∷ places) (instance ∷ instances) in_order same (inr later) here is =
+    let further : first + 1 ≤ run.instance = run-from (first + 1) run instances in_order.1 later in absurd (omega arith)
+kind-of_run kind_of worker run (suc number) first (place ∷ places) (instance ∷ instances) in_order same (inl own) here is =
+    let number_is : instance.number ≡ run.instance = own.number in
+    let first_is : instance.number ≡ first = in_order.0 in absurd (omega arith)
+kind-of_run kind_of worker run (suc number) first (place ∷ places) (instance ∷ instances) in_order same (inr later) here is =
     let rest : map (place_traits kind_of) places ≡ map instance_traits instances = cc in
-    kind-Echo kind_of worker number places instances echoes.1 rest is
+    kind-of_run kind_of worker run number (first + 1) places instances in_order.1 rest later (here ∙ omega arith) is

@@ -1,9 +1,9 @@
 -- What the steps of a serial session make of its book.
-use Rattle.std.proofs.Common.{◌≡◌, ◌⊎◌, ℕ, ◌+◌, ◌≤◌, List, [], ◌∷◌, ◌++◌, length, Option, Some, None, IsSome, Result, Ok, Err, refl, sym, ◌∙◌, ap, subst, inl, inr, arith}
+use Rattle.std.proofs.Common.{◌≡◌, ◌⊎◌, ℕ, ◌+◌, ◌<◌, ◌≤◌, Bool, List, [], ◌∷◌, ◌++◌, length, Option, Some, None, IsSome, Result, Ok, Err, refl, sym, ◌∙◌, ap, subst, inl, inr, arith}
 use Rattle.std.specs.List.{AllByRecursion}
 use Rattle.std.specs.declared.alloc.AllocError.{AllocError}
 use Rattle.std.proofs.lemmas.Bool.{eq-eqb}
-use Rattle.wm_bench.specs.Places.{changed_at, made_away, made_idle}
+use Rattle.wm_bench.specs.Places.{changed_at, made_away, made_idle, IsAwayAt}
 use Rattle.wm_bench.specs.Seat.{Seat}
 use Rattle.wm_data.specs.declared.data.DataEntry.{DataEntry}
 use Rattle.wm_keeper.specs.declared.row.Row.{Row}
@@ -14,8 +14,9 @@ use Rattle.wm_machine.specs.Log.{commands_of}
 use Rattle.wm_machine.specs.Narrow.{IsNarrow}
 use Rattle.wm_machine.specs.Quiet.{IsQuiet}
 use Rattle.wm_machine.specs.Replay.{Replay}
-use Rattle.wm_machine.specs.Runs.{other_runs}
+use Rattle.wm_machine.specs.Runs.{other_runs, run_numbered}
 use Rattle.wm_machine.specs.Serial.{AreInOrder, IsInTurn, MayGoOn}
+use Rattle.wm_machine.specs.Turns.{turned, with_turned}
 use Rattle.wm_machine.specs.Valid.{Valid}
 use Rattle.wm_machine.specs.Waiting.{left_to_drain}
 use Rattle.wm_machine.specs.declared.command.Command.{Command}
@@ -24,14 +25,15 @@ use Rattle.wm_machine.specs.declared.event.Event.{Event}
 use Rattle.wm_machine.specs.declared.event.Event.TheVariants as event
 use Rattle.wm_machine.specs.declared.state.State.{State}
 use Rattle.wm_machine.proofs.Steps.{framed}
-use Rattle.wm_session.proofs.BookEvents.{end_in_turn, framed_end}
+use Rattle.wm_machine.proofs.Turns.{after_turn}
+use Rattle.wm_session.proofs.BookEvents.{end_in_turn, framed_end, length-turned, other_runs-turned, run_numbered-turned}
 use Rattle.wm_session.proofs.BookParts.{claimed_step, Replay-same, Replay-step}
-use Rattle.wm_session.proofs.DiaryLemmas.{KeepDiaries-last, diaries_after-nothing, no_longer, ticket-found}
+use Rattle.wm_session.proofs.DiaryLemmas.{AreDiariesAfter-nothing, KeepDiaries-last, KeepDiaries-turned, no_longer, ticket-found}
 use Rattle.wm_session.proofs.HandLemmas.{AreIdle-back, IsAwayAt-taken, NoneRetired-changed}
-use Rattle.wm_session.specs.Bench.{place_diaries}
-use Rattle.wm_session.specs.Book.{IsBegun, IsClaimStopped, IsFrontStopped, IsGivenBack, IsLineDone, IsReported, IsStartFailed}
+use Rattle.wm_session.specs.Bench.{AreIdle, place_diaries}
+use Rattle.wm_session.specs.Book.{IsBegun, IsClaimStopped, IsFrontStopped, IsGivenBack, IsLineDone, IsReported, IsStartFailed, IsTurnUntold}
 use Rattle.wm_session.specs.BookState.{BookState}
-use Rattle.wm_session.specs.Drive.{HasWritten, IsDriven, IsGivenUp, IsLastTurn, IsUnderWay}
+use Rattle.wm_session.specs.Drive.{HasWritten, IsCutShort, IsDriven, IsGivenUp, IsLastTurn, IsNoTurn, IsOtherTurn, IsUnderWay}
 use Rattle.wm_session.specs.Ended.{HasCommands, IsSerialRun}
 use Rattle.wm_session.specs.BetweenRuns.{GoesInOrder, IsAtBegin, IsBetweenRuns, IsInOrder, IsReady, KeepDiaries}
 use Rattle.wm_table.specs.Table.{IsClaimAnswer, IsFinished, IsOneStep, IsUntouched}
@@ -42,11 +44,15 @@ use Rattle.wm_session.specs.declared.book.After.{After}
 use Rattle.wm_session.specs.declared.book.After.TheVariants as report
 use Rattle.wm_session.specs.declared.status.Status.{Status}
 use Rattle.wm_session.specs.declared.status.Status.TheVariants as status
+use Rattle.wm_worker.specs.Answers.{given_of}
 use Rattle.wm_worker.specs.Diary.{diary_with, turn_entries}
 use Rattle.wm_worker.specs.Signal.{SignalState}
 use Rattle.wm_worker.specs.Told.{Report}
+use Rattle.wm_worker.specs.declared.answer.Answer.{Answer}
 use Rattle.wm_worker.specs.declared.answer.Entry.{Entry}
 use Rattle.wm_worker.specs.declared.answer.Entry.TheVariants.{Gave}
+use Rattle.wm_worker.specs.declared.answer.Given.{Given}
+use Rattle.wm_worker.specs.declared.answer.Given.TheVariants.{More}
 use Rattle.std.specs.Prelude.{map, option_to_list}
 use Rattle.wm_worker.specs.declared.kind.Kind.{Kind}
 
@@ -60,40 +66,109 @@ module _ {K W B : Type 0} (held : K → Option (List Row)) (diary_of : B → Opt
   given_up : IsGivenBack held seat old new → IsGivenUp held ticket old new
   given_up given = record { back = seat.worker; stopped = given.stopped; places = at_place given.places }
 
-  last_turn : (told : Report) → old.status ≡ None → IsFinished held ticket.task.run told old.table new.table
+  -- what a worker has written down that gave this
+  wrote : (gave : Given) (answered : Answer) → given_of answered ≡ Some gave
+      → diary_of seat.worker ≡ diary_with (turn_entries ticket.task.run ticket.k answered) (diary_of worker)
+      → diary_of seat.worker ≡ diary_with (Gave ticket.task.run ticket.k gave ∷ []) (diary_of worker)
+  wrote gave answered is written =
+      written ∙ ap (λ given. diary_with (map (λ given. Gave ticket.task.run ticket.k given) (option_to_list given)) (diary_of worker)) is
+
+  last_turn : (told : Report) (timed_out : Bool) → old.status ≡ None → IsFinished held ticket.task.run told timed_out old.table new.table
       → new.places ≡ changed_at (made_idle seat.worker) seat.number old.places → new.left ≡ old.left
       → left_to_drain new.table.state ≤ left_to_drain old.table.state
       → diary_of seat.worker ≡ diary_with (turn_entries ticket.task.run ticket.k told.answer) (diary_of worker)
       → IsLastTurn held diary_of ticket worker old new
-  last_turn told before ended places left no_more written = record {
+  last_turn told timed_out before ended places left no_more written = record {
     ending = ended.ending;
+    reported = ended.reported;
     gave = ended.gave;
     back = seat.worker;
     before = before;
+    has_given = ended.has_given;
     ends = ended.ends;
     step = ended.step;
-    diary = written
-        ∙ ap (λ given. diary_with (map (λ given. Gave ticket.task.run ticket.k given) (option_to_list given)) (diary_of worker)) ended.told_is;
+    diary = wrote ended.gave told.answer ended.told_is written;
     places = at_place places;
     left = left;
     no_more = no_more;
   }
 
-  -- once a worker's report is given, the run is over, or the session has stopped early
-  pub IsTurned-reported : (told : Result Report AllocError) (result : After B) → IsReported held ticket seat told result old new
+  cut_short : (told : Report) → IsTurnUntold held ticket told old new → new.places ≡ changed_at (made_idle seat.worker) seat.number old.places
+      → IsCutShort held ticket old new
+  cut_short told untold places = record {
+    progress = untold.turn.progress;
+    back = seat.worker;
+    before = untold.before;
+    status = untold.status;
+    step = untold.turn.step;
+    places = at_place places;
+    left = untold.left;
+    no_more = untold.no_more;
+  }
+
+  -- once a worker's report is given, and the run doesn't go on, it is over, or the session has stopped early
+  pub IsNoTurn-reported : (told : Result Report AllocError) (result : After B) → IsReported held ticket seat told result old new
       → (result ≡ report.Over) ⊎ (result ≡ report.Stopped) → HasWritten diary_of ticket worker seat.worker told
-      → IsLastTurn held diary_of ticket worker old new ⊎ IsGivenUp held ticket old new
-  IsTurned-reported (Ok told) report.Over done ends written =
-      inl (last_turn told done.goes_on.before done.ended done.places done.left done.no_more written)
-  IsTurned-reported (Ok told) (report.Again same kept) done (inl ends) written = absurd (cc)
-  IsTurned-reported (Ok told) (report.Again same kept) done (inr ends) written = absurd (cc)
-  IsTurned-reported (Ok told) report.Stopped done ends written =
+      → IsNoTurn held diary_of ticket worker old new
+  IsNoTurn-reported (Ok told) report.Over done ends written =
+      inl (last_turn told done.timed_out done.goes_on.before done.ended done.places done.left done.no_more written)
+  IsNoTurn-reported (Ok told) (report.Go next kept) done (inl ends) written = absurd (cc)
+  IsNoTurn-reported (Ok told) (report.Go next kept) done (inr ends) written = absurd (cc)
+  IsNoTurn-reported (Ok told) (report.Again same kept) done (inl ends) written = absurd (cc)
+  IsNoTurn-reported (Ok told) (report.Again same kept) done (inr ends) written = absurd (cc)
+  IsNoTurn-reported (Ok told) report.Stopped done ends written =
       elim done.how [
-        | inl stopped ↦ inr (given_up (record { stopped = stopped; places = done.places }))
-        | inr untold ↦ inl (last_turn told untold.before untold.ended done.places untold.left untold.no_more written)
+        | inl stopped ↦ inr (inl (given_up (record { stopped = stopped; places = done.places })))
+        | inr untold ↦ elim untold [
+          | inl ended ↦ inl (last_turn told ended.timed_out ended.before ended.ended done.places ended.left ended.no_more written)
+          | inr turned ↦ inr (inr (cut_short told turned done.places))
+        ]
       ]
-  IsTurned-reported (Err refused) report.Stopped done ends written = inr (given_up done)
-  IsTurned-reported (Err refused) _ done ends written = absurd done
+  IsNoTurn-reported (Err refused) report.Stopped done ends written = inr (inl (given_up done))
+  IsNoTurn-reported (Err refused) _ done ends written = absurd done
+
+  -- the runs of a turn that was made
+  turned_runs : (progress : Option (List DataEntry)) (step : IsOneStep held (event.Turn ticket.task.run progress) old.table new.table)
+      → new.table.state.runs ≡ with_turned step.legal.report.run.run old.table.state.runs
+  turned_runs progress step =
+      ap (λ (t : State). t.runs) (step.state ∙ after_turn old.table.state ticket.task.run progress step.legal)
+
+  -- where it goes on, the next ticket is at the next turn
+  pub IsOtherTurn-reported : (kind_of : B → Kind) (told : Result Report AllocError) (next : TicketState) (kept : Seat B) → IsUnderWay ticket old
+      → kind_of seat.worker ≡ ticket.kind → IsReported held ticket seat told (report.Go next kept) old new
+      → HasWritten diary_of ticket worker seat.worker told → IsOtherTurn held kind_of diary_of ticket worker next kept old new
+  IsOtherTurn-reported kind_of (Ok told) next kept under_way kind done written =
+      let on = done.turn in
+      let its = on.step.legal.report in
+      let run = its.run in
+      let s = old.table.state in
+      let of_run = ticket-found ticket under_way.ticket_in its.is_running in
+      let number_is : run.run ≡ ticket.task.run = ap (λ (t : TicketState). t.task.run) (sym of_run) in
+      let runs : new.table.state.runs ≡ with_turned ticket.task.run s.runs =
+      turned_runs on.progress on.step ∙ ap (λ n. with_turned n s.runs) number_is in
+      let found : run_numbered next.task.run new.table.state.runs ≡ Some (turned run) =
+      ap (λ n. run_numbered n new.table.state.runs) on.same_run
+      ∙ ap (run_numbered ticket.task.run) runs
+      ∙ run_numbered-turned ticket.task.run s.runs run its.is_running in
+      let of_next = ticket-found next on.ticket_in found in
+      let next_is : next ≡ record ticket { k = ticket.k + 1 } = of_next ∙ ap (λ (t : TicketState). record t { k = t.k + 1 }) (sym of_run) in
+      let k_is : next.k ≡ run.turn + 1 = ap (λ (t : TicketState). t.k) of_next in
+      let below : run.turn < 999 = on.step.legal.turns_left in
+      record {
+        progress = on.progress;
+        goes_on = done.goes_on;
+        step = on.step;
+        next_is = next_is;
+        turns_left = omega arith;
+        ticket_in = on.ticket_in;
+        number = ap (λ (s : Seat B). s.number) done.seat_is ∙ number;
+        kind = ap (λ (s : Seat B). kind_of s.worker) done.seat_is ∙ kind;
+        diary = ap (λ (s : Seat B). diary_of s.worker) done.seat_is ∙ wrote (More on.progress) told.answer on.told_is written;
+        places = done.places;
+        left = done.left;
+        no_more = done.no_more;
+      }
+  IsOtherTurn-reported kind_of (Err refused) next kept under_way kind done written = absurd done
 
 -- ---- the order
 
@@ -249,6 +324,31 @@ IsDriven-given_up {held = held} {old = old} {new = new} diary_of diary under_way
       diaries = λ diaries keep. no_longer new.status stopped;
     }
 
+-- the order is kept by a turn of the run that there is
+GoesInOrder-turned : {K W B : Type 0} (held : K → Option (List Row)) (number : ℕ) (progress : Option (List DataEntry)) (lines : List Command)
+    (old new : BookState K W B) → IsOneStep held (event.Turn number progress) old.table new.table → Replay old.table.first old.table.log old.table.state
+    → old.status ≡ None → GoesInOrder lines old → GoesInOrder lines new
+GoesInOrder-turned held number progress lines old new step replays going goes =
+    let s = old.table.state in
+    let run = step.legal.report.run in
+    let as_many : length new.table.state.runs ≡ length s.runs =
+    ap (λ (t : State). length t.runs) (step.state ∙ after_turn s number progress step.legal) ∙ length-turned run.run s.runs in
+    GoesInOrder-step held lines (event.Turn number progress) old new step (subst (λ n. n ≤ 1) (sym as_many) goes.order.few_runs) replays going tt goes
+
+-- the session has stopped early while a turn was told
+IsDriven-cut : {K W B : Type 0} {held : K → Option (List Row)} {ticket : TicketState} {old new : BookState K W B} (diary_of : B → Option (List Entry))
+    (diary : Option (List Entry)) → IsUnderWay ticket old → IsCutShort held ticket old new → IsDriven diary_of ticket.instance diary old new
+IsDriven-cut {held = held} {ticket = ticket} {old = old} {new = new} diary_of diary under_way cut =
+    let number = ticket.task.run in
+    record {
+      rest = rest_back cut.back under_way (Replay-step held (event.Turn number cut.progress) old.table new.table under_way.replay cut.step)
+          (no_longer new.status cut.status) cut.places;
+      left = cut.left;
+      no_more = cut.no_more;
+      order = λ lines. GoesInOrder-turned held number cut.progress lines old new cut.step under_way.replay cut.before;
+      diaries = λ diaries keep. no_longer new.status cut.status;
+    }
+
 module _ {K W B : Type 0} {held : K → Option (List Row)} {diary_of : B → Option (List Entry)} {ticket : TicketState} {worker : B}
     {old new : BookState K W B} where
   -- its last turn
@@ -256,7 +356,7 @@ module _ {K W B : Type 0} {held : K → Option (List Row)} {diary_of : B → Opt
   IsDriven-last under_way last =
       let s = old.table.state in
       let number = ticket.task.run in
-      let ended = framed_end s number last.gave last.ending last.ends last.step.legal in
+      let ended = framed_end s number last.reported last.ending last.ends last.step.legal in
       let none : new.table.state.runs ≡ [] =
       ap (λ (t : State). t.runs) last.step.state
       ∙ ap (λ (f : Frame). f.runs) ended.frame_is
@@ -267,15 +367,52 @@ module _ {K W B : Type 0} {held : K → Option (List Row)} {diary_of : B → Opt
         left = last.left;
         no_more = last.no_more;
         order = λ lines. GoesInOrder-step held lines last.ending old new last.step (rw none (omega arith)) under_way.replay last.before
-            (end_in_turn s number last.gave last.ending last.ends);
+            (end_in_turn s number last.reported last.ending last.ends);
         diaries = λ diaries. KeepDiaries-last diaries under_way last;
       }
 
-  -- a turn after which the run is over, or the session has stopped early
-  pub IsDriven-turned : IsUnderWay ticket old → IsLastTurn held diary_of ticket worker old new ⊎ IsGivenUp held ticket old new
-      → IsDriven diary_of ticket.instance (diary_of worker) old new
+  -- a turn after which no turn follows
+  pub IsDriven-turned : IsUnderWay ticket old → IsNoTurn held diary_of ticket worker old new → IsDriven diary_of ticket.instance (diary_of worker) old new
   IsDriven-turned under_way (inl last) = IsDriven-last under_way last
-  IsDriven-turned under_way (inr over) = IsDriven-given_up diary_of (diary_of worker) under_way over
+  IsDriven-turned under_way (inr (inl over)) = IsDriven-given_up diary_of (diary_of worker) under_way over
+  IsDriven-turned under_way (inr (inr cut)) = IsDriven-cut diary_of (diary_of worker) under_way cut
+
+module _ {K W B : Type 0} {held : K → Option (List Row)} {kind_of : B → Kind} {diary_of : B → Option (List Entry)} {ticket next : TicketState} {worker : B}
+    {seat : Seat B} {old new : BookState K W B} where
+  -- after another turn the run is under way
+  pub IsUnderWay-turned : IsUnderWay ticket old → IsOtherTurn held kind_of diary_of ticket worker next seat old new → IsUnderWay next new
+  IsUnderWay-turned under_way turned =
+      let s = old.table.state in
+      let number = ticket.task.run in
+      let step = turned.step in
+      let of_run = ticket-found ticket under_way.ticket_in step.legal.report.is_running in
+      let runs : new.table.state.runs ≡ with_turned number s.runs =
+      ap (λ (t : State). t.runs) (step.state ∙ after_turn s number turned.progress step.legal)
+      ∙ ap (λ (t : TicketState). with_turned t.task.run s.runs) (sym of_run) in
+      record {
+        replay = Replay-step held (event.Turn number turned.progress) old.table new.table under_way.replay step;
+        ticket_in = turned.ticket_in;
+        alone = ap (λ (t : TicketState). other_runs t.task.run new.table.state.runs) turned.next_is
+            ∙ ap (other_runs number) runs
+            ∙ other_runs-turned number s.runs
+            ∙ under_way.alone;
+        away = subst (λ (t : TicketState). IsAwayAt t.instance t.kind new.places) (sym turned.next_is) (rw turned.places under_way.away);
+        others = λ back. subst (λ (t : TicketState). AreIdle (changed_at (made_idle back) t.instance new.places)) (sym turned.next_is)
+            (rw turned.places (under_way.others back));
+        not_retired = rw turned.places under_way.not_retired;
+      }
+
+  -- what drives it to its end from there has driven it from here
+  pub IsDriven-further : (last : BookState K W B) → IsUnderWay ticket old → IsOtherTurn held kind_of diary_of ticket worker next seat old new
+      → IsDriven diary_of next.instance (diary_of seat.worker) new last → IsDriven diary_of ticket.instance (diary_of worker) old last
+  IsDriven-further last under_way turned driven = record {
+    rest = driven.rest;
+    left = driven.left ∙ turned.left;
+    no_more = omega (arith, driven.no_more, turned.no_more);
+    order = λ lines goes. driven.order lines
+        (GoesInOrder-turned held ticket.task.run turned.progress lines old new turned.step under_way.replay turned.goes_on.before goes);
+    diaries = λ diaries keep. driven.diaries diaries (KeepDiaries-turned diaries under_way turned keep);
+  }
 
 -- ---- a line
 
@@ -342,7 +479,7 @@ IsReady-begin {lines = lines} {book = book} begins = record {
 -- and keeps the diaries that its workers have
 pub KeepDiaries-begin : {K W B : Type 0} (diary_of : B → Option (List Entry)) (book : BookState K W B) → book.table.log ≡ []
     → KeepDiaries diary_of (place_diaries diary_of book.places) book
-KeepDiaries-begin diary_of book empty going = rw (empty, diaries_after-nothing 0 book.table.first (place_diaries diary_of book.places)) refl
+KeepDiaries-begin diary_of book empty going = rw empty (AreDiariesAfter-nothing 0 book.table.first (place_diaries diary_of book.places))
 
 -- all lines that are left are built
 built_left : (done left : List Command) → AllByRecursion IsBuilt (done ++ left) → AllByRecursion IsBuilt left

@@ -2,7 +2,7 @@
 use Rattle.std.specs.Prelude.{◌≡◌, ◌⊎◌, ◌≤◌, false, List, [], length, Option, None}
 use Rattle.std.specs.List.{AllByRecursion}
 use Rattle.wm_bench.specs.declared.place.Place.{Place}
-use Rattle.wm_machine.specs.Diaries.{diaries_after}
+use Rattle.wm_machine.specs.Diaries.{AreDiariesAfter}
 use Rattle.wm_machine.specs.Quiet.{IsQuiet}
 use Rattle.wm_machine.specs.Replay.{Replay}
 use Rattle.wm_machine.specs.Serial.{AreInOrder, MayGoOn}
@@ -33,7 +33,8 @@ pub record IsBetweenRuns {K W B : Type 0} (book : BookState K W B) : Type 0 wher
 
 -- while the session goes on, each worker that tells a diary has written down its part of the log after these
 abbrev pub KeepDiaries : {K W B : Type 0} → (B → Option (List Entry)) → List (Option (List Entry)) → BookState K W B → Type 0
-KeepDiaries diary_of diaries book = book.status ≡ None → place_diaries diary_of book.places ≡ diaries_after 0 book.table.first book.table.log diaries
+KeepDiaries diary_of diaries book =
+    book.status ≡ None → AreDiariesAfter 0 book.table.first book.table.log diaries (place_diaries diary_of book.places)
 
 -- ---- the serial order
 

@@ -1,5 +1,5 @@
 -- What the calls of a book do. This project's own choice.
-use Rattle.std.specs.Prelude.{◌≡◌, ◌⊎◌, ℕ, ◌+◌, ◌<◌, ◌≤◌, true, List, [], ◌∷◌, Option, Some, None, IsSome, Result, Ok, Err}
+use Rattle.std.specs.Prelude.{◌≡◌, ◌⊎◌, ℕ, ◌+◌, ◌<◌, ◌≤◌, Bool, true, List, [], ◌∷◌, Option, Some, None, IsSome, Result, Ok, Err}
 use Rattle.std.specs.declared.alloc.AllocError.{AllocError}
 use Rattle.wm_bench.specs.Places.{changed_at, idle_at, made_away, made_idle}
 use Rattle.wm_bench.specs.Seat.{Seat}
@@ -12,7 +12,7 @@ use Rattle.wm_machine.specs.declared.event.Event.TheVariants as event
 use Rattle.wm_machine.specs.declared.reply.Reply.{Reply}
 use Rattle.wm_machine.specs.declared.state.State.{State}
 use Rattle.wm_session.specs.BookState.{BookState}
-use Rattle.wm_table.specs.Table.{IsClaimAnswer, IsFinished, IsOneStep, IsUntouched, IsTicketIn, CountsIn, Stands}
+use Rattle.wm_table.specs.Table.{HasGoneOn, IsClaimAnswer, IsFinished, IsOneStep, IsUntouched, IsTicketIn, CountsIn, Stands}
 use Rattle.wm_table.specs.TableState.{TicketState}
 use Rattle.wm_table.specs.declared.table.Claim.{Claim}
 use Rattle.wm_table.specs.declared.table.Claim.TheVariants as claim
@@ -144,22 +144,43 @@ IsClaimed held kind_of job.Stopped old new = IsClaimStopped held old new
 
 -- ---- a report
 
--- a run is over, its worker is at its place again, and no more works are left to drain
-pub record IsOver {K W B : Type 0} (held : K → Option (List Row)) (ticket : TicketState) (seat : Seat B) (told : Report)
+-- a run goes on: its turn was made, the next ticket holds what it keeps, the seat is out as it was, and no more works are left to drain
+pub record IsTurnTold {K W B : Type 0} (held : K → Option (List Row)) (ticket next : TicketState) (seat kept : Seat B) (told : Report)
     (old new : BookState K W B) : Type 0 where
   pub goes_on : GoesOn old new
+  pub turn : HasGoneOn held ticket told next old.table new.table
+  pub seat_is : kept ≡ seat
+  pub places : new.places ≡ old.places
+  pub left : new.left ≡ old.left
+  pub no_more : left_to_drain new.table.state ≤ left_to_drain old.table.state
+
+-- a run's turn was made, and the session stopped while that was told: the run stays in the state, without a ticket
+pub record IsTurnUntold {K W B : Type 0} (held : K → Option (List Row)) (ticket : TicketState) (told : Report) (old new : BookState K W B) : Type 0 where
+  pub next : TicketState
+  pub before : old.status ≡ None
+  pub status : IsSome new.status
+  pub turn : HasGoneOn held ticket told next old.table new.table
+  pub left : new.left ≡ old.left
+  pub no_more : left_to_drain new.table.state ≤ left_to_drain old.table.state
+
+-- a run is over, for want of a turn or not, its worker is at its place again, and no more works are left to drain
+pub record IsOver {K W B : Type 0} (held : K → Option (List Row)) (ticket : TicketState) (seat : Seat B) (told : Report)
+    (old new : BookState K W B) : Type 0 where
+  pub timed_out : Bool
+  pub goes_on : GoesOn old new
   pub counts : CountsIn old.table.state ticket.task.run told
-  pub ended : IsFinished held ticket.task.run told old.table new.table
+  pub ended : IsFinished held ticket.task.run told timed_out old.table new.table
   pub places : new.places ≡ changed_at (made_idle seat.worker) seat.number old.places
   pub left : new.left ≡ old.left
   pub no_more : left_to_drain new.table.state ≤ left_to_drain old.table.state
 
--- a run is over, and the session stopped while that was told
+-- a run is over, for want of a turn or not, and the session stopped while that was told
 pub record IsEndUntold {K W B : Type 0} (held : K → Option (List Row)) (ticket : TicketState) (told : Report) (old new : BookState K W B) : Type 0 where
+  pub timed_out : Bool
   pub before : old.status ≡ None
   pub status : IsSome new.status
   pub counts : CountsIn old.table.state ticket.task.run told
-  pub ended : IsFinished held ticket.task.run told old.table new.table
+  pub ended : IsFinished held ticket.task.run told timed_out old.table new.table
   pub left : new.left ≡ old.left
   pub no_more : left_to_drain new.table.state ≤ left_to_drain old.table.state
 
@@ -176,16 +197,18 @@ pub record IsGivenBack {K W B : Type 0} (held : K → Option (List Row)) (seat :
   pub stopped : HasStopped held old new
   pub places : new.places ≡ changed_at (made_idle seat.worker) seat.number old.places
 
--- the session has stopped early, with or without the event by which the run is over, and the worker is at its place again
+-- the session has stopped early, without an event of the run, or with the one by which it is over or goes on, and the worker is at its
+-- place again
 pub record IsReportStopped {K W B : Type 0} (held : K → Option (List Row)) (ticket : TicketState) (seat : Seat B) (told : Report)
     (old new : BookState K W B) : Type 0 where
-  pub how : HasStopped held old new ⊎ IsEndUntold held ticket told old new
+  pub how : HasStopped held old new ⊎ (IsEndUntold held ticket told old new ⊎ IsTurnUntold held ticket told old new)
   pub places : new.places ≡ changed_at (made_idle seat.worker) seat.number old.places
 
--- Over where what was told counts, with its event; Again where it doesn't; Stopped where the session has stopped early, as it has where
+-- Go and Over where what was told counts, with its event; Again where it doesn't; Stopped where the session has stopped early, as it has where
 -- memory was refused to the worker
 abbrev pub IsReported : {K W B : Type 0} → (K → Option (List Row)) → TicketState → Seat B → Result Report AllocError → After B → BookState K W B
     → BookState K W B → Type 0
+IsReported held ticket seat (Ok told) (after.Go next kept) old new = IsTurnTold held ticket next seat kept told old new
 IsReported held ticket seat (Ok told) after.Over old new = IsOver held ticket seat told old new
 IsReported held ticket seat (Ok told) (after.Again same kept) old new = IsAskedAgain ticket same seat kept told old new
 IsReported held ticket seat (Ok told) after.Stopped old new = IsReportStopped held ticket seat told old new

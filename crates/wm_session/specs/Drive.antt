@@ -1,13 +1,14 @@
 -- What driving a run to its end does. This project's own choice.
-use Rattle.std.specs.Prelude.{◌≡◌, ◌⊎◌, ℕ, ◌+◌, ◌<◌, ◌≤◌, List, [], ◌∷◌, slice_set, Option, Some, None, Result, IfOk}
+use Rattle.std.specs.Prelude.{◌≡◌, ◌⊎◌, ℕ, ◌+◌, ◌<◌, ◌≤◌, List, [], ◌∷◌, slice_set, Option, Some, None, IsSome, Result, IfOk}
 use Rattle.std.specs.declared.alloc.AllocError.{AllocError}
 use Rattle.wm_bench.specs.Places.{changed_at, made_idle, IsAwayAt}
 use Rattle.wm_bench.specs.Seat.{Seat}
 use Rattle.wm_data.specs.declared.data.DataEntry.{DataEntry}
 use Rattle.wm_keeper.specs.declared.row.Row.{Row}
-use Rattle.wm_machine.specs.Diaries.{diaries_after}
+use Rattle.wm_machine.specs.Diaries.{AreDiariesAfter}
 use Rattle.wm_machine.specs.Replay.{Replay}
 use Rattle.wm_machine.specs.Role as role
+use Rattle.wm_machine.specs.Role.{HasGiven, Reported}
 use Rattle.wm_machine.specs.Runs.{other_runs}
 use Rattle.wm_machine.specs.Step.{role_of}
 use Rattle.wm_machine.specs.Waiting.{left_to_drain}
@@ -45,7 +46,7 @@ pub record IsUnderWay {K W B : Type 0} (ticket : TicketState) (book : BookState 
 abbrev pub KeepDiariesWith : {K W B : Type 0} → (B → Option (List Entry)) → ℕ → Option (List Entry) → List (Option (List Entry)) → BookState K W B
     → Type 0
 KeepDiariesWith diary_of number diary diaries book =
-    book.status ≡ None → slice_set (place_diaries diary_of book.places) number diary ≡ diaries_after 0 book.table.first book.table.log diaries
+    book.status ≡ None → AreDiariesAfter 0 book.table.first book.table.log diaries (slice_set (place_diaries diary_of book.places) number diary)
 
 -- ---- one turn
 
@@ -58,10 +59,12 @@ HasWritten diary_of ticket worker now told =
 pub record IsLastTurn {K W B : Type 0} (held : K → Option (List Row)) (diary_of : B → Option (List Entry)) (ticket : TicketState) (worker : B)
     (old new : BookState K W B) : Type 0 where
   pub ending : Event
+  pub reported : Reported
   pub gave : Given
   pub back : B
   pub before : old.status ≡ None
-  pub ends : role_of ending ≡ role.Ends ticket.task.run gave
+  pub has_given : HasGiven reported gave
+  pub ends : role_of ending ≡ role.Ends ticket.task.run reported
   pub step : IsOneStep held ending old.table new.table
   pub diary : diary_of back ≡ diary_with (Gave ticket.task.run ticket.k gave ∷ []) (diary_of worker)
   pub places : new.places ≡ changed_at (made_idle back) ticket.instance old.places
@@ -74,8 +77,18 @@ pub record IsGivenUp {K W B : Type 0} (held : K → Option (List Row)) (ticket :
   pub stopped : HasStopped held old new
   pub places : new.places ≡ changed_at (made_idle back) ticket.instance old.places
 
+-- the session has stopped early while it was told that the run goes on, and a worker is at the place again
+pub record IsCutShort {K W B : Type 0} (held : K → Option (List Row)) (ticket : TicketState) (old new : BookState K W B) : Type 0 where
+  pub progress : Option (List DataEntry)
+  pub back : B
+  pub before : old.status ≡ None
+  pub status : IsSome new.status
+  pub step : IsOneStep held (event.Turn ticket.task.run progress) old.table new.table
+  pub places : new.places ≡ changed_at (made_idle back) ticket.instance old.places
+  pub left : new.left ≡ old.left
+  pub no_more : left_to_drain new.table.state ≤ left_to_drain old.table.state
+
 -- The run goes on with this ticket, which is at the next turn of at most 1,000, and this seat, whose worker has written down what it gave.
--- No turn that is built is so yet.
 pub record IsOtherTurn {K W B : Type 0} (held : K → Option (List Row)) (kind_of : B → Kind) (diary_of : B → Option (List Entry)) (ticket : TicketState)
     (worker : B) (next : TicketState) (seat : Seat B) (old new : BookState K W B) : Type 0 where
   pub progress : Option (List DataEntry)
@@ -91,10 +104,14 @@ pub record IsOtherTurn {K W B : Type 0} (held : K → Option (List Row)) (kind_o
   pub left : new.left ≡ old.left
   pub no_more : left_to_drain new.table.state ≤ left_to_drain old.table.state
 
--- the worker of a run took a turn: the run is over, or the session has stopped early, or the run goes on
+-- no turn follows: the run is over, or the session has stopped early
+abbrev pub IsNoTurn : {K W B : Type 0} → (K → Option (List Row)) → (B → Option (List Entry)) → TicketState → B → BookState K W B → BookState K W B → Type 0
+IsNoTurn held diary_of ticket worker old new = IsLastTurn held diary_of ticket worker old new ⊎ (IsGivenUp held ticket old new ⊎ IsCutShort held ticket old new)
+
+-- the worker of a run took a turn: no turn follows, or the run goes on
 abbrev pub IsTurned : {K W B : Type 0} → (K → Option (List Row)) → (B → Kind) → (B → Option (List Entry)) → TicketState → B
     → Option (TicketState × Seat B) → BookState K W B → BookState K W B → Type 0
-IsTurned held kind_of diary_of ticket worker None old new = IsLastTurn held diary_of ticket worker old new ⊎ IsGivenUp held ticket old new
+IsTurned held kind_of diary_of ticket worker None old new = IsNoTurn held diary_of ticket worker old new
 IsTurned held kind_of diary_of ticket worker (Some run) old new = IsOtherTurn held kind_of diary_of ticket worker run.0 run.1 old new
 
 -- ---- all turns

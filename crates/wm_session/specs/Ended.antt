@@ -4,7 +4,7 @@ use Rattle.std.specs.declared.alloc.Global.{Global}
 use Rattle.wm_bench.specs.Places.{idle_hands}
 use Rattle.wm_bench.specs.declared.hand.Hand.{Hand}
 use Rattle.wm_faults.specs.Faults.{Failed}
-use Rattle.wm_machine.specs.Diaries.{diaries_after}
+use Rattle.wm_machine.specs.Diaries.{AreDiariesAfter}
 use Rattle.wm_machine.specs.Log.{commands_of, AreNumberedFrom, HasPrefix}
 use Rattle.wm_machine.specs.Narrow.{IsNarrow}
 use Rattle.wm_machine.specs.Opened.{opening_state}
@@ -58,7 +58,7 @@ AreHandsBack kind_of last hands = map (hand_traits kind_of) hands ≡ map instan
 
 -- each worker that tells a diary has written down its part of the log after these
 abbrev pub HaveTold : {B : Type 0} → (B → Option (List Entry)) → List (Option (List Entry)) → State → List Event → List (Hand B) → Type 0
-HaveTold diary_of diaries first log hands = hand_diaries diary_of hands ≡ diaries_after 0 first log diaries
+HaveTold diary_of diaries first log hands = AreDiariesAfter 0 first log diaries (hand_diaries diary_of hands)
 
 -- ---- what is handed back
 

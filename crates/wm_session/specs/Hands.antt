@@ -1,10 +1,8 @@
 -- The instances that the workers which a run is given are. This project's own choice.
-use Rattle.std.specs.Prelude.{◌≡◌, ℕ, ◌+◌, false, List, [], ◌∷◌}
-use Rattle.std.specs.List.{AllByRecursion}
+use Rattle.std.specs.Prelude.{ℕ, ◌+◌, false, List, [], ◌∷◌}
 use Rattle.wm_bench.specs.declared.hand.Hand.{Hand}
 use Rattle.wm_machine.specs.declared.state.Instance.{Instance}
 use Rattle.wm_worker.specs.declared.kind.Kind.{Kind}
-use Rattle.wm_worker.specs.declared.kind.Kind.TheVariants.{Echo}
 
 -- the instance of a worker, under this number
 abbrev pub instance_of : {B : Type 0} → (B → Kind) → ℕ → Hand B → Instance
@@ -20,7 +18,3 @@ instance_of kind_of number hand = record {
 abbrev pub instances_from : {B : Type 0} → (B → Kind) → ℕ → List (Hand B) → List Instance
 instances_from kind_of number [] = []
 instances_from kind_of number (hand ∷ hands) = instance_of kind_of number hand ∷ instances_from kind_of (number + 1) hands
-
--- every worker is an Echo
-abbrev pub AreEchoes : {B : Type 0} → (B → Kind) → List (Hand B) → Type 0
-AreEchoes kind_of hands = AllByRecursion (λ hand. kind_of hand.worker ≡ Echo) hands

@@ -1,6 +1,6 @@
 //! The book of a session: the table with the bench, the lines that are left, and what is still to
 //! be written.
-ghost use Rattle.std.specs.Prelude.{◌≡◌, ◌↔◌, ◌^◌, ◌<◌, ◌≤◌, ◌+◌, [], None, Some, length, map, option_map, IsSome, IsNone, IfSome, IfOk, IfErr, false};
+ghost use Rattle.std.specs.Prelude.{◌≡◌, ◌↔◌, ◌^◌, ◌<◌, ◌≤◌, ◌+◌, [], None, Some, length, map, option_map, IsSome, IsNone, IfSome, IfOk, IfErr, Ok, false};
 ghost use Rattle.std.specs.List.{AllByRecursion};
 ghost use Rattle.wm_bench.specs.Places.{IsAwayAt};
 ghost use Rattle.wm_machine.specs.Outcome.{IsBuilt};
@@ -106,6 +106,8 @@ pub enum Job<B> {
 
 /// What became of a run whose worker reported.
 pub enum After<B> {
+    /// It goes on, with the ticket of its next turn and the same seat.
+    Go(Ticket, Seated<B>),
     /// It is over, and its worker is back on the bench.
     Over,
     /// What was told isn't a report on the run's turn: ticket and seat are as they were.
@@ -279,13 +281,36 @@ impl<K: Keeper, W: Sink, B: Worker, M: Mark> Book<K, W, B, M> {
             give_back(&mut self.table, &mut self.bench, ticket, seat);
             return After::Stopped;
         }
-        let Ok(told) = told else {
-            self.status = Some(Stop::Memory);
-            give_back(&mut self.table, &mut self.bench, ticket, seat);
-            return After::Stopped;
-        };
+        match told {
+            Ok(told) => self.end_turn(ticket, seat, told),
+            Err(_) => {
+                self.status = Some(Stop::Memory);
+                give_back(&mut self.table, &mut self.bench, ticket, seat);
+                After::Stopped
+            }
+        }
+    }
+
+    /// Ends the turn of a run as its worker told, while the session goes on.
+    fn end_turn(&mut self, ticket: Ticket, seat: Seated<B>, told: Told) -> After<B>
+        requires going { self.old.status ≡ None }
+        requires stands { Stands self.old.table.state ticket }
+        requires number { seat.number ≡ ticket.instance }
+        requires away { IsAwayAt seat.number (B.kind_of seat.worker) self.old.places }
+        ensures { IsReported K.held ticket seat (Ok told) result self.old self.new }
+    {
         match self.table.turn(ticket, told) {
-            TurnAnswer::Finished => {
+            TurnAnswer::Go(next) => {
+                match tell_last(self.alloc, &self.table, &mut self.pending, &mut self.sink) {
+                    Ok(()) => After::Go(next, seat),
+                    Err(fault) => {
+                        self.status = Some(Stop::from(fault));
+                        give_back(&mut self.table, &mut self.bench, next, seat);
+                        After::Stopped
+                    }
+                }
+            }
+            TurnAnswer::Finished | TurnAnswer::TimedOut => {
                 self.bench.give(seat);
                 match tell_last(self.alloc, &self.table, &mut self.pending, &mut self.sink) {
                     Ok(()) => After::Over,

@@ -141,7 +141,7 @@ fn drive<K: Keeper, W: Sink, B: Worker, M: Mark>(
         Ok(()) => take_turns(alloc, book, ticket, seat, signal),
         Err(refused) => match book.report(ticket, seat, Err(refused)) {
             After::Stopped => {}
-            After::Over | After::Again(..) => unreachable!(),
+            After::Go(..) | After::Over | After::Again(..) => unreachable!(),
         },
     }
 }
@@ -187,6 +187,7 @@ fn turn_once<K: Keeper, W: Sink, B: Worker, M: Mark>(
 {
     let told = turn(alloc, &mut seat, &ticket, signal);
     match book.report(ticket, seat, told) {
+        After::Go(next, kept) => Some((next, kept)),
         After::Over | After::Stopped => None,
         After::Again(..) => unreachable!(),
     }

@@ -10,4 +10,4 @@ returns-in-Err g c =
     let tells = tells_of g.K.Keeper.held g.K.Keeper.faults g.W.Sink.given g.W.Sink.faults g.B.Worker.kind_of g.B.Worker.diary_of in
     let hands = c.args.hands.items in
     IsSerialEnd-at_once tells c.args.commands hands (place_diaries g.B.Worker.diary_of (map place_of hands)) c.args.table c.args.sink c.in-Err.failed.value
-    c.end_at_once.result c.end_at_once.ensures c.requires.begun c.requires.built c.requires.echoes c.requires.first c.in-Err.ensures.hands
+    c.end_at_once.result c.end_at_once.ensures c.requires.begun c.requires.built c.requires.first c.in-Err.ensures.hands

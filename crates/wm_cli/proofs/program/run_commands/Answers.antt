@@ -12,7 +12,7 @@ use Rattle.wm_cli.proofs.program.run_commands.Goals as goal
 pub begin-requires-clause-instances : goal.begin-requires-clause-instances
 begin-requires-clause-instances g c =
     let is : c.in-Ok-instances_of.instances ≡ instances_from g.B.Worker.kind_of 0 c.args.hands.items = search rules in
-    subst AreFresh (sym is) (AreFresh-instances_from g.B.Worker.kind_of c.args.hands.items c.requires.echoes)
+    subst AreFresh (sym is) (AreFresh-instances_from g.B.Worker.kind_of c.args.hands.items)
 
 pub returns-in-Err : goal.returns-in-Err
 returns-in-Err g c =

@@ -31,13 +31,13 @@ pub new-requires-clause-valid : goal.new-requires-clause-valid
 new-requires-clause-valid g c =
     let benched = c.requires.benched in
     subst Valid (sym (c.requires.begun.state ∙ benched.opened))
-    (Valid-opening (instances_from g.B.Worker.kind_of 0 benched.hands) (AreFresh-instances_from g.B.Worker.kind_of benched.hands benched.echoes))
+    (Valid-opening (instances_from g.B.Worker.kind_of 0 benched.hands) (AreFresh-instances_from g.B.Worker.kind_of benched.hands))
 
 pub new-requires-clause-narrow : goal.new-requires-clause-narrow
 new-requires-clause-narrow g c =
     let benched = c.requires.benched in
     subst IsNarrow (sym (c.requires.begun.state ∙ benched.opened))
-    (IsNarrow-opening (instances_from g.B.Worker.kind_of 0 benched.hands) (AreFresh-instances_from g.B.Worker.kind_of benched.hands benched.echoes))
+    (IsNarrow-opening (instances_from g.B.Worker.kind_of 0 benched.hands))
 
 pub new-requires-clause-all_in : goal.new-requires-clause-all_in
 new-requires-clause-all_in g c =
@@ -67,5 +67,5 @@ returns-in-Err g c =
     subst (λ parts. IsEndedAtOnce parts.0 parts.2 c.back.result ended) kept c.end_at_once.ensures in
     subst (λ run. IsSerialEnd tells run had ended) (sym c.requires.inputs)
     (IsSerialEnd-at_once tells c.args.commands benched.hands had c.args.table c.args.sink c.back.result ended at c.requires.begun c.requires.built
-    benched.echoes benched.opened
+    benched.opened
     (c.back.ensures ∙ ap (λ parts. idle_hands parts.1) kept ∙ ap idle_hands benched.at_places ∙ idle_hands-places benched.hands))

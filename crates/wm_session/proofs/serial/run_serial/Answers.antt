@@ -1,5 +1,4 @@
 use Rattle.wm_machine.specs.Serial.{AreInOrder}
-use Rattle.std.proofs.Common.{◌∙◌}
 use Rattle.wm_session.proofs.HandLemmas.{AreHandsBack-all, hand_diaries-places}
 use Rattle.wm_session.proofs.SerialLemmas.{IsBetweenRuns-begin, IsReady-begin, IsSerialRun-order, KeepDiaries-begin}
 use Rattle.wm_session.specs.Bench.{place_diaries}
@@ -25,9 +24,8 @@ returns g c =
       quiet = λ done. rw back.last (executed.quiet (c.finish.ensures.done done));
       hands = rw back.hands (AreHandsBack-all g.B.Worker.kind_of book.places last.last executed.rest.idle executed.rest.not_retired back.workers);
       diaries = λ done.
-          rw (back.hands, back.first, back.log)
-          (hand_diaries-places diary_of book.places executed.rest.idle
-          ∙ executed.diaries diaries (KeepDiaries-begin diary_of c.args.book c.requires.begins.log) (c.finish.ensures.done done));
+          rw (back.hands, back.first, back.log, hand_diaries-places diary_of book.places executed.rest.idle)
+          (executed.diaries diaries (KeepDiaries-begin diary_of c.args.book c.requires.begins.log) (c.finish.ensures.done done));
       serial = IsSerialRun-order lines last.status last.first last.last last.log c.requires.built session.commands (rw back.first order.from_rest)
           session.replay back.valid back.narrow (rw back.last order.few_runs) in_order (λ done. rw back.last (executed.quiet (c.finish.ensures.done done)));
     }
