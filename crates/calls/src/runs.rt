@@ -1,21 +1,22 @@
 //! Lines, statuses and whole runs, of `wm_machine` and `wm_cli`, as far as no script shows them.
 ghost use Rattle.std.specs.Prelude.{◌≡◌, ◌≤◌, vec_len, IfOk};
 ghost use Rattle.wm_bench.specs.declared.bench.TheConstants.{MAX_HANDS};
-ghost use Rattle.wm_session.specs.Hands.{AreEchoes};
 
-use parts::diarist::{Diarist, told_runs};
+use parts::diarist::Diarist;
+use parts::uploader::{Uploader, diary_text};
 use std::alloc::{AllocError, Global};
 use std::process::Abort;
 use std::test::Fail;
 use wm_bench::Hand;
 use wm_cli::{Status, run};
 use wm_collections::Text;
+use wm_data::{Data, DataBuilder, Value};
 use wm_io::{MemorySink, MemorySource, StdSink, StdSource};
 use wm_keeper::SureKeeper;
 use wm_machine::{Command, LineFault};
 use wm_script::{Limit, read_lines};
 use wm_stock::Echo;
-use wm_worker::{Kind, Worker};
+use wm_worker::Worker;
 
 /// Which of the built commands it is.
 fn name_of(command: &Command) -> &'static str {
@@ -184,8 +185,7 @@ fn echo(alloc: Global) -> Result<Hand<Echo>, AllocError> {
 
 /// Two workers of class Echo.
 fn echoes(alloc: Global) -> Result<Vec<Hand<Echo>>, AllocError>
-    ensures few { IfOk result (λ hands. vec_len hands ≤ MAX_HANDS) }
-    ensures echoes { IfOk result (λ hands. AreEchoes ⟦<Echo as Worker>⟧.kind_of hands.items) }
+    ensures { IfOk result (λ hands. vec_len hands ≤ MAX_HANDS) }
 {
     let mut hands = Vec::new(alloc);
     hands.push(echo(alloc)?)?;
@@ -210,39 +210,108 @@ fn a_run_takes_any_source_sink_and_keeper(rt: HostRuntime) -> Result<(), Fail> {
     Ok(())
 }
 
-/// The one hand of a run: a boxed worker of class and kind Echo.
-fn one_hand(alloc: Global, worker: Box<dyn Worker + Send>) -> Result<Vec<Hand>, AllocError>
-    requires { ⟦<Box<dyn Worker + Send> as Worker>⟧.kind_of worker ≡ Kind.Echo }
-    ensures few { IfOk result (λ hands. vec_len hands ≤ MAX_HANDS) }
-    ensures echoes { IfOk result
-        (λ hands. AreEchoes ⟦<Box<dyn Worker + Send> as Worker>⟧.kind_of hands.items) }
+/// The one hand of a run: a boxed worker of this class.
+fn one_hand(
+    alloc: Global,
+    class: &str,
+    worker: Box<dyn Worker + Send>,
+) -> Result<Vec<Hand>, AllocError>
+    ensures { IfOk result (λ hands. vec_len hands ≤ MAX_HANDS) }
 {
     let mut hands = Vec::new(alloc);
     hands.push(Hand {
-        class: Text::from_str(alloc, "Echo")?,
+        class: Text::from_str(alloc, class)?,
         worker,
     })?;
     Ok(hands)
 }
 
-#[test]
-fn a_boxed_worker_comes_back_with_its_diary(rt: HostRuntime) -> Result<(), Fail> {
-    let alloc = rt.alloc();
-    let hands = one_hand(alloc, Box::new(alloc, Diarist::new(alloc))?)?;
-    let script = Vec::from_slice(alloc, SCRIPT.as_bytes())?;
+/// What is left of a run: what it wrote, how many events it had, and the hand that came back.
+#[derive(Drop)]
+struct Left {
+    written: String,
+    events: usize,
+    hand: Hand,
+}
+
+/// Runs a script with one worker of this class, over sources and sinks in memory.
+fn run_with_one(
+    rt: &impl Abort,
+    alloc: Global,
+    class: &str,
+    worker: Box<dyn Worker + Send>,
+    script: &str,
+) -> Result<Left, Fail> {
+    let hands = one_hand(alloc, class, worker)?;
+    let script = Vec::from_slice(alloc, script.as_bytes())?;
     let mut source = MemorySource::new(script, 100, Vec::new(alloc));
     let sink = MemorySink::new(100, Vec::new(alloc));
     let keeper = SureKeeper::new(Vec::new(alloc));
     let words = words(alloc, WORDS)?;
-    let ended = run(alloc, &words, hands, &mut source, sink, keeper);
+    let mut ended = run(alloc, &words, hands, &mut source, sink, keeper);
     assert_eq!(rt; ended.status, Status::Done);
-    assert_eq!(rt; ended.sink.bytes(), REPLIES.as_bytes());
-    let [hand] = ended.hands.as_slice() else {
-        panic!(rt; "not one hand");
+    let written = String::from_utf8(Vec::from_slice(alloc, ended.sink.bytes())?)?;
+    let Some(hand) = ended.hands.pop() else {
+        panic!(rt; "no hand");
     };
-    assert_eq!(rt; hand.class.as_str(), "Echo");
-    let runs = [(1, None), (1, Some((0, true)))];
-    let diary = told_runs(alloc, &hand.worker)?;
-    assert_eq!(rt; diary.as_deref(), Some(runs.as_slice()));
+    assert!(rt; ended.hands.is_empty());
+    assert_eq!(rt; hand.class.as_str(), class);
+    Ok(Left {
+        written,
+        events: ended.log.len(),
+        hand,
+    })
+}
+
+#[test]
+fn a_boxed_worker_comes_back_with_its_diary(rt: HostRuntime) -> Result<(), Fail> {
+    let alloc = rt.alloc();
+    let worker: Box<dyn Worker + Send> = Box::new(alloc, Diarist::new(alloc))?;
+    let left = run_with_one(&rt, alloc, "Echo", worker, SCRIPT)?;
+    assert_eq!(rt; left.written.as_str(), REPLIES);
+    let diary = diary_text(alloc, &left.hand.worker)?;
+    assert_eq!(rt;
+        diary.as_deref(),
+        Some("run 1 begun\nrun 1 turn 0: Success {}\n")
+    );
+    Ok(())
+}
+
+const UPLOAD: &str =
+    r#"{"cmd":"enqueue","works":[{"class":"Upload","id":"00000000-0000-0000-0000-000000000001"}]}
+{"cmd":"query"}
+"#;
+
+const UPLOAD_REPLIES: &str = r#"{"line":1,"ok":"enqueued","works":[1]}
+{"line":2,"ok":"query","works":[{"attempt":1,"generation":0,"id":"00000000-0000-0000-0000-000000000001","output":{"sent":{"int":2}},"progress":{},"seq":1,"state":"FAILED","tags":[]}]}
+"#;
+
+const UPLOAD_DIARY: &str = r#"run 1 begun
+run 1 turn 0: More {"of":{"int":3}}
+run 1 turn 1: More {"of":{"int":3}}
+run 1 turn 2: Failure {"sent":{"int":2}}
+"#;
+
+/// Data of one Int.
+fn int_alone(alloc: Global, key: &str, number: i32) -> Result<Data, Fail> {
+    let mut builder = DataBuilder::new(alloc);
+    builder.put(String::from_str(alloc, key)?, Value::Int(number))?;
+    Ok(builder.build()?)
+}
+
+/// A caller's own worker, which may give what it likes: it tells its progress twice, and fails.
+#[test]
+fn a_custom_worker_takes_turns_and_fails(rt: HostRuntime) -> Result<(), Fail> {
+    let alloc = rt.alloc();
+    let (progress, output) = (int_alone(alloc, "of", 3)?, int_alone(alloc, "sent", 2)?);
+    let worker: Box<dyn Worker + Send> = Box::new(
+        alloc,
+        Uploader::new(alloc, 2, progress, output),
+    )?;
+    let left = run_with_one(&rt, alloc, "Upload", worker, UPLOAD)?;
+    assert_eq!(rt; left.written.as_str(), UPLOAD_REPLIES);
+    assert_eq!(rt; left.events, 6);
+    let diary = diary_text(alloc, &left.hand.worker)?;
+    assert_eq!(rt; diary.as_deref(), Some(UPLOAD_DIARY));
     Ok(())
 }

@@ -127,6 +127,11 @@ fn finishes(table: &mut Table<MemoryKeeper>, ticket: Ticket, told: Told) -> bool
 {
     match table.turn(ticket, told) {
         TurnAnswer::Finished => true,
+        TurnAnswer::TimedOut => false,
+        TurnAnswer::Go(ticket) => {
+            table.take_back(ticket);
+            false
+        }
         TurnAnswer::Again(ticket) => {
             table.take_back(ticket);
             false
@@ -152,6 +157,11 @@ fn report(
     };
     match table.turn(ticket, told) {
         TurnAnswer::Finished => "finished",
+        TurnAnswer::TimedOut => "timed out",
+        TurnAnswer::Go(ticket) => {
+            table.take_back(ticket);
+            "goes on"
+        }
         TurnAnswer::Again(ticket) => {
             let same = ticket.seq() == 1 && ticket.k() == 0 && ticket.instance() == 0;
             table.take_back(ticket);

@@ -35,10 +35,12 @@ pub fn event_words(alloc: Global, event: &Event) -> Result<String, AllocError> {
             let cause = cause_words(alloc, cause)?;
             format!(in alloc; "no start: work {seq}: {cause}")
         }
+        Event::Turn { run, progress } => turn_words(alloc, *run, progress),
         Event::Finish { run, end } => {
             let end = end_words(alloc, end)?;
             format!(in alloc; "end of run {run}: {end}")
         }
+        Event::TimedOut { run } => format!(in alloc; "time-out of run {run}"),
         _ => String::from_str(alloc, "an event that isn't built"),
     }
 }
@@ -226,6 +228,17 @@ fn reply_words(alloc: Global, reply: &Reply) -> Result<String, AllocError> {
         Reply::Refused(Refusal::IdInUse { id }) => format!(in alloc; "refused IdInUse {id}"),
         Reply::Refused(refusal) => format!(in alloc; "refused {refusal:?}"),
         _ => String::from_str(alloc, "a reply that isn't built"),
+    }
+}
+
+/// A turn after which a run goes on, with its progress where it told any.
+fn turn_words(alloc: Global, run: u64, progress: &Option<Data>) -> Result<String, AllocError> {
+    match progress {
+        Some(progress) => {
+            let progress = data_words(alloc, progress)?;
+            format!(in alloc; "turn of run {run}: progress {progress}")
+        }
+        None => format!(in alloc; "turn of run {run}"),
     }
 }
 

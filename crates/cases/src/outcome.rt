@@ -1,7 +1,6 @@
 //! Runs the cases, and tells what came of them.
 ghost use Rattle.std.specs.Prelude.{◌≡◌, ◌+◌, ◌≤◌, vec_len, OnOk};
 ghost use Rattle.wm_bench.specs.declared.bench.TheConstants.{MAX_HANDS};
-ghost use Rattle.wm_session.specs.Hands.{AreEchoes};
 
 use crate::event::event_words;
 use crate::part::{Failing, Part};
@@ -12,8 +11,12 @@ use wm_cli::{Ended, Status};
 use wm_collections::{Replica, Text};
 use wm_io::{MemorySink, MemorySource};
 use wm_keeper::{Change, Keeper, MemoryKeeper, Row, SureKeeper};
-use wm_stock::Echo;
-use wm_worker::{Kind, Worker};
+use wm_machine::Event;
+use wm_stock::{Count, Echo, FailUntil, RetryUntil, Sum, Wait};
+use wm_worker::Worker;
+
+/// How many workers there are of each kind.
+const EACH: u32 = 4;
 
 /// What comes of the parts of a case file, one after another.
 pub fn tell_cases(alloc: Global, parts: &[Part]) -> Result<String, AllocError> {
@@ -56,19 +59,16 @@ fn tell_part(
     Ok(kept)
 }
 
-/// Adds a worker of kind Echo, for the works of class `Echo`.
-fn add_echo(
+/// Adds a worker for the works of a class.
+fn add_worker(
     alloc: Global,
     hands: &mut Vec<Hand>,
+    class: &str,
     worker: Box<dyn Worker + Send>,
 ) -> Result<(), AllocError>
-    requires kind { ⟦<Box<dyn Worker + Send> as Worker>⟧.kind_of worker ≡ Kind.Echo }
-    requires echoes { AreEchoes ⟦<Box<dyn Worker + Send> as Worker>⟧.kind_of hands.old.items }
-    ensures echoes { OnOk result
-        (AreEchoes ⟦<Box<dyn Worker + Send> as Worker>⟧.kind_of hands.new.items) }
     ensures one_more { OnOk result (vec_len hands.new ≡ vec_len hands.old + 1) }
 {
-    let class = Text::from_str(alloc, "Echo")?;
+    let class = Text::from_str(alloc, class)?;
     hands.push(Hand { class, worker })?;
     Ok(())
 }
@@ -82,10 +82,34 @@ fn tell_run(
     store: &mut SureKeeper,
 ) -> Result<SureKeeper, AllocError> {
     let mut hands = Vec::new(alloc);
-    add_echo(alloc, &mut hands, Box::new(alloc, Echo::new())?)?;
-    add_echo(alloc, &mut hands, Box::new(alloc, Echo::new())?)?;
-    add_echo(alloc, &mut hands, Box::new(alloc, Echo::new())?)?;
-    add_echo(alloc, &mut hands, Box::new(alloc, Echo::new())?)?;
+    for _ in 0..EACH {
+        add_worker(alloc, &mut hands, "Echo", Box::new(alloc, Echo::new())?)?;
+    }
+    for _ in 0..EACH {
+        add_worker(alloc, &mut hands, "Sum", Box::new(alloc, Sum::new())?)?;
+    }
+    for _ in 0..EACH {
+        add_worker(
+            alloc,
+            &mut hands,
+            "FailUntil",
+            Box::new(alloc, FailUntil::new())?,
+        )?;
+    }
+    for _ in 0..EACH {
+        add_worker(
+            alloc,
+            &mut hands,
+            "RetryUntil",
+            Box::new(alloc, RetryUntil::new())?,
+        )?;
+    }
+    for _ in 0..EACH {
+        add_worker(alloc, &mut hands, "Count", Box::new(alloc, Count::new())?)?;
+    }
+    for _ in 0..EACH {
+        add_worker(alloc, &mut hands, "Wait", Box::new(alloc, Wait::new())?)?;
+    }
     tell_run_of(alloc, told, part, failing, store, hands)
 }
 
@@ -100,7 +124,6 @@ fn tell_run_of<B: Worker>(
     hands: Vec<Hand<B>>,
 ) -> Result<SureKeeper, AllocError>
     requires few_hands { vec_len hands ≤ MAX_HANDS }
-    requires echoes { AreEchoes B.kind_of hands.items }
 {
     told.push_str(heading(alloc, part, failing)?.as_str())?;
     let mut source = source_of(alloc, part, failing)?;
@@ -156,15 +179,42 @@ fn tell_ended<B: Worker>(
     } else {
         "not begun\n"
     })?;
-    for event in ended.log.as_slice() {
-        let words = event_words(alloc, event)?;
-        tell_line(told, "event ", words.as_str())?;
-    }
+    tell_events(alloc, told, ended.log.as_slice())?;
     for row in ended.keeper.rows() {
         let text = row_text(alloc, row)?;
         tell_line(told, "row ", text.as_str())?;
     }
     tell_bytes(alloc, told, ended.sink.bytes())
+}
+
+/// Tells the events of a log. Of those with the same words one after another the first alone is
+/// told, with their number.
+fn tell_events(alloc: Global, told: &mut String, log: &[Event]) -> Result<(), AllocError> {
+    let mut words = String::new(alloc);
+    let mut times: u64 = 0;
+    for event in log {
+        let next = event_words(alloc, event)?;
+        if next != words {
+            tell_event(alloc, told, words.as_str(), times)?;
+            words = next;
+            times = 0;
+        }
+        times = times.saturating_add(1);
+    }
+    tell_event(alloc, told, words.as_str(), times)
+}
+
+/// Tells an event that came so many times.
+fn tell_event(alloc: Global, told: &mut String, words: &str, times: u64) -> Result<(), AllocError> {
+    match times {
+        0 => Ok(()),
+        1 => tell_line(told, "event ", words),
+        _ => tell_line(
+            told,
+            "event ",
+            format!(in alloc; "{words}, {times} times")?.as_str(),
+        ),
+    }
 }
 
 /// A status with its code, and its text where it has one.

@@ -1,5 +1,5 @@
-//! Tests of single calls of the crates that the table stands on, a table a subject, and the worker
-//! that tells a diary, which the tests of whole runs have too.
+//! Tests of single calls of the crates that the table stands on, a table a subject, and the workers
+//! that tell diaries, which the tests of whole runs have too.
 #![tactic(auto)]
 
 #[cfg(test)]
@@ -19,5 +19,6 @@ mod requests;
 mod schedule;
 #[cfg(test)]
 mod streams;
+pub mod uploader;
 #[cfg(test)]
 mod workers;

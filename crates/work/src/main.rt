@@ -7,7 +7,6 @@
 mod tests;
 
 ghost use Rattle.std.specs.Prelude.{◌≡◌, ◌+◌, vec_len, OnOk};
-ghost use Rattle.wm_session.specs.Hands.{AreEchoes};
 
 use std::alloc::{AllocError, Global};
 use std::process::ExitCode;
@@ -18,8 +17,11 @@ use wm_cli::Status;
 use wm_collections::Text;
 use wm_io::{Sink, Source, StdSink, StdSource};
 use wm_keeper::SureKeeper;
-use wm_stock::Echo;
-use wm_worker::{Kind, Worker};
+use wm_stock::{Count, Echo, FailUntil, RetryUntil, Sum, Wait};
+use wm_worker::Worker;
+
+/// How many workers there are of each kind.
+const EACH: u32 = 4;
 
 /// The words of the command line after the program's name. Where the system doesn't give them,
 /// there is none.
@@ -30,24 +32,22 @@ fn words(rt: &(impl Env + AllocGlobal)) -> Result<Vec<String>, AllocError> {
     }
 }
 
-/// Adds a worker of kind Echo, for the works of class `Echo`.
-fn add_echo(
+/// Adds a worker for the works of a class.
+fn add_worker(
     alloc: Global,
     hands: &mut Vec<Hand>,
+    class: &str,
     worker: Box<dyn Worker + Send>,
 ) -> Result<(), AllocError>
-    requires kind { ⟦<Box<dyn Worker + Send> as Worker>⟧.kind_of worker ≡ Kind.Echo }
-    requires echoes { AreEchoes ⟦<Box<dyn Worker + Send> as Worker>⟧.kind_of hands.old.items }
-    ensures echoes { OnOk result
-        (AreEchoes ⟦<Box<dyn Worker + Send> as Worker>⟧.kind_of hands.new.items) }
     ensures one_more { OnOk result (vec_len hands.new ≡ vec_len hands.old + 1) }
 {
-    let class = Text::from_str(alloc, "Echo")?;
+    let class = Text::from_str(alloc, class)?;
     hands.push(Hand { class, worker })?;
     Ok(())
 }
 
-/// Runs a script with these words and four workers.
+/// Runs a script with these words and the stock workers, a few of each kind, whose classes are
+/// named as their kinds.
 fn run<S: Source, W: Sink + Send + Drop>(
     alloc: Global,
     words: &[String],
@@ -55,10 +55,34 @@ fn run<S: Source, W: Sink + Send + Drop>(
     sink: W,
 ) -> Result<Status, AllocError> {
     let mut hands = Vec::new(alloc);
-    add_echo(alloc, &mut hands, Box::new(alloc, Echo::new())?)?;
-    add_echo(alloc, &mut hands, Box::new(alloc, Echo::new())?)?;
-    add_echo(alloc, &mut hands, Box::new(alloc, Echo::new())?)?;
-    add_echo(alloc, &mut hands, Box::new(alloc, Echo::new())?)?;
+    for _ in 0..EACH {
+        add_worker(alloc, &mut hands, "Echo", Box::new(alloc, Echo::new())?)?;
+    }
+    for _ in 0..EACH {
+        add_worker(alloc, &mut hands, "Sum", Box::new(alloc, Sum::new())?)?;
+    }
+    for _ in 0..EACH {
+        add_worker(
+            alloc,
+            &mut hands,
+            "FailUntil",
+            Box::new(alloc, FailUntil::new())?,
+        )?;
+    }
+    for _ in 0..EACH {
+        add_worker(
+            alloc,
+            &mut hands,
+            "RetryUntil",
+            Box::new(alloc, RetryUntil::new())?,
+        )?;
+    }
+    for _ in 0..EACH {
+        add_worker(alloc, &mut hands, "Count", Box::new(alloc, Count::new())?)?;
+    }
+    for _ in 0..EACH {
+        add_worker(alloc, &mut hands, "Wait", Box::new(alloc, Wait::new())?)?;
+    }
     let keeper = SureKeeper::new(Vec::new(alloc));
     Ok(wm_cli::run(alloc, words, hands, source, sink, keeper).status)
 }
