@@ -10,6 +10,8 @@ mod conditions;
 mod data;
 pub mod diarist;
 #[cfg(test)]
+mod graph;
+#[cfg(test)]
 mod keepers;
 #[cfg(test)]
 mod merging;

@@ -1,0 +1,6 @@
+pub mod Descends
+pub mod Frees
+pub mod Graphs
+pub mod Lists
+pub mod Reaches
+pub mod Unmet

@@ -1,0 +1,4 @@
+pub mod Descendants
+pub mod Leaves
+pub mod Marks
+pub mod Nodes
