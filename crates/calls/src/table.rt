@@ -82,7 +82,7 @@ fn enqueue(alloc: Global, merger: Merger, input: Data) -> Result<Command, Fail>
     })?;
     Ok(Command::Enqueue {
         named: None,
-        batch: Batch { works },
+        batch: Batch::new(works),
     })
 }
 

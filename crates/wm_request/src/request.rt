@@ -1,4 +1,5 @@
 ghost use Rattle.std.specs.Prelude.{◌≡◌, IfSome};
+ghost use Rattle.wm_request.specs.Batches.{IsBatch};
 ghost use Rattle.wm_request.specs.Requests.{AreTags, IsShortText, IsWithin};
 ghost use Rattle.wm_schedule.specs.Clamped.{IsBackoffDelay, IsPeriod};
 ghost use Rattle.wm_schedule.specs.Moments.{IsDelay};
@@ -140,8 +141,46 @@ pub struct Node {
     pub after: Items<Uuid>,
 }
 
-/// Works that are enqueued together.
+/// Works that are enqueued together. Its type keeps that there is one at least, that their ids
+/// differ, that none names an id twice or a periodic work of the batch, and that a periodic work
+/// names none. A contract sees it as the record of its works.
 #[derive(Debug, Drop)]
 pub struct Batch {
-    pub works: Items<Node>,
+    works: Items<Node>,
+}
+
+impl Model for Batch {
+    ghost use Rattle.wm_request.specs.Batches.{BatchFields, IsBatch};
+
+    ghost Value = { BatchFields };
+
+    ghost view = { λ b. record { works = b.works } };
+
+    ghost invariant = { λ b. IsBatch b.works };
+}
+
+impl Batch {
+    /// The batch of these works, which takes no memory.
+    pub fn new(works: Items<Node>) -> Batch
+        requires { IsBatch works }
+        ensures { result ≡ record { works = works } }
+    {
+        Batch { works }
+    }
+
+    /// Its works, in the order in which they are placed.
+    pub fn works(&self) -> &Items<Node>
+        ensures works { result.now ≡ self.now.works }
+        ensures batch { IsBatch self.now.works }
+    {
+        &self.works
+    }
+
+    /// Its works, taken out of it.
+    pub fn into_works(self) -> Items<Node>
+        ensures works { result ≡ self.works }
+        ensures batch { IsBatch result }
+    {
+        self.works
+    }
 }

@@ -1,0 +1,12 @@
+use Rattle.std.proofs.Common.{sym, ap, ◌∙◌}
+use Rattle.std.specs.List.{list_any}
+use Rattle.std.specs.Str.{bytes_eq}
+use Rattle.wm_chain.proofs.Walks.{list_any-map}
+use Rattle.wm_request.specs.declared.request.Node.{Node}
+use Rattle.wm_chain.proofs.batching.is_id_used.Goals as goal
+
+pub returns : goal.returns
+returns c =
+    let works = c.args.before.now in
+    c.has_work.ensures ∙ ap (λ id. list_any (λ (work : Node). bytes_eq work.request.id id) works) c.id.ensures
+    ∙ sym (list_any-map (λ id. bytes_eq id c.args.work.now.request.id) (λ (work : Node). work.request.id) works)
