@@ -1,20 +1,23 @@
--- What a change of one work keeps of the records of a state, and of the state where that work waits.
-use Rattle.std.proofs.Common.{◌≡◌, ◌∙◌, ℕ, ◌<◌, ◌≤◌, true, List, length, ap, subst, sym}
+-- What holds of the records of a state after a change of each of them by itself, and of the state where no run begins or ends.
+use Rattle.std.proofs.Common.{◌≡◌, ◌∙◌, ℕ, ◌<◌, ◌≤◌, true, List, [], ◌∷◌, length, map, refl, ap, subst, sym}
 use Rattle.std.specs.List.{AllByRecursion}
+use Rattle.std.proofs.lemmas.Bool.{false≢true}
 use Rattle.std.proofs.lemmas.List.{length-map}
 use Rattle.wm_collections.specs.Lists.{AllLater}
-use Rattle.wm_machine.proofs.Lists.{All-both, All-map, All-weaker}
-use Rattle.wm_machine.proofs.Records.{sound-narrow}
-use Rattle.wm_machine.proofs.Runnings.{changed, changed_both, in_order-changed, IsAlone, IsAlone-stored, KeepsWork, old_work, numbers-changed, records-changed}
-use Rattle.wm_machine.specs.First.{is_waiting}
-use Rattle.wm_machine.specs.Narrow.{IsReached, NamesNone}
-use Rattle.wm_machine.specs.Runs.{changed_work}
-use Rattle.wm_machine.specs.Valid.{ArePriorSound, HasOne, IsBefore, IsCurrentOf, IsRecord, IsValidRun, Valid}
+use Rattle.wm_machine.proofs.Lists.{All-any, All-both, All-map, All-weaker, AllLater-map, HasOne-map, HasOne-weaker}
+use Rattle.wm_machine.proofs.Runnings.{all_of_number, changed, changed_both, IsBefore-same, IsSameWork}
+use Rattle.wm_machine.specs.Closed.{is_open}
+use Rattle.wm_machine.specs.Narrow.{IsReached}
+use Rattle.wm_machine.specs.Valid.{ArePriorSound, HasOne, HasSucceeded, IsBefore, IsCurrentOf, IsOpenPhase, IsPrerequisite, IsRecord, IsValidRun, IsWorkOf, Valid}
+use Rattle.wm_machine.specs.declared.record.How.TheVariants as how
 use Rattle.wm_machine.specs.declared.record.Phase.{Phase}
 use Rattle.wm_machine.specs.declared.record.Phase.TheVariants as phase
 use Rattle.wm_machine.specs.declared.record.Record.{Record}
+use Rattle.wm_machine.specs.declared.state.Run.{Run}
 use Rattle.wm_machine.specs.declared.state.State.{State}
 use Rattle.wm_request.specs.Requests.{RequestFields}
+
+-- ---- a change
 
 -- two records are of one work that was asked for in one way
 pub record IsSameRequest (one other : Record) : Type 0 where
@@ -23,10 +26,193 @@ pub record IsSameRequest (one other : Record) : Type 0 where
   pub request : other.request ≡ one.request
   pub prior : other.prior ≡ one.prior
 
--- a change of works in such a phase, which keeps what was asked for and what holds of every record
-pub record IsFine (P : Phase → Type 0) (change : Record → Record) : Type 0 where
+abbrev pub Succeeded : Phase → Type 0
+Succeeded p = p ≡ phase.Done how.Succeeded
+
+-- each record of this number that can still succeed, or has, still can after the change
+abbrev pub StaysOpen : List Record → (Record → Record) → ℕ → Type 0
+StaysOpen works change number = AllByRecursion (λ work. work.seq ≡ number → IsOpenPhase work.phase → IsOpenPhase (change work).phase) works
+
+-- Where a change of these records may bring a record in this phase with these prerequisites: only what is unfinished waits or runs; what waits
+-- keeps its prerequisites, and of what runs, or has succeeded, they have.
+abbrev pub MovesTo : List Record → (Record → Record) → Phase → List ℕ → Phase → Type 0
+MovesTo works change before prior phase.Waiting = (is_open before ≡ true) × AllByRecursion (StaysOpen works change) prior
+MovesTo works change before prior phase.Running = (is_open before ≡ true) × AllByRecursion (λ number. HasOne (HasSucceeded number) works) prior
+MovesTo works change before prior (phase.Done how.Succeeded) =
+    AllByRecursion (λ number. AllByRecursion (λ work. work.seq ≡ number → Succeeded work.phase) works) prior
+MovesTo works change before prior (phase.Done _) = Unit {0}
+
+-- a change of these records, each by itself, which keeps what was asked for, what holds of every record, and what has succeeded
+pub record IsChange (works : List Record) (change : Record → Record) : Type 0 where
   pub same : (work : Record) → IsSameRequest work (change work)
-  pub fits : (work : Record) → P work.phase → IsRecord work → IsRecord (change work)
+  pub fits : AllByRecursion (λ work. IsRecord (change work)) works
+  pub moves : AllByRecursion (λ work. MovesTo works change work.phase work.prior (change work).phase) works
+  pub stays : AllByRecursion (λ work. Succeeded work.phase → Succeeded (change work).phase) works
+
+-- ---- where it brings a record
+
+-- a record may stay in its phase, where the prerequisites of what waits stay open
+pub moves-kept : (works : List Record) (change : Record → Record) (p : Phase) (prior : List ℕ) → ArePriorSound works p prior
+    → (p ≡ phase.Waiting → AllByRecursion (StaysOpen works change) prior) → MovesTo works change p prior p
+moves-kept works change phase.Waiting prior sound opens = (refl, opens refl)
+moves-kept works change phase.Running prior sound opens = (
+  refl,
+  All-weaker (λ number. HasOne (IsPrerequisite number) works × HasOne (HasSucceeded number) works) (λ number. HasOne (HasSucceeded number) works)
+      prior (λ number both. both.1) sound,
+)
+moves-kept works change (phase.Done how.Succeeded) prior sound opens = sound
+moves-kept works change (phase.Done how.Failed) prior sound opens = tt
+moves-kept works change (phase.Done how.Cancelled) prior sound opens = tt
+
+-- all prerequisites stay open where every record does
+pub all_open : (works : List Record) (change : Record → Record) (prior : List ℕ)
+    → AllByRecursion (λ work. IsOpenPhase work.phase → IsOpenPhase (change work).phase) works → AllByRecursion (StaysOpen works change) prior
+all_open works change prior opens =
+    All-any (StaysOpen works change) prior (λ number.
+    All-weaker (λ work. IsOpenPhase work.phase → IsOpenPhase (change work).phase)
+    (λ work. work.seq ≡ number → IsOpenPhase work.phase → IsOpenPhase (change work).phase) works (λ work opens same. opens) opens)
+
+-- where some have succeeded, each of their numbers has
+pub succeeded_each : (works : List Record) (prior : List ℕ) → AllLater IsBefore works → AllByRecursion (λ number. HasOne (HasSucceeded number) works) prior
+    → AllByRecursion (λ number. AllByRecursion (λ work. work.seq ≡ number → Succeeded work.phase) works) prior
+succeeded_each works prior order have =
+    All-weaker (λ number. HasOne (HasSucceeded number) works) (λ number. AllByRecursion (λ work. work.seq ≡ number → Succeeded work.phase) works) prior
+    (λ number one. all_of_number (λ work. Succeeded work.phase) number works order
+    (HasOne-weaker (λ work. Unit {0}) (HasSucceeded number) (λ work. (work.seq ≡ number) × Succeeded work.phase) works (λ work u is. (is.seq, is.succeeded))
+    (All-any (λ work. Unit {0}) works (λ work. tt)) one)) have
+
+-- of what runs the prerequisites have succeeded
+pub running_prior : (works : List Record) (p : Phase) (prior : List ℕ) → p ≡ phase.Running → ArePriorSound works p prior
+    → AllByRecursion (λ number. HasOne (HasSucceeded number) works) prior
+running_prior works p prior running sound =
+    All-weaker (λ number. HasOne (IsPrerequisite number) works × HasOne (HasSucceeded number) works) (λ number. HasOne (HasSucceeded number) works) prior
+    (λ number both. both.1) (subst (λ p. ArePriorSound works p prior) running sound)
+
+-- the prerequisites of what is unfinished are there
+open_prior : (works : List Record) (p : Phase) (prior : List ℕ) → is_open p ≡ true → ArePriorSound works p prior
+    → AllByRecursion (λ number. HasOne (IsPrerequisite number) works) prior
+open_prior works phase.Waiting prior unfinished sound = sound
+open_prior works phase.Running prior unfinished sound =
+    All-weaker (λ number. HasOne (IsPrerequisite number) works × HasOne (HasSucceeded number) works) (λ number. HasOne (IsPrerequisite number) works) prior
+    (λ number both. both.0) sound
+open_prior works (phase.Done how) prior unfinished sound = absurd (false≢true unfinished)
+
+module _ (works : List Record) (change : Record → Record) (is : IsChange works change) (order : AllLater IsBefore works) where
+  -- what can still succeed is there after the change
+  prerequisite_stays : (number : ℕ) → StaysOpen works change number → HasOne (IsPrerequisite number) works
+      → HasOne (IsPrerequisite number) (map change works)
+  prerequisite_stays number opens one =
+      HasOne-map (λ work. work.seq ≡ number → IsOpenPhase work.phase → IsOpenPhase (change work).phase) (IsPrerequisite number) (IsPrerequisite number)
+      change works (λ work open_then of.
+      let same = is.same work in record {
+        seq = same.seq ∙ of.seq;
+        open_is = open_then of.seq of.open_is;
+        one_time = ap (λ (r : RequestFields). r.period) same.request ∙ of.one_time;
+      }) opens one
+
+  -- what has succeeded has after the change
+  succeeded_stays : (number : ℕ) → HasOne (HasSucceeded number) works → HasOne (HasSucceeded number) (map change works)
+  succeeded_stays number one =
+      HasOne-map (λ work. Succeeded work.phase → Succeeded (change work).phase) (HasSucceeded number) (HasSucceeded number) change works
+      (λ work stays of. record { seq = (is.same work).seq ∙ of.seq; succeeded = stays of.succeeded }) is.stays one
+
+  -- and so it is a prerequisite that is there
+  prerequisite_done : (number : ℕ) → HasOne (IsPrerequisite number) works × HasOne (HasSucceeded number) works
+      → HasOne (IsPrerequisite number) (map change works)
+  prerequisite_done number both =
+      prerequisite_stays number
+      (All-weaker (λ work. (work.seq ≡ number → Succeeded work.phase) × (Succeeded work.phase → Succeeded (change work).phase))
+      (λ work. work.seq ≡ number → IsOpenPhase work.phase → IsOpenPhase (change work).phase) works
+      (λ work facts same opens. subst IsOpenPhase (sym (facts.1 (facts.0 same))) tt)
+      (All-both (λ work. work.seq ≡ number → Succeeded work.phase) (λ work. Succeeded work.phase → Succeeded (change work).phase) works
+      (succeeded_each works (number ∷ []) order (both.1, tt)).0 is.stays)) both.0
+
+  sound_then : (before : Phase) (prior : List ℕ) (then : Phase) → ArePriorSound works before prior → MovesTo works change before prior then
+      → ArePriorSound (map change works) then prior
+  sound_then before prior phase.Waiting sound moves =
+      All-weaker (λ number. StaysOpen works change number × HasOne (IsPrerequisite number) works) (λ number. HasOne (IsPrerequisite number) (map change works))
+      prior (λ number both. prerequisite_stays number both.0 both.1)
+      (All-both (StaysOpen works change) (λ number. HasOne (IsPrerequisite number) works) prior moves.1 (open_prior works before prior moves.0 sound))
+  sound_then before prior phase.Running sound moves =
+      All-weaker (λ number. HasOne (IsPrerequisite number) works × HasOne (HasSucceeded number) works)
+      (λ number. HasOne (IsPrerequisite number) (map change works) × HasOne (HasSucceeded number) (map change works)) prior
+      (λ number both. (prerequisite_done number both, succeeded_stays number both.1))
+      (All-both (λ number. HasOne (IsPrerequisite number) works) (λ number. HasOne (HasSucceeded number) works) prior
+      (open_prior works before prior moves.0 sound) moves.1)
+  sound_then before prior (phase.Done how.Succeeded) sound moves =
+      All-weaker (λ number. AllByRecursion (λ work. work.seq ≡ number → Succeeded work.phase) works)
+      (λ number. AllByRecursion (λ work. work.seq ≡ number → Succeeded work.phase) (map change works)) prior
+      (λ number all.
+      All-map (λ work. (work.seq ≡ number → Succeeded work.phase) × (Succeeded work.phase → Succeeded (change work).phase))
+      (λ work. work.seq ≡ number → Succeeded work.phase) change works (λ work both same. both.1 (both.0 (sym (is.same work).seq ∙ same)))
+      (All-both (λ work. work.seq ≡ number → Succeeded work.phase) (λ work. Succeeded work.phase → Succeeded (change work).phase) works all is.stays)) moves
+  sound_then before prior (phase.Done how.Failed) sound moves = tt
+  sound_then before prior (phase.Done how.Cancelled) sound moves = tt
+
+-- ---- changes of one record
+
+-- what is so of the record of this number
+abbrev pub OfNumber : ℕ → (Record → Type 0) → Record → Type 0
+OfNumber seq P work = work.seq ≡ seq → P work
+
+-- a change of the record of one number, which hadn't succeeded and still can
+pub IsChange-one : (works : List Record) (seq : ℕ) (change : Record → Record) → ((work : Record) → IsSameRequest work (change work))
+    → AllByRecursion IsRecord works → AllByRecursion (λ work. ArePriorSound works work.phase work.prior) works
+    → AllByRecursion (OfNumber seq (λ work. IsRecord (change work))) works
+    → AllByRecursion (OfNumber seq (λ work. MovesTo works (changed change seq) work.phase work.prior (change work).phase)) works
+    → AllByRecursion (OfNumber seq (λ work. Succeeded work.phase → ⊥)) works → AllByRecursion (OfNumber seq (λ work. IsOpenPhase (change work).phase)) works
+    → IsChange works (changed change seq)
+IsChange-one works seq change same records sound fits moves not_yet opens =
+    let open_then =
+    All-weaker (OfNumber seq (λ work. IsOpenPhase (change work).phase)) (λ work. IsOpenPhase work.phase → IsOpenPhase (changed change seq work).phase) works
+    (λ work then before. changed_both (λ c. IsOpenPhase c.phase) change seq work then (λ differs. before)) opens in
+    record {
+      same = λ work. changed_both (IsSameRequest work) change seq work (λ e. same work)
+          (λ differs. record { seq = refl; name = refl; request = refl; prior = refl });
+      fits = All-weaker (λ work. IsRecord work × OfNumber seq (λ work. IsRecord (change work)) work) (λ work. IsRecord (changed change seq work)) works
+          (λ work both. changed_both IsRecord change seq work both.1 (λ differs. both.0))
+          (All-both IsRecord (OfNumber seq (λ work. IsRecord (change work))) works records fits);
+      moves = All-weaker (λ work. ArePriorSound works work.phase work.prior
+          × OfNumber seq (λ work. MovesTo works (changed change seq) work.phase work.prior (change work).phase) work)
+          (λ work. MovesTo works (changed change seq) work.phase work.prior (changed change seq work).phase) works
+          (λ work both. changed_both (λ c. MovesTo works (changed change seq) work.phase work.prior c.phase) change seq work both.1
+          (λ differs. moves-kept works (changed change seq) work.phase work.prior both.0
+          (λ waits. all_open works (changed change seq) work.prior open_then)))
+          (All-both (λ work. ArePriorSound works work.phase work.prior)
+          (OfNumber seq (λ work. MovesTo works (changed change seq) work.phase work.prior (change work).phase)) works sound moves);
+      stays = All-weaker (OfNumber seq (λ work. Succeeded work.phase → ⊥)) (λ work. Succeeded work.phase → Succeeded (changed change seq work).phase) works
+          (λ work not succeeded. changed_both (λ c. Succeeded c.phase) change seq work (λ e. absurd (not e succeeded)) (λ differs. succeeded)) not_yet;
+    }
+
+-- where a change brings a record goes by the phases that it gives
+moves-like : (works : List Record) (one other : Record → Record) → ((work : Record) → (other work).phase ≡ (one work).phase) → (p : Phase) (prior : List ℕ)
+    (then : Phase) → MovesTo works one p prior then → MovesTo works other p prior then
+moves-like works one other like p prior phase.Waiting moves = (
+  moves.0,
+  All-weaker (StaysOpen works one) (StaysOpen works other) prior (λ number stays.
+      All-weaker (λ work. work.seq ≡ number → IsOpenPhase work.phase → IsOpenPhase (one work).phase)
+      (λ work. work.seq ≡ number → IsOpenPhase work.phase → IsOpenPhase (other work).phase) works
+      (λ work stay same opens. subst IsOpenPhase (sym (like work)) (stay same opens)) stays) moves.1,
+)
+moves-like works one other like p prior phase.Running moves = moves
+moves-like works one other like p prior (phase.Done how.Succeeded) moves = moves
+moves-like works one other like p prior (phase.Done how.Failed) moves = tt
+moves-like works one other like p prior (phase.Done how.Cancelled) moves = tt
+
+-- a change that gives the same phases as another
+pub IsChange-like : (works : List Record) (one other : Record → Record) → IsChange works one → ((work : Record) → (other work).phase ≡ (one work).phase)
+    → ((work : Record) → IsSameRequest work (other work)) → AllByRecursion (λ work. IsRecord (other work)) works → IsChange works other
+IsChange-like works one other is like same fits = record {
+  same = same;
+  fits = fits;
+  moves = All-weaker (λ work. MovesTo works one work.phase work.prior (one work).phase) (λ work. MovesTo works other work.phase work.prior (other work).phase)
+      works (λ work moves. subst (MovesTo works other work.phase work.prior) (sym (like work))
+      (moves-like works one other like work.phase work.prior (one work).phase moves)) is.moves;
+  stays = All-weaker (λ work. Succeeded work.phase → Succeeded (one work).phase) (λ work. Succeeded work.phase → Succeeded (other work).phase) works
+      (λ work stays succeeded. like work ∙ stays succeeded) is.stays;
+}
+
+-- ---- the records of a state
 
 -- what holds of these as the records of a state
 pub record AreFine (s : State) (works : List Record) : Type 0 where
@@ -35,59 +221,58 @@ pub record AreFine (s : State) (works : List Record) : Type 0 where
   pub records : AllByRecursion IsRecord works
   pub in_order : AllLater IsBefore works
   pub sound : AllByRecursion (λ work. ArePriorSound works work.phase work.prior) works
-  pub narrow : AllByRecursion NamesNone works
 
-keeps_work : (change : Record → Record) → ((work : Record) → IsSameRequest work (change work)) → KeepsWork change
-keeps_work change same work =
-    let is = same work in record {
-      seq = is.seq;
-      id = ap (λ (r : RequestFields). r.id) is.request;
-      name = is.name;
-      period = ap (λ (r : RequestFields). r.period) is.request;
-    }
+same_work : (one other : Record) → IsSameRequest one other → IsSameWork one other
+same_work one other is = record {
+  seq = is.seq;
+  id = ap (λ (r : RequestFields). r.id) is.request;
+  name = is.name;
+  period = ap (λ (r : RequestFields). r.period) is.request;
+}
 
--- the records after such a change of the work of this number
-pub AreFine-changed : (P : Phase → Type 0) (change : Record → Record) (s : State) (seq : ℕ) → IsFine P change → IsReached s
-    → AllByRecursion (λ work. work.seq ≡ seq → P work.phase) s.works → AreFine s (changed_work change seq s.works)
-AreFine-changed P change s seq fine reached phases =
-    let works = changed_work change seq s.works in
-    let narrow =
-    records-changed NamesNone NamesNone change seq s.works (λ w e none. (fine.same w).prior ∙ none) (λ w none. none)
-    reached.narrow.records in
+-- the records after a change
+pub AreFine-changed : (s : State) (change : Record → Record) → Valid s → IsChange s.works change → AreFine s (map change s.works)
+AreFine-changed s change valid is =
+    let works = s.works in
     record {
-      numbers = numbers-changed s.next change seq s.works (λ w. (fine.same w).seq) reached.valid.numbers;
-      few = subst (λ n. n ≤ 100000) (sym (length-map s.works (changed change seq))) reached.valid.few_works;
-      records = records-changed (λ w. (w.seq ≡ seq → P w.phase) × IsRecord w) IsRecord change seq s.works (λ w e is. fine.fits w (is.0 e) is.1)
-          (λ w is. is.1) (All-both (λ w. w.seq ≡ seq → P w.phase) IsRecord s.works phases reached.valid.records);
-      in_order = in_order-changed change seq s.works (keeps_work change fine.same) reached.valid.in_order;
-      sound = sound-narrow works works narrow;
-      narrow = narrow;
+      numbers = All-map (λ w. w.seq < s.next) (λ w. w.seq < s.next) change works (λ w below. subst (λ n. n < s.next) (sym (is.same w).seq) below)
+          valid.numbers;
+      few = subst (λ n. n ≤ 100000) (sym (length-map works change)) valid.few_works;
+      records = All-map (λ w. IsRecord (change w)) IsRecord change works (λ w fine. fine) is.fits;
+      in_order = AllLater-map IsBefore IsBefore change works
+          (λ one other before. IsBefore-same one (change one) other (change other) (same_work one (change one) (is.same one))
+          (same_work other (change other) (is.same other)) before) valid.in_order;
+      sound = All-map (λ w. ArePriorSound works w.phase w.prior × MovesTo works change w.phase w.prior (change w).phase)
+          (λ w. ArePriorSound (map change works) w.phase w.prior) change works
+          (λ w both. subst (ArePriorSound (map change works) (change w).phase) (sym (is.same w).prior)
+          (sound_then works change is valid.in_order w.phase w.prior (change w).phase both.0 both.1))
+          (All-both (λ w. ArePriorSound works w.phase w.prior) (λ w. MovesTo works change w.phase w.prior (change w).phase) works valid.sound is.moves);
     }
 
--- ---- waiting work
+-- ---- where no run begins or ends
 
-abbrev pub Waits : Phase → Type 0
-Waits p = is_waiting p ≡ true
+-- a record runs after a change just where it ran before, in the same attempt
+pub record KeepsRun (one other : Record) : Type 0 where
+  pub ran : other.phase ≡ phase.Running → one.phase ≡ phase.Running
+  pub runs : one.phase ≡ phase.Running → other.phase ≡ phase.Running
+  pub attempt : one.phase ≡ phase.Running → other.attempt ≡ one.attempt
 
--- where a work is alone and waits, each of its number does
-pub waits-alone : (work : Record) (works : List Record) → Waits work.phase → AllByRecursion (IsAlone work) works
-    → AllByRecursion (λ other. other.seq ≡ work.seq → Waits other.phase) works
-waits-alone work works waits alone =
-    All-weaker (IsAlone work) (λ other. other.seq ≡ work.seq → Waits other.phase) works
-    (λ other same e. subst (λ (w : Record). Waits w.phase) (sym (same e)) waits) alone
+-- the work of a run is so after the change
+pub IsWorkOf-kept : (run : Run) (one other : Record) → IsSameRequest one other → KeepsRun one other → IsWorkOf run one → IsWorkOf run other
+IsWorkOf-kept run one other same keeps of =
+    record { seq = same.seq ∙ of.seq; running = keeps.runs of.running; attempt = keeps.attempt of.running ∙ of.attempt }
 
--- the records with this one changed
-abbrev pub with_changed : State → Record → (Record → Record) → State
-with_changed s work change = record s { works = changed_work change work.seq s.works }
+-- the records with each of them changed
+abbrev pub with_changed : State → (Record → Record) → State
+with_changed s change = record s { works = map change s.works }
 
--- a change of a waiting work, after which it isn't running, keeps what holds of the states that are reached
-pub reached-changed : (s : State) (work : Record) (change : Record → Record) → IsFine Waits change → ((w : Record) → (change w).phase ≡ phase.Running → ⊥)
-    → IsReached s → HasOne (λ other. other ≡ work) s.works → Waits work.phase → IsReached (with_changed s work change)
-reached-changed s work change fine idle reached stored waits =
+-- a change after which just those run that ran before keeps what holds of the states that are reached
+pub reached-changed : (s : State) (change : Record → Record) → IsReached s → IsChange s.works change
+    → AllByRecursion (λ work. KeepsRun work (change work)) s.works → IsReached (with_changed s change)
+reached-changed s change reached is keep =
     let valid = reached.valid in
-    let alone = IsAlone-stored work s.works valid.in_order stored in
-    let works = AreFine-changed Waits change s work.seq fine reached (waits-alone work s.works waits alone) in
-    let valid_then : Valid (with_changed s work change) = record {
+    let works = AreFine-changed s change valid is in
+    let valid_then : Valid (with_changed s change) = record {
       numbers = works.numbers;
       first = valid.first;
       next = valid.next;
@@ -95,16 +280,17 @@ reached-changed s work change fine idle reached stored waits =
       records = works.records;
       in_order = works.in_order;
       sound = works.sound;
-      running = All-map (λ w. w.phase ≡ phase.Running → HasOne (IsCurrentOf w.seq) s.runs)
-          (λ w. w.phase ≡ phase.Running → HasOne (IsCurrentOf w.seq) s.runs) (changed change work.seq) s.works (λ w has.
-          changed_both (λ c. c.phase ≡ phase.Running → HasOne (IsCurrentOf c.seq) s.runs) change work.seq w (λ e running. absurd (idle w running))
-          (λ e. has)) valid.running;
-      runs = All-weaker (IsValidRun s) (IsValidRun (with_changed s work change)) s.runs (λ r is. record {
-        number = is.number;
-        turn = is.turn;
-        input = is.input;
-        work = λ current. old_work change work s.works r waits alone (is.work current);
-        instance = is.instance;
+      running = All-map (λ w. (w.phase ≡ phase.Running → HasOne (IsCurrentOf w.seq) s.runs) × KeepsRun w (change w))
+          (λ w. w.phase ≡ phase.Running → HasOne (IsCurrentOf w.seq) s.runs) change s.works
+          (λ w both running. subst (λ n. HasOne (IsCurrentOf n) s.runs) (sym (is.same w).seq) (both.0 (both.1.ran running)))
+          (All-both (λ w. w.phase ≡ phase.Running → HasOne (IsCurrentOf w.seq) s.runs) (λ w. KeepsRun w (change w)) s.works valid.running keep);
+      runs = All-weaker (IsValidRun s) (IsValidRun (with_changed s change)) s.runs (λ r fine. record {
+        number = fine.number;
+        turn = fine.turn;
+        input = fine.input;
+        work = λ current. HasOne-map (λ w. KeepsRun w (change w)) (IsWorkOf r) (IsWorkOf r) change s.works
+            (λ w keeps of. IsWorkOf-kept r w (change w) (is.same w) keeps of) keep (fine.work current);
+        instance = fine.instance;
       }) valid.runs;
       apart = valid.apart;
       instances = valid.instances;
@@ -112,4 +298,4 @@ reached-changed s work change fine idle reached stored waits =
       few_observers = valid.few_observers;
       now = valid.now;
     } in
-    record { valid = valid_then; narrow = record { records = works.narrow; runs = reached.narrow.runs } }
+    record { valid = valid_then; narrow = record { runs = reached.narrow.runs } }

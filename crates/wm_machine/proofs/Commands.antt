@@ -1,5 +1,6 @@
 -- What holds of every command, with a row for each.
 use Rattle.std.proofs.Common.{None, refl}
+use Rattle.wm_machine.proofs.Cancels.{cancel-answered}
 use Rattle.wm_machine.proofs.Enqueues.{enqueue-answered}
 use Rattle.wm_machine.proofs.Owed.{IsAnswered}
 use Rattle.wm_machine.proofs.Settings.{conditions-answered, moment-answered}
@@ -7,6 +8,7 @@ use Rattle.wm_machine.specs.Outcome.{IsBuilt}
 use Rattle.wm_machine.specs.Queried.{answer_to}
 use Rattle.wm_machine.specs.declared.command.Command.{Command}
 use Rattle.wm_machine.specs.declared.command.Command.TheVariants as command
+use Rattle.wm_machine.specs.declared.command.Target.TheVariants as target
 use Rattle.wm_machine.specs.declared.reply.Refusal.TheVariants.{Line}
 use Rattle.wm_machine.specs.declared.reply.Reply.TheVariants as reply
 use Rattle.wm_machine.specs.declared.state.State.{State}
@@ -14,6 +16,7 @@ use Rattle.wm_machine.specs.declared.state.State.{State}
 -- each command that is built has a reply where no run is unreturned, keeps what holds of the states, and changes neither runs nor instances
 pub answered : (s : State) (asked : Command) → IsBuilt asked → IsAnswered s asked
 answered s (command.Enqueue None batch) built = enqueue-answered s batch built
+answered s (command.Cancel (target.Id id)) built = cancel-answered s id
 answered s (command.Moment at) built = moment-answered s at built
 answered s (command.Conditions conditions) built = conditions-answered s conditions
 answered s (command.Query query) built =

@@ -6,7 +6,7 @@ use Rattle.wm_data.specs.declared.data.DataEntry.{DataEntry}
 use Rattle.wm_machine.proofs.Commands.{answered}
 use Rattle.wm_machine.proofs.Firsts.{first_of-no_worker, start_refusal-no_worker}
 use Rattle.wm_machine.proofs.Inputs.{start_refusal-some}
-use Rattle.wm_machine.proofs.Narrows.{found_narrow, found_valid}
+use Rattle.wm_machine.proofs.Runnings.{found_narrow, found_valid}
 use Rattle.wm_machine.proofs.Roles.{closed, Closes, continued, Continues, opened, Opens}
 use Rattle.wm_machine.proofs.Steps.{framed, IsReached-after, kept}
 use Rattle.wm_machine.specs.Outcome.{IsBuilt}

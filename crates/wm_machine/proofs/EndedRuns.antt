@@ -1,15 +1,13 @@
--- A state in which a run is over and its work was changed.
-use Rattle.std.proofs.Common.{◌≡◌, ℕ, Bool, true, false, not, eqb, Some, sym, ◌∙◌, ap, subst, inl, inr}
+-- A state in which a run is over and the records were changed.
+use Rattle.std.proofs.Common.{◌≡◌, ◌≢◌, ℕ, Bool, map, true, false, not, eqb, Some, sym, ◌∙◌, ap, subst, inl, inr}
 use Rattle.std.specs.List.{AllByRecursion}
-use Rattle.std.proofs.lemmas.Bool.{ne_eqb, eqb-true, not-true, true≢false}
-use Rattle.wm_machine.proofs.Changes.{AreFine-changed, IsFine}
-use Rattle.wm_machine.proofs.Lists.{All-any, All-both, All-filter, All-map, All-weaker, AllLater-filter, find-passes, HasOne-filter, HasOne-weaker, list_any-false, list_any-filter}
-use Rattle.wm_machine.proofs.Narrows.{found_valid}
-use Rattle.wm_machine.proofs.Runnings.{all_of_number, AreNumberedInOrder-made, changed, changed_both, found_or_apart, IsFoundOrApart, made, made_both, other_work, same_instance}
+use Rattle.std.proofs.lemmas.Bool.{cases_Bool, eqb-false, eqb-true, ne_eqb, not-true, true≢false}
+use Rattle.wm_machine.proofs.Changes.{AreFine-changed, IsChange, IsWorkOf-kept, KeepsRun}
+use Rattle.wm_machine.proofs.Lists.{All-any, All-both, All-filter, All-map, All-weaker, AllLater-filter, find-passes, HasOne-filter, HasOne-map, HasOne-weaker, list_any-false, list_any-filter}
+use Rattle.wm_machine.proofs.Runnings.{all_of_number, AreNumberedInOrder-made, found_or_apart, found_valid, IsFoundOrApart, made, made_both, same_instance}
 use Rattle.wm_machine.specs.Narrow.{IsNarrow, IsReached}
-use Rattle.wm_machine.specs.Runs.{changed_work, other_runs, run_numbered, with_out}
+use Rattle.wm_machine.specs.Runs.{other_runs, run_numbered, with_out}
 use Rattle.wm_machine.specs.Valid.{AreApart, HasOne, IsCurrentOf, IsOutForRun, IsValidRun, IsWorkOf, Valid}
-use Rattle.wm_machine.specs.declared.record.Phase.{Phase}
 use Rattle.wm_machine.specs.declared.record.Phase.TheVariants as phase
 use Rattle.wm_machine.specs.declared.record.Record.{Record}
 use Rattle.wm_machine.specs.declared.state.Instance.{Instance}
@@ -58,42 +56,47 @@ IsOutForRun-freed s run i told out =
 
 -- ---- the state
 
--- a run is over, and its work is changed
-abbrev pub ended : State → Run → (Record → Record) → State
-ended s run change = record s {
-  works = changed_work change run.seq s.works;
+-- a run is over, and the records are changed
+abbrev pub with_run_over : State → Run → (Record → Record) → State
+with_run_over s run change = record s {
+  works = map change s.works;
   runs = other_runs run.run s.runs;
   instances = with_out false run.instance s.instances;
 }
 
-abbrev pub Runs : Phase → Type 0
-Runs p = p ≡ phase.Running
-
 -- the work of a current run is running
-pub running_of : (s : State) (number : ℕ) (run : Run) → IsReached s → run_numbered number s.runs ≡ Some run → run.current ≡ true
+pub running_of : (s : State) (number : ℕ) (run : Run) → Valid s → run_numbered number s.runs ≡ Some run → run.current ≡ true
     → AllByRecursion (λ w. w.seq ≡ run.seq → w.phase ≡ phase.Running) s.works
-running_of s number run reached found current =
-    all_of_number (λ w. w.phase ≡ phase.Running) run.seq s.works reached.valid.in_order
+running_of s number run valid found current =
+    all_of_number (λ w. w.phase ≡ phase.Running) run.seq s.works valid.in_order
     (HasOne-weaker (λ w. Unit {0}) (IsWorkOf run) (λ w. (w.seq ≡ run.seq) × (w.phase ≡ phase.Running)) s.works (λ w u of. (of.seq, of.running))
-    (All-any (λ w. Unit {0}) s.works (λ w. tt)) ((found_valid s number run reached.valid found).work current))
+    (All-any (λ w. Unit {0}) s.works (λ w. tt)) ((found_valid s number run valid found).work current))
 
--- a change after which it isn't running keeps what holds of the states that are reached
-pub reached-ended : (s : State) (number : ℕ) (run : Run) (change : Record → Record) → IsFine Runs change
-    → ((w : Record) → (change w).phase ≡ phase.Running → ⊥) → IsReached s → run_numbered number s.runs ≡ Some run → run.current ≡ true
-    → IsReached (ended s run change)
-reached-ended s number run change fine idle reached found current =
+-- a change after which the work of a run doesn't run, and of the others just those that ran before
+pub record IsEnding (s : State) (run : Run) (change : Record → Record) : Type 0 where
+  pub is_change : IsChange s.works change
+  pub idle : AllByRecursion (λ w. w.seq ≡ run.seq → (change w).phase ≡ phase.Running → ⊥) s.works
+  pub others : AllByRecursion (λ w. w.seq ≢ run.seq → KeepsRun w (change w)) s.works
+
+-- it keeps what holds of the states that are reached, where that run is over
+pub reached-ended : (s : State) (number : ℕ) (run : Run) (change : Record → Record) → IsReached s → IsEnding s run change
+    → run_numbered number s.runs ≡ Some run → run.current ≡ true → IsReached (with_run_over s run change)
+reached-ended s number run change reached is found current =
     let valid = reached.valid in
     let same : run.run ≡ number = eqb-true run.run number (find-passes (λ r. eqb r.run number) s.runs run found) in
     let told =
     All-both (IsFoundOrApart run.run run) (IsValidRun s) s.runs
     (found_or_apart run.run run s.runs (subst (λ n. run_numbered n s.runs ≡ Some run) (sym same) found) valid.apart) valid.runs in
-    let works = AreFine-changed Runs change s run.seq fine reached (running_of s number run reached found current) in
-    let narrow : IsNarrow (ended s run change) = record {
-      records = works.narrow;
+    let works = AreFine-changed s change valid is.is_change in
+    let each =
+    All-both (λ w. w.phase ≡ phase.Running → HasOne (IsCurrentOf w.seq) s.runs)
+    (λ w. (w.seq ≡ run.seq → (change w).phase ≡ phase.Running → ⊥) × (w.seq ≢ run.seq → KeepsRun w (change w))) s.works valid.running
+    (All-both (λ w. w.seq ≡ run.seq → (change w).phase ≡ phase.Running → ⊥) (λ w. w.seq ≢ run.seq → KeepsRun w (change w)) s.works is.idle is.others) in
+    let narrow : IsNarrow (with_run_over s run change) = record {
       runs = All-filter (λ r. r.current ≡ true) (stays run) s.runs
           (All-weaker (λ r. r.current ≡ true) (λ r. stays run r ≡ true → r.current ≡ true) s.runs (λ r is stay. is) reached.narrow.runs);
     } in
-    let valid_then : Valid (ended s run change) = record {
+    let valid_then : Valid (with_run_over s run change) = record {
       numbers = works.numbers;
       first = valid.first;
       next = valid.next;
@@ -101,17 +104,26 @@ reached-ended s number run change fine idle reached found current =
       records = works.records;
       in_order = works.in_order;
       sound = works.sound;
-      running = All-map (λ w. w.phase ≡ phase.Running → HasOne (IsCurrentOf w.seq) s.runs)
-          (λ w. w.phase ≡ phase.Running → HasOne (IsCurrentOf w.seq) (other_runs run.run s.runs)) (changed change run.seq) s.works (λ w has.
-          changed_both (λ c. c.phase ≡ phase.Running → HasOne (IsCurrentOf c.seq) (other_runs run.run s.runs)) change run.seq w
-          (λ e running. absurd (idle w running))
-          (λ differs running. running_stays s run w.seq told differs (has running))) valid.running;
-      runs = others s run (IsValidRun (ended s run change)) told (λ other apart is. record {
-        number = is.number;
-        turn = is.turn;
-        input = is.input;
-        work = λ also. other_work change run.seq s.works other (λ e. apart.works current also (sym e)) (is.work also);
-        instance = same_instance false run.instance s.instances other is.instance;
+      running = All-map (λ w. (w.phase ≡ phase.Running → HasOne (IsCurrentOf w.seq) s.runs)
+          × ((w.seq ≡ run.seq → (change w).phase ≡ phase.Running → ⊥) × (w.seq ≢ run.seq → KeepsRun w (change w))))
+          (λ w. w.phase ≡ phase.Running → HasOne (IsCurrentOf w.seq) (other_runs run.run s.runs)) change s.works
+          (λ w facts running.
+          elim (cases_Bool (eqb w.seq run.seq)) [
+            | inl e ↦ absurd (facts.1.0 (eqb-true w.seq run.seq e) running)
+            | inr e ↦
+                let differs = eqb-false w.seq run.seq e in
+                subst (λ n. HasOne (IsCurrentOf n) (other_runs run.run s.runs)) (sym (is.is_change.same w).seq)
+                (running_stays s run w.seq told differs (facts.0 ((facts.1.1 differs).ran running)))
+          ]) each;
+      runs = others s run (IsValidRun (with_run_over s run change)) told (λ other apart fine. record {
+        number = fine.number;
+        turn = fine.turn;
+        input = fine.input;
+        work = λ also. HasOne-map (λ w. w.seq ≢ run.seq → KeepsRun w (change w)) (IsWorkOf other) (IsWorkOf other) change s.works
+            (λ w keeps of.
+            IsWorkOf-kept other w (change w) (is.is_change.same w) (keeps (λ e. apart.works current also (sym e ∙ of.seq))) of)
+            is.others (fine.work also);
+        instance = same_instance false run.instance s.instances other fine.instance;
       });
       apart = AllLater-filter AreApart (stays run) s.runs valid.apart;
       instances = All-map (IsOutForRun s.runs) (IsOutForRun (other_runs run.run s.runs)) (made false run.instance) s.instances

@@ -1,35 +1,78 @@
 -- What is owed for an enqueue.
-use Rattle.std.proofs.Common.{◌≡◌, ℕ, ◌+◌, ◌^◌, ◌<◌, ◌≤◌, Bool, true, false, cond, ltb, List, [], ◌∷◌, ◌++◌, length, Option, Some, None, refl, sym, ◌∙◌, ap, subst, arith, length-append}
+use Rattle.std.proofs.Common.{◌≡◌, ◌≢◌, ◌&&◌, ℕ, ◌+◌, ◌^◌, ◌<◌, ◌≤◌, Bool, true, false, cond, ltb, List, [], ◌∷◌, ◌++◌, filter, find, is_some, length, map, Option, Some, None, option_map, refl, sym, ◌∙◌, ap, subst, arith, inl, inr, length-append}
+use Rattle.std.specs.List.{AllByRecursion}
 use Rattle.std.specs.Str.{bytes_eq}
-use Rattle.std.proofs.lemmas.Bool.{and_from, eq-eqb, ltb-false, true≢false}
-use Rattle.wm_machine.proofs.Lists.{All-both, All-push, All-weaker, AllLater-push, HasOne-front, none_pass}
+use Rattle.std.proofs.lemmas.Bool.{cases_Bool, cond_both, ltb-false, or_left, or_right, true≢false}
+use Rattle.wm_collections.specs.Lists.{AllLater}
+use Rattle.wm_machine.proofs.Changes.{Succeeded}
+use Rattle.wm_machine.proofs.Lists.{All-both, All-map, All-push, All-stored, All-weaker, AllLater-push, HasOne-front, list_any-false, map-push, none_pass}
 use Rattle.wm_machine.proofs.Owed.{IsAnswered}
-use Rattle.wm_machine.proofs.Records.{IsRecord-placed, node_of, sound-narrow}
-use Rattle.wm_machine.specs.Built.{IsPlain}
-use Rattle.wm_machine.specs.Enqueued.{enqueued, first_refusal, id_in_use, is_stored, numbers_spent, outcome_by, placed, placed_record, refusal_of, too_many_works, with_work}
+use Rattle.wm_machine.proofs.Placings.{bytes_eq-refl, bytes_eq-same, idle-placed, IsPlaceable, IsRecord-placed, sound-placed}
+use Rattle.wm_machine.specs.Built.{AreAsked}
+use Rattle.wm_machine.specs.Enqueued.{enqueued, first_refusal, id_in_use, is_stored, is_stored_periodic, no_such_prerequisite, numbers_of, numbers_spent, outcome_by, periodic_in_chain, placed, placed_record, refusal_of, too_many_prerequisites, too_many_works, with_work}
 use Rattle.wm_machine.specs.Frame.{untouched}
-use Rattle.wm_machine.specs.Narrow.{IsNarrow, IsReached, NamesNone}
-use Rattle.wm_machine.specs.Valid.{HasOne, IsBefore, IsCurrentOf, IsRecord, IsValidRun, IsWorkOf, Valid}
+use Rattle.wm_machine.specs.Narrow.{IsReached}
+use Rattle.wm_machine.specs.Valid.{ArePriorSound, HasOne, HasSucceeded, IsBefore, IsCurrentOf, IsPrerequisite, IsRecord, IsValidRun, IsWorkOf, Valid}
 use Rattle.wm_machine.specs.declared.command.Command.{Command}
 use Rattle.wm_machine.specs.declared.command.Command.TheVariants as command
+use Rattle.wm_machine.specs.declared.record.How.TheVariants as how
+use Rattle.wm_machine.specs.declared.record.Phase.{Phase}
 use Rattle.wm_machine.specs.declared.record.Phase.TheVariants as phase
 use Rattle.wm_machine.specs.declared.record.Record.{Record}
 use Rattle.wm_machine.specs.declared.reply.Refusal.{Refusal}
-use Rattle.wm_machine.specs.declared.reply.Refusal.TheVariants.{IdInUse, NumbersSpent, TooManyWorks}
+use Rattle.wm_machine.specs.declared.reply.Refusal.TheVariants.{IdInUse, NumbersSpent, PeriodicInChain, TooManyPrerequisites, TooManyWorks}
 use Rattle.wm_machine.specs.declared.state.State.{State}
+use Rattle.wm_request.specs.Batches.{has_id, ids_of, is_periodic, periodic_ids, AreDifferent, BatchFields, IsChained}
 use Rattle.wm_request.specs.Requests.{IsRequest, RequestFields}
-use Rattle.wm_request.specs.declared.request.Batch.{Batch}
 use Rattle.wm_request.specs.declared.request.Node.{Node}
+use Rattle.wm_schedule.specs.declared.schedule.Period.{Period}
 
-bytes_eq-refl : (text : List ℕ) → bytes_eq text text ≡ true
-bytes_eq-refl [] = refl
-bytes_eq-refl (byte ∷ text) = and_from _ _ (eq-eqb byte byte refl) (bytes_eq-refl text)
+-- what is sound stays so beside a record of another number than any that is named
+sound-front : (works : List Record) (work : Record) (p : Phase) (prior : List ℕ) → AllByRecursion (λ number. number ≢ work.seq) prior
+    → ArePriorSound works p prior → ArePriorSound (works ++ work ∷ []) p prior
+sound-front works work phase.Waiting prior others sound =
+    All-weaker (λ number. HasOne (IsPrerequisite number) works) (λ number. HasOne (IsPrerequisite number) (works ++ work ∷ [])) prior
+    (λ number one. HasOne-front (IsPrerequisite number) works (work ∷ []) one) sound
+sound-front works work phase.Running prior others sound =
+    All-weaker (λ number. HasOne (IsPrerequisite number) works × HasOne (HasSucceeded number) works)
+    (λ number. HasOne (IsPrerequisite number) (works ++ work ∷ []) × HasOne (HasSucceeded number) (works ++ work ∷ [])) prior
+    (λ number both. (HasOne-front (IsPrerequisite number) works (work ∷ []) both.0, HasOne-front (HasSucceeded number) works (work ∷ []) both.1)) sound
+sound-front works work (phase.Done how.Succeeded) prior others sound =
+    All-weaker (λ number. (number ≢ work.seq) × AllByRecursion (λ other. other.seq ≡ number → Succeeded other.phase) works)
+    (λ number. AllByRecursion (λ other. other.seq ≡ number → Succeeded other.phase) (works ++ work ∷ [])) prior
+    (λ number both. All-push (λ other. other.seq ≡ number → Succeeded other.phase) works work both.1 (λ same. absurd (both.0 (sym same))))
+    (All-both (λ number. number ≢ work.seq) (λ number. AllByRecursion (λ other. other.seq ≡ number → Succeeded other.phase) works) prior others sound)
+sound-front works work (phase.Done how.Failed) prior others sound = tt
+sound-front works work (phase.Done how.Cancelled) prior others sound = tt
+
+-- no record names the next number
+names_before : (s : State) (work : Record) → work.seq < s.next → IsRecord work → AllByRecursion (λ number. number ≢ s.next) work.prior
+names_before s work below is =
+    All-weaker (λ number. (1 ≤ number) × (number < work.seq)) (λ number. number ≢ s.next) work.prior
+    (λ number both same. let less = both.1 in absurd (omega (arith, less, below, same))) is.prior.earlier
+
+-- nor does a work that is placed under it
+own_names_before : (s : State) (work : Record) → IsRecord work → AllByRecursion (λ number. number ≢ work.seq) work.prior
+own_names_before s work is =
+    All-weaker (λ number. (1 ≤ number) × (number < work.seq)) (λ number. number ≢ work.seq) work.prior
+    (λ number both same. let less = both.1 in absurd (omega (arith, less, same))) is.prior.earlier
+
+sound-with_work : (s : State) (work : Record) → Valid s → work.seq ≡ s.next → ArePriorSound (s.works ++ work ∷ []) work.phase work.prior
+    → AllByRecursion (λ other. ArePriorSound (s.works ++ work ∷ []) other.phase other.prior) (s.works ++ work ∷ [])
+sound-with_work s work valid numbered new =
+    All-push (λ other. ArePriorSound (s.works ++ work ∷ []) other.phase other.prior) s.works work
+    (All-weaker (λ other. (other.seq < s.next) × (IsRecord other × ArePriorSound s.works other.phase other.prior))
+    (λ other. ArePriorSound (s.works ++ work ∷ []) other.phase other.prior) s.works
+    (λ other is. sound-front s.works work other.phase other.prior
+    (subst (λ n. AllByRecursion (λ number. number ≢ n) other.prior) (sym numbered) (names_before s other is.0 is.1.0)) is.1.1)
+    (All-both (λ other. other.seq < s.next) (λ other. IsRecord other × ArePriorSound s.works other.phase other.prior) s.works valid.numbers
+    (All-both IsRecord (λ other. ArePriorSound s.works other.phase other.prior) s.works valid.records valid.sound))) new
 
 -- a record under the next number and with a new id, without a unique name, which isn't running, keeps what is valid, where there is room
-Valid-with_work : (s : State) (work : Record) → Valid s → IsNarrow (with_work s work) → work.seq ≡ s.next → work.name ≡ None
+Valid-with_work : (s : State) (work : Record) → Valid s → ArePriorSound (s.works ++ work ∷ []) work.phase work.prior → work.seq ≡ s.next → work.name ≡ None
     → is_stored s.works work.request.id ≡ false → IsRecord work → (work.phase ≡ phase.Running → ⊥)
     → length s.works + 1 ≤ 100000 → s.next + 1 ≤ 2 ^ 53 → Valid (with_work s work)
-Valid-with_work s work valid narrow numbered unnamed new fine idle room numbers =
+Valid-with_work s work valid sound numbered unnamed new fine idle room numbers =
     let others =
     All-both (λ other. other.seq < s.next) (λ other. bytes_eq other.request.id work.request.id ≡ false) s.works valid.numbers
     (none_pass (λ other. bytes_eq other.request.id work.request.id) s.works new) in
@@ -48,7 +91,7 @@ Valid-with_work s work valid narrow numbered unnamed new fine idle room numbers 
             id = λ e. true≢false (sym (ap (λ id. bytes_eq id work.request.id) e ∙ bytes_eq-refl work.request.id) ∙ is.1);
             name = λ name has named. let clash : None ≡ Some name = sym unnamed ∙ named in absurd (cc);
           }) others);
-      sound = sound-narrow (s.works ++ work ∷ []) (s.works ++ work ∷ []) narrow.records;
+      sound = sound-with_work s work valid numbered sound;
       running = All-push (λ w. w.phase ≡ phase.Running → HasOne (IsCurrentOf w.seq) s.runs) s.works work valid.running (λ e. absurd (idle e));
       runs = All-weaker (IsValidRun s) (IsValidRun (with_work s work)) s.runs (λ run is. record {
         number = is.number;
@@ -64,12 +107,6 @@ Valid-with_work s work valid narrow numbered unnamed new fine idle room numbers 
       now = valid.now;
     }
 
-IsNarrow-with_work : (s : State) (work : Record) → IsNarrow s → NamesNone work → IsNarrow (with_work s work)
-IsNarrow-with_work s work narrow is = record {
-  records = All-push NamesNone s.works work narrow.records is;
-  runs = narrow.runs;
-}
-
 first_refusal-none : (check : Option Refusal) (checks : List (Option Refusal)) → first_refusal (check ∷ checks) ≡ None
     → (check ≡ None) × (first_refusal checks ≡ None)
 first_refusal-none (Some found) checks none = absurd (cc)
@@ -79,41 +116,249 @@ not_found : (test : Bool) (found : Refusal) → cond test (Some found) None ≡ 
 not_found true found none = absurd (cc)
 not_found false found none = refl
 
--- where no check refuses a batch, there is room for it
-pub room : (s : State) (works : List Node) → refusal_of s None works ≡ None → (length s.works + length works ≤ 100000) × (s.next + length works ≤ 2 ^ 53)
-room s works none =
-    let first = first_refusal-none (too_many_works s works) (numbers_spent s works ∷ id_in_use s works ∷ []) none in
-    let second = first_refusal-none (numbers_spent s works) (id_in_use s works ∷ []) first.1 in (
-      ltb-false 100000 (length s.works + length works) (not_found (ltb 100000 (length s.works + length works)) (TooManyWorks (length s.works)) first.0),
-      ltb-false (2 ^ 53) (s.next + length works) (not_found (ltb (2 ^ 53) (s.next + length works)) (NumbersSpent s.next) second.0),
-    )
+-- what the checks of a batch leave, where none refuses it
+pub record PassesChecks (s : State) (works : List Node) : Type 0 where
+  pub room : length s.works + length works ≤ 100000
+  pub numbers : s.next + length works ≤ 2 ^ 53
+  pub new : id_in_use s works ≡ None
+  pub known : no_such_prerequisite s.works [] works ≡ None
+  pub one_time : periodic_in_chain s.works works ≡ None
+  pub few : too_many_prerequisites works ≡ None
 
--- and no record has the id of its work
-new_id : (s : State) (work : Node) → refusal_of s None (work ∷ []) ≡ None → is_stored s.works work.request.id ≡ false
-new_id s work none =
-    let works = work ∷ [] in
-    let first = first_refusal-none (too_many_works s works) (numbers_spent s works ∷ id_in_use s works ∷ []) none in
-    let second = first_refusal-none (numbers_spent s works) (id_in_use s works ∷ []) first.1 in
-    let third = first_refusal-none (id_in_use s works) [] second.1 in
-    not_found (is_stored s.works work.request.id) (IdInUse work.request.id) third.0
-
-reached-outcome : (s : State) (request : RequestFields) (found : Option Refusal) → IsRequest request
-    → refusal_of s None (node_of request ∷ []) ≡ found → IsReached s → IsReached (outcome_by found s None (node_of request ∷ [])).state
-reached-outcome s request (Some found) asked is reached = reached
-reached-outcome s request None asked is reached =
-    let node = node_of request in
-    let fits = room s (node ∷ []) is in
-    let narrow = IsNarrow-with_work s (placed_record s None node) reached.narrow refl in
-    let fine = IsRecord-placed s request asked reached.valid.first fits.1 reached.valid.now in
+pub passes : (s : State) (works : List Node) → refusal_of s None works ≡ None → PassesChecks s works
+passes s works none =
+    let last = too_many_prerequisites works ∷ [] in
+    let chain = periodic_in_chain s.works works ∷ last in
+    let known = no_such_prerequisite s.works [] works ∷ chain in
+    let ids = id_in_use s works ∷ known in
+    let first = first_refusal-none (too_many_works s works) (numbers_spent s works ∷ ids) none in
+    let second = first_refusal-none (numbers_spent s works) ids first.1 in
+    let third = first_refusal-none (id_in_use s works) known second.1 in
+    let fourth = first_refusal-none (no_such_prerequisite s.works [] works) chain third.1 in
+    let fifth = first_refusal-none (periodic_in_chain s.works works) last fourth.1 in
+    let sixth = first_refusal-none (too_many_prerequisites works) [] fifth.1 in
     record {
-      valid = Valid-with_work s (placed_record s None node) reached.valid narrow refl refl (new_id s node is) fine (λ e. cc) fits.0 fits.1;
-      narrow = narrow;
+      room = ltb-false 100000 (length s.works + length works) (not_found (ltb 100000 (length s.works + length works)) (TooManyWorks (length s.works)) first.0);
+      numbers = ltb-false (2 ^ 53) (s.next + length works) (not_found (ltb (2 ^ 53) (s.next + length works)) (NumbersSpent s.next) second.0);
+      new = third.0;
+      known = fourth.0;
+      one_time = fifth.0;
+      few = sixth.0;
     }
 
-reached-enqueue : (s : State) (works : List Node) → IsReached s → IsPlain works → IsReached (enqueued s None works).state
-reached-enqueue s works reached plain =
-    subst (λ (works : List Node). IsReached (enqueued s None works).state) (sym plain.one)
-    (reached-outcome s plain.request (refusal_of s None (node_of plain.request ∷ [])) plain.within refl reached)
+-- ---- what is asked of the works that are left
+
+not_some : (period : Option Period) → is_some period ≡ false → period ≡ None
+not_some None none = refl
+not_some (Some period) none = absurd (true≢false none)
+
+of_ids : (work : Node) (works : List Node) → AllByRecursion (λ id. work.request.id ≢ id) (ids_of works)
+    → AllByRecursion (λ later. work.request.id ≢ later.request.id) works
+of_ids work [] differ = tt
+of_ids work (other ∷ works) differ = (differ.0, of_ids work works differ.1)
+
+-- the ids of works differ
+differ_each : (works : List Node) → AreDifferent (ids_of works) → AllLater (λ one later. one.request.id ≢ later.request.id) works
+differ_each [] differ = tt
+differ_each (work ∷ works) differ = (of_ids work works differ.0, differ_each works differ.1)
+
+-- what a periodic request is not
+abbrev IsOtherOrOneTime : List ℕ → RequestFields → Type 0
+IsOtherOrOneTime id request = bytes_eq request.id id ≡ true → request.period ≡ None
+
+-- each of the works names only one-time works of these requests, and of the works before it
+abbrev NamesOneTime : List RequestFields → List Node → Type 0
+NamesOneTime requests [] = Unit {0}
+NamesOneTime requests (node ∷ nodes) =
+    AllByRecursion (λ id. AllByRecursion (IsOtherOrOneTime id) requests) node.after × NamesOneTime (requests ++ node.request ∷ []) nodes
+
+abbrev requests_of : List Record → List RequestFields
+requests_of works = map (λ work. work.request) works
+
+-- works that can be placed after these records, one after another
+record ArePlaceable (works : List Record) (nodes : List Node) : Type 0 where
+  requests : AllByRecursion (λ node. IsRequest node.request) nodes
+  new : AllByRecursion (λ node. is_stored works node.request.id ≡ false) nodes
+  differ : AllLater (λ one later. one.request.id ≢ later.request.id) nodes
+  few : AllByRecursion (λ node. length node.after ≤ 100) nodes
+  different : AllByRecursion (λ node. AreDifferent node.after) nodes
+  alone : AllByRecursion (λ node. (period : Period) → node.request.period ≡ Some period → node.after ≡ []) nodes
+  one_time : NamesOneTime (requests_of works) nodes
+
+-- a fact of the requests is one of the records
+of_requests : (P : RequestFields → Type 0) (works : List Record) → AllByRecursion P (requests_of works) → AllByRecursion (λ work. P work.request) works
+of_requests P [] all = tt
+of_requests P (work ∷ works) all = (all.0, of_requests P works all.1)
+
+-- the first of them
+first_placeable : (works : List Record) (node : Node) (nodes : List Node) → ArePlaceable works (node ∷ nodes) → IsPlaceable works node
+first_placeable works node nodes are = record {
+  request = are.requests.0;
+  few = are.few.0;
+  different = are.different.0;
+  one_time = All-weaker (λ id. AllByRecursion (IsOtherOrOneTime id) (requests_of works))
+      (λ id. AllByRecursion (λ work. bytes_eq work.request.id id ≡ true → work.request.period ≡ None) works) node.after
+      (λ id all. of_requests (IsOtherOrOneTime id) works all) are.one_time.0;
+  alone = are.alone.0;
+}
+
+-- a record more has the id of no work that is left
+is_stored-push : (works : List Record) (work : Record) (id : List ℕ) → is_stored works id ≡ false → work.request.id ≢ id
+    → is_stored (works ++ work ∷ []) id ≡ false
+is_stored-push works work id none differs =
+    list_any-false (λ w. bytes_eq w.request.id id) (works ++ work ∷ [])
+    (All-push (λ w. bytes_eq w.request.id id ≡ false) works work (none_pass (λ w. bytes_eq w.request.id id) works none)
+    (elim (cases_Bool (bytes_eq work.request.id id)) [
+      | inl e ↦ absurd (differs (bytes_eq-same work.request.id id e))
+      | inr e ↦ e
+    ]))
+
+-- the others, once the first is placed
+others_placeable : (works : List Record) (work : Record) (node : Node) (nodes : List Node) → work.request ≡ node.request
+    → ArePlaceable works (node ∷ nodes) → ArePlaceable (works ++ work ∷ []) nodes
+others_placeable works work node nodes same are = record {
+  requests = are.requests.1;
+  new = All-weaker (λ later. (is_stored works later.request.id ≡ false) × (node.request.id ≢ later.request.id))
+      (λ later. is_stored (works ++ work ∷ []) later.request.id ≡ false) nodes
+      (λ later both. is_stored-push works work later.request.id both.0 (λ e. both.1 (sym (ap (λ (r : RequestFields). r.id) same) ∙ e)))
+      (All-both (λ later. is_stored works later.request.id ≡ false) (λ later. node.request.id ≢ later.request.id) nodes are.new.1 are.differ.0);
+  differ = are.differ.1;
+  few = are.few.1;
+  different = are.different.1;
+  alone = are.alone.1;
+  one_time = subst (λ (requests : List RequestFields). NamesOneTime requests nodes)
+      (sym (map-push (λ (w : Record). w.request) works work ∙ ap (λ r. requests_of works ++ r ∷ []) same)) are.one_time.1;
+}
+
+-- ---- a batch is placed
+
+reached-placed : (s : State) (nodes : List Node) → IsReached s → ArePlaceable s.works nodes → length s.works + length nodes ≤ 100000
+    → s.next + length nodes ≤ 2 ^ 53 → IsReached (placed s None nodes)
+reached-placed s [] reached are room numbers = reached
+reached-placed s (node ∷ nodes) reached are room numbers =
+    let is = first_placeable s.works node nodes are in
+    let work = placed_record s None node in
+    let one : s.next + 1 ≤ 2 ^ 53 = omega (arith, numbers) in
+    let fine = IsRecord-placed s node reached.valid one is in
+    let sound = sound-placed s node is in
+    let then = with_work s work in
+    let valid =
+    Valid-with_work s work reached.valid
+    (sound-front s.works work work.phase work.prior (own_names_before s work fine) sound) refl refl are.new.0 fine
+    (idle-placed s.works (numbers_of s.works node.after)) (omega (arith, room)) one in
+    let longer = length-append s.works (work ∷ []) in
+    reached-placed then nodes (record { valid = valid; narrow = record { runs = reached.narrow.runs } })
+    (others_placeable s.works work node nodes refl are) (omega (arith, room, longer)) (omega (arith, numbers))
+
+-- ---- what the checks give
+
+new_each : (s : State) (works : List Node) → id_in_use s works ≡ None → AllByRecursion (λ node. is_stored s.works node.request.id ≡ false) works
+new_each s [] none = tt
+new_each s (work ∷ works) none =
+    cond_both (is_stored s.works work.request.id) (Some (IdInUse work.request.id)) (id_in_use s works)
+    (λ (found : Option Refusal). found ≡ None → AllByRecursion (λ node. is_stored s.works node.request.id ≡ false) (work ∷ works))
+    (λ e is. absurd (cc)) (λ e is. (e, new_each s works is)) none
+
+few_each : (works : List Node) → too_many_prerequisites works ≡ None → AllByRecursion (λ node. length node.after ≤ 100) works
+few_each [] none = tt
+few_each (work ∷ works) none =
+    cond_both (ltb 100 (length work.after)) (Some (TooManyPrerequisites work.request.id)) (too_many_prerequisites works)
+    (λ (found : Option Refusal). found ≡ None → AllByRecursion (λ node. length node.after ≤ 100) (work ∷ works))
+    (λ e is. absurd (cc)) (λ e is. (ltb-false 100 (length work.after) e, few_each works is)) none
+
+-- nothing is found where each fails
+none_found : {T : Type 0} (test : T → Bool) (to : T → Refusal) (xs : List T) → option_map to (find test xs) ≡ None
+    → AllByRecursion (λ x. test x ≡ false) xs
+none_found test to [] none = tt
+none_found {T} test to (x ∷ xs) none =
+    cond_both (test x) (Some x) (find test xs) (λ (found : Option T). option_map to found ≡ None → AllByRecursion (λ x. test x ≡ false) (x ∷ xs))
+    (λ e is. absurd (cc)) (λ e is. (e, none_found test to xs is)) none
+
+-- no stored record that a work names is periodic
+stored_one_time : (stored : List Record) (works : List Node) → periodic_in_chain stored works ≡ None
+    → AllByRecursion (λ node. AllByRecursion (λ id. AllByRecursion (IsOtherOrOneTime id) (requests_of stored)) node.after) works
+stored_one_time stored [] none = tt
+stored_one_time stored (work ∷ works) none =
+    let first = first_refusal-none (option_map PeriodicInChain (find (is_stored_periodic stored) work.after)) (periodic_in_chain stored works ∷ []) none in
+    let second = first_refusal-none (periodic_in_chain stored works) [] first.1 in (
+      All-weaker (λ id. is_stored_periodic stored id ≡ false) (λ id. AllByRecursion (IsOtherOrOneTime id) (requests_of stored)) work.after
+          (λ id no_such.
+          All-map (λ other. (bytes_eq other.request.id id && is_some other.request.period) ≡ false) (IsOtherOrOneTime id) (λ (w : Record). w.request) stored
+          (λ other fails named.
+          not_some other.request.period (sym (ap (λ b. b && is_some other.request.period) named) ∙ fails))
+          (none_pass (λ other. bytes_eq other.request.id id && is_some other.request.period) stored no_such))
+          (none_found (is_stored_periodic stored) PeriodicInChain work.after first.0),
+      stored_one_time stored works second.0,
+    )
+
+-- the id of a periodic work of a batch is one of its periodic ids
+periodic_there : (all : List Node) (id : List ℕ) (node : Node) → HasOne (λ other. other ≡ node) all → is_periodic node ≡ true
+    → bytes_eq node.request.id id ≡ true → has_id (periodic_ids all) id ≡ true
+periodic_there [] id node one periodic named = absurd one
+periodic_there (first ∷ all) id node (inl is) periodic named =
+    let here : is_periodic first ≡ true = ap is_periodic is ∙ periodic in
+    subst (λ b. has_id (ids_of (cond b (first ∷ filter is_periodic all) (filter is_periodic all))) id ≡ true) (sym here)
+    (or_left _ _ (ap (λ (n : Node). bytes_eq n.request.id id) is ∙ named))
+periodic_there (first ∷ all) id node (inr one) periodic named =
+    let rest = periodic_there all id node one periodic named in
+    cond_both (is_periodic first) (first ∷ filter is_periodic all) (filter is_periodic all) (λ (found : List Node). has_id (ids_of found) id ≡ true)
+    (λ e. or_right _ _ rest) (λ e. rest)
+
+-- a work of a batch that another one names is one-time
+batch_one_time : (all works : List Node) (id : List ℕ) → has_id (periodic_ids all) id ≡ false → AllByRecursion (λ node. HasOne (λ other. other ≡ node) all) works
+    → AllByRecursion (λ node. IsOtherOrOneTime id node.request) works
+batch_one_time all works id none stored =
+    All-weaker (λ node. HasOne (λ other. other ≡ node) all) (λ node. IsOtherOrOneTime id node.request) works
+    (λ node there named.
+    elim (cases_Bool (is_periodic node)) [
+      | inl e ↦ absurd (true≢false (sym (periodic_there all id node there e named) ∙ none))
+      | inr e ↦ not_some node.request.period e
+    ]) stored
+
+-- what each work of a batch names, beside these requests and those before it
+names_each : (all : List Node) (requests : List RequestFields) (works : List Node)
+    → AllByRecursion (λ node. AllByRecursion (λ id. AllByRecursion (IsOtherOrOneTime id) requests) node.after) works
+    → AllByRecursion (λ node. AllByRecursion (λ id. has_id (periodic_ids all) id ≡ false) node.after) works
+    → AllByRecursion (λ node. HasOne (λ other. other ≡ node) all) works → NamesOneTime requests works
+names_each all requests [] stored batch there = tt
+names_each all requests (work ∷ works) stored batch there = (
+  stored.0,
+  names_each all (requests ++ work.request ∷ []) works
+      (All-weaker (λ node. AllByRecursion (λ id. AllByRecursion (IsOtherOrOneTime id) requests) node.after
+      × AllByRecursion (λ id. has_id (periodic_ids all) id ≡ false) node.after)
+      (λ node. AllByRecursion (λ id. AllByRecursion (IsOtherOrOneTime id) (requests ++ work.request ∷ [])) node.after) works
+      (λ node both.
+      All-weaker (λ id. AllByRecursion (IsOtherOrOneTime id) requests × (has_id (periodic_ids all) id ≡ false))
+      (λ id. AllByRecursion (IsOtherOrOneTime id) (requests ++ work.request ∷ [])) node.after
+      (λ id facts. All-push (IsOtherOrOneTime id) requests work.request facts.0 (batch_one_time all (work ∷ []) id facts.1 (there.0, tt)).0)
+      (All-both (λ id. AllByRecursion (IsOtherOrOneTime id) requests) (λ id. has_id (periodic_ids all) id ≡ false) node.after both.0 both.1))
+      (All-both (λ node. AllByRecursion (λ id. AllByRecursion (IsOtherOrOneTime id) requests) node.after)
+      (λ node. AllByRecursion (λ id. has_id (periodic_ids all) id ≡ false) node.after) works stored.1 batch.1)) batch.1 there.1,
+)
+
+-- a batch that no check refuses can be placed
+placeable : (s : State) (works : List Node) → AreAsked works → PassesChecks s works → ArePlaceable s.works works
+placeable s works asked checks =
+    let batch = asked.batch in
+    record {
+      requests = asked.requests;
+      new = new_each s works checks.new;
+      differ = differ_each works batch.different;
+      few = few_each works checks.few;
+      different = All-weaker (IsChained works) (λ node. AreDifferent node.after) works (λ node is. is.different) batch.each;
+      alone = All-weaker (IsChained works) (λ node. (period : Period) → node.request.period ≡ Some period → node.after ≡ []) works
+          (λ node is period repeats. is.alone (ap is_some repeats)) batch.each;
+      one_time = names_each works (requests_of s.works) works (stored_one_time s.works works checks.one_time)
+          (All-weaker (IsChained works) (λ node. AllByRecursion (λ id. has_id (periodic_ids works) id ≡ false) node.after) works
+          (λ node is. is.of_one_time) batch.each) (All-stored works);
+    }
+
+reached-outcome : (s : State) (works : List Node) (found : Option Refusal) → AreAsked works → refusal_of s None works ≡ found → IsReached s
+    → IsReached (outcome_by found s None works).state
+reached-outcome s works (Some found) asked is reached = reached
+reached-outcome s works None asked is reached =
+    let checks = passes s works is in
+    reached-placed s works reached (placeable s works asked checks) checks.room checks.numbers
 
 -- ---- the frame
 
@@ -129,9 +374,9 @@ frame-outcome s commands None works = frame-placed s commands None works
 
 -- ---- what is owed
 
-pub enqueue-answered : (s : State) (batch : Batch) → IsPlain batch.works → IsAnswered s (command.Enqueue None batch)
-enqueue-answered s batch plain = record {
+pub enqueue-answered : (s : State) (batch : BatchFields) → AreAsked batch.works → IsAnswered s (command.Enqueue None batch)
+enqueue-answered s batch asked = record {
   answered = λ no_run. ((enqueued s None batch.works).reply, refl);
-  reached = λ reached. reached-enqueue s batch.works reached plain;
+  reached = λ reached. reached-outcome s batch.works (refusal_of s None batch.works) asked refl reached;
   frame = frame-outcome s (command.Enqueue None batch ∷ []) (refusal_of s None batch.works) batch.works;
 }

@@ -1,33 +1,26 @@
 -- What a change keeps of a record.
-use Rattle.std.proofs.Common.{◌≡◌, ℕ, ◌+◌, ◌^◌, ◌<◌, ◌≤◌, true, List, [], Option, Some, None, IfSome, refl, sym, ◌∙◌, subst, arith}
-use Rattle.std.specs.List.{AllByRecursion}
+use Rattle.std.proofs.Common.{◌≡◌, ℕ, ◌^◌, ◌<◌, true, List, [], Option, Some, None, IfSome, refl, sym, ◌∙◌, subst, arith}
 use Rattle.std.proofs.lemmas.Bool.{false≢true}
 use Rattle.wm_data.specs.Size.{IsData}
 use Rattle.wm_data.specs.declared.data.DataEntry.{DataEntry}
-use Rattle.wm_machine.proofs.Lists.{All-weaker}
-use Rattle.wm_machine.specs.Closed.{closed}
+use Rattle.wm_machine.specs.Closed.{closed, is_open}
 use Rattle.wm_machine.specs.Ends.{ended, ended_as, enqueued_again, given_by, not_started, not_started_as, retried, succeeded, with_output}
-use Rattle.wm_machine.specs.Enqueued.{placed_record}
 use Rattle.wm_machine.specs.First.{is_waiting}
 use Rattle.wm_machine.specs.Limits.{FitsRow}
-use Rattle.wm_machine.specs.Narrow.{NamesNone}
 use Rattle.wm_machine.specs.Runs.{started}
 use Rattle.wm_machine.specs.Turns.{telling}
-use Rattle.wm_machine.specs.Valid.{ArePriorSound, IsAttemptIn, IsOfKind, IsOutputIn, IsPeriodic, IsPeriodicPhase, IsProgressIn, IsRecord}
+use Rattle.wm_machine.specs.Valid.{IsAttemptIn, IsOfKind, IsOutputIn, IsPeriodic, IsPeriodicPhase, IsProgressIn, IsRecord}
 use Rattle.wm_machine.specs.declared.event.End.{End}
 use Rattle.wm_machine.specs.declared.event.End.TheVariants.{Success, Failure, Retry}
 use Rattle.wm_machine.specs.declared.record.How.TheVariants as how
 use Rattle.wm_machine.specs.declared.record.Phase.{Phase}
 use Rattle.wm_machine.specs.declared.record.Phase.TheVariants as phase
 use Rattle.wm_machine.specs.declared.record.Record.{Record}
-use Rattle.wm_machine.specs.declared.state.State.{State}
-use Rattle.wm_request.specs.Requests.{IsRequest, RequestFields}
-use Rattle.wm_request.specs.declared.request.Node.{Node}
 use Rattle.wm_schedule.specs.declared.schedule.Period.{Period}
 use Rattle.wm_worker.specs.Answers.{GivesData}
 
 -- no entry is Data
-IsData-empty : IsData []
+pub IsData-empty : IsData []
 IsData-empty = record { ascending = tt; named = tt; size = omega arith }
 
 output_in : (p : Phase) (output : List DataEntry) → IsOutputIn p output → IsData output
@@ -122,8 +115,30 @@ IsRecord-retried now work below running is = record {
   progress = refl;
 }
 
+freed-kind : (period : Option Period) (now : ℕ) (work : Record) → IsOfKind period work → IsOfKind period (record work { enqueued_at = now })
+freed-kind None now work kind = kind
+freed-kind (Some period) now work kind =
+    record { phase_is = kind.phase_is; no_output = kind.no_output; no_prerequisite = kind.no_prerequisite }
+
+-- a work whose delay counts from another moment
+pub IsRecord-freed : (now : ℕ) (work : Record) → now < 2 ^ 53 → IsRecord work → IsRecord (record work { enqueued_at = now })
+IsRecord-freed now work below is = record {
+  number = is.number;
+  fits = record { seq = is.fits.seq; prior = is.fits.prior; generation = is.fits.generation; enqueued_at = below };
+  name = is.name;
+  request = is.request;
+  prior = is.prior;
+  attempt = is.attempt;
+  started = is.started;
+  backoff_n = is.backoff_n;
+  runs = is.runs;
+  kind = freed-kind work.request.period now work is.kind;
+  output = is.output;
+  progress = is.progress;
+}
+
 -- a one-time work that fails, with what it gave
-IsRecord-failed : (output : List DataEntry) (work : Record) → IsData output → work.request.period ≡ None → IsRecord work
+pub IsRecord-failed : (output : List DataEntry) (work : Record) → IsData output → work.request.period ≡ None → IsRecord work
     → IsRecord (with_output output (closed how.Failed work))
 IsRecord-failed output work gave one_time is = record {
   number = is.number;
@@ -140,8 +155,31 @@ IsRecord-failed output work gave one_time is = record {
   progress = refl;
 }
 
+-- what is unfinished has given nothing
+output-open : (p : Phase) (output : List DataEntry) → is_open p ≡ true → IsOutputIn p output → output ≡ []
+output-open phase.Waiting output unfinished is = is
+output-open phase.Running output unfinished is = is
+output-open (phase.Done how) output unfinished is = absurd (false≢true unfinished)
+
+-- an unfinished work that is cancelled
+pub IsRecord-cancelled : (work : Record) → is_open work.phase ≡ true → IsRecord work → IsRecord (closed how.Cancelled work)
+IsRecord-cancelled work unfinished is = record {
+  number = is.number;
+  fits = FitsRow-kept work (closed how.Cancelled work) refl refl refl refl is.fits;
+  name = is.name;
+  request = is.request;
+  prior = is.prior;
+  attempt = is.attempt;
+  started = tt;
+  backoff_n = is.backoff_n;
+  runs = is.runs;
+  kind = IsOfKind-kept work.request.period work (closed how.Cancelled work) tt refl refl refl is.kind;
+  output = output-open work.phase work.output unfinished is.output;
+  progress = refl;
+}
+
 -- a one-time work that succeeds
-IsRecord-succeeded : (output : List DataEntry) (work : Record) → IsData output → work.phase ≡ phase.Running → work.request.period ≡ None → IsRecord work
+pub IsRecord-succeeded : (output : List DataEntry) (work : Record) → IsData output → work.phase ≡ phase.Running → work.request.period ≡ None → IsRecord work
     → IsRecord (succeeded output work)
 IsRecord-succeeded output work gave running one_time is = record {
   number = is.number;
@@ -161,7 +199,7 @@ IsRecord-succeeded output work gave running one_time is = record {
 IsPeriodic-again : (period : Period) (now : ℕ) (work : Record) → IsOfKind (Some period) work → IsPeriodic (enqueued_again now work)
 IsPeriodic-again period now work kind = record { phase_is = tt; no_output = refl; no_prerequisite = kind.no_prerequisite }
 
-IsRecord-again : (period : Period) (now : ℕ) (work : Record) → now < 2 ^ 53 → work.request.period ≡ Some period → IsRecord work
+pub IsRecord-again : (period : Period) (now : ℕ) (work : Record) → now < 2 ^ 53 → work.request.period ≡ Some period → IsRecord work
     → IsRecord (enqueued_again now work)
 IsRecord-again period now work below repeats is = record {
   number = is.number;
@@ -202,50 +240,3 @@ not_started-record (Some period) now work kind below is = IsRecord-again period 
 -- work that can't start
 pub IsRecord-not_started : (now : ℕ) (work : Record) → now < 2 ^ 53 → IsRecord work → IsRecord (not_started now work)
 IsRecord-not_started now work below is = not_started-record work.request.period now work refl below is
-
--- ---- new work
-
-IsOfKind-placed : (period : Option Period) (s : State) (request : RequestFields)
-    → IsOfKind period (placed_record s None (record { request = request; after = [] }))
-IsOfKind-placed None s request = refl
-IsOfKind-placed (Some period) s request = record { phase_is = tt; no_output = refl; no_prerequisite = refl }
-
--- the work of a batch that names no prerequisite
-abbrev pub node_of : RequestFields → Node
-node_of request = record { request = request; after = [] }
-
-pub IsRecord-placed : (s : State) (request : RequestFields) → IsRequest request → 1 ≤ s.next → s.next + 1 ≤ 2 ^ 53 → s.now < 2 ^ 53
-    → IsRecord (placed_record s None (node_of request))
-IsRecord-placed s request is first next now = record {
-  number = first;
-  fits = record {
-    seq = omega arith;
-    prior = λ k d below. absurd (omega arith);
-    generation = omega arith;
-    enqueued_at = now;
-  };
-  name = tt;
-  request = is;
-  prior = record { few = omega arith; different = tt; earlier = tt };
-  attempt = omega arith;
-  started = tt;
-  backoff_n = omega arith;
-  runs = omega arith;
-  kind = IsOfKind-placed request.period s request;
-  output = refl;
-  progress = refl;
-}
-
--- where no record names a prerequisite, each is sound among the others
-pub ArePriorSound-none : (works : List Record) (phase : Phase) (prior : List ℕ) → prior ≡ [] → ArePriorSound works phase prior
-ArePriorSound-none works phase.Waiting prior none = subst (λ prior. ArePriorSound works phase.Waiting prior) (sym none) tt
-ArePriorSound-none works phase.Running prior none = subst (λ prior. ArePriorSound works phase.Running prior) (sym none) tt
-ArePriorSound-none works (phase.Done how.Succeeded) prior none =
-    subst (λ prior. ArePriorSound works (phase.Done how.Succeeded) prior) (sym none) tt
-ArePriorSound-none works (phase.Done how.Failed) prior none = tt
-ArePriorSound-none works (phase.Done how.Cancelled) prior none = tt
-
--- what is sound among these records, where none names a prerequisite
-pub sound-narrow : (works among : List Record) → AllByRecursion NamesNone works → AllByRecursion (λ work. ArePriorSound among work.phase work.prior) works
-sound-narrow works among none =
-    All-weaker NamesNone (λ work. ArePriorSound among work.phase work.prior) works (λ work is. ArePriorSound-none among work.phase work.prior is) none

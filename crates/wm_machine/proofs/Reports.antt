@@ -5,7 +5,7 @@ use Rattle.std.proofs.lemmas.Bool.{cases_Bool, cond_both, eq-eqb, eqb-true, ne_e
 use Rattle.wm_collections.specs.Lists.{AllLater}
 use Rattle.wm_data.specs.declared.data.DataEntry.{DataEntry}
 use Rattle.wm_machine.proofs.Lists.{All-any, All-filter, All-weaker, count-cons, count-failing, count-filter, count-none, count-push, count-same, find-passes, weight}
-use Rattle.wm_machine.proofs.Narrows.{found_valid}
+use Rattle.wm_machine.proofs.Runnings.{found_valid}
 use Rattle.wm_machine.proofs.Steps.{framed, IsReached-after}
 use Rattle.wm_machine.proofs.Turns.{turned_at, turned_both}
 use Rattle.wm_machine.specs.Diaries.{DiaryLine}
@@ -202,13 +202,13 @@ counted number s (event.Late run) valid legal earlier = absurd legal
 -- ---- a log
 
 -- a state that a log leads to, in its middle
-record HasMiddle (first : State) (before : List Event) (e : Event) (later : List Event) (last : State) : Type 0 where
-  middle : State
-  to_middle : Replay first before middle
-  legal : Legal middle e
-  from_middle : Replay (after middle e) later last
+pub record HasMiddle (first : State) (before : List Event) (e : Event) (later : List Event) (last : State) : Type 0 where
+  pub middle : State
+  pub to_middle : Replay first before middle
+  pub legal : Legal middle e
+  pub from_middle : Replay (after middle e) later last
 
-middle_of : (first : State) (before : List Event) (e : Event) (later : List Event) (last : State) → Replay first (before ++ e ∷ later) last
+pub middle_of : (first : State) (before : List Event) (e : Event) (later : List Event) (last : State) → Replay first (before ++ e ∷ later) last
     → HasMiddle first before e later last
 middle_of first [] e later last replays = record { middle = first; to_middle = refl; legal = replays.0; from_middle = replays.1 }
 middle_of first (d ∷ before) e later last replays =

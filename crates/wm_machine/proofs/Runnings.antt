@@ -5,12 +5,14 @@ use Rattle.std.proofs.lemmas.Bool.{cond_both, eqb-true, eqb-false, ne_eqb, true�
 use Rattle.wm_collections.specs.Lists.{AllLater}
 use Rattle.wm_machine.proofs.Lists.{All-any, All-find, All-map, All-weaker, AllLater-map, AllLater-weaker, HasOne-map, HasOne-weaker, one_gives}
 use Rattle.wm_machine.specs.First.{is_waiting}
+use Rattle.wm_machine.specs.Narrow.{IsNarrow}
 use Rattle.wm_machine.specs.Runs.{changed_work, made_out, run_numbered, with_out}
-use Rattle.wm_machine.specs.Valid.{AreApart, AreNumberedInOrder, HasOne, IsBefore, IsInstanceOf, IsWorkOf}
+use Rattle.wm_machine.specs.Valid.{AreApart, AreNumberedInOrder, HasOne, IsBefore, IsInstanceOf, IsValidRun, IsWorkOf, Valid}
 use Rattle.wm_machine.specs.declared.record.Phase.TheVariants as phase
 use Rattle.wm_machine.specs.declared.record.Record.{Record}
 use Rattle.wm_machine.specs.declared.state.Instance.{Instance}
 use Rattle.wm_machine.specs.declared.state.Run.{Run}
+use Rattle.wm_machine.specs.declared.state.State.{State}
 
 -- ---- records
 
@@ -53,7 +55,7 @@ pub record IsSameWork (one other : Record) : Type 0 where
 abbrev pub KeepsWork : (Record → Record) → Type 0
 KeepsWork change = (work : Record) → IsSameWork work (change work)
 
-IsBefore-same : (one now other then : Record) → IsSameWork one now → IsSameWork other then → IsBefore one other → IsBefore now then
+pub IsBefore-same : (one now other then : Record) → IsSameWork one now → IsSameWork other then → IsBefore one other → IsBefore now then
 IsBefore-same one now other then same also before = record {
   number = let here = same.seq in let there = also.seq in let below = before.number in omega arith;
   id = λ e. before.id (sym same.id ∙ e ∙ also.id);
@@ -205,3 +207,11 @@ found_or_apart number run (first ∷ runs) found apart =
       inr (e, apart_sym first run (All-find (AreApart first) (λ r. eqb r.run number) runs run is apart.0)),
       found_or_apart number run runs is apart.1,
     )) found
+
+-- a run that was found is valid
+pub found_valid : (s : State) (number : ℕ) (run : Run) → Valid s → run_numbered number s.runs ≡ Some run → IsValidRun s run
+found_valid s number run valid found = All-find (IsValidRun s) (λ r. eqb r.run number) s.runs run found valid.runs
+
+-- and current
+pub found_narrow : (s : State) (number : ℕ) (run : Run) → IsNarrow s → run_numbered number s.runs ≡ Some run → run.current ≡ true
+found_narrow s number run narrow found = All-find (λ r. r.current ≡ true) (λ r. eqb r.run number) s.runs run found narrow.runs

@@ -47,7 +47,7 @@ reached-set s at conditions below reached =
     } in
     record {
       valid = valid_then;
-      narrow = record { records = reached.narrow.records; runs = reached.narrow.runs };
+      narrow = record { runs = reached.narrow.runs };
     }
 
 -- ---- the moment

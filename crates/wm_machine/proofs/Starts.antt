@@ -1,26 +1,28 @@
 -- The start of a run.
-use Rattle.std.proofs.Common.{◌≡◌, ℕ, ◌+◌, Bool, true, false, eqb, cond, ◌||◌, List, [], ◌∷◌, ◌++◌, Some, refl, sym, ◌∙◌, ap, subst, arith}
+use Rattle.std.proofs.Common.{◌≡◌, ℕ, ◌+◌, Bool, true, false, eqb, cond, ◌||◌, List, [], ◌∷◌, ◌++◌, map, Some, refl, sym, ◌∙◌, ap, subst, arith}
 use Rattle.std.specs.List.{AllByRecursion, list_any}
 use Rattle.std.proofs.lemmas.Bool.{eq-eqb, ne_eqb, eqb-false, or_left, or_right}
 use Rattle.std.proofs.lemmas.List.Folds.{list_any-append}
 use Rattle.wm_data.specs.Size.{IsData}
 use Rattle.wm_data.specs.declared.data.DataEntry.{DataEntry}
-use Rattle.wm_machine.proofs.Changes.{AreFine-changed, IsFine, Waits, waits-alone}
-use Rattle.wm_machine.proofs.Firsts.{first_of-stored, first_of-waiting, idle_instance-idle, idle_instance-stored}
+use Rattle.wm_machine.proofs.Changes.{AreFine-changed, IsChange, IsChange-one, MovesTo, OfNumber, Succeeded}
+use Rattle.wm_machine.proofs.Endings.{open-waiting, waiting-succeeded}
+use Rattle.wm_machine.proofs.Firsts.{first_of-startable, first_of-stored, first_of-waiting, idle_instance-idle, idle_instance-stored, IsStartable-from}
 use Rattle.wm_machine.proofs.Inputs.{input_of-data}
-use Rattle.wm_machine.proofs.Lists.{All-both, All-map, All-push, All-weaker, AllLater-push, HasOne-front, HasOne-last, none_pass, one_gives}
+use Rattle.wm_machine.proofs.Lists.{All-any, All-both, All-map, All-push, All-weaker, AllLater-push, HasOne-front, HasOne-last, none_pass, one_gives}
 use Rattle.wm_machine.proofs.Owed.{IsKept}
 use Rattle.wm_machine.proofs.Records.{IsRecord-started}
-use Rattle.wm_machine.proofs.Runnings.{AreNumberedInOrder-made, changed, changed_both, changed_there, IsAlone-stored, made, made_both, made_there, old_work, other_number, same_instance}
-use Rattle.wm_machine.proofs.Waitings.{gone-idle, left_to_drain-started}
-use Rattle.wm_machine.specs.First.{first_of, idle_instance}
+use Rattle.wm_machine.proofs.Runnings.{AreNumberedInOrder-made, changed, changed_both, changed_there, IsAlone, IsAlone-stored, made, made_both, made_there, old_work, other_number, same_instance}
+use Rattle.wm_machine.proofs.Waitings.{left-idle, left-one, left_to_drain-started, met-succeeded}
+use Rattle.wm_machine.specs.First.{first_of, idle_instance, is_waiting}
 use Rattle.wm_machine.specs.Diaries.{Began}
 use Rattle.wm_machine.specs.Frame.{begun_frame, Frame, frame_of, frame_to, IsBegunIn}
 use Rattle.wm_machine.specs.Narrow.{IsNarrow, IsReached}
 use Rattle.wm_machine.specs.Role as role
 use Rattle.wm_machine.specs.Runs.{run_on, start_on, started, with_out, with_start}
 use Rattle.wm_machine.specs.Step.{after, IsStart, start_of}
-use Rattle.wm_machine.specs.Valid.{AreApart, HasOne, IsCurrentOf, IsInstanceOf, IsOutForRun, IsValidRun, IsWorkOf, Valid}
+use Rattle.wm_machine.specs.Valid.{AreApart, HasOne, IsCurrentOf, IsInstanceOf, IsOpenPhase, IsOutForRun, IsRecord, IsValidRun, IsWorkOf, Valid}
+use Rattle.wm_machine.specs.Waiting.{is_left}
 use Rattle.wm_machine.specs.declared.event.Event.TheVariants as event
 use Rattle.wm_machine.specs.declared.record.Phase.TheVariants as phase
 use Rattle.wm_machine.specs.declared.record.Record.{Record}
@@ -83,11 +85,24 @@ IsOutForRun-made runs run other out =
     (λ e. out ∙ sym
     (list_any-append (λ r. eqb r.instance other.number) runs (run ∷ []) ∙ or_neither _ _ (ne_eqb run.instance other.number (λ same. e (sym same)))))
 
-IsFine-started : IsFine Waits started
-IsFine-started = record {
-  same = λ work. record { seq = refl; name = refl; request = refl; prior = refl };
-  fits = IsRecord-started;
-}
+-- the first work may run, since its prerequisites have succeeded
+IsChange-started : (s : State) (work : Record) → Valid s → first_of s ≡ Some work → IsChange s.works (changed started work.seq)
+IsChange-started s work valid first =
+    let startable = IsStartable-from s work (first_of-startable s work first) in
+    let alone = IsAlone-stored work s.works valid.in_order (first_of-stored s work first) in
+    let met = met-succeeded s.works work startable.prerequisites in
+    let facts = All-both (IsAlone work) IsRecord s.works alone valid.records in
+    IsChange-one s.works work.seq started (λ other. record { seq = refl; name = refl; request = refl; prior = refl }) valid.records valid.sound
+    (All-weaker (λ other. IsAlone work other × IsRecord other) (OfNumber work.seq (λ other. IsRecord (started other))) s.works
+    (λ other is e. IsRecord-started other (ap (λ (w : Record). is_waiting w.phase) (is.0 e) ∙ startable.waiting) is.1) facts)
+    (All-weaker (IsAlone work) (OfNumber work.seq (λ other. MovesTo s.works (changed started work.seq) other.phase other.prior phase.Running)) s.works
+    (λ other same e.
+    subst (λ (w : Record). MovesTo s.works (changed started work.seq) w.phase w.prior phase.Running) (sym (same e))
+    (open-waiting work.phase startable.waiting, met)) alone)
+    (All-weaker (IsAlone work) (OfNumber work.seq (λ other. Succeeded other.phase → ⊥)) s.works
+    (λ other same e succeeded.
+    waiting-succeeded work.phase startable.waiting (sym (ap (λ (w : Record). w.phase) (same e)) ∙ succeeded)) alone)
+    (All-any (OfNumber work.seq (λ other. IsOpenPhase phase.Running)) s.works (λ other e. tt))
 
 reached-start : (s : State) (work : Record) (idle : Instance) (input : List DataEntry) → IsReached s → first_of s ≡ Some work
     → idle_instance s.instances work.request.class ≡ Some idle → IsData input → IsReached (with_start s work idle input)
@@ -99,9 +114,8 @@ reached-start s work idle input reached first found data_is =
     let there = idle_instance-stored s.instances work.request.class idle found in
     let free = free_instance s idle valid (idle_instance-idle s.instances work.request.class idle found).is_in there in
     let run = run_on s work idle input in
-    let works = AreFine-changed Waits started s work.seq IsFine-started reached (waits-alone work s.works waiting alone) in
+    let works = AreFine-changed s (changed started work.seq) valid (IsChange-started s work valid first) in
     let narrow : IsNarrow (with_start s work idle input) = record {
-      records = works.narrow;
       runs = All-push (λ r. r.current ≡ true) s.runs run reached.narrow.runs refl;
     } in
     let valid_then : Valid (with_start s work idle input) = record {
@@ -150,8 +164,15 @@ pub start-kept : (s : State) (run seq instance : ℕ) (input : List DataEntry) �
 start-kept s run seq instance input reached legal =
     let stored = first_of-stored s legal.work legal.is_first in
     let taken = input_of-data s legal.work input reached.valid.records stored legal.input_is in
-    let alone = IsAlone-stored legal.work s.works reached.valid.in_order stored in
+    let change = changed started legal.work.seq in
+    let is = IsChange-started s legal.work reached.valid legal.is_first in
+    let idle = λ (w : Record). left-idle s.now (map change s.works) (started w) refl in
+    let here : change legal.work ≡ started legal.work =
+    ap (λ b. cond b (started legal.work) legal.work) (eq-eqb legal.work.seq legal.work.seq refl) in
     rw (after_start s run seq instance input legal) record {
       reached = reached-start s legal.work legal.idle input reached legal.is_first legal.is_idle taken;
-      left = left_to_drain-started s legal.work started legal.is_first alone (λ other. refl) (gone-idle s.now started legal.work.seq s.works (λ other. refl));
+      left = left_to_drain-started s legal.work change legal.is_first is
+          (left-one s.now legal.work.seq started s.works is
+          (All-any (OfNumber legal.work.seq (λ w. is_left s.now (map change s.works) (started w) ≡ false)) s.works (λ w e. idle w)))
+          (ap (is_left s.now (map change s.works)) here ∙ idle legal.work);
     }

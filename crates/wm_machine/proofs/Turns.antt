@@ -1,16 +1,16 @@
 -- A turn after which its run goes on.
-use Rattle.std.proofs.Common.{◌≡◌, ℕ, ◌+◌, ◌<◌, ◌≤◌, true, eqb, cond, List, [], Option, Some, None, IfSome, refl, sym, ◌∙◌, ap, subst, arith, inl, inr}
+use Rattle.std.proofs.Common.{◌≡◌, ℕ, ◌+◌, ◌<◌, ◌≤◌, true, false, eqb, cond, List, [], Option, Some, None, IfSome, refl, sym, ◌∙◌, ap, subst, arith, inl, inr, map}
+use Rattle.std.specs.List.{AllByRecursion}
 use Rattle.std.proofs.lemmas.Bool.{cond_both, eq-eqb, eqb-false, eqb-true, true≢false}
 use Rattle.wm_data.specs.Size.{IsData}
 use Rattle.wm_data.specs.declared.data.DataEntry.{DataEntry}
-use Rattle.wm_machine.proofs.Changes.{AreFine-changed, IsFine, IsSameRequest}
-use Rattle.wm_machine.proofs.EndedRuns.{running_of, Runs}
+use Rattle.wm_machine.proofs.Changes.{all_open, AreFine-changed, IsChange, IsChange-one, IsSameRequest, moves-kept, MovesTo, OfNumber, Succeeded}
+use Rattle.wm_machine.proofs.EndedRuns.{running_of}
 use Rattle.wm_machine.proofs.Lists.{All-any, All-both, All-map, All-weaker, AllLater-map, find-passes, HasOne-map, HasOne-weaker, list_any-same}
-use Rattle.wm_machine.proofs.Narrows.{found_valid}
 use Rattle.wm_machine.proofs.Owed.{IsKept}
 use Rattle.wm_machine.proofs.Records.{IsRecord-telling}
-use Rattle.wm_machine.proofs.Runnings.{changed, changed_both, found_or_apart, IsFoundOrApart}
-use Rattle.wm_machine.proofs.Waitings.{gone-running, left_to_drain-ended}
+use Rattle.wm_machine.proofs.Runnings.{changed, changed_both, found_or_apart, found_valid, IsFoundOrApart}
+use Rattle.wm_machine.proofs.Waitings.{left-idle, left-one, left_among-changed}
 use Rattle.wm_machine.specs.Diaries.{given_lines}
 use Rattle.wm_machine.specs.Frame.{frame_of, frame_to, IsTurnedIn}
 use Rattle.wm_machine.specs.Narrow.{IsNarrow, IsReached}
@@ -19,8 +19,11 @@ use Rattle.wm_machine.specs.Role.{This}
 use Rattle.wm_machine.specs.Runs.{changed_work, run_numbered}
 use Rattle.wm_machine.specs.Step.{after, IsTurn}
 use Rattle.wm_machine.specs.Turns.{telling, turn_of, turned, with_turn, with_turned}
-use Rattle.wm_machine.specs.Valid.{AreApart, HasOne, IsCurrentOf, IsInstanceOf, IsOutForRun, IsValidRun, IsWorkOf, Valid}
+use Rattle.wm_machine.specs.Waiting.{is_left}
+use Rattle.wm_machine.specs.First.{is_waiting}
+use Rattle.wm_machine.specs.Valid.{AreApart, ArePriorSound, HasOne, IsCurrentOf, IsInstanceOf, IsOpenPhase, IsOutForRun, IsRecord, IsValidRun, IsWorkOf, Valid}
 use Rattle.wm_machine.specs.declared.event.Event.TheVariants as event
+use Rattle.wm_machine.specs.declared.record.How.TheVariants as how
 use Rattle.wm_machine.specs.declared.record.Phase.TheVariants as phase
 use Rattle.wm_machine.specs.declared.record.Record.{Record}
 use Rattle.wm_machine.specs.declared.state.Instance.{Instance}
@@ -57,11 +60,29 @@ telling-only None work = record { same = record { seq = refl; name = refl; reque
 telling-only (Some progress) work =
     record { same = record { seq = refl; name = refl; request = refl; prior = refl }; phase_is = refl; attempt = refl }
 
-IsFine-telling : (progress : Option (List DataEntry)) → IfSome progress IsData → IsFine Runs (telling progress)
-IsFine-telling progress told = record {
-  same = λ work. (telling-only progress work).same;
-  fits = λ work running is. IsRecord-telling progress work told running is;
-}
+-- so it is a change of the running work
+IsChange-telling : (s : State) (run : Run) (progress : Option (List DataEntry)) → IfSome progress IsData → Valid s
+    → AllByRecursion (OfNumber run.seq (λ work. work.phase ≡ phase.Running)) s.works → IsChange s.works (changed (telling progress) run.seq)
+IsChange-telling s run progress told valid running =
+    let change = changed (telling progress) run.seq in
+    let kept =
+    All-any (λ work. IsOpenPhase work.phase → IsOpenPhase (change work).phase) s.works
+    (λ work before. changed_both (λ c. IsOpenPhase c.phase) (telling progress) run.seq work
+    (λ e. subst IsOpenPhase (sym (telling-only progress work).phase_is) before) (λ differs. before)) in
+    let facts =
+    All-both (OfNumber run.seq (λ work. work.phase ≡ phase.Running)) (λ work. IsRecord work × ArePriorSound s.works work.phase work.prior) s.works running
+    (All-both IsRecord (λ work. ArePriorSound s.works work.phase work.prior) s.works valid.records valid.sound) in
+    IsChange-one s.works run.seq (telling progress) (λ work. (telling-only progress work).same) valid.records valid.sound
+    (All-weaker (λ work. OfNumber run.seq (λ work. work.phase ≡ phase.Running) work × (IsRecord work × ArePriorSound s.works work.phase work.prior))
+    (OfNumber run.seq (λ work. IsRecord (telling progress work))) s.works (λ work is e. IsRecord-telling progress work told (is.0 e) is.1.0) facts)
+    (All-weaker (λ work. OfNumber run.seq (λ work. work.phase ≡ phase.Running) work × (IsRecord work × ArePriorSound s.works work.phase work.prior))
+    (OfNumber run.seq (λ work. MovesTo s.works change work.phase work.prior (telling progress work).phase)) s.works
+    (λ work is e. subst (MovesTo s.works change work.phase work.prior) (sym (telling-only progress work).phase_is)
+    (moves-kept s.works change work.phase work.prior is.1.1 (λ waits. all_open s.works change work.prior kept))) facts)
+    (All-weaker (OfNumber run.seq (λ work. work.phase ≡ phase.Running)) (OfNumber run.seq (λ work. Succeeded work.phase → ⊥)) s.works
+    (λ work is e succeeded. let clash : phase.Running ≡ phase.Done how.Succeeded = sym (is e) ∙ succeeded in absurd (cc)) running)
+    (All-weaker (OfNumber run.seq (λ work. work.phase ≡ phase.Running)) (OfNumber run.seq (λ work. IsOpenPhase (telling progress work).phase)) s.works
+    (λ work is e. subst IsOpenPhase (sym ((telling-only progress work).phase_is ∙ is e)) tt) running)
 
 IsWorkOf-told : (run : Run) (one other : Record) → IsToldOnly one other → IsWorkOf run one → IsWorkOf run other
 IsWorkOf-told run one other told of =
@@ -156,9 +177,10 @@ reached-turned s number run progress told early reached found current =
     let each =
     All-both (IsFoundOrApart run.run run) (IsValidRun s) s.runs
     (found_or_apart run.run run s.runs (subst (λ n. run_numbered n s.runs ≡ Some run) (sym same) found) valid.apart) valid.runs in
-    let works = AreFine-changed Runs (telling progress) s run.seq (IsFine-telling progress told) reached (running_of s number run reached found current) in
+    let works =
+    AreFine-changed s (changed (telling progress) run.seq) valid
+    (IsChange-telling s run progress told valid (running_of s number run valid found current)) in
     let narrow : IsNarrow (with_turn s run progress) = record {
-      records = works.narrow;
       runs = All-map (λ r. r.current ≡ true) (λ r. r.current ≡ true) (turned_at run.run) s.runs
           (λ r is. turned_both (λ r. r.current ≡ true) run.run r (λ e. is) (λ e. is)) reached.narrow.runs;
     } in
@@ -191,10 +213,15 @@ turn-kept s number progress reached legal =
     let report = legal.report in
     let run = report.run in
     let taken = (found_valid s number run reached.valid report.is_running).input in
-    let running = running_of s number run reached report.is_running report.is_current in
+    let told = gives_data run.kind run.input run.attempt run.turn (More progress) taken report.may_give in
+    let running = running_of s number run reached.valid report.is_running report.is_current in
+    let is = IsChange-telling s run progress told reached.valid running in
+    let then = map (changed (telling progress) run.seq) s.works in
     rw (after_turn s number progress legal) record {
-      reached = reached-turned s number run progress (gives_data run.kind run.input run.attempt run.turn (More progress) taken report.may_give)
-          legal.turns_left reached report.is_running report.is_current;
-      left = left_to_drain-ended s.now (telling progress) run.seq s.works (λ w. (telling-only progress w).same.seq)
-          (gone-running s.now (telling progress) run.seq s.works (λ w. (telling-only progress w).phase_is) running) running;
+      reached = reached-turned s number run progress told legal.turns_left reached report.is_running report.is_current;
+      left = left_among-changed s.now s.works (changed (telling progress) run.seq) is
+          (left-one s.now run.seq (telling progress) s.works is
+          (All-weaker (OfNumber run.seq (λ work. work.phase ≡ phase.Running))
+          (OfNumber run.seq (λ work. is_left s.now then (telling progress work) ≡ false)) s.works
+          (λ work runs e. left-idle s.now then (telling progress work) (ap is_waiting ((telling-only progress work).phase_is ∙ runs e))) running));
     }

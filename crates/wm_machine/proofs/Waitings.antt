@@ -1,21 +1,20 @@
--- How many works a drain may still start, after one of them is changed.
-use Rattle.std.proofs.Common.{◌≡◌, ◌&&◌, ◌||◌, ℕ, ◌+◌, ◌-◌, ◌*◌, ◌^◌, ◌<◌, ◌≤◌, Bool, true, false, not, eqb, List, [], min, Option, Some, None, IfSome, refl, subst, sym, ◌∙◌, ap, inl, inr, arith}
-use Rattle.std.specs.List.{AllByRecursion}
+-- How many works a drain may still start, after a change of the records.
+use Rattle.std.proofs.Common.{◌≡◌, ◌&&◌, ◌||◌, ℕ, ◌+◌, ◌-◌, ◌*◌, ◌^◌, ◌<◌, ◌≤◌, Bool, true, false, not, cond, eqb, List, [], ◌∷◌, map, min, Some, IfSome, refl, subst, sym, ◌∙◌, ap, inl, inr, arith}
+use Rattle.std.specs.List.{AllByRecursion, list_all}
 use Rattle.std.specs.Prelude.{nat_le}
-use Rattle.std.proofs.lemmas.Bool.{and_from, and_left, and_parts, false≢true, lt-leb, lt-ltb, ne_eqb, or_cases, or_left, or_right}
+use Rattle.std.proofs.lemmas.Bool.{and_from, and_left, and_parts, and_right, cases_Bool, eq-eqb, eqb-true, false≢true, lt-leb, lt-ltb, ne_eqb, or_cases, or_left, or_right}
 use Rattle.std.proofs.lemmas.Nat.{pow_pos}
+use Rattle.wm_machine.proofs.Changes.{IsChange, OfNumber, Succeeded}
+use Rattle.wm_machine.proofs.Runnings.{changed}
 use Rattle.wm_machine.proofs.Firsts.{first_of-startable, first_of-stored, IsStartable-from}
-use Rattle.wm_machine.proofs.Lists.{All-any, All-weaker, count-fewer, count-map, HasOne-weaker, list_all-weaker, list_any-map}
-use Rattle.wm_machine.proofs.Runnings.{changed, changed_both, IsAlone}
+use Rattle.wm_machine.proofs.Lists.{All-any, All-weaker, count-fewer, count-map, HasOne-weaker, list_all-weaker, list_any-false, list_any-map}
+use Rattle.wm_machine.specs.Closed.{is_among}
 use Rattle.wm_machine.specs.Due.{due_of}
-use Rattle.wm_machine.specs.Ends.{ended, ended_as, enqueued_again, not_started, not_started_as, retried}
+use Rattle.wm_machine.specs.Ends.{enqueued_again, retried}
 use Rattle.wm_machine.specs.First.{all_met, first_of, has_succeeded, is_succeeded, is_waiting}
-use Rattle.wm_machine.specs.Narrow.{NamesNone}
-use Rattle.wm_machine.specs.Runs.{changed_work}
-use Rattle.wm_machine.specs.Valid.{HasOne, IsAttemptIn, IsRecord}
+use Rattle.wm_machine.specs.Valid.{HasOne, HasSucceeded, IsAttemptIn, IsRecord}
 use Rattle.wm_machine.specs.Waiting.{is_left, left_among, left_to_drain}
-use Rattle.wm_machine.specs.declared.event.End.{End}
-use Rattle.wm_machine.specs.declared.event.End.TheVariants.{Success, Failure, Retry}
+use Rattle.wm_machine.specs.declared.record.How.TheVariants as how
 use Rattle.wm_machine.specs.declared.record.Phase.{Phase}
 use Rattle.wm_machine.specs.declared.record.Phase.TheVariants as phase
 use Rattle.wm_machine.specs.declared.record.Record.{Record}
@@ -27,89 +26,178 @@ use Rattle.wm_schedule.specs.declared.schedule.BackoffPolicy.{BackoffPolicy}
 use Rattle.wm_schedule.specs.declared.schedule.BackoffPolicy.TheVariants.{Linear, Exponential}
 use Rattle.wm_schedule.specs.declared.schedule.Period.{Period}
 
--- ---- prerequisites
+-- ---- what has succeeded
 
--- where a change leaves what has succeeded, a number that has succeeded still has
-has_succeeded-map : (change : Record → Record) (seq number : ℕ) (works : List Record) → ((work : Record) → (change work).seq ≡ work.seq)
-    → AllByRecursion (λ work. work.seq ≡ seq → is_succeeded work.phase ≡ true → is_succeeded (change work).phase ≡ true) works
-    → has_succeeded works number ≡ true → has_succeeded (changed_work change seq works) number ≡ true
-has_succeeded-map change seq number works keeps stays =
-    list_any-map (λ work. eqb work.seq number && is_succeeded work.phase) (λ work. eqb work.seq number && is_succeeded work.phase) (changed change seq) works
-    (All-weaker (λ work. work.seq ≡ seq → is_succeeded work.phase ≡ true → is_succeeded (change work).phase ≡ true)
-    (λ work. (eqb work.seq number && is_succeeded work.phase) ≡ true
-    → (eqb (changed change seq work).seq number && is_succeeded (changed change seq work).phase) ≡ true) works
-    (λ work still passes. changed_both (λ w. (eqb w.seq number && is_succeeded w.phase) ≡ true) change seq work (λ e.
-    let parts = and_parts (eqb work.seq number) (is_succeeded work.phase) passes in
-    and_from _ _ (ap (λ n. eqb n number) (keeps work) ∙ parts.0) (still e parts.1)) (λ e. passes)) stays)
+pub succeeded_is : (p : Phase) → is_succeeded p ≡ true → Succeeded p
+succeeded_is phase.Waiting is = absurd (false≢true is)
+succeeded_is phase.Running is = absurd (false≢true is)
+succeeded_is (phase.Done how.Succeeded) is = refl
+succeeded_is (phase.Done how.Failed) is = absurd (false≢true is)
+succeeded_is (phase.Done how.Cancelled) is = absurd (false≢true is)
 
--- what is blocked after it was blocked before
-met-map : (works then : List Record) (work : Record) → ((number : ℕ) → has_succeeded works number ≡ true → has_succeeded then number ≡ true)
-    → all_met works work ≡ true → all_met then work ≡ true
+-- a record of the number has succeeded
+has_succeeded-one : (number : ℕ) (works : List Record) → has_succeeded works number ≡ true → HasOne (HasSucceeded number) works
+has_succeeded-one number [] is = absurd (false≢true is)
+has_succeeded-one number (work ∷ works) is =
+    elim (or_cases (eqb work.seq number && is_succeeded work.phase) (has_succeeded works number) is) [
+      | inl here ↦
+          let parts = and_parts (eqb work.seq number) (is_succeeded work.phase) here in
+          inl (record { seq = eqb-true work.seq number parts.0; succeeded = succeeded_is work.phase parts.1 })
+      | inr there ↦ inr (has_succeeded-one number works there)
+    ]
+
+one-has_succeeded : (number : ℕ) (works : List Record) → HasOne (HasSucceeded number) works → has_succeeded works number ≡ true
+one-has_succeeded number [] one = absurd one
+one-has_succeeded number (work ∷ works) (inl is) =
+    or_left _ _ (and_from _ _ (eq-eqb work.seq number is.seq) (ap is_succeeded is.succeeded))
+one-has_succeeded number (work ∷ works) (inr one) = or_right _ _ (one-has_succeeded number works one)
+
+-- no record of the number has
+none-has_succeeded : (number : ℕ) (works : List Record) → AllByRecursion (λ work. work.seq ≡ number → Succeeded work.phase → ⊥) works
+    → has_succeeded works number ≡ false
+none-has_succeeded number works none =
+    list_any-false (λ work. eqb work.seq number && is_succeeded work.phase) works
+    (All-weaker (λ work. work.seq ≡ number → Succeeded work.phase → ⊥) (λ work. (eqb work.seq number && is_succeeded work.phase) ≡ false) works
+    (λ work not. elim (cases_Bool (is_succeeded work.phase)) [
+      | inl has ↦ and_left _ _ (ne_eqb work.seq number (λ same. not same (succeeded_is work.phase has)))
+      | inr hasnt ↦ and_right _ _ hasnt
+    ]) none)
+
+-- every prerequisite of a work has succeeded
+met-each : (works : List Record) (prior : List ℕ) → list_all (has_succeeded works) prior ≡ true → AllByRecursion (λ number. HasOne (HasSucceeded number) works) prior
+met-each works [] met = tt
+met-each works (number ∷ prior) met =
+    let parts = and_parts (has_succeeded works number) (list_all (has_succeeded works) prior) met in
+    (has_succeeded-one number works parts.0, met-each works prior parts.1)
+
+pub met-succeeded : (works : List Record) (work : Record) → all_met works work ≡ true → AllByRecursion (λ number. HasOne (HasSucceeded number) works) work.prior
 unfolding all_met
-met-map works then work still met = list_all-weaker (has_succeeded works) (has_succeeded then) work.prior still met
+met-succeeded works work met = met-each works work.prior met
+
+each-met : (works : List Record) (prior : List ℕ) → AllByRecursion (λ number. HasOne (HasSucceeded number) works) prior → list_all (has_succeeded works) prior ≡ true
+each-met works [] all = refl
+each-met works (number ∷ prior) all = and_from _ _ (one-has_succeeded number works all.0) (each-met works prior all.1)
+
+-- a prerequisite that hasn't blocks a work
+one_fails : (works : List Record) (prior : List ℕ) (number : ℕ) → is_among prior number ≡ true → has_succeeded works number ≡ false
+    → list_all (has_succeeded works) prior ≡ false
+one_fails works [] number is fails = absurd (false≢true is)
+one_fails works (first ∷ prior) number is fails =
+    elim (or_cases (eqb first number) (is_among prior number) is) [
+      | inl here ↦ and_left _ _ (ap (has_succeeded works) (eqb-true first number here) ∙ fails)
+      | inr there ↦ and_right _ _ (one_fails works prior number there fails)
+    ]
+
+blocked-by : (works : List Record) (work : Record) (number : ℕ) → is_among work.prior number ≡ true → has_succeeded works number ≡ false
+    → all_met works work ≡ false
+unfolding all_met
+blocked-by works work number is fails = one_fails works work.prior number is fails
+
+-- ---- after a change
+
+-- a work that is left to a drain after a change was left to it before
+abbrev pub IsOldLeft : ℕ → List Record → (Record → Record) → Record → Type 0
+IsOldLeft now works change work = is_left now (map change works) (change work) ≡ true → is_left now works work ≡ true
+
+-- as one that isn't left
+pub left-gone : (now : ℕ) (works : List Record) (change : Record → Record) (work : Record) → is_left now (map change works) (change work) ≡ false
+    → IsOldLeft now works change work
+left-gone now works change work gone left = absurd (false≢true (sym gone ∙ left))
+
+-- whether a work is left goes by its phase, by when it is due and by its prerequisites
+left-same : (now : ℕ) (works : List Record) (work other : Record) → other.phase ≡ work.phase → due_of other ≡ due_of work → other.prior ≡ work.prior
+    → is_left now works other ≡ is_left now works work
+unfolding all_met
+left-same now works work other phase_is due prior =
+    ap (λ p. is_waiting p && (nat_le (due_of other) now || not (list_all (has_succeeded works) other.prior))) phase_is
+    ∙ ap (λ moment. is_waiting work.phase && (nat_le moment now || not (list_all (has_succeeded works) other.prior))) due
+    ∙ ap (λ numbers. is_waiting work.phase && (nat_le (due_of work) now || not (list_all (has_succeeded works) numbers))) prior
 
 still_blocked : (before now : Bool) → (before ≡ true → now ≡ true) → not now ≡ true → not before ≡ true
 still_blocked true now implied blocked = absurd (false≢true (sym (ap not (implied refl)) ∙ blocked))
 still_blocked false now implied blocked = refl
 
--- a work that is left to a drain after such a change was left to it before
-left-before : (now : ℕ) (works then : List Record) (work : Record)
-    → ((number : ℕ) → has_succeeded works number ≡ true → has_succeeded then number ≡ true) → is_left now then work ≡ true → is_left now works work ≡ true
-left-before now works then work still left =
-    let parts = and_parts (is_waiting work.phase) (nat_le (due_of work) now || not (all_met then work)) left in
-    and_from _ _ parts.0 (elim (or_cases (nat_le (due_of work) now) (not (all_met then work)) parts.1) [
-      | inl due ↦ or_left _ _ due
-      | inr blocked ↦ or_right _ _ (still_blocked (all_met works work) (all_met then work) (met-map works then work still) blocked)
-    ])
+module _ (now : ℕ) (works : List Record) (change : Record → Record) (is : IsChange works change) where
+  -- a number that has succeeded still has
+  still_succeeded : (number : ℕ) → has_succeeded works number ≡ true → has_succeeded (map change works) number ≡ true
+  still_succeeded number =
+      list_any-map (λ work. eqb work.seq number && is_succeeded work.phase) (λ work. eqb work.seq number && is_succeeded work.phase) change works
+      (All-weaker (λ work. Succeeded work.phase → Succeeded (change work).phase)
+      (λ work. (eqb work.seq number && is_succeeded work.phase) ≡ true → (eqb (change work).seq number && is_succeeded (change work).phase) ≡ true) works
+      (λ work stays passes.
+      let parts = and_parts (eqb work.seq number) (is_succeeded work.phase) passes in
+      and_from _ _ (ap (λ n. eqb n number) (is.same work).seq ∙ parts.0) (ap is_succeeded (stays (succeeded_is work.phase parts.1)))) is.stays)
 
--- ---- a change of one work, which isn't left to a drain any more
+  still_met : (work : Record) → all_met works work ≡ true → all_met (map change works) work ≡ true
+  unfolding all_met
+  still_met work met = list_all-weaker (has_succeeded works) (has_succeeded (map change works)) work.prior still_succeeded met
 
--- after a change of the work of this number it isn't left, whatever the others are
-pub IsGone : ℕ → (Record → Record) → ℕ → Record → Type 0
-IsGone now change seq work = work.seq ≡ seq → (works : List Record) → is_left now works (change work) ≡ false
-
-module _ (now : ℕ) (change : Record → Record) (seq : ℕ) (works : List Record) (keeps : (work : Record) → (change work).seq ≡ work.seq)
-    (gone : AllByRecursion (IsGone now change seq) works)
-    (stays : AllByRecursion (λ work. work.seq ≡ seq → is_succeeded work.phase ≡ true → is_succeeded (change work).phase ≡ true) works) where
-  implied : AllByRecursion (λ work. is_left now (changed_work change seq works) (changed change seq work) ≡ true → is_left now works work ≡ true) works
-  unfolding IsGone
-  implied =
-      All-weaker (IsGone now change seq)
-      (λ work. is_left now (changed_work change seq works) (changed change seq work) ≡ true → is_left now works work ≡ true) works
-      (λ work is. changed_both (λ w. is_left now (changed_work change seq works) w ≡ true → is_left now works work ≡ true) change seq work
-      (λ e left. absurd (false≢true (sym (is e (changed_work change seq works)) ∙ left)))
-      (λ e left. left-before now works (changed_work change seq works) work (λ number. has_succeeded-map change seq number works keeps stays) left)) gone
+  -- what is left after it, in its phase and due as before, was left before
+  pub left-kept : (work : Record) → (change work).phase ≡ work.phase → due_of (change work) ≡ due_of work → IsOldLeft now works change work
+  left-kept work phase_is due left =
+      let then = map change works in
+      let same = left-same now then work (change work) phase_is due (is.same work).prior in
+      let parts = and_parts (is_waiting work.phase) (nat_le (due_of work) now || not (all_met then work)) (sym same ∙ left) in
+      and_from _ _ parts.0 (elim (or_cases (nat_le (due_of work) now) (not (all_met then work)) parts.1) [
+        | inl early ↦ or_left _ _ early
+        | inr blocked ↦ or_right _ _ (still_blocked (all_met works work) (all_met then work) (still_met work) blocked)
+      ])
 
   -- no more are left
-  pub left_among-changed : left_among now (changed_work change seq works) ≤ left_among now works
-  left_among-changed = count-map (is_left now works) (is_left now (changed_work change seq works)) (changed change seq) works implied
+  pub left_among-changed : AllByRecursion (IsOldLeft now works change) works → left_among now (map change works) ≤ left_among now works
+  left_among-changed old = count-map (is_left now works) (is_left now (map change works)) change works old
 
-  -- fewer are left, where this one was
-  pub left_among-fewer : HasOne (λ work. (work.seq ≡ seq) × (is_left now works work ≡ true)) works
-      → left_among now (changed_work change seq works) < left_among now works
-  unfolding IsGone
-  left_among-fewer one =
-      count-fewer (is_left now works) (is_left now (changed_work change seq works)) (changed change seq) works implied
-      (HasOne-weaker (IsGone now change seq) (λ work. (work.seq ≡ seq) × (is_left now works work ≡ true))
-      (λ work. (is_left now works work ≡ true) × (is_left now (changed_work change seq works) (changed change seq work) ≡ false)) works (λ work away is. (
-        is.1,
-        changed_both (λ w. is_left now (changed_work change seq works) w ≡ false) change seq work (λ e. away e (changed_work change seq works))
-            (λ e. absurd (e is.0)),
-      )) gone one)
+  -- fewer are left, where one was that isn't
+  pub left_among-fewer : AllByRecursion (IsOldLeft now works change) works
+      → HasOne (λ work. (is_left now works work ≡ true) × (is_left now (map change works) (change work) ≡ false)) works
+      → left_among now (map change works) < left_among now works
+  left_among-fewer old one = count-fewer (is_left now works) (is_left now (map change works)) change works old one
 
--- work that doesn't wait isn't left
-pub gone-idle : (now : ℕ) (change : Record → Record) (seq : ℕ) (works : List Record) → ((work : Record) → is_waiting (change work).phase ≡ false)
-    → AllByRecursion (IsGone now change seq) works
-unfolding IsGone
-gone-idle now change seq works ends = All-any (IsGone now change seq) works (λ work e others. and_left _ _ (ends work))
+  -- a work that is put back to be retried isn't left, where its prerequisites have succeeded
+  pub met-then : (work : Record) → AllByRecursion (λ number. HasOne (HasSucceeded number) works) work.prior → all_met (map change works) work ≡ true
+  unfolding all_met
+  met-then work have = list_all-weaker (has_succeeded works) (has_succeeded (map change works)) work.prior still_succeeded (each-met works work.prior have)
 
--- work that runs isn't left, whatever else changes
-pub gone-running : (now : ℕ) (change : Record → Record) (seq : ℕ) (works : List Record) → ((work : Record) → (change work).phase ≡ work.phase)
-    → AllByRecursion (λ work. work.seq ≡ seq → work.phase ≡ phase.Running) works → AllByRecursion (IsGone now change seq) works
-unfolding IsGone
-gone-running now change seq works keeps running =
-    All-weaker (λ work. work.seq ≡ seq → work.phase ≡ phase.Running) (IsGone now change seq) works
-    (λ work runs e others. and_left _ _ (ap is_waiting (keeps work ∙ runs e))) running
+-- a work is left as before, where it isn't the record of this number, and isn't, where it is
+pub left-one : (now seq : ℕ) (change : Record → Record) (works : List Record) → IsChange works (changed change seq)
+    → AllByRecursion (OfNumber seq (λ work. is_left now (map (changed change seq) works) (change work) ≡ false)) works
+    → AllByRecursion (IsOldLeft now works (changed change seq)) works
+left-one now seq change works is gone =
+    All-weaker (OfNumber seq (λ work. is_left now (map (changed change seq) works) (change work) ≡ false)) (IsOldLeft now works (changed change seq)) works
+    (λ work away. elim (cases_Bool (eqb work.seq seq)) [
+      | inl e ↦
+          let here : changed change seq work ≡ change work = ap (λ b. cond b (change work) work) e in
+          left-gone now works (changed change seq) work
+          (ap (is_left now (map (changed change seq) works)) here ∙ away (eqb-true work.seq seq e))
+      | inr e ↦
+          let here : changed change seq work ≡ work = ap (λ b. cond b (change work) work) e in
+          left-kept now works (changed change seq) is work (ap (λ (w : Record). w.phase) here) (ap due_of here)
+    ]) gone
+
+-- a work that waits for the success of this number was left
+pub blocked-left : (now : ℕ) (works : List Record) (work : Record) (number : ℕ) → is_waiting work.phase ≡ true → is_among work.prior number ≡ true
+    → AllByRecursion (λ other. other.seq ≡ number → Succeeded other.phase → ⊥) works → is_left now works work ≡ true
+blocked-left now works work number waits is none =
+    and_from _ _ waits (or_right _ _ (ap not (blocked-by works work number is (none-has_succeeded number works none))))
+
+-- a work that doesn't wait isn't left
+pub left-idle : (now : ℕ) (works : List Record) (work : Record) → is_waiting work.phase ≡ false → is_left now works work ≡ false
+left-idle now works work idle = and_left _ _ idle
+
+-- fewer are left to a drain, once the first of them is started or fails
+pub left_to_drain-started : (s : State) (work : Record) (change : Record → Record) → first_of s ≡ Some work → IsChange s.works change
+    → AllByRecursion (IsOldLeft s.now s.works change) s.works → is_left s.now (map change s.works) (change work) ≡ false
+    → left_among s.now (map change s.works) < left_to_drain s
+left_to_drain-started s work change first is old gone =
+    let startable = IsStartable-from s work (first_of-startable s work first) in
+    let left : is_left s.now s.works work ≡ true = and_from _ _ startable.waiting (or_left _ _ startable.due) in
+    left_among-fewer s.now s.works change is old
+    (HasOne-weaker (λ other. Unit {0}) (λ other. other ≡ work)
+    (λ other. (is_left s.now s.works other ≡ true) × (is_left s.now (map change s.works) (change other) ≡ false)) s.works
+    (λ other u same. (ap (is_left s.now s.works) same ∙ left, ap (λ w. is_left s.now (map change s.works) (change w)) same ∙ gone))
+    (All-any (λ other. Unit {0}) s.works (λ other. tt)) (first_of-stored s work first))
+
+-- ---- work that is put back
 
 -- periodic work that is enqueued again is due after now
 due-again : (period : Period) (now : ℕ) (work : Record) → work.request.period ≡ Some period → IsRecord work
@@ -121,44 +209,11 @@ due-again period now work repeats is =
     let least = limits.0.least in
     rw (repeats, later) (lt-leb (now + period.period) now (omega arith))
 
--- and isn't left, where it names no prerequisite
+-- and isn't left, since it names no prerequisite
 pub left-again : (period : Period) (now : ℕ) (works : List Record) (work : Record) → work.request.period ≡ Some period → work.prior ≡ [] → IsRecord work
     → is_left now works (enqueued_again now work) ≡ false
 unfolding all_met
 left-again period now works work repeats none is = rw (due-again period now work repeats is, none) refl
-
-not_succeeded : (p : Phase) → is_waiting p ≡ true → is_succeeded p ≡ true → ⊥
-not_succeeded phase.Waiting waits succeeded = false≢true succeeded
-not_succeeded phase.Running waits succeeded = false≢true waits
-not_succeeded (phase.Done how) waits succeeded = false≢true waits
-
--- fewer are left to a drain, once the first of them is started or fails
-pub left_to_drain-started : (s : State) (work : Record) (change : Record → Record) → first_of s ≡ Some work → AllByRecursion (IsAlone work) s.works
-    → ((other : Record) → (change other).seq ≡ other.seq) → AllByRecursion (IsGone s.now change work.seq) s.works
-    → left_among s.now (changed_work change work.seq s.works) < left_to_drain s
-left_to_drain-started s work change first alone keeps gone =
-    let startable = IsStartable-from s work (first_of-startable s work first) in
-    let left : is_left s.now s.works work ≡ true = and_from _ _ startable.waiting (or_left _ _ startable.due) in
-    let stays =
-    All-weaker (IsAlone work) (λ other. other.seq ≡ work.seq → is_succeeded other.phase ≡ true → is_succeeded (change other).phase ≡ true) s.works
-    (λ other same e succeeded. absurd
-    (not_succeeded work.phase startable.waiting (sym (ap (λ (w : Record). is_succeeded w.phase) (same e)) ∙ succeeded))) alone in
-    left_among-fewer s.now change work.seq s.works keeps gone stays
-    (HasOne-weaker (λ other. Unit {0}) (λ other. other ≡ work) (λ other. (other.seq ≡ work.seq) × (is_left s.now s.works other ≡ true)) s.works
-    (λ other u is. (ap (λ (w : Record). w.seq) is, ap (is_left s.now s.works) is ∙ left)) (All-any (λ other. Unit {0}) s.works (λ other. tt))
-    (first_of-stored s work first))
-
--- and no more are, once a running work has ended
-pub left_to_drain-ended : (now : ℕ) (change : Record → Record) (seq : ℕ) (works : List Record) → ((work : Record) → (change work).seq ≡ work.seq)
-    → AllByRecursion (IsGone now change seq) works → AllByRecursion (λ work. work.seq ≡ seq → work.phase ≡ phase.Running) works
-    → left_among now (changed_work change seq works) ≤ left_among now works
-left_to_drain-ended now change seq works keeps gone running =
-    left_among-changed now change seq works keeps gone
-    (All-weaker (λ work. work.seq ≡ seq → work.phase ≡ phase.Running)
-    (λ work. work.seq ≡ seq → is_succeeded work.phase ≡ true → is_succeeded (change work).phase ≡ true) works
-    (λ work runs e succeeded. absurd (false≢true (sym (ap is_succeeded (runs e)) ∙ succeeded))) running)
-
--- ---- what becomes of work of either kind
 
 -- a product with a number of at least one is as great at least
 times-some : (delay n : ℕ) → 1 ≤ n → delay ≤ delay * n
@@ -179,39 +234,8 @@ due-retried now work running is =
     let wait = some_wait work.request.backoff.policy work.request.backoff.delay work.attempt (omega (arith, least)) some in
     rw (lt-ltb 0 work.attempt (omega (arith, some))) (lt-leb (now + wait_after work.request.backoff work.attempt) now (omega (arith, wait)))
 
--- and isn't left, where it names no prerequisite
-left-retried : (now : ℕ) (works : List Record) (work : Record) → work.phase ≡ phase.Running → work.prior ≡ [] → IsRecord work
+-- and isn't left, where its prerequisites have succeeded
+pub left-retried : (now : ℕ) (works : List Record) (work : Record) → work.phase ≡ phase.Running → IsRecord work → all_met works work ≡ true
     → is_left now works (retried now work) ≡ false
 unfolding all_met
-left-retried now works work running none is = rw (due-retried now work running is, none) refl
-
-ended-gone : (period : Option Period) (now : ℕ) (end : End) (works : List Record) (work : Record) → work.request.period ≡ period
-    → work.phase ≡ phase.Running → work.prior ≡ [] → IsRecord work → is_left now works (ended_as period now end work) ≡ false
-ended-gone period now Retry works work kind running none is = left-retried now works work running none is
-ended-gone None now (Success output) works work kind running none is = refl
-ended-gone None now (Failure output) works work kind running none is = refl
-ended-gone (Some period) now (Success output) works work kind running none is = left-again period now works work kind none is
-ended-gone (Some period) now (Failure output) works work kind running none is = left-again period now works work kind none is
-
--- a work that runs under this number is without prerequisites, and as every record is
-abbrev IsPlainRun : ℕ → Record → Type 0
-IsPlainRun seq work = (work.seq ≡ seq → work.phase ≡ phase.Running) × (NamesNone work × IsRecord work)
-
-pub gone-ended : (now : ℕ) (end : End) (seq : ℕ) (works : List Record) → AllByRecursion (IsPlainRun seq) works
-    → AllByRecursion (IsGone now (ended now end) seq) works
-unfolding IsGone
-gone-ended now end seq works are =
-    All-weaker (IsPlainRun seq) (IsGone now (ended now end) seq) works
-    (λ work is e others. ended-gone work.request.period now end others work refl (is.0 e) is.1.0 is.1.1) are
-
-not_started-gone : (period : Option Period) (now : ℕ) (works : List Record) (work : Record) → work.request.period ≡ period → work.prior ≡ [] → IsRecord work
-    → is_left now works (not_started_as period now work) ≡ false
-not_started-gone None now works work kind none is = refl
-not_started-gone (Some period) now works work kind none is = left-again period now works work kind none is
-
-pub gone-not_started : (now seq : ℕ) (works : List Record) → AllByRecursion (λ work. NamesNone work × IsRecord work) works
-    → AllByRecursion (IsGone now (not_started now) seq) works
-unfolding IsGone
-gone-not_started now seq works are =
-    All-weaker (λ work. NamesNone work × IsRecord work) (IsGone now (not_started now) seq) works
-    (λ work is e others. not_started-gone work.request.period now others work refl is.0 is.1) are
+left-retried now works work running is met = rw (due-retried now work running is, met) refl

@@ -1,6 +1,7 @@
 -- What the failure or the cancelling of a work reaches. After the guide's page "Chaining work".
-use Rattle.std.specs.Prelude.{ℕ, ◌==◌, ◌&&◌, ◌||◌, Bool, true, false, List, [], ◌∷◌, map, reverse, if◌then◌else◌}
+use Rattle.std.specs.Prelude.{◌≡◌, ◌⊎◌, ◌↔◌, ℕ, ◌==◌, ◌&&◌, ◌||◌, Bool, true, false, List, [], ◌∷◌, map, reverse, if◌then◌else◌}
 use Rattle.std.specs.List.{list_any}
+use Rattle.wm_machine.specs.Valid.{HasOne}
 use Rattle.wm_machine.specs.declared.record.How.{How}
 use Rattle.wm_machine.specs.declared.record.Phase.{Phase}
 use Rattle.wm_machine.specs.declared.record.Phase.TheVariants as phase
@@ -16,6 +17,15 @@ descendants seq [] = []
 descendants seq (work ∷ earlier) =
     if work.seq == seq || list_any (is_among (descendants seq earlier)) work.prior then work.seq ∷ descendants seq earlier
     else descendants seq earlier
+
+-- the record of this number is a descendant of a work, among records in ascending number
+abbrev pub IsDescendant : ℕ → List Record → ℕ → Type 0
+IsDescendant seq works number = is_among (descendants seq (reverse works)) number ≡ true
+
+-- a record is a descendant exactly where it is the work itself, or has a descendant as a prerequisite
+abbrev pub IsDescendantWhere : ℕ → List Record → Record → Type 0
+IsDescendantWhere seq works work =
+    IsDescendant seq works work.seq ↔ ((work.seq ≡ seq) ⊎ HasOne (IsDescendant seq works) work.prior)
 
 abbrev pub is_open : Phase → Bool
 is_open (phase.Done how) = false

@@ -1,7 +1,7 @@
 -- Enqueueing a batch of works: the reply, and the state after it. What a unique name's policy does isn't built yet.
 -- After the guide's pages "Define work requests" and "Chaining work", where a definition says so; all else, as numbers, limits and
 -- the order of the checks, is this project's own choice.
-use Rattle.std.specs.Prelude.{ℕ, ◌+◌, ◌^◌, ◌==◌, ◌&&◌, Bool, true, false, List, [], ◌∷◌, ◌++◌, length, map, filter, flat_map, nat_lt, if◌then◌else◌, Option, Some, None, option_map}
+use Rattle.std.specs.Prelude.{ℕ, ◌+◌, ◌^◌, ◌==◌, ◌&&◌, ◌||◌, Bool, true, false, not, find, is_some, List, [], ◌∷◌, ◌++◌, length, map, filter, flat_map, nat_lt, if◌then◌else◌, Option, Some, None, option_map}
 use Rattle.std.specs.List.{list_any}
 use Rattle.std.specs.Str.{bytes_eq}
 use Rattle.wm_machine.specs.Replied.{Outcome, unchanged}
@@ -14,6 +14,7 @@ use Rattle.wm_machine.specs.declared.reply.Refusal.{Refusal}
 use Rattle.wm_machine.specs.declared.reply.Refusal.TheVariants as refusal
 use Rattle.wm_machine.specs.declared.reply.Reply.TheVariants as reply
 use Rattle.wm_machine.specs.declared.state.State.{State}
+use Rattle.wm_request.specs.Batches.{has_id}
 use Rattle.wm_request.specs.declared.request.Node.{Node}
 
 -- ---- the checks, in their order
@@ -35,10 +36,41 @@ abbrev pub id_in_use : State → List Node → Option Refusal
 id_in_use s [] = None
 id_in_use s (work ∷ works) = if is_stored s.works work.request.id then Some (refusal.IdInUse work.request.id) else id_in_use s works
 
+-- the first of some refusals
 abbrev pub first_refusal : List (Option Refusal) → Option Refusal
 first_refusal [] = None
 first_refusal (Some found ∷ checks) = Some found
 first_refusal (None ∷ checks) = first_refusal checks
+
+-- the first id that neither one of these, of earlier works of the batch, nor a stored record has
+abbrev pub first_unknown : List Record → List (List ℕ) → List (List ℕ) → Option (List ℕ)
+first_unknown works earlier ids = find (λ id. not (is_stored works id || has_id earlier id)) ids
+
+-- the first id that a work names and that neither an earlier work of the batch nor a stored record has
+abbrev pub no_such_prerequisite : List Record → List (List ℕ) → List Node → Option Refusal
+no_such_prerequisite stored earlier [] = None
+no_such_prerequisite stored earlier (work ∷ works) = first_refusal
+    (option_map refusal.NoSuchPrerequisite (first_unknown stored earlier work.after)
+    ∷ no_such_prerequisite stored (earlier ++ work.request.id ∷ []) works
+    ∷ [])
+
+-- whether a stored record with this id is periodic
+abbrev pub is_stored_periodic : List Record → List ℕ → Bool
+is_stored_periodic works id = list_any (λ work. bytes_eq work.request.id id && is_some work.request.period) works
+
+-- the first id that a work names and that a stored periodic record has
+abbrev pub periodic_in_chain : List Record → List Node → Option Refusal
+periodic_in_chain stored [] = None
+periodic_in_chain stored (work ∷ works) = first_refusal
+    (option_map refusal.PeriodicInChain (find (is_stored_periodic stored) work.after)
+    ∷ periodic_in_chain stored works
+    ∷ [])
+
+-- the first work that would have more than 100 prerequisites
+abbrev pub too_many_prerequisites : List Node → Option Refusal
+too_many_prerequisites [] = None
+too_many_prerequisites (work ∷ works) =
+    if nat_lt 100 (length work.after) then Some (refusal.TooManyPrerequisites work.request.id) else too_many_prerequisites works
 
 -- the first check that refuses the batch
 abbrev pub refusal_of : State → Option UniqueName → List Node → Option Refusal
@@ -46,6 +78,9 @@ refusal_of s named works = first_refusal
     (too_many_works s works
     ∷ numbers_spent s works
     ∷ id_in_use s works
+    ∷ no_such_prerequisite s.works [] works
+    ∷ periodic_in_chain s.works works
+    ∷ too_many_prerequisites works
     ∷ [])
 
 -- ---- the placing of a work

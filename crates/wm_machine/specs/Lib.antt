@@ -1,4 +1,5 @@
 pub mod Built
+pub mod Cancelled
 pub mod Closed
 pub mod Diaries
 pub mod Due
@@ -23,6 +24,7 @@ pub mod Runs
 pub mod Serial
 pub mod Settings
 pub mod Shown
+pub mod Started
 pub mod Step
 pub mod Turns
 pub mod Valid

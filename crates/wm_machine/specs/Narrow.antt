@@ -1,18 +1,12 @@
 -- What is narrower for now than the rules allow, because little is built. Each step of the work takes facts away here, and none is added.
 -- This project's own choice.
-use Rattle.std.specs.Prelude.{◌≡◌, true, []}
+use Rattle.std.specs.Prelude.{◌≡◌, true}
 use Rattle.std.specs.List.{AllByRecursion}
 use Rattle.wm_machine.specs.Valid.{Valid}
-use Rattle.wm_machine.specs.declared.record.Record.{Record}
 use Rattle.wm_machine.specs.declared.state.State.{State}
 
--- a work without prerequisites
-abbrev pub NamesNone : Record → Type 0
-NamesNone work = work.prior ≡ []
-
--- every work is without prerequisites, and every run is current
+-- every run is current
 pub record IsNarrow (s : State) : Type 0 where
-  pub records : AllByRecursion NamesNone s.works
   pub runs : AllByRecursion (λ run. run.current ≡ true) s.runs
 
 -- a state that the machine reaches for now

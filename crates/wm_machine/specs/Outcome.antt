@@ -1,13 +1,15 @@
 -- What a command does: the one reply to it in a state, and the state after it; and which commands are built. Each has its rule in a file of
 -- its own.
 use Rattle.std.specs.Prelude.{◌^◌, ◌<◌, Option, Some, None}
-use Rattle.wm_machine.specs.Built.{IsPlain, NamesNothing}
+use Rattle.wm_machine.specs.Built.{AreAsked, NamesNothing}
+use Rattle.wm_machine.specs.Cancelled.{cancelled}
 use Rattle.wm_machine.specs.Enqueued.{enqueued}
 use Rattle.wm_machine.specs.Queried.{answer_to}
 use Rattle.wm_machine.specs.Replied.{Outcome, unchanged}
 use Rattle.wm_machine.specs.Settings.{conditioned, moved}
 use Rattle.wm_machine.specs.declared.command.Command.{Command}
 use Rattle.wm_machine.specs.declared.command.Command.TheVariants as command
+use Rattle.wm_machine.specs.declared.command.Target.TheVariants as target
 use Rattle.wm_machine.specs.declared.reply.Refusal.TheVariants.{Line}
 use Rattle.wm_machine.specs.declared.reply.Reply.TheVariants as reply
 use Rattle.wm_machine.specs.declared.state.State.{State}
@@ -15,6 +17,7 @@ use Rattle.wm_machine.specs.declared.state.State.{State}
 -- none where the command isn't legal in the state
 abbrev pub outcome : State → Command → Option Outcome
 outcome s (command.Enqueue None batch) = Some (enqueued s None batch.works)
+outcome s (command.Cancel (target.Id id)) = cancelled s id
 outcome s (command.Moment at) = Some (moved s at)
 outcome s (command.Conditions conditions) = conditioned s conditions
 outcome s (command.Query query) = Some (unchanged s (reply.Query (answer_to s query)))
@@ -23,7 +26,8 @@ outcome s _ = None
 
 -- the command is one of those that are built
 abbrev pub IsBuilt : Command → Type 0
-IsBuilt (command.Enqueue None batch) = IsPlain batch.works
+IsBuilt (command.Enqueue None batch) = AreAsked batch.works
+IsBuilt (command.Cancel (target.Id id)) = Unit {0}
 IsBuilt (command.Moment at) = at < 2 ^ 53
 IsBuilt (command.Conditions conditions) = Unit {0}
 IsBuilt (command.Query query) = NamesNothing query

@@ -2,12 +2,14 @@
 //! nothing.
 ghost use Rattle.std.specs.Prelude.{◌≡◌, ◌≤◌, ◌+◌, ℕ, List, [], ◌∷◌, ◌++◌, length};
 ghost use Rattle.std.specs.List.{AllByRecursion};
+ghost use Rattle.wm_machine.specs.Closed.{IsDescendantWhere};
 ghost use Rattle.wm_machine.specs.Outcome.{IsBuilt};
 ghost use Rattle.wm_machine.specs.Log.{commands_of};
 ghost use Rattle.wm_machine.specs.Narrow.{IsNarrow};
 ghost use Rattle.wm_machine.specs.Replay.{Replay};
 ghost use Rattle.wm_machine.specs.Reports.{IsReportedOnce};
 ghost use Rattle.wm_machine.specs.Serial.{AreInOrder, BeginsSerial};
+ghost use Rattle.wm_machine.specs.Started.{HadItsPrerequisites};
 ghost use Rattle.wm_machine.specs.Step.{Legal, after};
 ghost use Rattle.wm_machine.specs.Valid.{Valid};
 ghost use Rattle.wm_machine.specs.declared.command.Command.{Command};
@@ -41,4 +43,20 @@ pub fn each_run_is_reported_once()
         → Valid first → IsNarrow first
         → Replay first (before ++ event.Start run seq instance input ∷ later) last
         → IsReportedOnce run before later last }
+{}
+
+/// At each start of a log every prerequisite of its work had succeeded, and one-time work took what
+/// its merger made of its own input and of their outputs, in the order in which it names them;
+/// periodic work took its own.
+pub fn each_start_had_its_prerequisites()
+    ensures { (first last : State) (before later : List Event) (run seq instance : ℕ) (input : List DataEntry)
+        → Replay first (before ++ event.Start run seq instance input ∷ later) last
+        → HadItsPrerequisites first before seq input }
+{}
+
+/// The records that a failure or a cancelling of a work reaches, as far as they are unfinished: a
+/// record is a descendant of a work exactly where it is that work, or one of its prerequisites is
+/// such a descendant.
+pub fn descendants_follow_prerequisites()
+    ensures { (s : State) (seq : ℕ) → Valid s → AllByRecursion (IsDescendantWhere seq s.works) s.works }
 {}

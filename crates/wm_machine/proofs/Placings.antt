@@ -1,0 +1,290 @@
+-- A new work with prerequisites: which records they are, and that it is as every record.
+use Rattle.std.proofs.Common.{◌≡◌, ◌≢◌, ℕ, ◌+◌, ◌^◌, ◌<◌, ◌≤◌, ◌&&◌, Bool, true, false, cond, eqb, List, [], ◌∷◌, ◌++◌, map, filter, length, length-append, Option, Some, None, refl, sym, ◌∙◌, ap, subst, arith, inl, inr}
+use Rattle.std.specs.List.{AllByRecursion, list_any}
+use Rattle.std.specs.Str.{bytes_eq}
+use Rattle.std.proofs.lemmas.Bool.{and_from, and_parts, cond_both, eq-eqb, eqb-true, false≢true, true≢false}
+use Rattle.std.proofs.lemmas.List.Concat.{flat_map-cons}
+use Rattle.std.proofs.lemmas.List.Elements.{All-from_recursion}
+use Rattle.wm_collections.specs.Lists.{AllLater}
+use Rattle.wm_machine.proofs.Lists.{All-any, All-both, All-filter, All-map, All-stored, All-weaker, HasOne-weaker, none_pass, one_gives}
+use Rattle.wm_machine.proofs.Records.{IsData-empty}
+use Rattle.wm_machine.proofs.Runnings.{all_of_number}
+use Rattle.wm_machine.specs.Enqueued.{any_in, first_phase, is_cancelled, is_failed, numbers_of, placed_record}
+use Rattle.wm_machine.specs.Valid.{ArePrior, ArePriorSound, HasOne, IsAttemptIn, IsBefore, IsOfKind, IsOpenPhase, IsOutputIn, IsPeriodicPhase, IsPrerequisite, IsProgressIn, IsRecord, Valid}
+use Rattle.wm_machine.specs.declared.record.How.TheVariants as how
+use Rattle.wm_machine.specs.declared.record.Phase.{Phase}
+use Rattle.wm_machine.specs.declared.record.Phase.TheVariants as phase
+use Rattle.wm_machine.specs.declared.record.Record.{Record}
+use Rattle.wm_machine.specs.declared.state.State.{State}
+use Rattle.wm_request.specs.Batches.{AreDifferent}
+use Rattle.wm_request.specs.Requests.{IsRequest}
+use Rattle.wm_request.specs.declared.request.Node.{Node}
+use Rattle.wm_schedule.specs.declared.schedule.Period.{Period}
+
+-- ---- texts
+
+pub bytes_eq-refl : (text : List ℕ) → bytes_eq text text ≡ true
+bytes_eq-refl [] = refl
+bytes_eq-refl (byte ∷ text) = and_from _ _ (eq-eqb byte byte refl) (bytes_eq-refl text)
+
+pub bytes_eq-same : (one other : List ℕ) → bytes_eq one other ≡ true → one ≡ other
+bytes_eq-same [] [] is = refl
+bytes_eq-same [] (byte ∷ other) is = absurd (false≢true is)
+bytes_eq-same (byte ∷ one) [] is = absurd (false≢true is)
+bytes_eq-same (byte ∷ one) (first ∷ other) is =
+    let parts = and_parts (eqb byte first) (bytes_eq one other) is in
+    rw (eqb-true byte first parts.0, bytes_eq-same one other parts.1) refl
+
+-- ---- the records with an id
+
+-- a record has this number and this id
+record HasNumberAndId (number : ℕ) (id : List ℕ) (work : Record) : Type 0 where
+  seq : work.seq ≡ number
+  id_is : work.request.id ≡ id
+
+-- each number is that of a record with the id
+numbers_with_id : (works among : List Record) (id : List ℕ) → AllByRecursion (λ work. HasOne (λ other. other ≡ work) among) works
+    → AllByRecursion (λ number. HasOne (HasNumberAndId number id) among) (map (λ work. work.seq) (filter (λ work. bytes_eq work.request.id id) works))
+numbers_with_id works among id stored =
+    All-map (λ work. HasOne (HasNumberAndId work.seq id) among) (λ number. HasOne (HasNumberAndId number id) among) (λ (work : Record). work.seq)
+    (filter (λ work. bytes_eq work.request.id id) works) (λ work one. one)
+    (All-filter (λ work. HasOne (HasNumberAndId work.seq id) among) (λ work. bytes_eq work.request.id id) works
+    (All-weaker (λ work. HasOne (λ other. other ≡ work) among) (λ work. bytes_eq work.request.id id ≡ true → HasOne (HasNumberAndId work.seq id) among) works
+    (λ work there passes.
+    HasOne-weaker (λ other. Unit {0}) (λ other. other ≡ work) (HasNumberAndId work.seq id) among
+    (λ other u same. record {
+      seq = ap (λ (w : Record). w.seq) same;
+      id_is = ap (λ (w : Record). w.request.id) same ∙ bytes_eq-same work.request.id id passes;
+    }) (All-any (λ other. Unit {0}) among (λ other. tt)) there) stored))
+
+-- no later record has the id of an earlier one
+none_with_id : (work : Record) (works : List Record) (id : List ℕ) → bytes_eq work.request.id id ≡ true → AllByRecursion (IsBefore work) works
+    → filter (λ work. bytes_eq work.request.id id) works ≡ []
+none_with_id work [] id is later = refl
+none_with_id work (other ∷ works) id is later =
+    cond_both (bytes_eq other.request.id id) (other ∷ filter (λ work. bytes_eq work.request.id id) works) (filter (λ work. bytes_eq work.request.id id) works)
+    (λ (found : List Record). found ≡ [])
+    (λ e. absurd (later.0.id (bytes_eq-same work.request.id id is ∙ sym (bytes_eq-same other.request.id id e))))
+    (λ e. none_with_id work works id is later.1)
+
+-- there is one at most
+few_with_id : (works : List Record) (id : List ℕ) → AllLater IsBefore works
+    → length (map (λ (work : Record). work.seq) (filter (λ work. bytes_eq work.request.id id) works)) ≤ 1
+few_with_id [] id order = omega arith
+few_with_id (work ∷ works) id order =
+    let rest = few_with_id works id order.1 in
+    cond_both (bytes_eq work.request.id id) (work ∷ filter (λ work. bytes_eq work.request.id id) works) (filter (λ work. bytes_eq work.request.id id) works)
+    (λ (found : List Record). length (map (λ (work : Record). work.seq) found) ≤ 1) (λ e.
+    let none : filter (λ work. bytes_eq work.request.id id) works ≡ [] = none_with_id work works id e order.0 in
+    rw none (omega arith)) (λ e. rest)
+
+-- ---- the prerequisites of a new work
+
+-- the number of a record with one of these ids
+abbrev IsOneOf : List Record → List (List ℕ) → ℕ → Type 0
+IsOneOf works ids number = HasOne (λ id. HasOne (HasNumberAndId number id) works) ids
+
+All-append : {T : Type 0} (P : T → Type 0) (xs ys : List T) → AllByRecursion P xs → AllByRecursion P ys → AllByRecursion P (xs ++ ys)
+All-append P [] ys all more = more
+All-append P (x ∷ xs) ys all more = (all.0, All-append P xs ys all.1 more)
+
+AllLater-append : {T : Type 0} (R : T → T → Type 0) (xs ys : List T) → AllLater R xs → AllLater R ys → AllByRecursion (λ x. AllByRecursion (R x) ys) xs
+    → AllLater R (xs ++ ys)
+AllLater-append R [] ys later more between = more
+AllLater-append R (x ∷ xs) ys later more between = (All-append (R x) xs ys later.0 between.0, AllLater-append R xs ys later.1 more between.1)
+
+-- one element, or none, stands before no other
+AllLater-few : {T : Type 0} (R : T → T → Type 0) (xs : List T) → length xs ≤ 1 → AllLater R xs
+AllLater-few R [] few = tt
+AllLater-few R (x ∷ []) few = (tt, tt)
+AllLater-few R (x ∷ y ∷ xs) few = absurd (omega (arith, few))
+
+-- the numbers of the first id, and of the others
+abbrev numbers_with : List Record → List ℕ → List ℕ
+numbers_with works id = map (λ work. work.seq) (filter (λ work. bytes_eq work.request.id id) works)
+
+numbers_of-cons : (works : List Record) (id : List ℕ) (ids : List (List ℕ)) → numbers_of works (id ∷ ids) ≡ numbers_with works id ++ numbers_of works ids
+numbers_of-cons works id ids = flat_map-cons (numbers_with works) id ids
+
+-- each is the number of a record with one of the ids
+numbers_of-each : (works : List Record) (ids : List (List ℕ)) → AllByRecursion (IsOneOf works ids) (numbers_of works ids)
+numbers_of-each works [] = tt
+numbers_of-each works (id ∷ ids) =
+    subst (AllByRecursion (IsOneOf works (id ∷ ids))) (sym (numbers_of-cons works id ids))
+    (All-append (IsOneOf works (id ∷ ids)) (numbers_with works id) (numbers_of works ids)
+    (All-weaker (λ number. HasOne (HasNumberAndId number id) works) (IsOneOf works (id ∷ ids)) (numbers_with works id) (λ number one. inl one)
+    (numbers_with_id works works id (All-stored works)))
+    (All-weaker (IsOneOf works ids) (IsOneOf works (id ∷ ids)) (numbers_of works ids) (λ number one. inr one) (numbers_of-each works ids)))
+
+-- there are no more than ids
+numbers_of-few : (works : List Record) (ids : List (List ℕ)) → AllLater IsBefore works → length (numbers_of works ids) ≤ length ids
+numbers_of-few works [] order = omega arith
+numbers_of-few works (id ∷ ids) order =
+    let one = few_with_id works id order in
+    let rest = numbers_of-few works ids order in
+    let all = length-append (numbers_with works id) (numbers_of works ids) in
+    subst (λ (numbers : List ℕ). length numbers ≤ length (id ∷ ids)) (sym (numbers_of-cons works id ids)) (omega (arith, one, rest, all))
+
+-- a number is that of one record, and so of one id
+one_id : (works : List Record) (number : ℕ) (one other : List ℕ) → AllLater IsBefore works → HasOne (HasNumberAndId number one) works
+    → HasOne (HasNumberAndId number other) works → one ≡ other
+one_id works number one other order has also =
+    one_gives (λ work. work.seq ≡ number → work.request.id ≡ one) (HasNumberAndId number other) (one ≡ other) works
+    (λ work is of. sym (is of.seq) ∙ of.id_is)
+    (all_of_number (λ work. work.request.id ≡ one) number works order
+    (HasOne-weaker (λ work. Unit {0}) (HasNumberAndId number one) (λ work. (work.seq ≡ number) × (work.request.id ≡ one)) works (λ work u of. (of.seq, of.id_is))
+    (All-any (λ work. Unit {0}) works (λ work. tt)) has)) also
+
+-- different ids have different numbers
+numbers_of-different : (works : List Record) (ids : List (List ℕ)) → AllLater IsBefore works → AreDifferent ids
+    → AllLater (λ number later. number ≢ later) (numbers_of works ids)
+numbers_of-different works [] order differ = tt
+numbers_of-different works (id ∷ ids) order differ =
+    subst (AllLater (λ number later. number ≢ later)) (sym (numbers_of-cons works id ids))
+    (AllLater-append (λ number later. number ≢ later) (numbers_with works id) (numbers_of works ids)
+    (AllLater-few (λ number later. number ≢ later) (numbers_with works id) (few_with_id works id order)) (numbers_of-different works ids order differ.1)
+    (All-weaker (λ number. HasOne (HasNumberAndId number id) works) (λ number. AllByRecursion (λ later. number ≢ later) (numbers_of works ids))
+    (numbers_with works id)
+    (λ number one.
+    All-weaker (IsOneOf works ids) (λ later. number ≢ later) (numbers_of works ids)
+    (λ later of same.
+    one_gives (λ other. id ≢ other) (λ other. HasOne (HasNumberAndId later other) works) ⊥ ids
+    (λ other differs has. differs (one_id works later id other order (subst (λ n. HasOne (HasNumberAndId n id) works) same one) has)) differ.0 of)
+    (numbers_of-each works ids)) (numbers_with_id works works id (All-stored works))))
+
+-- a fact of each record with one of these ids is one of each record of their numbers
+record_of : (P : Record → Type 0) (works : List Record) (ids : List (List ℕ)) (number : ℕ)
+    → AllByRecursion (λ id. AllByRecursion (λ work. bytes_eq work.request.id id ≡ true → P work) works) ids → IsOneOf works ids number
+    → HasOne (λ work. (work.seq ≡ number) × P work) works
+record_of P works ids number each of =
+    one_gives (λ id. AllByRecursion (λ work. bytes_eq work.request.id id ≡ true → P work) works) (λ id. HasOne (HasNumberAndId number id) works)
+    (HasOne (λ work. (work.seq ≡ number) × P work) works) ids
+    (λ id all has.
+    HasOne-weaker (λ work. bytes_eq work.request.id id ≡ true → P work) (HasNumberAndId number id) (λ work. (work.seq ≡ number) × P work) works
+    (λ work is named. (named.seq, is (subst (λ text. bytes_eq text id ≡ true) (sym named.id_is) (bytes_eq-refl id)))) all has) each of
+
+-- ---- the phase of a new work
+
+-- what is neither failed nor cancelled can still succeed, or has
+still_open : (p : Phase) → is_failed p ≡ false → is_cancelled p ≡ false → IsOpenPhase p
+still_open phase.Waiting failed cancelled = tt
+still_open phase.Running failed cancelled = tt
+still_open (phase.Done how.Succeeded) failed cancelled = tt
+still_open (phase.Done how.Failed) failed cancelled = absurd (true≢false failed)
+still_open (phase.Done how.Cancelled) failed cancelled = absurd (true≢false cancelled)
+
+-- no record of these numbers is in such a phase
+none_in : (test : Phase → Bool) (works : List Record) (numbers : List ℕ) → any_in test works numbers ≡ false
+    → AllByRecursion (λ number. AllByRecursion (λ work. work.seq ≡ number → test work.phase ≡ false) works) numbers
+none_in test works numbers none =
+    All-weaker (λ number. list_any (λ work. eqb work.seq number && test work.phase) works ≡ false)
+    (λ number. AllByRecursion (λ work. work.seq ≡ number → test work.phase ≡ false) works) numbers
+    (λ number no_such.
+    All-weaker (λ work. (eqb work.seq number && test work.phase) ≡ false) (λ work. work.seq ≡ number → test work.phase ≡ false) works
+    (λ work fails same. sym (ap (λ b. b && test work.phase) (eq-eqb work.seq number same)) ∙ fails)
+    (none_pass (λ work. eqb work.seq number && test work.phase) works no_such))
+    (none_pass (λ number. list_any (λ work. eqb work.seq number && test work.phase) works) numbers none)
+
+-- a new work isn't running
+pub idle-placed : (works : List Record) (prior : List ℕ) → first_phase works prior ≡ phase.Running → ⊥
+idle-placed works prior =
+    cond_both (any_in is_failed works prior) (phase.Done how.Failed) (cond (any_in is_cancelled works prior) (phase.Done how.Cancelled) phase.Waiting)
+    (λ (p : Phase). p ≡ phase.Running → ⊥) (λ e same. absurd (cc)) (λ e.
+    cond_both (any_in is_cancelled works prior) (phase.Done how.Cancelled) phase.Waiting (λ (p : Phase). p ≡ phase.Running → ⊥) (λ f same. absurd (cc))
+    (λ f same. absurd (cc)))
+
+-- what holds of a failed, a cancelled and a waiting work holds of a new one
+pub first_phase-both : (P : Phase → Type 0) (works : List Record) (prior : List ℕ) → P (phase.Done how.Failed) → P (phase.Done how.Cancelled)
+    → (any_in is_failed works prior ≡ false → any_in is_cancelled works prior ≡ false → P phase.Waiting) → P (first_phase works prior)
+first_phase-both P works prior failed cancelled waiting =
+    cond_both (any_in is_failed works prior) (phase.Done how.Failed) (cond (any_in is_cancelled works prior) (phase.Done how.Cancelled) phase.Waiting) P
+    (λ e. failed) (λ e. cond_both (any_in is_cancelled works prior) (phase.Done how.Cancelled) phase.Waiting P (λ f. cancelled) (λ f. waiting e f))
+
+-- ---- a new work
+
+-- what is asked of a work that is placed beside these records: few ids, which differ, none of a periodic record, and none at all where it is
+-- periodic itself
+pub record IsPlaceable (works : List Record) (node : Node) : Type 0 where
+  pub request : IsRequest node.request
+  pub few : length node.after ≤ 100
+  pub different : AreDifferent node.after
+  pub one_time : AllByRecursion (λ id. AllByRecursion (λ work. bytes_eq work.request.id id ≡ true → work.request.period ≡ None) works) node.after
+  pub alone : (period : Period) → node.request.period ≡ Some period → node.after ≡ []
+
+ArePrior-placed : (s : State) (node : Node) → Valid s → IsPlaceable s.works node → ArePrior s.next (numbers_of s.works node.after)
+ArePrior-placed s node valid is = record {
+  few = let numbers = numbers_of-few s.works node.after valid.in_order in let ids = is.few in omega (arith, numbers, ids);
+  different = numbers_of-different s.works node.after valid.in_order is.different;
+  earlier = All-weaker (IsOneOf s.works node.after) (λ number. (1 ≤ number) × (number < s.next)) (numbers_of s.works node.after)
+      (λ number of.
+      one_gives (λ work. (1 ≤ work.seq) × (work.seq < s.next)) (λ work. (work.seq ≡ number) × Unit {0}) ((1 ≤ number) × (number < s.next)) s.works
+      (λ work both same. (let one = both.0 in let here = same.0 in omega (arith, one, here), let below = both.1 in let here = same.0 in omega (arith, below, here)))
+      (All-both (λ work. 1 ≤ work.seq) (λ work. work.seq < s.next) s.works
+      (All-weaker IsRecord (λ work. 1 ≤ work.seq) s.works (λ work fine. fine.number) valid.records) valid.numbers)
+      (record_of (λ work. Unit {0}) s.works node.after number
+      (All-any (λ id. AllByRecursion (λ work. bytes_eq work.request.id id ≡ true → Unit {0}) s.works) node.after
+      (λ id. All-any (λ work. bytes_eq work.request.id id ≡ true → Unit {0}) s.works (λ work e. tt))) of)) (numbers_of-each s.works node.after);
+}
+
+kind-placed : (period : Option Period) (s : State) (node : Node) → node.request.period ≡ period → IsPlaceable s.works node
+    → IsOfKind period (placed_record s None node)
+kind-placed None s node kind is = refl
+kind-placed (Some period) s node kind is =
+    let none : node.after ≡ [] = is.alone period kind in
+    let prior : numbers_of s.works node.after ≡ [] = ap (numbers_of s.works) none in
+    record {
+      phase_is = subst (λ (numbers : List ℕ). IsPeriodicPhase (first_phase s.works numbers)) (sym prior) tt;
+      no_output = refl;
+      no_prerequisite = prior;
+    }
+
+pub IsRecord-placed : (s : State) (node : Node) → Valid s → s.next + 1 ≤ 2 ^ 53 → IsPlaceable s.works node → IsRecord (placed_record s None node)
+IsRecord-placed s node valid room is =
+    let prior = ArePrior-placed s node valid is in
+    let numbers = numbers_of s.works node.after in
+    record {
+      number = valid.first;
+      fits = record {
+        seq = omega (arith, room);
+        prior = All-from_recursion (λ number. number < 2 ^ 53) numbers
+            (All-weaker (λ number. (1 ≤ number) × (number < s.next)) (λ number. number < 2 ^ 53) numbers
+            (λ number both. let below = both.1 in omega (arith, below, room)) prior.earlier);
+        generation = omega arith;
+        enqueued_at = valid.now;
+      };
+      name = tt;
+      request = is.request;
+      prior = prior;
+      attempt = omega arith;
+      started = first_phase-both (λ p. IsAttemptIn p 0) s.works numbers tt tt (λ e f. tt);
+      backoff_n = omega arith;
+      runs = omega arith;
+      kind = kind-placed node.request.period s node refl is;
+      output = first_phase-both (λ p. IsOutputIn p []) s.works numbers IsData-empty refl (λ e f. refl);
+      progress = first_phase-both (λ p. IsProgressIn p []) s.works numbers refl refl (λ e f. refl);
+    }
+
+-- it is sound beside the records
+pub sound-placed : (s : State) (node : Node) → IsPlaceable s.works node
+    → ArePriorSound s.works (first_phase s.works (numbers_of s.works node.after)) (numbers_of s.works node.after)
+sound-placed s node is =
+    let numbers = numbers_of s.works node.after in
+    first_phase-both (λ p. ArePriorSound s.works p numbers) s.works numbers tt tt (λ failed cancelled.
+    All-weaker (λ number. (AllByRecursion (λ work. work.seq ≡ number → is_failed work.phase ≡ false) s.works
+    × AllByRecursion (λ work. work.seq ≡ number → is_cancelled work.phase ≡ false) s.works) × IsOneOf s.works node.after number)
+    (λ number. HasOne (IsPrerequisite number) s.works) numbers
+    (λ number facts.
+    HasOne-weaker (λ work. (work.seq ≡ number → is_failed work.phase ≡ false) × (work.seq ≡ number → is_cancelled work.phase ≡ false))
+    (λ work. (work.seq ≡ number) × (work.request.period ≡ None)) (IsPrerequisite number) s.works
+    (λ work opens of. record {
+      seq = of.0;
+      open_is = still_open work.phase (opens.0 of.0) (opens.1 of.0);
+      one_time = of.1;
+    })
+    (All-both (λ work. work.seq ≡ number → is_failed work.phase ≡ false) (λ work. work.seq ≡ number → is_cancelled work.phase ≡ false) s.works
+    facts.0.0 facts.0.1) (record_of (λ work. work.request.period ≡ None) s.works node.after number is.one_time facts.1))
+    (All-both (λ number. AllByRecursion (λ work. work.seq ≡ number → is_failed work.phase ≡ false) s.works
+    × AllByRecursion (λ work. work.seq ≡ number → is_cancelled work.phase ≡ false) s.works) (IsOneOf s.works node.after) numbers
+    (All-both (λ number. AllByRecursion (λ work. work.seq ≡ number → is_failed work.phase ≡ false) s.works)
+    (λ number. AllByRecursion (λ work. work.seq ≡ number → is_cancelled work.phase ≡ false) s.works) numbers
+    (none_in is_failed s.works numbers failed) (none_in is_cancelled s.works numbers cancelled)) (numbers_of-each s.works node.after)))
