@@ -53,10 +53,26 @@ pub fn not_started(alloc: Global, work: &Record, now: u64) -> Result<Record, All
     if work.request.period().is_some() {
         return enqueued_again(alloc, work, now);
     }
+    closed(alloc, work, How::Failed)
+}
+
+/// The record of a work that is finished in this way without having given anything.
+pub fn closed(alloc: Global, work: &Record, how: How) -> Result<Record, AllocError>
+    ensures { IfOk result (λ changed. changed ≡ closed how work.entry.now) }
+{
     let mut changed = work.replica(alloc)?;
-    changed.phase = Phase::Done(How::Failed);
+    changed.phase = Phase::Done(how);
     changed.progress = Data::empty(alloc);
     Ok(changed)
+}
+
+/// The record of a work that nothing holds back from this moment on, from which its delay counts.
+pub fn freed(alloc: Global, work: &Record, now: u64) -> Result<Record, AllocError>
+    ensures { IfOk result (λ changed. changed ≡ record work.entry.now { enqueued_at = now }) }
+{
+    let mut free = work.replica(alloc)?;
+    free.enqueued_at = now;
+    Ok(free)
 }
 
 /// A work that waits again, for the attempt after this one.
@@ -90,9 +106,7 @@ fn enqueued_again(alloc: Global, work: &Record, now: u64) -> Result<Record, Allo
 fn finished(alloc: Global, work: &Record, how: How, output: &Data) -> Result<Record, AllocError>
     ensures { IfOk result (λ changed. changed ≡ with_output output.now (closed how work.entry.now)) }
 {
-    let mut changed = work.replica(alloc)?;
-    changed.phase = Phase::Done(how);
+    let mut changed = closed(alloc, work, how)?;
     changed.output = output.replica(alloc)?;
-    changed.progress = Data::empty(alloc);
     Ok(changed)
 }

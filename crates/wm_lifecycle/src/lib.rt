@@ -1,10 +1,10 @@
-//! How a record changes where a run of its work begins, ends, or can't begin: one record each, for
-//! one-time and periodic work.
+//! How a record changes where a run of its work begins, ends, or can't begin, where it is closed, and
+//! where nothing holds it back any more: one record each, for one-time and periodic work.
 //!
-//! After the guide's pages "Work states" and "Define work requests" (retry and backoff, periodic
-//! work). What a failure reaches beyond the work itself is no matter of one record.
+//! After the guide's pages "Work states", "Define work requests" (retry and backoff, periodic work)
+//! and "Chaining work". Which records a failure or a success reaches is no matter of one record.
 #![tactic(auto)]
 
 mod changes;
 
-pub use changes::{ended, not_started, started, timed_out};
+pub use changes::{closed, ended, freed, not_started, started, timed_out};

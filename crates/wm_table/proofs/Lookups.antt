@@ -5,9 +5,8 @@ use Rattle.std.specs.List.{AllByRecursion, position, position_or_len}
 use Rattle.std.proofs.lemmas.Bool.{cases_Bool, eq-eqb, eqb-true, ltb-true, ltb-false, ne_eqb}
 use Rattle.std.proofs.lemmas.List.Folds.{find_at}
 use Rattle.std.proofs.lemmas.Option.{cond_some, none-some, same_Some, slice_get_past}
-use Rattle.wm_machine.proofs.Lists.{find-passes, one_gives}
-use Rattle.wm_machine.proofs.Narrows.{found_narrow, found_valid}
-use Rattle.wm_machine.proofs.Runnings.{WorksAscend, WorksAscend-in_order}
+use Rattle.wm_machine.proofs.Lists.{All-stored, find-passes, one_gives}
+use Rattle.wm_machine.proofs.Runnings.{found_narrow, found_valid, WorksAscend, WorksAscend-in_order}
 use Rattle.wm_machine.specs.Narrow.{IsNarrow}
 use Rattle.wm_machine.specs.Runs.{changed_work, run_numbered}
 use Rattle.wm_machine.specs.Turns.{turned, with_turned}
@@ -27,6 +26,10 @@ All-at P (y ∷ xs) (suc i) x all is = All-at P xs i x all.1 is
 -- what is said of the one at an index holds of it
 pub at-some : {T : Type 0} (P : T → Type 0) (xs : List T) (i : ℕ) (x : T) → slice_get xs i ≡ Some x → IsSomeAnd (slice_get xs i) P → P x
 at-some {T} P xs i x at some = subst (λ (o : Option T). IsSomeAnd o P) at some
+
+-- the one at an index is one of the list
+pub stored-at : {T : Type 0} (xs : List T) (i : ℕ) (x : T) → slice_get xs i ≡ Some x → HasOne (λ y. y ≡ x) xs
+stored-at xs i x at = All-at (λ z. HasOne (λ y. y ≡ z) xs) xs i x (All-stored xs) at
 
 -- where a search gives none, none is found
 find-none : {T : Type 0} (test : T → Bool) (xs : List T) → position test xs ≡ None → find test xs ≡ None

@@ -63,7 +63,7 @@ Valid-opening instances fresh = record {
 }
 
 pub IsNarrow-opening : (instances : List Instance) → IsNarrow (opening_state [] instances)
-IsNarrow-opening instances = record { records = tt; runs = tt }
+IsNarrow-opening instances = record { runs = tt }
 
 holds_none : (held : Option (List Row)) → IfSome held (λ rows. [] ≡ rows) → held ≡ option_map (λ _. []) held
 holds_none None none = refl

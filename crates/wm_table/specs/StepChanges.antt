@@ -150,6 +150,10 @@ replacing index work run event = record (telling event) { replaced = record { in
 abbrev pub turning : ℕ → Record → ℕ → Event → StepChange
 turning index work run event = record (telling event) { told = record { index = index; work = work } ∷ []; run = Turn run }
 
--- one record is placed
-abbrev pub placing : Record → Event → StepChange
-placing work event = record (telling event) { placed = work ∷ [] }
+-- several records are replaced
+abbrev pub replacing_all : List Replacement → RunChange → Event → StepChange
+replacing_all replaced run event = record (telling event) { replaced = replaced; run = run }
+
+-- records are placed
+abbrev pub placing_all : List Record → Event → StepChange
+placing_all placed event = record (telling event) { placed = placed }

@@ -17,6 +17,7 @@ mod commands;
 mod finishing;
 mod infos;
 mod joins;
+mod reach;
 mod reports;
 mod row_changes;
 mod scan;

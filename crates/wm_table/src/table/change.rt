@@ -1,6 +1,6 @@
 //! What a step is about to do.
 ghost use Rattle.std.specs.Prelude.{◌≡◌, IfOk};
-ghost use Rattle.wm_table.specs.StepChanges.{placing, replacing, setting, telling, turning};
+ghost use Rattle.wm_table.specs.StepChanges.{placing_all, replacing, replacing_all, setting, telling, turning};
 
 use crate::table::joins::{one, with};
 use std::alloc::{AllocError, Global};
@@ -135,12 +135,31 @@ impl StepChange {
         })
     }
 
-    /// The change by one record more.
-    pub fn placing(alloc: Global, work: Record, event: Event) -> Result<StepChange, AllocError>
-        ensures { IfOk result (λ change. change ≡ placing work event) }
+    /// The change to these records in the places of others, and of the runs. It takes no memory.
+    pub fn replacing_all(
+        alloc: Global,
+        replaced: Items<Replacement>,
+        run: RunChange,
+        event: Event,
+    ) -> StepChange
+        ensures { result ≡ replacing_all replaced run event }
     {
-        let (event, placed) = with(event, one(alloc, work))?;
-        Ok(StepChange {
+        StepChange {
+            told: Items::new(alloc),
+            replaced,
+            removed: Items::new(alloc),
+            placed: Items::new(alloc),
+            run,
+            setting: SettingChange::Unchanged,
+            event,
+        }
+    }
+
+    /// The change by these records more. It takes no memory.
+    pub fn placing_all(alloc: Global, placed: Items<Record>, event: Event) -> StepChange
+        ensures { result ≡ placing_all placed event }
+    {
+        StepChange {
             told: Items::new(alloc),
             replaced: Items::new(alloc),
             removed: Items::new(alloc),
@@ -148,6 +167,6 @@ impl StepChange {
             run: RunChange::Unchanged,
             setting: SettingChange::Unchanged,
             event,
-        })
+        }
     }
 }

@@ -5,10 +5,13 @@ ghost use Rattle.wm_machine.specs.Outcome.{IsBuilt};
 ghost use Rattle.wm_machine.specs.Valid.{Valid};
 ghost use Rattle.wm_table.specs.Builds.{answering, setting_by, IsExecuted};
 
+mod cancel;
+mod checks;
 mod conditions;
 mod enqueue;
 mod faulty;
 mod moment;
+mod placing;
 mod query;
 
 use crate::table::change::{SettingChange, StepChange};
@@ -82,6 +85,7 @@ pub fn execute(
 {
     match command {
         Command::Enqueue { named: None, batch } => enqueue::execute(alloc, state, line, batch),
+        Command::Cancel(target) => cancel::execute(alloc, state, line, target),
         Command::Moment(at) => moment::execute(alloc, state, line, at),
         Command::Conditions(conditions) => conditions::execute(alloc, state, line, conditions),
         Command::Query(query) => query::execute(alloc, state, line, query),

@@ -1,19 +1,22 @@
 //! How a run ends by the report of its worker.
 ghost use Rattle.std.specs.Prelude.{◌≡◌, true, false, IfOk, IsSome};
-ghost use Rattle.wm_machine.specs.Ends.{ended, retried};
+ghost use Rattle.wm_collections.specs.Lists.{AllLater};
+ghost use Rattle.wm_machine.specs.Ends.{retried};
 ghost use Rattle.wm_machine.specs.Narrow.{IsNarrow};
-ghost use Rattle.wm_machine.specs.Valid.{Valid};
+ghost use Rattle.wm_machine.specs.Valid.{IsBefore, Valid};
 ghost use Rattle.wm_table.specs.Builds.{over, IsEndOf, IsFinish};
-ghost use Rattle.wm_table.specs.StepChanges.{replacing};
+ghost use Rattle.wm_table.specs.Reached.{replaced_by, replaced_by_end};
+ghost use Rattle.wm_table.specs.StepChanges.{replacing_all};
 ghost use Rattle.wm_table.specs.Table.{goes_on, CountsIn};
 ghost use Rattle.wm_worker.specs.Answers.{given_of};
 
-use crate::table::change::{RunChange, StepChange};
+use crate::table::change::{Replacement, RunChange, StepChange};
 use crate::table::joins::{at, with};
+use crate::table::reach::{Reach, end_reach, replaced_by};
 use crate::table::reports::{run_of, work_index};
 use crate::table::ticket::Ticket;
 use std::alloc::{AllocError, Global};
-use wm_collections::Replica;
+use wm_collections::{Items, Replica};
 use wm_lifecycle::{ended, timed_out};
 use wm_machine::{End, Event, Record, Run, State};
 use wm_worker::{Answer, Told};
@@ -48,8 +51,8 @@ pub fn finish(
     };
     let work = at(state.works.as_slice(), index);
     match end_of(alloc, told.answer())? {
-        Some(end) => finish_by(alloc, index, work, run, end, state.now),
-        None => time_out(alloc, index, work, run, state.now),
+        Some(end) => finish_by(alloc, state, work, run, end),
+        None => time_out(alloc, state, work, run),
     }
 }
 
@@ -67,48 +70,59 @@ fn end_of(alloc: Global, answer: &Answer) -> Result<Option<End>, AllocError>
     }
 }
 
-/// The end of a run by this end, at this moment. Its work stands at this index.
+/// The end of a run of a work by this end.
 fn finish_by(
     alloc: Global,
-    index: usize,
+    state: &State,
     work: &Record,
     run: &Run,
     end: End,
-    now: u64,
 ) -> Result<Ending, AllocError>
+    requires { AllLater IsBefore state.now.works }
     ensures { IfOk result (λ ending. ending ≡ record {
-      change = replacing index (ended now end work.entry.now) (over run.entry.now) (Event.Finish run.entry.now.run end);
+      change = replacing_all (replaced_by_end state.entry.now work.entry.now end) (over run.entry.now) (Event.Finish run.entry.now.run end);
       timed_out = false;
     }) }
 {
-    let changed = ended(alloc, work, &end, now);
-    let (end, changed) = with(end, changed)?;
+    let replaced = replaced_by_end(alloc, state, work, &end);
+    let (end, replaced) = with(end, replaced)?;
     let event = Event::Finish { run: run.run, end };
-    let change = StepChange::replacing(alloc, index, changed, over(run), event)?;
     Ok(Ending {
-        change,
+        change: StepChange::replacing_all(alloc, replaced, over(run), event),
         timed_out: false,
     })
 }
 
-/// The end of a run that has no turn left, at this moment. Its work stands at this index.
-fn time_out(
+/// The records that take the place of others where a run of a work ended so.
+fn replaced_by_end(
     alloc: Global,
-    index: usize,
+    state: &State,
     work: &Record,
-    run: &Run,
-    now: u64,
-) -> Result<Ending, AllocError>
+    end: &End,
+) -> Result<Items<Replacement>, AllocError>
+    requires { AllLater IsBefore state.now.works }
+    ensures { IfOk result (λ replaced. replaced
+        ≡ replaced_by_end state.entry.now work.entry.now end.now) }
+{
+    let itself = ended(alloc, work, end, state.now)?;
+    let (itself, reach) = with(itself, end_reach(alloc, state, work, end))?;
+    replaced_by(alloc, &itself, &reach, state.works.as_slice())
+}
+
+/// The end of a run of a work that has no turn left.
+fn time_out(alloc: Global, state: &State, work: &Record, run: &Run) -> Result<Ending, AllocError>
+    requires { AllLater IsBefore state.now.works }
     ensures { IfOk result (λ ending. ending ≡ record {
-      change = replacing index (retried now work.entry.now) (over run.entry.now) (Event.TimedOut run.entry.now.run);
+      change = replacing_all (replaced_by (retried state.entry.now.now work.entry.now) Reach.Stays state.entry.now.works)
+          (over run.entry.now) (Event.TimedOut run.entry.now.run);
       timed_out = true;
     }) }
 {
-    let changed = timed_out(alloc, work, now)?;
+    let itself = timed_out(alloc, work, state.now)?;
+    let replaced = replaced_by(alloc, &itself, &Reach::Stays, state.works.as_slice())?;
     let event = Event::TimedOut { run: run.run };
-    let change = StepChange::replacing(alloc, index, changed, over(run), event)?;
     Ok(Ending {
-        change,
+        change: StepChange::replacing_all(alloc, replaced, over(run), event),
         timed_out: true,
     })
 }

@@ -3,11 +3,14 @@
 ghost use Rattle.std.specs.List.{AllByRecursion};
 ghost use Rattle.std.specs.Option.{option_copied};
 ghost use Rattle.std.specs.Prelude.{◌≡◌, ◌<◌, length, Some, None, slice_get, option_and_then, IfSome, MatchOption};
+ghost use Rattle.wm_collections.specs.Lists.{AllLater};
 ghost use Rattle.wm_machine.specs.Due.{due_of, times_of};
 ghost use Rattle.wm_machine.specs.First.{all_met, comes_before, earlier_of, first_of, has_room, has_succeeded, idle_instance, is_idle, is_live, is_startable, is_succeeded, is_waiting};
-ghost use Rattle.wm_machine.specs.Valid.{Valid, IsRecord};
+ghost use Rattle.wm_machine.specs.Input.{work_numbered};
+ghost use Rattle.wm_machine.specs.Valid.{Valid, IsBefore, IsRecord};
 ghost use Rattle.wm_machine.specs.declared.record.Record.{Record};
 
+use crate::table::joins::at;
 use wm_conditions::met;
 use wm_machine::{How, Instance, Phase, Record, State};
 use wm_schedule::Times;
@@ -35,7 +38,7 @@ pub fn due(work: &Record) -> u64
     wm_schedule::due(&times_of(work))
 }
 
-fn is_waiting(phase: Phase) -> bool
+pub fn is_waiting(phase: Phase) -> bool
     ensures { result ≡ is_waiting phase }
 {
     matches!(phase, Phase::Waiting)
@@ -47,18 +50,32 @@ fn is_succeeded(phase: Phase) -> bool
     matches!(phase, Phase::Done(How::Succeeded))
 }
 
+/// The record of this number, among records in ascending number.
+pub fn work_numbered(works: &[Record], number: u64) -> Option<&Record>
+    requires { AllLater IsBefore works.now }
+    ensures { option_copied result ≡ work_numbered number works.now }
+{
+    match works.binary_search_by(|work| work.seq.cmp(&number)) {
+        Ok(index) => Some(at(works, index)),
+        Err(_) => None,
+    }
+}
+
 /// Whether the record of this number has succeeded.
-fn has_succeeded(works: &[Record], number: u64) -> bool
+pub fn has_succeeded(works: &[Record], number: u64) -> bool
+    requires { AllLater IsBefore works.now }
     ensures { result ≡ has_succeeded works.now number }
 {
-    works
-        .iter()
-        .any(|work| work.seq == number && is_succeeded(work.phase))
+    match work_numbered(works, number) {
+        Some(work) => is_succeeded(work.phase),
+        None => false,
+    }
 }
 
 /// Whether every prerequisite of a work has succeeded.
 #[tactic(auto, unfolding(wm_machine::specs::First::all_met))]
 pub fn all_met(works: &[Record], work: &Record) -> bool
+    requires { AllLater IsBefore works.now }
     ensures { result ≡ all_met works.now work.now }
 {
     work.prior
@@ -99,6 +116,7 @@ fn has_room(instances: &[Instance], class: &str) -> bool
 /// Whether a work may start now.
 #[tactic(auto, unfolding(wm_machine::specs::First::is_startable))]
 fn is_startable(state: &State, work: &Record) -> bool
+    requires in_order { AllLater IsBefore state.now.works }
     requires record { IsRecord work.now }
     ensures { result ≡ is_startable state.entry.now work.now }
 {

@@ -1,16 +1,20 @@
 //! How the work that is first starts: its run begins, or it can't start.
-ghost use Rattle.std.specs.Prelude.{◌≡◌, ◌∷◌, [], Err, Ok, Some, None, IfOk, MatchOption};
+ghost use Rattle.std.specs.Prelude.{◌≡◌, ◌∷◌, Err, Ok, Some, None, IfOk, MatchOption};
+ghost use Rattle.wm_collections.specs.Lists.{AllLater};
 ghost use Rattle.wm_machine.specs.First.{first_of, idle_instance};
-ghost use Rattle.wm_machine.specs.Input.{cause_in, input_of};
+ghost use Rattle.wm_machine.specs.Input.{cause_in, input_of, outputs_for};
 ghost use Rattle.wm_machine.specs.Narrow.{IsNarrow};
 ghost use Rattle.wm_machine.specs.Runs.{one_attempt_more, run_on, start_refusal};
-ghost use Rattle.wm_machine.specs.Valid.{Valid};
+ghost use Rattle.wm_machine.specs.Valid.{IsBefore, Valid};
 ghost use Rattle.wm_merge.specs.Merged.{merged};
 ghost use Rattle.wm_table.specs.Builds.{IsClaiming, IsFirstAt, IsTaken};
+ghost use Rattle.wm_table.specs.Reached.{replaced_by_no_start};
 ghost use Rattle.wm_table.specs.TableState.{task_in};
 
-use crate::table::change::{RunChange, StepChange};
+use crate::table::change::{Replacement, RunChange, StepChange};
 use crate::table::joins::{at, copied, one, with};
+use crate::table::reach::{not_started_reach, replaced_by};
+use crate::table::scan::work_numbered;
 use crate::table::ticket::Ticket;
 use crate::table::{Claim, scan};
 use std::alloc::{AllocError, Global};
@@ -39,7 +43,7 @@ pub fn claim_first(alloc: Global, state: &State) -> Result<Option<Claiming>, All
     let work = at(state.works.as_slice(), index);
     match scan::idle_in(state.instances.as_slice(), work.request.class().as_str()) {
         Some(idle) => Ok(Some(start_merged(alloc, state, index, work, idle)?)),
-        None => Ok(Some(fail(alloc, state, index, work, Cause::NoWorker)?)),
+        None => Ok(Some(fail(alloc, state, work, Cause::NoWorker)?)),
     }
 }
 
@@ -57,9 +61,9 @@ fn start_merged(
     requires idle { idle_instance state.now.instances work.now.request.class ≡ Some idle.now }
     ensures { IfOk result (IsClaiming state.entry.now) }
 {
-    match taken_by(alloc, work)? {
+    match taken_by(alloc, state, work)? {
         Ok(input) => start(alloc, state, index, work, idle, input),
-        Err(cause) => fail(alloc, state, index, work, cause),
+        Err(cause) => fail(alloc, state, work, cause),
     }
 }
 
@@ -97,27 +101,20 @@ fn start(
 }
 
 /// The failure of a work that can't start for this cause.
-fn fail(
-    alloc: Global,
-    state: &State,
-    index: usize,
-    work: &Record,
-    cause: Cause,
-) -> Result<Claiming, AllocError>
+fn fail(alloc: Global, state: &State, work: &Record, cause: Cause) -> Result<Claiming, AllocError>
     requires valid { Valid state.now }
     requires narrow { IsNarrow state.now }
-    requires first { IsFirstAt state.now index work.now }
+    requires first { first_of state.now ≡ Some work.now }
     requires refused { start_refusal state.now work.now ≡ Some cause }
     ensures { IfOk result (IsClaiming state.entry.now) }
 {
-    let (cause, changed) = with(cause, not_started(alloc, work, state.now))?;
-    let (cause, logged, changed) = copied(alloc, cause, changed)?;
+    let (cause, replaced) = with(cause, replaced_by_no_start(alloc, state, work))?;
+    let (cause, logged, replaced) = copied(alloc, cause, replaced)?;
     let event = Event::StartFailed {
         seq: work.seq,
         cause: logged,
     };
-    let change = StepChange::replacing(alloc, index, changed, RunChange::Unchanged, event);
-    let (cause, change) = with(cause, change)?;
+    let change = StepChange::replacing_all(alloc, replaced, RunChange::Unchanged, event);
     let claim = Claim::Failed {
         seq: work.seq,
         cause,
@@ -125,37 +122,66 @@ fn fail(
     Ok(Claiming { change, claim })
 }
 
-/// What a run of a work that names no prerequisite takes, or why it takes nothing: of periodic work
-/// its own input, and of one-time work what its merger makes of that.
-fn taken_by(alloc: Global, work: &Record) -> Result<Result<Data, Cause>, AllocError>
-    requires { work.now.prior ≡ [] }
-    ensures { IfOk result (λ taken. (s : State) → IsTaken (input_of s work.entry.now) taken) }
+/// The records that take the place of others where a work can't start.
+fn replaced_by_no_start(
+    alloc: Global,
+    state: &State,
+    work: &Record,
+) -> Result<Items<Replacement>, AllocError>
+    requires { AllLater IsBefore state.now.works }
+    ensures { IfOk result (λ replaced. replaced
+        ≡ replaced_by_no_start state.entry.now work.entry.now) }
+{
+    let works = state.works.as_slice();
+    let itself = not_started(alloc, work, state.now)?;
+    let (itself, reach) = with(itself, not_started_reach(alloc, works, work))?;
+    replaced_by(alloc, &itself, &reach, works)
+}
+
+/// What a run of a work takes, or why it takes nothing: of periodic work its own input, and of
+/// one-time work what its merger makes of that and of what its prerequisites gave.
+fn taken_by(alloc: Global, state: &State, work: &Record) -> Result<Result<Data, Cause>, AllocError>
+    requires { AllLater IsBefore state.now.works }
+    ensures { IfOk result (IsTaken (input_of state.entry.now work.entry.now)) }
 {
     if work.request.period().is_some() {
         Ok(Ok(work.request.input().replica(alloc)?))
     } else {
-        merged_by(alloc, work)
+        merged_by(alloc, state.works.as_slice(), work)
     }
 }
 
-/// What a work's merger makes of its own input, or why that doesn't become one.
-fn merged_by(alloc: Global, work: &Record) -> Result<Result<Data, Cause>, AllocError>
-    ensures { IfOk result (IsTaken
-        (merged work.entry.now.request.merger (work.entry.now.request.input ∷ []))) }
+/// What a work's merger makes of its inputs, or why they don't become one.
+fn merged_by(
+    alloc: Global,
+    works: &[Record],
+    work: &Record,
+) -> Result<Result<Data, Cause>, AllocError>
+    requires { AllLater IsBefore works.now }
+    ensures { IfOk result (IsTaken (merged work.entry.now.request.merger
+        (work.entry.now.request.input ∷ outputs_for works.entry.now work.entry.now))) }
 {
-    let inputs = inputs_for(alloc, work)?;
+    let inputs = inputs_for(alloc, works, work)?;
     match merge(alloc, work.request.merger(), inputs.as_slice()) {
         Ok(input) => Ok(Ok(input)),
         Err(fault) => Ok(Err(cause_of(fault)?)),
     }
 }
 
-/// The inputs that a work's merger makes one of: its own alone, since no work names a prerequisite
-/// yet.
-fn inputs_for(alloc: Global, work: &Record) -> Result<Items<Data>, AllocError>
-    ensures { IfOk result (λ inputs. inputs ≡ work.entry.now.request.input ∷ []) }
+/// The inputs that a work's merger makes one of: its own, and then what its prerequisites gave, in
+/// the order in which it names them.
+fn inputs_for(alloc: Global, works: &[Record], work: &Record) -> Result<Items<Data>, AllocError>
+    requires { AllLater IsBefore works.now }
+    ensures { IfOk result (λ inputs. inputs
+        ≡ work.entry.now.request.input ∷ outputs_for works.entry.now work.entry.now) }
 {
-    one(alloc, work.request.input().replica(alloc)?)
+    let mut inputs = one(alloc, work.request.input().replica(alloc)?)?;
+    for number in work.prior.as_slice() {
+        if let Some(prior) = work_numbered(works, *number) {
+            inputs.push(prior.output.replica(alloc)?)?;
+        }
+    }
+    Ok(inputs)
 }
 
 /// Why a work whose inputs don't become one can't start.

@@ -1,31 +1,36 @@
 use Rattle.std.proofs.Common.{◌≡◌, ℕ, ◌≤◌, true, false, ltb, List, Option, Some, None, arith, rules, slice_get, refl, sym, ◌∙◌, ap, subst, inl, inr}
+use Rattle.std.specs.List.{AllByRecursion}
 use Rattle.std.proofs.lemmas.Bool.{and_from, cases_Bool, false≢true, ltb-false, true≢false}
 use Rattle.std.proofs.lemmas.Result.{IfOk-weaker}
 use Rattle.wm_data.specs.declared.data.DataEntry.{DataEntry}
-use Rattle.wm_machine.proofs.Finishes.{after_finish, after_timed_out, same-ended}
-use Rattle.wm_machine.proofs.Narrows.{found_narrow, found_valid}
-use Rattle.wm_machine.proofs.Records.{IsRecord-ended}
-use Rattle.wm_machine.specs.Ends.{ended, given_by, retried}
+use Rattle.wm_machine.proofs.Changes.{OfNumber}
+use Rattle.wm_machine.proofs.Endings.{end_by, end_in, same_period}
+use Rattle.wm_machine.proofs.Finishes.{after_finish, after_timed_out}
+use Rattle.wm_machine.proofs.Runnings.{found_narrow, found_valid}
+use Rattle.wm_machine.specs.Closed.{is_open}
+use Rattle.wm_machine.specs.Ends.{ended_as, given_by, period_of, retried}
 use Rattle.wm_machine.specs.Narrow.{IsReached}
 use Rattle.wm_machine.specs.Role as role
 use Rattle.wm_machine.specs.Role.{SomeMore, This}
-use Rattle.wm_machine.specs.Runs.{changed_work, other_runs, run_numbered, with_out}
+use Rattle.wm_machine.specs.Runs.{other_runs, run_numbered, with_out}
 use Rattle.wm_machine.specs.Step.{IsEnd, IsReport, IsTimeout}
-use Rattle.wm_machine.specs.Valid.{IsRecord, IsWorkOf}
+use Rattle.wm_machine.specs.Valid.{IsWorkOf}
 use Rattle.wm_machine.specs.declared.event.End.{End}
 use Rattle.wm_machine.specs.declared.event.End.TheVariants.{Retry}
 use Rattle.wm_machine.specs.declared.event.Event.TheVariants as event
 use Rattle.wm_machine.specs.declared.record.Record.{Record}
 use Rattle.wm_machine.specs.declared.state.Run.{Run}
 use Rattle.wm_machine.specs.declared.state.State.{State}
-use Rattle.wm_table.proofs.Lookups.{All-at, at-some, found-numbered}
+use Rattle.wm_table.proofs.Lookups.{All-at, at-some, found-numbered, stored-at}
+use Rattle.wm_table.proofs.ManyRows.{after_change, replacing_all-step}
+use Rattle.wm_table.proofs.Reaching.{change-numbers, end-agree}
 use Rattle.wm_table.proofs.Reporting.{counted, may-give}
-use Rattle.wm_table.proofs.StepRows.{replacing-step}
 use Rattle.wm_table.specs.Builds.{over, IsFinish}
-use Rattle.wm_table.specs.StepChanges.{replacing}
+use Rattle.wm_table.specs.Reached.{change_by, end_reach, replaced_by, replaced_by_end}
+use Rattle.wm_table.specs.StepChanges.{replacing_all}
 use Rattle.wm_table.specs.Table.{goes_on, wants_more, CountsIn}
 use Rattle.wm_table.specs.declared.table.finishing.Ending.{Ending}
-use Rattle.wm_worker.proofs.Giving.{gives_data}
+use Rattle.wm_table.specs.declared.table.reach.Reach.TheVariants as reach
 use Rattle.wm_worker.specs.Answers.{given_of, MayGive}
 use Rattle.wm_worker.specs.Told.{IsAllowed, Report}
 use Rattle.wm_worker.specs.declared.answer.Answer.{Answer}
@@ -49,10 +54,24 @@ may-report : (s : State) (number i : ℕ) (told : Report) (run : Run) (work : Re
 may-report s number i told run work gave is told_is =
     may-give run told gave (counted s number told run is.counts is.found) is.allowed told_is
 
+-- the end of a run changes just what is touched: its work and those that it reaches
+ends-agree : (s : State) (i : ℕ) (run : Run) (work : Record) (end : End) → IsReached s → slice_get s.works i ≡ Some work → IsWorkOf run work
+    → AllByRecursion (λ w. after_change (change_by (ended_as work.request.period s.now end work)
+    (end_reach work.request.period s.now work.seq end s.works) s.works) w ≡ end_in s run end w) s.works
+ends-agree s i run work end reached at of =
+    let valid = reached.valid in
+    let period : work.request.period ≡ period_of run.seq s.works =
+    All-at (OfNumber run.seq (λ w. w.request.period ≡ period_of run.seq s.works)) s.works i work (same_period run.seq s.works valid.in_order) at of.seq in
+    let agree =
+    end-agree work.request.period s.now end work s.works valid.in_order (stored-at s.works i work at) (ap is_open of.running) in
+    let touch = change_by (ended_as work.request.period s.now end work) (end_reach work.request.period s.now work.seq end s.works) s.works in
+    subst (λ number. AllByRecursion (λ w. after_change touch w ≡ end_by s.now number (period_of run.seq s.works) end s.works w) s.works) of.seq
+    (subst (λ kind. AllByRecursion (λ w. after_change touch w ≡ end_by s.now work.seq kind end s.works w) s.works) period agree)
+
 -- the run is over by this end
 finish-step : (s : State) (number i : ℕ) (told : Report) (run : Run) (work : Record) (end : End) → IsReported s number i told run work
     → given_of told.answer ≡ Some (given_by end)
-    → IsFinish s number told false (replacing i (ended s.now end work) (over run) (event.Finish run.run end))
+    → IsFinish s number told false (replacing_all (replaced_by_end s work end) (over run) (event.Finish run.run end))
 finish-step s number i told run work end is told_is =
     let valid = is.reached.valid in
     let named = found-numbered number s.runs run is.found in
@@ -64,9 +83,8 @@ finish-step s number i told run work end is told_is =
       may_give = may;
     } in
     let gone : State = record s { runs = other_runs run.run s.runs; instances = with_out false run.instance s.instances } in
-    let change = ended s.now end in
-    let gives = gives_data run.kind run.input run.attempt run.turn (given_by end) (found_valid s number run valid is.found).input may in
-    let fine = IsRecord-ended s.now end work valid.now gives is.of.running (All-at IsRecord s.works i work valid.records is.at) in
+    let itself = ended_as work.request.period s.now end work in
+    let to = end_reach work.request.period s.now work.seq end s.works in
     record {
       reported = This (given_by end);
       gave = given_by end;
@@ -75,9 +93,8 @@ finish-step s number i told run work end is told_is =
       ends = ap (λ n. role.Ends n (This (given_by end))) named;
       how = refl;
       step =
-          replacing-step s gone i work change (over run) (event.Finish run.run end) valid is.at
-          (same-ended work.request.period s.now end work).seq fine legal refl
-          (after_finish s run.run end is.reached legal ∙ ap (λ n. record gone { works = changed_work change n s.works }) (sym is.of.seq));
+          replacing_all-step s gone (change_by itself to s.works) (end_in s run end) (over run) (event.Finish run.run end) valid is.reached.narrow legal
+          (change-numbers itself to s.works) (ends-agree s i run work end is.reached is.at is.of) refl (after_finish s run.run end legal);
     }
 
 -- a report that asks for one more turn where the run doesn't go on is in the last one
@@ -90,7 +107,7 @@ last-turn told progress stays told_is = elim (cases_Bool (ltb told.k 999)) [
 -- the run is over for want of a turn
 timeout-step : (s : State) (number i : ℕ) (told : Report) (run : Run) (work : Record) (progress : Option (List DataEntry))
     → IsReported s number i told run work → goes_on told ≡ false → given_of told.answer ≡ Some (More progress)
-    → IsFinish s number told true (replacing i (retried s.now work) (over run) (event.TimedOut run.run))
+    → IsFinish s number told true (replacing_all (replaced_by (retried s.now work) reach.Stays s.works) (over run) (event.TimedOut run.run))
 timeout-step s number i told run work progress is stays told_is =
     let valid = is.reached.valid in
     let named = found-numbered number s.runs run is.found in
@@ -105,8 +122,7 @@ timeout-step s number i told run work progress is stays told_is =
     } in
     let legal : IsTimeout s run.run = record { progress = progress; report = report; none_left = omega arith } in
     let gone : State = record s { runs = other_runs run.run s.runs; instances = with_out false run.instance s.instances } in
-    let change = ended s.now Retry in
-    let fine = IsRecord-ended s.now Retry work valid.now tt is.of.running (All-at IsRecord s.works i work valid.records is.at) in
+    let touch = change_by (retried s.now work) reach.Stays s.works in
     record {
       reported = SomeMore;
       gave = More progress;
@@ -115,9 +131,9 @@ timeout-step s number i told run work progress is stays told_is =
       ends = ap (λ n. role.Ends n SomeMore) named;
       how = refl;
       step =
-          replacing-step s gone i work change (over run) (event.TimedOut run.run) valid is.at
-          (same-ended work.request.period s.now Retry work).seq fine legal refl
-          (after_timed_out s run.run is.reached legal ∙ ap (λ n. record gone { works = changed_work change n s.works }) (sym is.of.seq));
+          replacing_all-step s gone touch (end_in s run Retry) (over run) (event.TimedOut run.run) valid is.reached.narrow legal
+          (change-numbers (retried s.now work) reach.Stays s.works) (ends-agree s i run work Retry is.reached is.at is.of) refl
+          (after_timed_out s run.run legal);
     }
 
 -- the wish for one more turn comes with what is told of the progress
@@ -148,7 +164,7 @@ returns-in-Some-2 c =
     } in
     let said = rw c.in-Some-2.is at c.in_ok-end.ensures in
     let told_is : given_of told.answer ≡ Some (given_by end) = ap given_of (sym c.answer.ensures.answer) ∙ said in
-    let ending : Ending = record { change = replacing index (ended s.now end work) (over run) (event.Finish run.run end); timed_out = false } in
+    let ending : Ending = record { change = replacing_all (replaced_by_end s work end) (over run) (event.Finish run.run end); timed_out = false } in
     IfOk-weaker c.finish_by.result (λ e. e ≡ ending) (λ e. IsFinish s number told e.timed_out e.change) (λ e same.
     subst (λ (e : Ending). IsFinish s number told e.timed_out e.change) (sym same) (finish-step s number index told run work end is told_is))
     c.finish_by.ensures
@@ -172,7 +188,10 @@ returns-in-None c =
     } in
     let said = rw c.in-None.is at c.in_ok-end.ensures in
     let more = asked-more (given_of told.answer) (ap (λ (a : Answer). wants_more (given_of a)) (sym c.answer.ensures.answer) ∙ said) in
-    let ending : Ending = record { change = replacing index (retried s.now work) (over run) (event.TimedOut run.run); timed_out = true } in
+    let ending : Ending = record {
+      change = replacing_all (replaced_by (retried s.now work) reach.Stays s.works) (over run) (event.TimedOut run.run);
+      timed_out = true;
+    } in
     IfOk-weaker c.time_out.result (λ e. e ≡ ending) (λ e. IsFinish s number told e.timed_out e.change) (λ e same.
     subst (λ (e : Ending). IsFinish s number told e.timed_out e.change) (sym same)
     (timeout-step s number index told run work more.0 is c.requires.over more.1)) c.time_out.ensures

@@ -1,6 +1,6 @@
 use Rattle.std.proofs.Common.{◌≡◌, drop}
 use Rattle.wm_machine.specs.Enqueued.{id_in_use}
-use Rattle.wm_table.proofs.table.commands.enqueue.id_in_use.Given as goal
+use Rattle.wm_table.proofs.table.commands.checks.id_in_use.Given as goal
 
 -- the works so far have ids of their own
 abbrev pub invariant-loop-work : goal.invariant-loop-work
