@@ -1,136 +1,68 @@
 -- The commands of lines are built.
-use Rattle.std.proofs.Common.{◌≡◌, ℕ, ◌+◌, ◌^◌, ◌<◌, zero, suc, Bool, true, false, cond, List, [], ◌∷◌, filter_map, length, map, Option, Some, None, IfSome, is_some, option_and_then, option_map, unwrap_or, Result, Ok, Err, IfOk, refl, sym, ap, ◌∙◌, add-one, rules, arith}
+use Rattle.std.proofs.Common.{◌≡◌, ℕ, ◌^◌, ◌<◌, ◌≤◌, suc, Bool, true, false, cond, List, [], ◌∷◌, ◌++◌, length, map, Option, Some, None, IfSome, option_and_then, option_map, unwrap_or, Result, Ok, Err, IfOk, refl, ap, rules, arith}
 use Rattle.std.specs.Prelude.{codes, nat_lt}
-use Rattle.std.specs.List.{AllByRecursion, cons_option, list_all}
+use Rattle.std.specs.List.{AllByRecursion}
 use Rattle.std.specs.Map.{lookup}
 use Rattle.std.specs.Str.{bytes_eq}
-use Rattle.std.proofs.lemmas.Bool.{and_parts, ltb-true, true≢false}
-use Rattle.std.proofs.lemmas.List.{length-append}
+use Rattle.std.proofs.lemmas.Bool.{ltb-true}
+use Rattle.std.proofs.lemmas.List.{length-append, length-map}
 use Rattle.serde_json.specs.Data as json
-use Rattle.serde_json.specs.Find.{as_array, as_number, as_str, as_u64, get}
-use Rattle.uuid.specs.Text.{by_index, parsed}
+use Rattle.serde_json.specs.Find.{as_number, as_str, as_u64, get}
+use Rattle.wm_chain.proofs.Sound.{IsBatch-sound}
+use Rattle.wm_chain.specs.Layers.{layered, no_layer, node_after, ContinuationFields}
+use Rattle.wm_chain.specs.Walk.{batched_by, fault_in}
+use Rattle.wm_chain.specs.declared.fault.ChainFault.{ChainFault}
 use Rattle.wm_data.proofs.ReadData.{IsData-read_data}
-use Rattle.wm_data.specs.DataRead.{item_list}
 use Rattle.wm_data.specs.Size.{IsData}
 use Rattle.wm_data.specs.declared.data.DataEntry.{DataEntry}
-use Rattle.wm_data.specs.declared.fault.DataFault.{DataFault}
-use Rattle.wm_data.specs.declared.fault.DataFault.TheVariants as data_fault
+use Rattle.wm_machine.specs.Built.{AreAsked}
 use Rattle.wm_machine.specs.Outcome.{IsBuilt}
 use Rattle.wm_machine.specs.declared.command.Command.{Command}
 use Rattle.wm_machine.specs.declared.command.Command.TheVariants.{Faulty}
 use Rattle.wm_machine.specs.declared.command.LineFault.TheVariants.{NotBuilt}
-use Rattle.wm_request.proofs.Limits.{built_of-cases, IsShortText-is_short}
+use Rattle.wm_request.proofs.Limits.{built_of-cases}
 use Rattle.wm_request.proofs.Tags.{AreSortedTags-with_tag}
-use Rattle.wm_request.specs.Building.{built_of, is_short, with_tag, IsBuilding}
-use Rattle.wm_request.specs.Requests.{AreSortedTags, IsShortText}
+use Rattle.wm_request.specs.Batches.{BatchFields}
+use Rattle.wm_request.specs.Building.{built_of, with_tag, IsBuilding}
+use Rattle.wm_request.specs.Requests.{AreSortedTags, IsRequest, IsShortText, RequestFields}
+use Rattle.wm_request.specs.declared.request.Node.{Node}
 use Rattle.wm_schedule.proofs.Clamps.{IsBackoffDelay-clamped, IsPeriod-clamped}
 use Rattle.wm_schedule.specs.Clamped.{clamped_period, IsPeriod}
-use Rattle.wm_script.specs.Lines.{asked_by, command_of, command_with, commands_in, conditions_of, cut, enqueue_with, enqueued_work, enqueue_of, input_in, moment_of, query_of, readers, value_of}
-use Rattle.wm_script.specs.Values.{are_short, short_in, texts_at, texts_of, whole_at, whole_in}
-use Rattle.wm_script.specs.Works.{asked_for, backoff_at, class_at, constraints_at, id_at, merger_at, period_at, with_tags, work_of, PeriodForm, WorkForm}
+use Rattle.wm_script.proofs.BuiltForms.{AreForms, AreForms-enqueued_form, AreShort, AreWithin, AreLayers, HasSixteen, IsWithin}
+use Rattle.wm_script.proofs.Options.{either, tested, then_any, then_of}
+use Rattle.wm_script.specs.Batches.{batch_in, chain_from, each_of, input_in, nodes_in, node_in, of_chain, of_data, of_request, or_fault, request_in, ◌>>=◌}
+use Rattle.wm_script.specs.Enqueues.{enqueued_form, EnqueueForm, Layers, Works}
+use Rattle.wm_script.specs.Lines.{asked_by, cancel_of, command_of, command_with, commands_in, conditions_of, cut, enqueue_of, moment_of, query_of, readers, value_of}
+use Rattle.wm_script.specs.Values.{whole_in}
+use Rattle.wm_script.specs.Works.{asked_for, id_at, with_tags, PeriodForm, WorkForm}
+use Rattle.wm_script.specs.declared.batches.BatchFault.{BatchFault}
+use Rattle.wm_script.specs.declared.batches.BatchFault.TheVariants as fault
 
--- ---- what holds of a value where there is one
+-- ---- what holds of an answer
 
-either : {A : Type 0} (P : A → Type 0) (b : Bool) (o other : Option A) → IfSome o P → IfSome other P → IfSome (cond b o other) P
-either P true o other h k = h
-either P false o other h k = k
+or_holds : {T E : Type 0} (P : T → Type 0) (of_fault : E → BatchFault) (r : Result T E) → IfOk r P → IfOk (or_fault of_fault r) P
+or_holds P of_fault (Ok x) h = h
+or_holds P of_fault (Err found) h = tt
 
-then_any : {A B : Type 0} (P : B → Type 0) (f : A → Option B) (o : Option A) → ((x : A) → IfSome (f x) P) → IfSome (option_and_then f o) P
-then_any P f None h = tt
-then_any P f (Some x) h = h x
+bind_holds : {A B : Type 0} (Q : A → Type 0) (P : B → Type 0) (f : A → Result B BatchFault) (r : Result A BatchFault) → IfOk r Q
+    → ((x : A) → Q x → IfOk (f x) P) → IfOk (r >>= f) P
+bind_holds Q P f (Ok x) q h = h x q
+bind_holds Q P f (Err found) q h = tt
 
-then_of : {A B : Type 0} (Q : A → Type 0) (P : B → Type 0) (f : A → Option B) (o : Option A) → IfSome o Q → ((x : A) → Q x → IfSome (f x) P)
-    → IfSome (option_and_then f o) P
-then_of Q P f None q h = tt
-then_of Q P f (Some x) q h = h x q
+-- as many answers, of each of which it holds
+record AreAnswers {A B : Type 0} (P : B → Type 0) (xs : List A) (ys : List B) : Type 0 where
+  all : AllByRecursion P ys
+  as_many : length ys ≡ length xs
 
--- ---- an id
+each_holds : {A B : Type 0} (Q : A → Type 0) (P : B → Type 0) (f : A → Result B BatchFault) → ((x : A) → Q x → IfOk (f x) P) → (xs : List A)
+    → AllByRecursion Q xs → IfOk (each_of f xs) (AreAnswers P xs)
+each_holds Q P f h [] all = record { all = tt; as_many = refl }
+each_holds Q P f h (x ∷ xs) all =
+    bind_holds P (AreAnswers P (x ∷ xs)) _ (f x) (h x all.0) (λ y hy.
+    bind_holds (AreAnswers P xs) (AreAnswers P (x ∷ xs)) _ (each_of f xs) (each_holds Q P f h xs all.1) (λ ys hys.
+    record { all = (hy, hys.all); as_many = ap suc hys.as_many }))
 
-HasSixteen : List ℕ → Type 0
-HasSixteen id = length id ≡ 16
-
-length-by_index : {X : Type 0} (n : ℕ) (f : ℕ → X) → length (by_index n f) ≡ n
-unfolding by_index
-length-by_index zero f = refl
-length-by_index (suc n) f = length-append (by_index n f) (f n ∷ []) ∙ ap (λ m. m + 1) (length-by_index n f) ∙ add-one n
-
-HasSixteen-parsed : (text : List ℕ) → IfSome (parsed text) HasSixteen
-unfolding HasSixteen
-HasSixteen-parsed text = search (rules, either, length-by_index)
-
--- ---- tags
-
-short_text : (text : List ℕ) (b : Bool) → is_short text ≡ b → is_some (cond b (Some text) None) ≡ true → IsShortText text
-short_text text true is some = IsShortText-is_short text is
-short_text text false is some = absurd (true≢false (sym some))
-
-tag_then : (tag : Option (List ℕ)) (tags : List (List ℕ)) → is_some (option_and_then (λ text. cond (is_short text) (Some text) None) tag) ≡ true
-    → AllByRecursion IsShortText tags → AllByRecursion IsShortText (cons_option tag tags)
-tag_then None tags some short = absurd (true≢false (sym some))
-tag_then (Some text) tags some short = (short_text text (is_short text) refl some, short)
-
--- items that are all short texts
-short-texts : (items : List json.Data) → list_all (λ item. is_some (short_in item)) items ≡ true → AllByRecursion IsShortText (filter_map as_str items)
-unfolding short_in
-short-texts [] all = tt
-short-texts (item ∷ items) all =
-    let parts = and_parts (is_some (short_in item)) (list_all (λ item. is_some (short_in item)) items) all in
-    tag_then (as_str item) (filter_map as_str items) parts.0 (short-texts items parts.1)
-
-AreShort : List (List ℕ) → Type 0
-AreShort texts = AllByRecursion IsShortText texts
-
-short-if : (items : json.Items) (b : Bool) → are_short items ≡ b → IfSome (cond b (Some (texts_of items)) None) AreShort
-unfolding AreShort
-short-if items true is = short-texts (item_list items) is
-short-if items false is = tt
-
-AreShort-texts_at : (value : Option json.Data) → IfSome (texts_at value) AreShort
-unfolding texts_at AreShort
-AreShort-texts_at None = tt
-AreShort-texts_at (Some d) = then_any AreShort _ (as_array d) (λ items. short-if items (are_short items) refl)
-
--- ---- a work
-
--- a work of an id and of tags that a request may have
-record IsWithin (work : WorkForm) : Type 0 where
-  id : HasSixteen work.id
-  tags : AreShort work.tags
-
-HasSixteen-id_at : (value : Option json.Data) → IfSome (id_at value) HasSixteen
-unfolding id_at
-HasSixteen-id_at value = search (rules, then_any, HasSixteen-parsed)
-
-id_then : {B : Type 0} (P : B → Type 0) (f : List ℕ → Option B) (value : Option json.Data) → ((id : List ℕ) → HasSixteen id → IfSome (f id) P)
-    → IfSome (option_and_then f (id_at value)) P
-id_then P f value = then_of HasSixteen P f (id_at value) (HasSixteen-id_at value)
-
-tags_then : {B : Type 0} (P : B → Type 0) (f : List (List ℕ) → Option B) (value : Option json.Data)
-    → ((tags : List (List ℕ)) → AreShort tags → IfSome (f tags) P) → IfSome (option_and_then f (texts_at value)) P
-tags_then P f value = then_of AreShort P f (texts_at value) (AreShort-texts_at value)
-
-IsWithin-work_of : (d : json.Data) → IfSome (work_of d) IsWithin
-unfolding work_of
-IsWithin-work_of d =
-    either IsWithin _ _ None
-    (id_then IsWithin _ (get (codes "id") d) (λ id sixteen.
-    then_any IsWithin _ (class_at (get (codes "class") d)) (λ class.
-    then_any IsWithin _ (merger_at (get (codes "merger") d)) (λ merger.
-    tags_then IsWithin _ (get (codes "tags") d) (λ tags short.
-    then_any IsWithin _ (constraints_at (get (codes "constraints") d)) (λ constraints.
-    then_any IsWithin _ (backoff_at (get (codes "backoff") d)) (λ backoff.
-    then_any IsWithin _ (whole_at 0 (get (codes "delay") d)) (λ delay.
-    then_any IsWithin _ (period_at (get (codes "period") d) (get (codes "flex") d)) (λ period. record { id = sixteen; tags = short }))))))))) tt
-
--- the tags of a work are short
-pub short_tags : (d : json.Data) → IfSome (work_of d) (λ work. AllByRecursion IsShortText work.tags)
-unfolding AreShort
-short_tags d = tags_of (work_of d) (IsWithin-work_of d) where
-  tags_of : (o : Option WorkForm) → IfSome o IsWithin → IfSome o (λ work. AllByRecursion IsShortText work.tags)
-  tags_of None h = tt
-  tags_of (Some work) h = h.tags
-
--- ---- commands
+-- ---- requests
 
 sorted_tags : (tags all : List (List ℕ)) → AllByRecursion IsShortText tags → AreSortedTags all → AreSortedTags (with_tags tags all)
 sorted_tags [] all short sorted = sorted
@@ -140,50 +72,139 @@ IsPeriod-asked : (period : Option PeriodForm) → IfSome (option_map (λ p. clam
 IsPeriod-asked None = tt
 IsPeriod-asked (Some p) = IsPeriod-clamped p.period p.flex
 
--- the command of a work with this input
-IsBuilt-request : (work : WorkForm) (input : List DataEntry) → IsWithin work → IsData input → IsBuilt (command_with (built_of (asked_for work input)))
+-- the request of a work with this input
+IsRequest-asked : (work : WorkForm) (input : List DataEntry) → IsWithin work → IsData input
+    → IfOk (or_fault of_request (built_of (asked_for work input))) IsRequest
 unfolding HasSixteen AreShort
-IsBuilt-request work input within is_data =
+IsRequest-asked work input within is_data =
     let building : IsBuilding (asked_for work input).tags (asked_for work input).backoff (asked_for work input).period = record {
       tags_are = sorted_tags work.tags [] within.tags (record { short = tt; ascending = tt });
       backoff_is = IsBackoffDelay-clamped work.backoff.delay;
       period_is = IsPeriod-asked work.period;
     } in
-    built_of-cases (λ built. IsBuilt (command_with built)) (asked_for work input) building tt tt tt (λ limits. record {
-      request = asked_for work input;
-      within = record { id = within.id; input = is_data; within = limits };
-      one = refl;
-    })
-
-IsBuilt-enqueue_with : (work : WorkForm) (read : Result (List DataEntry) DataFault) → IsWithin work → IfOk read IsData → IsBuilt (enqueue_with work read)
-IsBuilt-enqueue_with work (Ok input) within is_data = IsBuilt-request work input within is_data
-IsBuilt-enqueue_with work (Err data_fault.EmptyKey) within is_data = tt
-IsBuilt-enqueue_with work (Err (data_fault.BadData key)) within is_data = tt
-IsBuilt-enqueue_with work (Err (data_fault.TooLarge size)) within is_data = tt
-IsBuilt-enqueue_with work (Err data_fault.Memory) within is_data = tt
+    built_of-cases (λ built. IfOk (or_fault of_request built) IsRequest) (asked_for work input) building tt tt tt
+    (λ limits. record { id = within.id; input = is_data; within = limits })
 
 IsData-input_in : (input : Option json.Data) → IfOk (input_in input) IsData
 IsData-input_in None = record { ascending = tt; named = tt; size = omega arith }
 IsData-input_in (Some d) = IsData-read_data d
 
+IsRequest-request_in : (work : WorkForm) → IsWithin work → IfOk (request_in work) IsRequest
+IsRequest-request_in work within =
+    bind_holds IsData IsRequest _ (or_fault of_data (input_in work.input)) (or_holds IsData of_data (input_in work.input) (IsData-input_in work.input))
+    (λ input is_data. IsRequest-asked work input within is_data)
+
+-- ---- batches
+
+HasRequest : Node → Type 0
+HasRequest node = IsRequest node.request
+
+HasRequest-node_in : (work : WorkForm) → IsWithin work → IfOk (node_in work) HasRequest
+unfolding HasRequest
+HasRequest-node_in work within = bind_holds IsRequest HasRequest _ (request_in work) (IsRequest-request_in work within) (λ request is. is)
+
+-- at least one work, each of a request within its limits
+record AreNodes (works : List Node) : Type 0 where
+  some : 1 ≤ length works
+  requests : AllByRecursion HasRequest works
+
+both : (works more : List Node) → AllByRecursion HasRequest works → AllByRecursion HasRequest more → AllByRecursion HasRequest (works ++ more)
+both [] more all others = others
+both (work ∷ works) more all others = (all.0, both works more all.1 others)
+
+of_layer : (after : List (List ℕ)) (requests : List RequestFields) → AllByRecursion IsRequest requests
+    → AllByRecursion HasRequest (map (node_after after) requests)
+unfolding HasRequest
+of_layer after [] all = tt
+of_layer after (request ∷ requests) all = (all.0, of_layer after requests all.1)
+
+AreNodes-layered : (chain : ContinuationFields) (requests : List RequestFields) → AreNodes chain.works → AllByRecursion IsRequest requests
+    → AreNodes (layered chain requests).works
+AreNodes-layered chain requests are all =
+    let long = length-append chain.works (map (node_after chain.last) requests) in
+    let some = are.some in
+    record {
+      some = omega arith;
+      requests = both chain.works (map (node_after chain.last) requests) are.requests (of_layer chain.last requests all);
+    }
+
+HasNodes : ContinuationFields → Type 0
+HasNodes chain = AreNodes chain.works
+
+HasNodes-chain_from : (chain : ContinuationFields) (layers : List (List WorkForm)) → AreNodes chain.works → AllByRecursion AreWithin layers
+    → IfOk (chain_from chain layers) HasNodes
+unfolding HasNodes AreWithin
+HasNodes-chain_from chain [] are all = are
+HasNodes-chain_from chain (layer ∷ layers) are all =
+    bind_holds (AreAnswers IsRequest layer) HasNodes _ (each_of request_in layer)
+    (each_holds IsWithin IsRequest request_in IsRequest-request_in layer all.0.1)
+    (λ requests is. HasNodes-chain_from (layered chain requests) layers (AreNodes-layered chain requests are is.all) all.1)
+
+-- the first layer has a work
+AreNodes-first : (layer : List WorkForm) (requests : List RequestFields) → 1 ≤ length layer → AreAnswers IsRequest layer requests
+    → AreNodes (layered no_layer requests).works
+AreNodes-first layer requests some is =
+    let many = is.as_many in
+    let long = length-map requests (node_after no_layer.last) in
+    record { some = omega arith; requests = of_layer no_layer.last requests is.all }
+
+HasNodes-layers : (layers : List (List WorkForm)) → AreLayers layers → IfOk (chain_from no_layer layers) HasNodes
+unfolding AreLayers AreWithin
+HasNodes-layers [] are = absurd (omega arith)
+HasNodes-layers (layer ∷ layers) are =
+    bind_holds (AreAnswers IsRequest layer) HasNodes _ (each_of request_in layer)
+    (each_holds IsWithin IsRequest request_in IsRequest-request_in layer are.1.0.1)
+    (λ requests is. HasNodes-chain_from (layered no_layer requests) layers (AreNodes-first layer requests are.1.0.0 is) are.1.1)
+
+AreNodes-nodes_in : (form : EnqueueForm) → AreForms form → IfOk (nodes_in form) AreNodes
+unfolding AreForms AreWithin HasNodes
+AreNodes-nodes_in (Works works) are =
+    let some = are.0 in
+    answered (each_of node_in works) (each_holds IsWithin HasRequest node_in HasRequest-node_in works are.1) where
+      answered : (r : Result (List Node) BatchFault) → IfOk r (AreAnswers HasRequest works) → IfOk r AreNodes
+      answered (Ok nodes) is = let many = is.as_many in let some = are.0 in record { some = omega arith; requests = is.all }
+      answered (Err found) is = tt
+AreNodes-nodes_in (Layers layers) are = bind_holds HasNodes AreNodes _ (chain_from no_layer layers) (HasNodes-layers layers are) (λ chain is. is)
+
+IsAsked : BatchFields → Type 0
+IsAsked batch = AreAsked batch.works
+
+IsAsked-batched : (works : List Node) (found : Option ChainFault) → fault_in works ≡ found → AreNodes works
+    → IfOk (or_fault of_chain (batched_by found works)) IsAsked
+unfolding IsAsked HasRequest
+IsAsked-batched works None none are = record { batch = IsBatch-sound works are.some none; requests = are.requests }
+IsAsked-batched works (Some found) e are = tt
+
+IsAsked-batch_in : (form : EnqueueForm) → AreForms form → IfOk (batch_in form) IsAsked
+IsAsked-batch_in form are =
+    bind_holds AreNodes IsAsked _ (nodes_in form) (AreNodes-nodes_in form are) (λ nodes is. IsAsked-batched nodes (fault_in nodes) refl is)
+
+-- ---- commands
+
+IsBuilt-command_with : (r : Result BatchFields BatchFault) → IfOk r IsAsked → IsBuilt (command_with r)
+unfolding IsAsked
+IsBuilt-command_with (Ok batch) is = is
+IsBuilt-command_with (Err (fault.Line found)) is = tt
+IsBuilt-command_with (Err fault.Memory) is = tt
+
 IsBuilt-enqueue_of : (d : json.Data) → IfSome (enqueue_of d) IsBuilt
-unfolding enqueue_of enqueued_work
-IsBuilt-enqueue_of d =
-    then_of IsWithin IsBuilt _ (enqueued_work d) (search (rules, either, then_any, IsWithin-work_of))
-    (λ work within. IsBuilt-enqueue_with work (input_in work.input) within (IsData-input_in work.input))
+unfolding enqueue_of
+IsBuilt-enqueue_of d = of_form (enqueued_form d) (AreForms-enqueued_form d) where
+  of_form : (o : Option EnqueueForm) → IfSome o AreForms → IfSome (option_map (λ form. command_with (batch_in form)) o) IsBuilt
+  of_form None h = tt
+  of_form (Some form) are = IsBuilt-command_with (batch_in form) (IsAsked-batch_in form are)
+
+IsBuilt-cancel_of : (d : json.Data) → IfSome (cancel_of d) IsBuilt
+unfolding cancel_of
+IsBuilt-cancel_of d = either IsBuilt _ _ None (then_any IsBuilt _ (id_at (get (codes "id") d)) (λ id. tt)) tt
 
 IsMoment : ℕ → Type 0
 IsMoment at = at < 2 ^ 53
 
-IsMoment-if : (n : ℕ) (b : Bool) → nat_lt n (2 ^ 53) ≡ b → IfSome (cond b (Some n) None) IsMoment
-unfolding IsMoment
-IsMoment-if n true is = ltb-true n (2 ^ 53) is
-IsMoment-if n false is = tt
-
 IsMoment-whole_in : (d : json.Data) → IfSome (whole_in d) IsMoment
-unfolding whole_in
+unfolding whole_in IsMoment
 IsMoment-whole_in d =
-    then_any IsMoment _ (as_number d) (λ number. then_any IsMoment _ (as_u64 number) (λ n. IsMoment-if n (nat_lt n (2 ^ 53)) refl))
+    then_any IsMoment _ (as_number d) (λ number. then_any IsMoment _ (as_u64 number) (λ n. tested IsMoment (nat_lt n (2 ^ 53)) n (λ e. ltb-true n (2 ^ 53) e)))
 
 IsBuilt-moment_of : (d : json.Data) → IfSome (moment_of d) IsBuilt
 unfolding moment_of IsMoment
@@ -205,7 +226,7 @@ AreBuilt table = AllByRecursion (λ reader. (d : json.Data) → IfSome (reader.1
 
 AreBuilt-readers : AreBuilt readers
 unfolding AreBuilt
-AreBuilt-readers = (IsBuilt-enqueue_of, (IsBuilt-moment_of, (IsBuilt-conditions_of, (IsBuilt-query_of, tt))))
+AreBuilt-readers = (IsBuilt-enqueue_of, (IsBuilt-cancel_of, (IsBuilt-moment_of, (IsBuilt-conditions_of, (IsBuilt-query_of, tt)))))
 
 found : (b : Bool) (reader : json.Data → Option Command) (rest : Option (json.Data → Option Command)) (d : json.Data) → IfSome (reader d) IsBuilt
     → IfSome (option_and_then (λ reader. reader d) rest) IsBuilt → IfSome (option_and_then (λ reader. reader d) (cond b (Some reader) rest)) IsBuilt

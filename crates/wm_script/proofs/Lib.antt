@@ -1,6 +1,10 @@
-pub mod ObjectsLemmas
+pub mod BatchesLemmas
 pub mod BuiltCommands
+pub mod BuiltForms
+pub mod EnqueuesLemmas
 pub mod LinesLemmas
 pub mod LogTexts
+pub mod ObjectsLemmas
+pub mod Options
 pub mod TextsLemmas
 pub mod ValuesLemmas

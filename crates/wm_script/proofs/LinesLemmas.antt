@@ -8,9 +8,7 @@ use Rattle.std.proofs.lemmas.Str.{IsUtf8-from_is_utf8, is_utf8-from_IsUtf8}
 use Rattle.std.specs.Result.{result_ok}
 use Rattle.std.specs.Str.{is_utf8}
 use Rattle.serde_json.specs.Read.{read}
-use Rattle.serde_json.specs.View.{items_view}
-use Rattle.serde_json.specs.declared.value.Value.{Value}
-use Rattle.wm_script.specs.Lines.{cut, onto_first, single, value_of}
+use Rattle.wm_script.specs.Lines.{cut, onto_first, value_of}
 
 -- ---- the cut
 
@@ -47,14 +45,6 @@ cut_whole bytes h e =
     rw (take_all _ bytes past, drop_all _ bytes after) at (cut-first bytes h)
 
 pub ruleset line_ends = (cut_at, cut_whole, take_rest)
-
--- ---- lists
-
--- a list that hasn't one item has no single one
-pub single_none : (items : List Value) → (length items ≡ 1 → ⊥) → None ≡ single (items_view items)
-single_none [] h = refl
-single_none (item ∷ []) h = absurd (h refl)
-single_none (item ∷ next ∷ items) h = refl
 
 -- ---- what the crates' readers answer
 

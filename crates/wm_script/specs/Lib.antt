@@ -1,3 +1,5 @@
+pub mod Batches
+pub mod Enqueues
 pub mod Limits
 pub mod Lines
 pub mod Objects

@@ -4,23 +4,21 @@ use Rattle.std.specs.Prelude.{ℕ, ◌==◌, List, [], ◌∷◌, map, codes, if
 use Rattle.std.specs.Map.{lookup}
 use Rattle.std.specs.Str.{bytes_eq, is_utf8}
 use Rattle.serde_json.specs.Data as json
-use Rattle.serde_json.specs.Find.{as_array, as_str, get}
+use Rattle.serde_json.specs.Find.{as_str, get}
 use Rattle.serde_json.specs.Read.{read}
-use Rattle.wm_data.specs.DataRead.{read_data}
-use Rattle.wm_data.specs.declared.data.DataEntry.{DataEntry}
-use Rattle.wm_data.specs.declared.fault.DataFault.{DataFault}
-use Rattle.wm_data.specs.declared.fault.DataFault.TheVariants as data_fault
 use Rattle.wm_machine.specs.declared.command.Command.{Command}
-use Rattle.wm_machine.specs.declared.command.Command.TheVariants.{Conditions, Enqueue, Faulty, Moment, Query}
+use Rattle.wm_machine.specs.declared.command.Command.TheVariants.{Cancel, Conditions, Enqueue, Faulty, Moment, Query}
 use Rattle.wm_machine.specs.declared.command.LineFault.TheVariants as fault
+use Rattle.wm_machine.specs.declared.command.Target.TheVariants.{Id}
 use Rattle.wm_machine.specs.declared.state.WorkQuery.{WorkQuery}
-use Rattle.wm_request.specs.Building.{built_of}
-use Rattle.wm_request.specs.Requests.{RequestFields}
-use Rattle.wm_request.specs.declared.fault.RequestFault.{RequestFault}
-use Rattle.wm_request.specs.declared.fault.RequestFault.TheVariants as request_fault
+use Rattle.wm_request.specs.Batches.{BatchFields}
+use Rattle.wm_script.specs.Batches.{batch_in}
+use Rattle.wm_script.specs.Enqueues.{enqueued_form}
 use Rattle.wm_script.specs.Objects.{has_only}
 use Rattle.wm_script.specs.Values.{◌>>=◌, flag_at, whole_in}
-use Rattle.wm_script.specs.Works.{asked_for, work_of, WorkForm}
+use Rattle.wm_script.specs.Works.{id_at}
+use Rattle.wm_script.specs.declared.batches.BatchFault.{BatchFault}
+use Rattle.wm_script.specs.declared.batches.BatchFault.TheVariants as batch_fault
 
 -- ---- the cut
 
@@ -35,48 +33,22 @@ abbrev pub cut : List ℕ → List (List ℕ)
 cut [] = []
 cut (byte ∷ bytes) = if byte == 10 then [] ∷ cut bytes else onto_first byte (cut bytes)
 
--- ---- an enqueue
+-- ---- an enqueue and a cancel
 
--- the one item of a list
-abbrev pub single : json.Items → Option json.Data
-single (json.item d json.no_items) = Some d
-single _ = None
-
--- an enqueue of one work
-unfoldable pub enqueued_work : json.Data → Option WorkForm
-enqueued_work d = if has_only (codes "cmd" ∷ codes "works" ∷ []) d then (do
-  value ← get (codes "works") d
-  works ← as_array value
-  work ← single works
-  work_of work) else None
-
--- the Data of an input, which is empty where there is none
-abbrev pub input_in : Option json.Data → Result (List DataEntry) DataFault
-input_in None = Ok []
-input_in (Some d) = read_data d
-
--- the command that enqueues one work
-abbrev pub enqueue_command : RequestFields → Command
-enqueue_command request = Enqueue None (record { works = (record { request = request; after = [] }) ∷ [] })
-
--- the command of a request that was built or not: no building answers want of memory
-abbrev pub command_with : Result RequestFields RequestFault → Command
-command_with (Ok request) = enqueue_command request
-command_with (Err request_fault.NoClass) = Faulty fault.NoClass
-command_with (Err request_fault.TooManyTags) = Faulty fault.TooManyTags
-command_with (Err request_fault.DelayTooLong) = Faulty fault.DelayTooLong
-command_with (Err request_fault.Memory) = Faulty fault.NotBuilt
-
--- the command of a work, once its input was read: no reading answers want of memory
-abbrev pub enqueue_with : WorkForm → Result (List DataEntry) DataFault → Command
-enqueue_with work (Ok input) = command_with (built_of (asked_for work input))
-enqueue_with work (Err data_fault.EmptyKey) = Faulty fault.EmptyKey
-enqueue_with work (Err (data_fault.BadData key)) = Faulty (fault.BadData key)
-enqueue_with work (Err (data_fault.TooLarge size)) = Faulty (fault.TooLarge size)
-enqueue_with work (Err data_fault.Memory) = Faulty fault.NotBuilt
+-- the command of a batch, or of its fault: no reading answers want of memory
+abbrev pub command_with : Result BatchFields BatchFault → Command
+command_with (Ok batch) = Enqueue None batch
+command_with (Err (batch_fault.Line found)) = Faulty found
+command_with (Err batch_fault.Memory) = Faulty fault.NotBuilt
 
 unfoldable pub enqueue_of : json.Data → Option Command
-enqueue_of d = option_map (λ work. enqueue_with work (input_in work.input)) (enqueued_work d)
+enqueue_of d = option_map (λ form. command_with (batch_in form)) (enqueued_form d)
+
+-- a cancel by an id
+unfoldable pub cancel_of : json.Data → Option Command
+cancel_of d = if has_only (codes "cmd" ∷ codes "id" ∷ []) d then (do
+  id ← id_at (get (codes "id") d)
+  Some (Cancel (Id id))) else None
 
 -- ---- the moment and the conditions
 
@@ -131,6 +103,7 @@ value_of line = if is_utf8 line then read line else None
 abbrev pub readers : List (List ℕ × (json.Data → Option Command))
 readers =
     (codes "enqueue", enqueue_of) ∷
+    (codes "cancel", cancel_of) ∷
     (codes "moment", moment_of) ∷
     (codes "conditions", conditions_of) ∷
     (codes "query", query_of) ∷ []

@@ -1,9 +1,8 @@
--- What a line says of a work. The grammar is this project's own choice; which id a text names is `uuid`'s reading.
+-- What a line says of a work. The grammar is this project's own choice.
 use Rattle.std.specs.Prelude.{ℕ, List, [], ◌∷◌, codes, if◌then◌else◌, Option, Some, None, option_map}
 use Rattle.serde_json.specs.Data as json
 use Rattle.serde_json.specs.Find.{as_str, get}
 use Rattle.serde_json.specs.View.{items_view, view}
-use Rattle.uuid.specs.Text.{parsed}
 use Rattle.wm_conditions.specs.declared.conditions.Constraints.{Constraints}
 use Rattle.wm_conditions.specs.declared.conditions.Network.{Network}
 use Rattle.wm_conditions.specs.declared.conditions.Network.TheVariants as network
@@ -19,18 +18,17 @@ use Rattle.wm_schedule.specs.declared.schedule.BackoffPolicy.{BackoffPolicy}
 use Rattle.wm_schedule.specs.declared.schedule.BackoffPolicy.TheVariants.{Linear, Exponential}
 use Rattle.wm_schedule.specs.declared.schedule.TheConstants.Backoff.{DEFAULT}
 use Rattle.wm_script.specs.Objects.{has_only}
-use Rattle.wm_script.specs.Values.{◌>>=◌, flag_at, named_at, texts_at, texts_of, whole_at, whole_in}
+use Rattle.wm_script.specs.Values.{◌>>=◌, flag_at, id_in, ids_at, ids_of, named_at, texts_at, texts_of, whole_at, whole_in}
 use Rattle.wm_script.specs.declared.works.PeriodForm.{PeriodForm as ReadPeriod}
 use Rattle.wm_script.specs.declared.works.WorkForm.{WorkForm as ReadWork}
 
 -- ---- the keys of a work: the reader of each, with what an absent one stands for
 
--- an id, in any of `uuid`'s forms; there has to be one
+-- an id; there has to be one
 unfoldable pub id_at : Option json.Data → Option (List ℕ)
 id_at value = do
   d ← value
-  text ← as_str d
-  parsed text
+  id_in d
 
 -- a class: a text; an empty one, which is no class, where there is none
 unfoldable pub class_at : Option json.Data → Option (List ℕ)
@@ -116,10 +114,10 @@ period_at (Some d) flex = do
 
 abbrev pub work_keys : List (List ℕ)
 work_keys =
-    codes "backoff" ∷ codes "class" ∷ codes "constraints" ∷ codes "delay" ∷ codes "flex" ∷ codes "id" ∷ codes "input" ∷ codes "merger"
-    ∷ codes "period" ∷ codes "tags" ∷ []
+    codes "after" ∷ codes "backoff" ∷ codes "class" ∷ codes "constraints" ∷ codes "delay" ∷ codes "flex" ∷ codes "id" ∷ codes "input"
+    ∷ codes "merger" ∷ codes "period" ∷ codes "tags" ∷ []
 
--- a work as it stands in a line, where its input may be anything
+-- a work as it stands in a line, where its input may be anything, with the ids of the works that it is after, where it names any
 pub record WorkForm : Type 0 where
   pub id : List ℕ
   pub class : List ℕ
@@ -130,6 +128,7 @@ pub record WorkForm : Type 0 where
   pub backoff : Backoff
   pub delay : ℕ
   pub period : Option PeriodForm
+  pub after : Option (List (List ℕ))
 
 abbrev pub period_of : Option ReadPeriod → Option PeriodForm
 period_of period = option_map (λ p. record { period = p.period; flex = p.flex }) period
@@ -146,6 +145,7 @@ form_of work = record {
   backoff = work.backoff;
   delay = work.delay;
   period = period_of work.period;
+  after = option_map (λ after. ids_of (items_view after.now)) work.after;
 }
 
 -- the work that an object is, which has no other key than these
@@ -159,6 +159,7 @@ work_of d = if has_only work_keys d then (do
   backoff ← backoff_at (get (codes "backoff") d)
   delay ← whole_at 0 (get (codes "delay") d)
   period ← period_at (get (codes "period") d) (get (codes "flex") d)
+  after ← ids_at (get (codes "after") d)
   Some (record {
     id = id;
     class = class;
@@ -169,6 +170,7 @@ work_of d = if has_only work_keys d then (do
     backoff = backoff;
     delay = delay;
     period = period;
+    after = after;
   })) else None
 
 -- ---- its request

@@ -1,30 +1,26 @@
 //! The lines of a script as commands.
-ghost use Rattle.std.specs.Prelude.{◌≡◌, ◌==◌, position, ◌∷◌, ◌<◌, ◌≤◌, length, option_map, option_and_then, Err, IfOk, IfErr, IfSome, None, Ok, OnOk, Some};
+ghost use Rattle.std.specs.Prelude.{◌≡◌, ◌==◌, position, ◌∷◌, ◌<◌, ◌≤◌, length, option_map, option_and_then, Err, IfOk, IfErr, None, OnOk, Some};
 ghost use Rattle.std.specs.List.{AllByRecursion};
 ghost use Rattle.std.specs.Map.{lookup};
 ghost use Rattle.std.specs.Str.{bytes_eq};
-ghost use Rattle.serde_json.specs.View.{view, items_view};
-ghost use Rattle.wm_data.specs.Entries.{IsFaultOf as IsDataFaultOf};
-ghost use Rattle.wm_data.specs.Size.{IsData};
+ghost use Rattle.serde_json.specs.View.{view};
 ghost use Rattle.wm_machine.specs.Outcome.{IsBuilt};
-ghost use Rattle.wm_request.specs.Building.{built_of};
-ghost use Rattle.wm_request.specs.Requests.{IsShortText};
+ghost use Rattle.wm_script.specs.Batches.{batch_in};
+ghost use Rattle.wm_script.specs.Enqueues.{enqueue_form, HasWorks};
 ghost use Rattle.wm_script.specs.Limits.{first_limit, IsFaultOf};
-ghost use Rattle.wm_script.specs.Works.{asked_for, form_of};
-ghost use Rattle.wm_script.specs.Lines.{asked_by, command_of, command_with, commands_in, conditions_of, cut, enqueue_command, enqueue_of, enqueue_with, enqueued_work, input_in, moment_of, query_of, query_of_all, readers, single, value_of};
+ghost use Rattle.wm_script.specs.Lines.{asked_by, cancel_of, command_of, command_with, commands_in, conditions_of, cut, enqueue_of, moment_of, query_of, query_of_all, readers, value_of};
 
+use crate::batches::{BatchFault, batch_in};
+use crate::enqueues::{EnqueueForm, enqueued_form};
 use crate::limits::{Limit, ScriptFault, first_limit};
 use crate::objects::has_only;
-use crate::requests::request_of;
 use crate::values::{flag_at, whole_in};
-use crate::works::{WorkForm, work_of};
+use crate::works::id_at;
 use serde_json::Value;
 use std::alloc::{AllocError, Global};
 use wm_collections::Items;
 use wm_conditions::Conditions;
-use wm_data::{Data, DataFault};
-use wm_machine::{Command, LineFault, WorkQuery};
-use wm_request::{Batch, Node, Request, RequestFault};
+use wm_machine::{Command, LineFault, Target, WorkQuery};
 
 /// The byte that ends a line.
 const LF: u8 = b'\n';
@@ -127,6 +123,7 @@ fn command_named(alloc: Global, name: &str, value: &Value) -> Result<Option<Comm
 {
     match name {
         "enqueue" => enqueue_of(alloc, value),
+        "cancel" => Ok(cancel_of(value)),
         "moment" => Ok(moment_of(value)),
         "conditions" => Ok(conditions_of(value)),
         "query" => Ok(query_of(alloc, value)),
@@ -134,94 +131,38 @@ fn command_named(alloc: Global, name: &str, value: &Value) -> Result<Option<Comm
     }
 }
 
-/// The command that enqueues one work. Its Data is read once the whole line is in the form.
+/// The command that enqueues works. Their Data is read once the whole line is in the form.
 #[tactic(auto, unfolding(crate::specs::Lines::enqueue_of))]
 fn enqueue_of(alloc: Global, value: &Value) -> Result<Option<Command>, AllocError>
     ensures { IfOk result (λ command. command ≡ enqueue_of (view value.now)) }
 {
-    match enqueued_work(value) {
-        Some(work) => Ok(Some(enqueue_with(alloc, &work)?)),
+    match enqueued_form(value) {
+        Some(form) => Ok(Some(enqueue_with(alloc, &form)?)),
         None => Ok(None),
     }
 }
 
-/// The work of an enqueue of one work.
-#[tactic(auto, unfolding(crate::specs::Lines::enqueued_work))]
-fn enqueued_work(value: &Value) -> Option<WorkForm<'_>>
-    ensures work { option_map form_of result ≡ enqueued_work (view value.now) }
-    ensures short { IfSome result (λ work. AllByRecursion IsShortText (form_of work).tags) }
+/// The command of an enqueue's batch, or of its fault.
+fn enqueue_with(alloc: Global, form: &EnqueueForm<'_>) -> Result<Command, AllocError>
+    requires { HasWorks (enqueue_form form.now) }
+    ensures { IfOk result (λ command. command ≡ command_with (batch_in (enqueue_form form.entry.now))) }
 {
-    if !has_only(value, &["cmd", "works"]) {
+    match batch_in(alloc, form) {
+        Ok(batch) => Ok(Command::Enqueue { named: None, batch }),
+        Err(BatchFault::Line(fault)) => Ok(Command::Faulty(fault)),
+        Err(BatchFault::Memory) => Err(AllocError),
+    }
+}
+
+/// The command that cancels a work by its id.
+#[tactic(auto, unfolding(crate::specs::Lines::cancel_of))]
+fn cancel_of(value: &Value) -> Option<Command>
+    ensures { result ≡ cancel_of (view value.now) }
+{
+    if !has_only(value, &["cmd", "id"]) {
         return None;
     }
-    work_of(single(value.get("works")?.as_array()?)?)
-}
-
-/// The one item of a list.
-#[tactic(auto, using(crate::proofs::LinesLemmas::single_none))]
-fn single(items: &[Value]) -> Option<&Value>
-    ensures { option_map (λ item. view item.now) result ≡ single (items_view items.now) }
-{
-    let [item] = items else {
-        return None;
-    };
-    Some(item)
-}
-
-/// The command of a work, or its fault: that of its input, and then that of its request.
-fn enqueue_with(alloc: Global, work: &WorkForm<'_>) -> Result<Command, AllocError>
-    requires { AllByRecursion IsShortText (form_of work.now).tags }
-    ensures { IfOk result (λ command. command
-        ≡ enqueue_with (form_of work.entry.now) (input_in (form_of work.entry.now).input)) }
-{
-    match input_in(alloc, work.input) {
-        Ok(input) => requested(alloc, work, input),
-        Err(DataFault::EmptyKey) => Ok(Command::Faulty(LineFault::EmptyKey)),
-        Err(DataFault::BadData { key }) => Ok(Command::Faulty(LineFault::BadData { key })),
-        Err(DataFault::TooLarge { size }) => Ok(Command::Faulty(LineFault::TooLarge { size })),
-        Err(DataFault::Memory) => Err(AllocError),
-    }
-}
-
-/// The command of a work with this input, or the fault of its request.
-fn requested(alloc: Global, work: &WorkForm<'_>, input: Data) -> Result<Command, AllocError>
-    requires { AllByRecursion IsShortText (form_of work.now).tags }
-    ensures { IfOk result (λ command. command
-        ≡ command_with (built_of (asked_for (form_of work.entry.now) input))) }
-{
-    match request_of(alloc, work, input) {
-        Ok(request) => enqueue_command(alloc, request),
-        Err(RequestFault::NoClass) => Ok(Command::Faulty(LineFault::NoClass)),
-        Err(RequestFault::TooManyTags) => Ok(Command::Faulty(LineFault::TooManyTags)),
-        Err(RequestFault::DelayTooLong) => Ok(Command::Faulty(LineFault::DelayTooLong)),
-        Err(RequestFault::Memory) => Err(AllocError),
-    }
-}
-
-/// The Data of an input, which is empty where there is none.
-fn input_in(alloc: Global, input: Option<&Value>) -> Result<Data, DataFault>
-    ensures ok { IfOk result (λ read. input_in (option_map (λ found. view found.now) input.entry) ≡ Ok read) }
-    ensures err { IfErr result (IsDataFaultOf (input_in (option_map (λ found. view found.now) input.entry))) }
-{
-    match input {
-        Some(json) => Data::from_json(alloc, json),
-        None => Ok(Data::empty(alloc)),
-    }
-}
-
-/// The command that enqueues one work.
-fn enqueue_command(alloc: Global, request: Request) -> Result<Command, AllocError>
-    ensures { IfOk result (λ command. command ≡ enqueue_command request) }
-{
-    let mut works = Items::new(alloc);
-    works.push(Node {
-        request,
-        after: Items::new(alloc),
-    })?;
-    Ok(Command::Enqueue {
-        named: None,
-        batch: Batch { works },
-    })
+    Some(Command::Cancel(Target::Id(id_at(value.get("id"))?)))
 }
 
 /// The command that sets the moment.

@@ -1,12 +1,11 @@
 //! The request that a work of a line asks for.
 ghost use Rattle.std.specs.Prelude.{◌≡◌, Ok, IfErr, IfOk, OnOk};
-ghost use Rattle.std.specs.List.{AllByRecursion};
 ghost use Rattle.serde_json.specs.View.{items_view};
 ghost use Rattle.wm_request.specs.Building.{built_of, IsFaultOf};
-ghost use Rattle.wm_request.specs.Requests.{IsShortText};
 ghost use Rattle.wm_script.specs.Values.{texts_of};
 ghost use Rattle.wm_script.specs.Works.{asked_for, form_of, with_tags};
 
+use crate::values::short_in;
 use crate::works::WorkForm;
 use serde_json::Value;
 use std::alloc::{AllocError, Global};
@@ -15,7 +14,6 @@ use wm_request::{Builder, Request, RequestFault};
 
 /// The request of a work with this input, or why there is none.
 pub fn request_of(alloc: Global, work: &WorkForm<'_>, input: Data) -> Result<Request, RequestFault>
-    requires short { AllByRecursion IsShortText (form_of work.now).tags }
     ensures ok { IfOk result (λ request. built_of (asked_for (form_of work.entry.now) input) ≡ Ok request) }
     ensures err { IfErr result (IsFaultOf (built_of (asked_for (form_of work.entry.now) input))) }
 {
@@ -35,12 +33,11 @@ pub fn request_of(alloc: Global, work: &WorkForm<'_>, input: Data) -> Result<Req
 
 /// Adds the tags of a list, one after another.
 fn add_tags(alloc: Global, builder: &mut Builder, tags: &[Value]) -> Result<(), AllocError>
-    requires { AllByRecursion IsShortText (texts_of (items_view tags.now)) }
     ensures { OnOk result (builder.new
         ≡ record builder.old { tags = with_tags (texts_of (items_view tags.now)) builder.old.tags }) }
 {
     for tag in tags {
-        if let Some(text) = tag.as_str() {
+        if let Some(text) = short_in(tag) {
             builder.tag(String::from_str(alloc, text)?)?;
         }
     }

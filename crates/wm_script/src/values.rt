@@ -1,9 +1,11 @@
 //! How single values are read, and what an absent one stands for.
 ghost use Rattle.std.specs.Prelude.{◌≡◌, ◌^◌, ◌<◌, is_some, option_map, IfSome};
 ghost use Rattle.serde_json.specs.View.{view, items_view};
-ghost use Rattle.wm_script.specs.Values.{are_short, flag_at, short_in, texts_at, texts_of, whole_at, whole_in};
+ghost use Rattle.wm_request.specs.Requests.{IsShortText};
+ghost use Rattle.wm_script.specs.Values.{are_ids, are_short, flag_at, id_in, ids_at, ids_of, short_in, texts_at, texts_of, whole_at, whole_in};
 
 use serde_json::Value;
+use uuid::Uuid;
 use wm_request::MAX_TEXT_BYTES;
 
 /// The number after the greatest that a line may hold.
@@ -45,14 +47,25 @@ pub fn whole_at(default: u64, value: Option<&Value>) -> Option<u64>
     }
 }
 
-/// Whether it is a text of 1 to 200 bytes.
-#[tactic(auto, unfolding(crate::specs::Values::short_in))]
-fn is_short(value: &Value) -> bool
-    ensures { result ≡ is_some (short_in (view value.now)) }
+/// An id, in any of `uuid`'s forms.
+#[tactic(auto, unfolding(crate::specs::Values::id_in))]
+pub fn id_in(value: &Value) -> Option<Uuid>
+    ensures { result ≡ id_in (view value.now) }
 {
-    match value.as_str() {
-        Some(text) => !text.is_empty() && text.len() <= MAX_TEXT_BYTES,
-        None => false,
+    Uuid::try_parse(value.as_str()?).ok()
+}
+
+/// A text of 1 to 200 bytes.
+#[tactic(auto, unfolding(crate::specs::Values::short_in))]
+pub fn short_in(value: &Value) -> Option<&str>
+    ensures text { option_map (λ text. text.now) result ≡ short_in (view value.now) }
+    ensures short { IfSome result (λ text. IsShortText text.now) }
+{
+    let text = value.as_str()?;
+    if !text.is_empty() && text.len() <= MAX_TEXT_BYTES {
+        Some(text)
+    } else {
+        None
     }
 }
 
@@ -61,6 +74,25 @@ fn are_short(items: &[Value]) -> bool
     ensures { result ≡ are_short (items_view items.now) }
 {
     items.iter().all(is_short)
+}
+
+fn is_short(value: &Value) -> bool
+    ensures { result ≡ is_some (short_in (view value.now)) }
+{
+    short_in(value).is_some()
+}
+
+/// Whether each of a list's items is an id.
+fn are_ids(items: &[Value]) -> bool
+    ensures { result ≡ are_ids (items_view items.now) }
+{
+    items.iter().all(is_id)
+}
+
+fn is_id(value: &Value) -> bool
+    ensures { result ≡ is_some (id_in (view value.now)) }
+{
+    id_in(value).is_some()
 }
 
 /// The items of a list of texts of 1 to 200 bytes; no item where there is no list.
@@ -74,4 +106,21 @@ pub fn texts_at(value: Option<&Value>) -> Option<&[Value]>
     };
     let items = value.as_array()?.as_slice();
     if are_short(items) { Some(items) } else { None }
+}
+
+/// The items of a list of ids, where there is a list.
+#[tactic(auto, unfolding(crate::specs::Values::ids_at))]
+pub fn ids_at(value: Option<&Value>) -> Option<Option<&[Value]>>
+    ensures { option_map (λ found. option_map (λ items. ids_of (items_view items.now)) found) result
+        ≡ ids_at (option_map (λ found. view found.now) value.entry) }
+{
+    let Some(value) = value else {
+        return Some(None);
+    };
+    let items = value.as_array()?.as_slice();
+    if are_ids(items) {
+        Some(Some(items))
+    } else {
+        None
+    }
 }

@@ -1,12 +1,10 @@
 //! A work as it stands in a line.
-ghost use Rattle.std.specs.Prelude.{◌≡◌, option_map, IfSome};
-ghost use Rattle.std.specs.List.{AllByRecursion};
+ghost use Rattle.std.specs.Prelude.{◌≡◌, option_map};
 ghost use Rattle.serde_json.specs.View.{view};
-ghost use Rattle.wm_request.specs.Requests.{IsShortText};
 ghost use Rattle.wm_script.specs.Works.{backoff_at, backoff_policy_at, class_at, constraints_at, form_of, id_at, merger_at, network_at, period_at, period_of, work_of};
 
 use crate::objects::has_only;
-use crate::values::{flag_at, texts_at, whole_at, whole_in};
+use crate::values::{flag_at, id_in, ids_at, texts_at, whole_at, whole_in};
 use serde_json::Value;
 use uuid::Uuid;
 use wm_conditions::{Constraints, Network};
@@ -30,6 +28,8 @@ pub struct WorkForm<'v> {
     pub delay: u64,
     /// How often it repeats, and its flex interval, as they are asked for, in milliseconds.
     pub period: Option<PeriodForm>,
+    /// The ids of the works that it is after, where it names any.
+    pub after: Option<&'v [Value]>,
 }
 
 /// A period, in milliseconds, and a flex interval where there is one.
@@ -43,12 +43,12 @@ pub struct PeriodForm {
 /// default.
 #[tactic(auto, unfolding(crate::specs::Works::work_of))]
 pub fn work_of(value: &Value) -> Option<WorkForm<'_>>
-    ensures work { option_map form_of result ≡ work_of (view value.now) }
-    ensures short { IfSome result (λ work. AllByRecursion IsShortText (form_of work).tags) }
+    ensures { option_map form_of result ≡ work_of (view value.now) }
 {
     if !has_only(
         value,
         &[
+            "after",
             "backoff",
             "class",
             "constraints",
@@ -73,6 +73,7 @@ pub fn work_of(value: &Value) -> Option<WorkForm<'_>>
         backoff: backoff_at(value.get("backoff"))?,
         delay: whole_at(0, value.get("delay"))?,
         period: period_at(value.get("period"), value.get("flex"))?,
+        after: ids_at(value.get("after"))?,
     })
 }
 
@@ -93,12 +94,12 @@ fn period_at(period: Option<&Value>, flex: Option<&Value>) -> Option<Option<Peri
     Some(Some(PeriodForm { period, flex }))
 }
 
-/// An id, in any of `uuid`'s forms. There has to be one.
+/// An id. There has to be one.
 #[tactic(auto, unfolding(crate::specs::Works::id_at))]
-fn id_at(value: Option<&Value>) -> Option<Uuid>
+pub fn id_at(value: Option<&Value>) -> Option<Uuid>
     ensures { result ≡ id_at (option_map (λ found. view found.now) value.entry) }
 {
-    Uuid::try_parse(value?.as_str()?).ok()
+    id_in(value?)
 }
 
 /// A class: a text, and an empty one where there is none.

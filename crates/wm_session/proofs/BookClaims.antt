@@ -5,7 +5,7 @@ use Rattle.wm_bench.specs.Seat.{Seat}
 use Rattle.wm_bench.specs.declared.place.Place.{Place}
 use Rattle.wm_data.specs.declared.data.DataEntry.{DataEntry}
 use Rattle.wm_machine.proofs.Firsts.{idle_instance-idle, idle_instance-stored}
-use Rattle.wm_machine.proofs.Narrows.{found_valid}
+use Rattle.wm_machine.proofs.Runnings.{found_valid}
 use Rattle.wm_machine.proofs.Steps.{framed, kept as kept_by}
 use Rattle.wm_machine.specs.Frame.{Frame}
 use Rattle.wm_machine.specs.Runs.{run_numbered, with_out}

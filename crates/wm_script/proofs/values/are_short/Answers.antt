@@ -4,7 +4,7 @@ use Rattle.std.proofs.lemmas.Iterator.{YieldsList-from_slice}
 use Rattle.std.proofs.lemmas.Iterator.Search.{all_from_yields_List}
 use Rattle.serde_json.specs.View.{view}
 use Rattle.serde_json.specs.declared.value.Value.{Value}
-use Rattle.wm_script.proofs.ValuesLemmas.{short_items}
+use Rattle.wm_script.proofs.ValuesLemmas.{tested_items}
 use Rattle.wm_script.specs.Values.{short_in}
 use Rattle.wm_script.proofs.values.are_short.Goals as goal
 
@@ -12,4 +12,4 @@ pub returns : goal.returns
 returns c =
     let test : Value → Bool = λ item. is_some (short_in (view item)) in
     all_from_yields_List test _ _ c.all.result c.all.ensures.ran (YieldsList-from_slice c.args.items.now cc) (λ x b q k. search (rules, tests))
-    ∙ sym (short_items c.args.items.now)
+    ∙ sym (tested_items (λ item. is_some (short_in item)) c.args.items.now)

@@ -1,26 +1,23 @@
 -- The keys are read one after another.
-use Rattle.std.proofs.Common.{◌≡◌, Some, IfSome, true, false, option_map, refl, rules}
+use Rattle.std.proofs.Common.{◌≡◌, Some, true, false, option_map, refl, rules}
 use Rattle.std.specs.Prelude.{codes}
-use Rattle.std.specs.List.{AllByRecursion}
 use Rattle.serde_json.specs.Find.{get}
 use Rattle.serde_json.specs.View.{items_view, view}
-use Rattle.wm_request.specs.Requests.{IsShortText}
-use Rattle.wm_script.proofs.BuiltCommands.{short_tags}
 use Rattle.wm_script.specs.Objects.{has_only}
-use Rattle.wm_script.specs.Values.{texts_at, texts_of, whole_at}
+use Rattle.wm_script.specs.Values.{ids_at, ids_of, texts_at, texts_of, whole_at}
 use Rattle.wm_script.specs.Works.{backoff_at, class_at, constraints_at, id_at, merger_at, period_at, period_of, work_keys, work_of}
 use Rattle.wm_script.proofs.works.work_of.Goals as goal
 
-pub returns-then-not-has_only-clause-work : goal.returns-then-not-has_only-clause-work
+pub returns-then-not-has_only : goal.returns-then-not-has_only
 unfolding work_of
-returns-then-not-has_only-clause-work c =
+returns-then-not-has_only c =
     let tested : c.has_only.result ≡ has_only work_keys (view c.args.value.now) = c.has_only.ensures in
     let refused : c.has_only.result ≡ false = search rules in
     rw (← tested, refused) refl
 
-pub returns-clause-work : goal.returns-clause-work
+pub returns : goal.returns
 unfolding work_of
-returns-clause-work c =
+returns c =
     let d = view c.args.value.now in
     let tested : c.has_only.result ≡ has_only work_keys d = c.has_only.ensures in
     let admitted : c.has_only.result ≡ true = search rules in
@@ -33,9 +30,5 @@ returns-clause-work c =
     let backoff : backoff_at (get (codes "backoff") d) ≡ Some c.in_ok-backoff_at.field-0 = search rules in
     let delay : whole_at 0 (get (codes "delay") d) ≡ Some c.in_ok-whole_at.field-0 = search rules in
     let period : period_at (get (codes "period") d) (get (codes "flex") d) ≡ Some (period_of c.in_ok-period_at.field-0) = search rules in
-    rw (← tested, admitted, id, class, merger, tags, constraints, backoff, delay, period, input) refl
-
-pub returns-clause-short : goal.returns-clause-short
-returns-clause-short c =
-    let short : IfSome (work_of (view c.args.value.now)) (λ work. AllByRecursion IsShortText work.tags) = short_tags (view c.args.value.now) in
-    rw (← returns-clause-work c) at short
+    let after : ids_at (get (codes "after") d) ≡ Some (option_map (λ items. ids_of (items_view items.now)) c.in_ok-ids_at.field-0) = search rules in
+    rw (← tested, admitted, id, class, merger, tags, constraints, backoff, delay, period, after, input) refl
