@@ -1,9 +1,10 @@
 //! The events of a log in words.
 
 use std::alloc::{AllocError, Global};
+use uuid::Uuid;
 use wm_conditions::{Conditions, Constraints, Network};
 use wm_data::{Data, Merger};
-use wm_machine::{Cause, Command, End, Event, LineFault, Refusal, Reply};
+use wm_machine::{Cause, Command, End, Event, LineFault, Refusal, Reply, Target};
 use wm_request::{Batch, Request};
 use wm_schedule::{Backoff, BackoffPolicy, Period};
 
@@ -48,6 +49,7 @@ pub fn event_words(alloc: Global, event: &Event) -> Result<String, AllocError> {
 fn command_words(alloc: Global, command: &Command) -> Result<String, AllocError> {
     match command {
         Command::Enqueue { named: None, batch } => enqueue_words(alloc, batch),
+        Command::Cancel(Target::Id(id)) => format!(in alloc; "cancel {id}"),
         Command::Moment(at) => format!(in alloc; "moment {at}"),
         Command::Conditions(conditions) => conditions_words(alloc, conditions),
         Command::Query(_) => String::from_str(alloc, "query"),
@@ -59,15 +61,27 @@ fn command_words(alloc: Global, command: &Command) -> Result<String, AllocError>
     }
 }
 
-/// An enqueue with its works.
+/// An enqueue with its works, each with the ids of those that it is after.
 fn enqueue_words(alloc: Global, batch: &Batch) -> Result<String, AllocError> {
     let mut words = String::from_str(alloc, "enqueue")?;
-    for node in batch.works.as_slice() {
+    for (index, node) in batch.works().as_slice().iter().enumerate() {
         let work = work_words(alloc, &node.request)?;
-        words.push(' ')?;
+        words.push_str(if index == 0 { " " } else { ", " })?;
         words.push_str(work.as_str())?;
+        add_after(alloc, &mut words, node.after.as_slice())?;
     }
     Ok(words)
+}
+
+/// Adds the ids of the works that a work is after where there are any.
+fn add_after(alloc: Global, words: &mut String, after: &[Uuid]) -> Result<(), AllocError> {
+    if !after.is_empty() {
+        words.push_str(" after")?;
+    }
+    for id in after {
+        words.push_str(format!(in alloc; " {id}")?.as_str())?;
+    }
+    Ok(())
 }
 
 /// The id and the class of a work, and each of its other fields that isn't the default.
@@ -188,6 +202,8 @@ fn fault_words(alloc: Global, fault: &LineFault) -> Result<String, AllocError> {
             format!(in alloc; "BadData {key:?}")
         }
         LineFault::TooLarge { size } => format!(in alloc; "TooLarge {size}"),
+        LineFault::IdTwice { id } => format!(in alloc; "IdTwice {id}"),
+        LineFault::PeriodicInChain { id } => format!(in alloc; "PeriodicInChain {id}"),
         _ => format!(in alloc; "{fault:?}"),
     }
 }
@@ -218,16 +234,25 @@ fn reply_words(alloc: Global, reply: &Reply) -> Result<String, AllocError> {
         }
         Reply::Moment => String::from_str(alloc, "moment"),
         Reply::Conditions { stopped } => format!(in alloc; "conditions stopped {stopped}"),
-        Reply::Refused(Refusal::Line(fault)) => {
-            let fault = fault_words(alloc, fault)?;
-            format!(in alloc; "refused {fault}")
+        Reply::Cancelled(count) => format!(in alloc; "cancelled {count}"),
+        Reply::Refused(refusal) => {
+            let refusal = refusal_words(alloc, refusal)?;
+            format!(in alloc; "refused {refusal}")
         }
-        Reply::Refused(Refusal::MomentBack { now }) => {
-            format!(in alloc; "refused MomentBack now {now}")
-        }
-        Reply::Refused(Refusal::IdInUse { id }) => format!(in alloc; "refused IdInUse {id}"),
-        Reply::Refused(refusal) => format!(in alloc; "refused {refusal:?}"),
         _ => String::from_str(alloc, "a reply that isn't built"),
+    }
+}
+
+fn refusal_words(alloc: Global, refusal: &Refusal) -> Result<String, AllocError> {
+    match refusal {
+        Refusal::Line(fault) => fault_words(alloc, fault),
+        Refusal::MomentBack { now } => format!(in alloc; "MomentBack now {now}"),
+        Refusal::NoSuchWork { id } => format!(in alloc; "NoSuchWork {id}"),
+        Refusal::IdInUse { id } => format!(in alloc; "IdInUse {id}"),
+        Refusal::NoSuchPrerequisite { id } => format!(in alloc; "NoSuchPrerequisite {id}"),
+        Refusal::PeriodicInChain { id } => format!(in alloc; "PeriodicInChain {id}"),
+        Refusal::TooManyPrerequisites { id } => format!(in alloc; "TooManyPrerequisites {id}"),
+        _ => format!(in alloc; "{refusal:?}"),
     }
 }
 
