@@ -1,11 +1,12 @@
-//! How one record changes where a run of its work begins, ends, or can't begin, of `wm_lifecycle`.
+//! How one record changes where a run of its work begins, ends, or can't begin, where it is closed
+//! and where it becomes free, of `wm_lifecycle`.
 use std::alloc::Global;
 use std::process::Abort;
 use std::test::Fail;
 use uuid::Uuid;
 use wm_collections::Items;
 use wm_data::{Data, DataBuilder, Value};
-use wm_lifecycle::{ended, not_started, started, timed_out};
+use wm_lifecycle::{closed, ended, freed, not_started, started, timed_out};
 use wm_machine::{End, How, Phase, Record};
 use wm_request::{Builder, Request};
 
@@ -111,5 +112,19 @@ fn a_work_starts_or_cannot(rt: HostRuntime) -> Result<(), Fail> {
     expect(&rt, &not_started(alloc, &one_time, 7)?, failed);
     let again = (Phase::Waiting, 0, 0, 1, 7, false);
     expect(&rt, &not_started(alloc, &periodic, 7)?, again);
+    Ok(())
+}
+
+#[test]
+fn a_work_is_closed_or_becomes_free(rt: HostRuntime) -> Result<(), Fail> {
+    let alloc = rt.alloc();
+    let work = record(alloc, false, Phase::Waiting)?;
+    let failed = (Phase::Done(How::Failed), 1, 0, 0, 5, false);
+    expect(&rt, &closed(alloc, &work, How::Failed)?, failed);
+    let cancelled = (Phase::Done(How::Cancelled), 1, 0, 0, 5, false);
+    expect(&rt, &closed(alloc, &work, How::Cancelled)?, cancelled);
+    let free = freed(alloc, &work, 7)?;
+    assert_eq!(rt; free.phase, Phase::Waiting);
+    assert_eq!(rt; free.enqueued_at, 7);
     Ok(())
 }

@@ -46,7 +46,8 @@ impl Replica for WorkInfo {
     }
 }
 
-/// How many works are in each shown state, and how often they were started in all.
+/// How many works are in each shown state, and the sum of their attempts. Periodic work counts its
+/// attempts anew for each period.
 #[derive(Clone, Copy, Debug, PartialEq, Eq)]
 pub struct Counts {
     pub enqueued: u64,

@@ -1,12 +1,2 @@
-pub mod Cancelling
-pub mod DescendantScans
-pub mod Executions
-pub mod Lookups
-pub mod ManyRows
-pub mod NumberPlaces
-pub mod Placings
-pub mod Reaching
-pub mod Reporting
-pub mod ScanLemmas
 pub mod StepRows
 pub mod TableSteps

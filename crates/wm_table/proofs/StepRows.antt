@@ -4,7 +4,7 @@ use Rattle.std.specs.List.{AllByRecursion}
 use Rattle.std.proofs.lemmas.Bool.{cases_order, eq-eqb, ne_eqb}
 use Rattle.std.proofs.lemmas.Int.{ints}
 use Rattle.std.proofs.lemmas.List.{append-nil, length-map}
-use Rattle.std.proofs.lemmas.Option.{none-some, same_Some, slice_get-map, slice_get_within}
+use Rattle.std.proofs.lemmas.Option.{none-some, same_Some, slice_get_within}
 use Rattle.wm_keeper.proofs.Ascending.{int_lt-true, int_lt-false, put_row-above}
 use Rattle.wm_keeper.specs.Keeper.{changed, changed_by, put_row, remove_row}
 use Rattle.wm_keeper.specs.declared.row.Change.{Change}
@@ -13,20 +13,15 @@ use Rattle.wm_machine.proofs.Lists.{All-filter, All-push, All-weaker, AllLater-f
 use Rattle.wm_machine.proofs.Runnings.{WorksAscend, WorksAscend-in_order}
 use Rattle.wm_machine.proofs.Rows.{rows_below}
 use Rattle.wm_machine.specs.Rows.{row_of, rows_of}
-use Rattle.wm_machine.specs.Runs.{changed_work}
-use Rattle.wm_machine.specs.Step.{Legal, after}
-use Rattle.wm_machine.specs.Valid.{HasOne, IsRecord, IsValidRun, Valid}
-use Rattle.wm_machine.specs.declared.event.Event.{Event}
+use Rattle.wm_machine.specs.Valid.{HasOne, IsValidRun, Valid}
 use Rattle.wm_machine.specs.declared.record.Record.{Record}
 use Rattle.wm_machine.specs.declared.state.State.{State}
-use Rattle.wm_table.proofs.Lookups.{changed_work-at}
-use Rattle.wm_table.specs.StepChanges.{changed_state, next_run_by, other_works, put_replaced, put_work, remove_numbered, replacing, row_changes, seqs_of, turning, with_replaced, without, HaveNextNumbers, Fits, IsStepOf, KeepsNumber, KeepsRow}
+use Rattle.wm_steps.specs.StepChanges.{changed_state, next_run_by, other_works, put_replaced, put_work, remove_numbered, row_changes, seqs_of, with_replaced, without, HaveNextNumbers, Fits, IsStepOf, KeepsNumber, KeepsRow}
 use Rattle.wm_table.specs.Table.{HoldsRowsOf, IsOneStep}
 use Rattle.wm_table.specs.TableState.{TableState}
-use Rattle.wm_table.specs.declared.table.change.Replacement.{Replacement}
-use Rattle.wm_table.specs.declared.table.change.RunChange.{RunChange}
-use Rattle.wm_table.specs.declared.table.change.RunChange.TheVariants.{Unchanged, Begin, Turn, End}
-use Rattle.wm_table.specs.declared.table.change.StepChange.{StepChange}
+use Rattle.wm_steps.specs.declared.change.Replacement.{Replacement}
+use Rattle.wm_steps.specs.declared.change.RunChange.TheVariants.{Unchanged, Begin, Turn, End}
+use Rattle.wm_steps.specs.declared.change.StepChange.{StepChange}
 
 -- ---- a record that takes the place of one of its number
 
@@ -240,7 +235,7 @@ next_run-changed s change = elim change.run as (λ run. next_run_by run s.next_r
   | End run instance ↦ omega arith
 ]
 
--- ---- what fits
+-- ---- what is within
 
 -- the numbers that are removed fit a row
 pub removed_fit : (s : State) (change : StepChange) → Valid s → Fits s change → AllByRecursion (λ number. number < 2 ^ 53) change.removed
@@ -266,68 +261,3 @@ told_within works told keep =
 -- each run is at one of its turns
 pub turns_left : (s : State) → Valid s → AllByRecursion (λ run. run.turn ≤ 999) s.runs
 turns_left s valid = All-weaker (IsValidRun s) (λ run. run.turn ≤ 999) s.runs (λ run is. is.turn) valid.runs
-
--- one record that is replaced by one of its number
-Fits-replacing : (s : State) (i : ℕ) (work new : Record) (run : RunChange) (e : Event) → Valid s → slice_get s.works i ≡ Some work → new.seq ≡ work.seq
-    → IsRecord new → Fits s (replacing i new run e)
-Fits-replacing s i work new run e valid at keeps is = record {
-  told = tt;
-  replaced =
-      (slice_get-map (λ (w : Record). w.seq) s.works i ∙ ap (option_map (λ (w : Record). w.seq)) at ∙ ap (λ number. Some number) (sym keeps), tt);
-  removed = tt;
-  placed = tt;
-  numbers = omega (arith, valid.next);
-  replaced_rows = (is.fits, tt);
-  placed_rows = tt;
-  apart = (tt, tt);
-}
-
--- one record that tells something, with the same row
-Fits-turning : (s : State) (i : ℕ) (work new : Record) (run : ℕ) (e : Event) → Valid s → slice_get s.works i ≡ Some work → row_of new ≡ row_of work
-    → Fits s (turning i new run e)
-Fits-turning s i work new run e valid at keeps = record {
-  told = (slice_get-map row_of s.works i ∙ ap (option_map row_of) at ∙ ap (λ (row : Row). Some row) (sym keeps), tt);
-  replaced = tt;
-  removed = tt;
-  placed = tt;
-  numbers = omega (arith, valid.next);
-  replaced_rows = tt;
-  placed_rows = tt;
-  apart = tt;
-}
-
--- where nothing is placed, the works have their end and the next number stays
-pub unplaced : (s : State) (works changed : List Record) → works ≡ changed → record s { works = works ++ []; next = s.next + 0 } ≡ record s { works = changed }
-unplaced s works changed same =
-    let next : s.next + 0 ≡ s.next = omega arith in
-    ap (λ number. record s { works = works ++ []; next = number }) next
-    ∙ ap (λ (all : List Record). record s { works = all }) (append-nil works ∙ same)
-
--- the record stands there as if it had been changed by its number
-state-replacing : (s t : State) (i : ℕ) (work : Record) (change : Record → Record) → Valid s → slice_get s.works i ≡ Some work
-    → record t { works = set s.works i (change work) ++ []; next = t.next + 0 } ≡ record t { works = changed_work change work.seq s.works }
-state-replacing s t i work change valid at =
-    let ascend = WorksAscend-in_order s.works valid.in_order in
-    unplaced t (set s.works i (change work)) (changed_work change work.seq s.works) (sym (changed_work-at change s.works i work ascend at))
-
--- a legal event that changes one record, and what its change says of the runs, is made by the change that replaces it
-pub replacing-step : (s t : State) (i : ℕ) (work : Record) (change : Record → Record) (run : RunChange) (e : Event) → Valid s
-    → slice_get s.works i ≡ Some work → (change work).seq ≡ work.seq → IsRecord (change work) → Legal s e
-    → changed_state (replacing i (change work) run e) s ≡ record t { works = set s.works i (change work) ++ []; next = t.next + 0 }
-    → after s e ≡ record t { works = changed_work change work.seq s.works } → IsStepOf s (replacing i (change work) run e)
-replacing-step s t i work change run e valid at keeps fine legal made then = record {
-  fits = Fits-replacing s i work (change work) run e valid at keeps fine;
-  legal = legal;
-  state = made ∙ state-replacing s t i work change valid at ∙ sym then;
-}
-
--- a legal event by which one record tells something and its run goes on is made by the change that says so
-pub turning-step : (s t : State) (i : ℕ) (work : Record) (change : Record → Record) (run : ℕ) (e : Event) → Valid s → slice_get s.works i ≡ Some work
-    → row_of (change work) ≡ row_of work → Legal s e
-    → changed_state (turning i (change work) run e) s ≡ record t { works = set s.works i (change work) ++ []; next = t.next + 0 }
-    → after s e ≡ record t { works = changed_work change work.seq s.works } → IsStepOf s (turning i (change work) run e)
-turning-step s t i work change run e valid at keeps legal made then = record {
-  fits = Fits-turning s i work (change work) run e valid at keeps;
-  legal = legal;
-  state = made ∙ state-replacing s t i work change valid at ∙ sym then;
-}

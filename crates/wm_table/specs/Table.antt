@@ -1,5 +1,5 @@
 -- What the calls of the table do to the state, its log and the rows held. This project's own choice.
-use Rattle.std.specs.Prelude.{◌≡◌, ℕ, ◌+◌, ◌≤◌, ◌&&◌, Bool, true, false, List, [], ◌∷◌, ◌++◌, length, Option, Some, None, IsSome, IsSomeAnd, nat_lt, option_map, Result, Err}
+use Rattle.std.specs.Prelude.{◌≡◌, ℕ, ◌+◌, ◌≤◌, Bool, true, false, List, [], ◌∷◌, ◌++◌, length, Option, Some, None, IsSomeAnd, option_map, Result, Err}
 use Rattle.std.specs.List.{AllByRecursion}
 use Rattle.wm_data.specs.declared.data.DataEntry.{DataEntry}
 use Rattle.wm_faults.specs.Faults as faults
@@ -11,15 +11,16 @@ use Rattle.wm_machine.specs.Role as role
 use Rattle.wm_machine.specs.Role.{HasGiven, Reported}
 use Rattle.wm_machine.specs.Rows.{rows_of}
 use Rattle.wm_machine.specs.Runs.{run_numbered}
-use Rattle.wm_machine.specs.Step.{Legal, after, after_command, role_of}
+use Rattle.wm_machine.specs.Step.{Legal, after, role_of}
 use Rattle.wm_machine.specs.Valid.{Valid, AreNumberedInOrder}
-use Rattle.wm_machine.specs.declared.command.Command.{Command}
 use Rattle.wm_machine.specs.declared.event.Event.{Event}
 use Rattle.wm_machine.specs.declared.event.Event.TheVariants as event
 use Rattle.wm_machine.specs.declared.state.Instance.{Instance}
-use Rattle.wm_machine.specs.declared.state.Run.{Run}
 use Rattle.wm_machine.specs.declared.state.State.{State}
-use Rattle.wm_table.specs.TableState.{TableState, TicketState, task_in, ticket_of}
+use Rattle.wm_steps.specs.Reports.{is_timeout, CountsIn}
+use Rattle.wm_steps.specs.declared.starting.Claimed.{Claimed}
+use Rattle.wm_steps.specs.declared.starting.Claimed.TheVariants as claimed
+use Rattle.wm_table.specs.TableState.{TableState, TicketState, ticket_of}
 use Rattle.wm_table.specs.declared.table.BeginFault.{BeginFault}
 use Rattle.wm_table.specs.declared.table.BeginFault.TheVariants as begin
 use Rattle.wm_table.specs.declared.table.Claim.{Claim}
@@ -29,7 +30,7 @@ use Rattle.wm_table.specs.declared.table.Trouble.TheVariants as trouble
 use Rattle.wm_table.specs.declared.table.TurnAnswer.{TurnAnswer}
 use Rattle.wm_table.specs.declared.table.TurnAnswer.TheVariants as turn
 use Rattle.wm_worker.specs.Answers.{given_of}
-use Rattle.wm_worker.specs.Told.{Report, IsReportOf}
+use Rattle.wm_worker.specs.Told.{Report}
 use Rattle.wm_worker.specs.declared.answer.Given.{Given}
 use Rattle.wm_worker.specs.declared.answer.Given.TheVariants.{More}
 
@@ -76,16 +77,6 @@ BeginCause [] (begin.Bad seq bad_row) = ⊥
 BeginCause (row ∷ rows) (begin.Bad seq bad_row) = (seq ≡ row.seq) × (bad_row ≡ true)
 BeginCause rows begin.Memory = Unit {0}
 
--- ---- command
-
--- the rows after the command are those before it, as with a query, a faulty line or an enqueue that is refused
-abbrev pub ChangesNoRow : State → Command → Type 0
-ChangesNoRow s asked = rows_of (after_command s asked) ≡ rows_of s
-
--- and where they are others, as with an enqueue that isn't
-abbrev pub ChangesRows : State → Command → Type 0
-ChangesRows s asked = ChangesNoRow s asked → ⊥
-
 -- ---- claim
 
 -- the run of this number stands in the state, and the ticket holds what it keeps
@@ -108,34 +99,22 @@ IsClaimAnswer held None old new = IsNothingClaimed old new
 IsClaimAnswer held (Some (claim.Run ticket)) old new = IsRunClaimed held ticket old new
 IsClaimAnswer held (Some (claim.Failed seq cause)) old new = IsOneStep held (event.StartFailed seq cause) old new
 
+-- a run that was claimed is in the state, and took this input
+abbrev pub HasClaimed : State → Claimed → Type 0
+HasClaimed s (claimed.Run number input) = IsSomeAnd (run_numbered number s.runs) (λ run. input ≡ run.input)
+HasClaimed s (claimed.Failed seq cause) = Unit {0}
+
+-- what is answered of what was claimed: the ticket of its run, or that the work couldn't start
+abbrev pub IsClaim : State → Claimed → Claim → Type 0
+IsClaim s (claimed.Run number input) (claim.Run ticket) = (ticket.task.run ≡ number) × (ticket.task.input ≡ input) × IsTicketIn s ticket
+IsClaim s (claimed.Failed seq cause) (claim.Failed failed why) = (failed ≡ seq) × (why ≡ cause)
+IsClaim s _ _ = ⊥
+
 -- ---- turn
 
 -- the ticket's run stands in the state, on the ticket's instance and of its kind
 abbrev pub Stands : State → TicketState → Type 0
 Stands s ticket = IsSomeAnd (run_numbered ticket.task.run s.runs) (λ run. (run.instance ≡ ticket.instance) × (run.kind ≡ ticket.kind))
-
--- a report counts for a run: it is of its kind, about its task and its turn, and wasn't cut
-pub record Counts (run : Run) (told : Report) : Type 0 where
-  pub about : IsReportOf run.kind (task_in run) run.turn told
-  pub given : IsSome (given_of told.answer)
-
--- a report counts for the run of this number
-abbrev pub CountsIn : State → ℕ → Report → Type 0
-CountsIn s number told = IsSomeAnd (run_numbered number s.runs) (λ run. Counts run told)
-
--- whether what was given is the wish for one more turn
-abbrev pub wants_more : Option Given → Bool
-wants_more (Some (More progress)) = true
-wants_more _ = false
-
--- whether a report is of the wish for one more turn, and the run has one: it has 1,000 turns
-abbrev pub goes_on : Report → Bool
-goes_on told = nat_lt told.k 999 && wants_more (given_of told.answer)
-
--- whether an event is that a run had no turn left
-abbrev pub is_timeout : Event → Bool
-is_timeout (event.TimedOut run) = true
-is_timeout _ = false
 
 -- the run of this number is over, by an event that ends it as was told; whether for want of a turn
 pub record IsFinished {K : Type 0} (held : K → Option (List Row)) (number : ℕ) (told : Report) (timed_out : Bool) (old new : TableState K) : Type 0 where

@@ -3,6 +3,7 @@ use Rattle.std.specs.Prelude.{ℕ, List}
 use Rattle.wm_machine.specs.declared.event.Event.{Event}
 use Rattle.wm_machine.specs.declared.state.Run.{Run}
 use Rattle.wm_machine.specs.declared.state.State.{State}
+use Rattle.wm_steps.specs.Reports.{task_in}
 use Rattle.wm_worker.specs.declared.kind.Kind.{Kind}
 use Rattle.wm_worker.specs.declared.task.Task.{Task}
 
@@ -20,10 +21,6 @@ pub record TicketState : Type 0 where
   pub kind : Kind
   pub instance : ℕ
   pub k : ℕ
-
--- what a worker is asked in a run
-abbrev pub task_in : Run → Task
-task_in run = record { run = run.run; attempt = run.attempt; input = run.input }
 
 -- the ticket of a run, which holds what the run keeps
 abbrev pub ticket_of : Run → TicketState

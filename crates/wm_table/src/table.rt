@@ -8,36 +8,28 @@ ghost use Rattle.wm_machine.specs.Quiet.{IsQuiet};
 ghost use Rattle.wm_machine.specs.Replay.{Replay};
 ghost use Rattle.wm_machine.specs.Valid.{Valid};
 ghost use Rattle.wm_machine.specs.declared.event.Event.TheVariants as event;
-ghost use Rattle.wm_table.specs.StepChanges.{row_changes, IsStepOf};
-ghost use Rattle.wm_table.specs.Table.{goes_on, last_of, AreFresh, BeginCause, ChangesNoRow, ChangesRows, CountsIn, HoldsRowsOf, IsClaimAnswer, IsFinished, IsOneStep, IsTurnAnswer, IsTurned, IsUntouched, Stands, TroubleCause, TurnCause};
+ghost use Rattle.wm_steps.specs.StepChanges.{row_changes, IsStepOf};
+ghost use Rattle.wm_steps.specs.Builds.{ChangesNoRow, ChangesRows};
+ghost use Rattle.wm_steps.specs.Reports.{goes_on, CountsIn};
+ghost use Rattle.wm_table.specs.Table.{last_of, AreFresh, BeginCause, HasClaimed, HoldsRowsOf, IsClaim, IsClaimAnswer, IsFinished, IsOneStep, IsTurnAnswer, IsTurned, IsUntouched, Stands, TroubleCause, TurnCause};
 
 mod carry;
-mod change;
-mod commands;
-mod finishing;
-mod infos;
-mod joins;
-mod reach;
-mod reports;
 mod row_changes;
-mod scan;
-mod starting;
 pub mod ticket;
-mod turning;
 
 use crate::opening::opening_state;
 use crate::table::carry::carry_out;
-use crate::table::change::StepChange;
-use crate::table::commands::{Executed, execute};
-use crate::table::finishing::{Ending, finish};
-use crate::table::starting::{Claiming, claim_first};
-use crate::table::turning::{next_ticket, next_turn};
 use std::alloc::{AllocError, Global};
 use std::marker::Model;
-use ticket::Ticket;
+use ticket::{Ticket, ticket_for};
 use wm_collections::{Items, Replica};
 use wm_keeper::{KeepFault, Keeper, Row};
 use wm_machine::{Cause, Command, Event, Instance, Reply, State};
+use wm_query::first_index;
+use wm_steps::{
+    Claimed, Claiming, Ending, Executed, StepChange, claim_first, counts_in, execute, finish,
+    goes_on, next_turn,
+};
 use wm_worker::Told;
 
 /// Why a call of the table changed nothing.
@@ -90,13 +82,15 @@ pub enum Claim {
     Failed { seq: u64, cause: Cause },
 }
 
-impl Claim {
-    /// Lets the claim go, with its ticket.
-    fn spend(self) {
-        match self {
-            Claim::Run(ticket) => ticket.spend(),
-            Claim::Failed { seq: _, cause } => drop(cause),
-        }
+/// What was claimed: the ticket of its run, which the state has, or that the work couldn't start. It
+/// takes no memory.
+fn claim_of(state: &State, claimed: Claimed) -> Claim
+    requires { HasClaimed state.now claimed }
+    ensures { IsClaim state.entry.now claimed result }
+{
+    match claimed {
+        Claimed::Run { run, input } => Claim::Run(ticket_for(state, run, input)),
+        Claimed::Failed { seq, cause } => Claim::Failed { seq, cause },
     }
 }
 
@@ -227,11 +221,11 @@ impl<K: Keeper> Table<K> {
         let Some(claiming) = claim_first(self.alloc, &self.state)? else {
             return Ok(None);
         };
-        let Claiming { change, claim } = claiming;
+        let Claiming { change, claimed } = claiming;
         match self.make(change) {
-            Ok(()) => Ok(Some(claim)),
+            Ok(()) => Ok(Some(claim_of(&self.state, claimed))),
             Err(trouble) => {
-                claim.spend();
+                drop(claimed);
                 Err(trouble)
             }
         }
@@ -245,11 +239,11 @@ impl<K: Keeper> Table<K> {
         ensures answer { IsTurnAnswer K.held ticket told result self.old self.new }
         ensures cause { TurnCause result (K.faults self.old.keeper) (K.faults self.new.keeper) }
     {
-        if !reports::counts_in(&self.state, &ticket, &told) {
+        if !counts_in(&self.state, ticket.task().run, &told) {
             drop(told);
             return TurnAnswer::Again(ticket);
         }
-        if reports::goes_on(&told) {
+        if goes_on(&told) {
             self.go_on(ticket, told)
         } else {
             self.end_run(ticket, told)
@@ -269,7 +263,7 @@ impl<K: Keeper> Table<K> {
     pub fn quiet(&self) -> bool
         ensures { IsTrue result ↔ IsQuiet self.now.state }
     {
-        self.state.runs.is_empty() && scan::first_index(&self.state).is_none()
+        self.state.runs.is_empty() && first_index(&self.state).is_none()
     }
 
     /// Whether only summaries are written.
@@ -328,25 +322,25 @@ impl<K: Keeper> Table<K> {
         ensures answer { IsTurnAnswer K.held ticket told result self.old self.new }
         ensures cause { TurnCause result (K.faults self.old.keeper) (K.faults self.new.keeper) }
     {
-        match self.advance(&ticket, &told) {
+        let number = ticket.task().run;
+        match self.advance(number, &told) {
             Ok(()) => {
-                let number = ticket.task().run;
                 ticket.spend();
-                TurnAnswer::Go(next_ticket(&self.state, number, told))
+                TurnAnswer::Go(ticket_for(&self.state, number, told.into_input()))
             }
             Err(trouble) => TurnAnswer::Refused(ticket, told, trouble),
         }
     }
 
-    /// Takes a ticket's run to its next turn. The keeper isn't called.
-    fn advance(&mut self, ticket: &Ticket, told: &Told) -> Result<(), Trouble>
-        requires counts { CountsIn self.old.state ticket.now.task.run told.now }
+    /// Takes the run of this number to its next turn. The keeper isn't called.
+    fn advance(&mut self, number: u64, told: &Told) -> Result<(), Trouble>
+        requires counts { CountsIn self.old.state number told.now }
         requires goes_on { goes_on told.now ≡ true }
-        ensures ok { OnOk result (IsTurned K.held ticket.now.task.run told.now self.old self.new) }
+        ensures ok { OnOk result (IsTurned K.held number told.now self.old self.new) }
         ensures err { OnErr result (IsUntouched K.held self.old self.new) }
         ensures cause { TroubleCause result (K.faults self.old.keeper) (K.faults self.new.keeper) }
     {
-        let change = next_turn(self.alloc, &self.state, ticket, told)?;
+        let change = next_turn(self.alloc, &self.state, number, told)?;
         self.make(change)
     }
 
@@ -357,7 +351,7 @@ impl<K: Keeper> Table<K> {
         ensures answer { IsTurnAnswer K.held ticket told result self.old self.new }
         ensures cause { TurnCause result (K.faults self.old.keeper) (K.faults self.new.keeper) }
     {
-        match self.finish(&ticket, &told) {
+        match self.finish(ticket.task().run, &told) {
             Ok(timed_out) => {
                 drop(told);
                 ticket.spend();
@@ -371,16 +365,16 @@ impl<K: Keeper> Table<K> {
         }
     }
 
-    /// Ends a ticket's run in one event, and says whether it had no turn left.
-    fn finish(&mut self, ticket: &Ticket, told: &Told) -> Result<bool, Trouble>
-        requires counts { CountsIn self.old.state ticket.now.task.run told.now }
+    /// Ends the run of this number in one event, and says whether it had no turn left.
+    fn finish(&mut self, number: u64, told: &Told) -> Result<bool, Trouble>
+        requires counts { CountsIn self.old.state number told.now }
         requires over { goes_on told.now ≡ false }
         ensures ok { IfOk result (λ timed_out.
-            IsFinished K.held ticket.now.task.run told.now timed_out self.old self.new) }
+            IsFinished K.held number told.now timed_out self.old self.new) }
         ensures err { OnErr result (IsUntouched K.held self.old self.new) }
         ensures cause { TroubleCause result (K.faults self.old.keeper) (K.faults self.new.keeper) }
     {
-        let Ending { change, timed_out } = finish(self.alloc, &self.state, ticket, told)?;
+        let Ending { change, timed_out } = finish(self.alloc, &self.state, number, told)?;
         self.make(change)?;
         Ok(timed_out)
     }

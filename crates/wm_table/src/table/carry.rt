@@ -7,17 +7,17 @@ ghost use Rattle.wm_machine.specs.Limits.{FitsRow};
 ghost use Rattle.wm_machine.specs.Runs.{other_runs, with_out};
 ghost use Rattle.wm_machine.specs.Turns.{with_turned};
 ghost use Rattle.wm_machine.specs.Valid.{Valid};
-ghost use Rattle.wm_table.specs.StepChanges.{changed_state, conditions_by, instances_by, next_run_by, now_by, other_works, row_changes, runs_by, with_replaced, without, Fits};
+ghost use Rattle.wm_steps.specs.StepChanges.{changed_state, conditions_by, instances_by, next_run_by, now_by, other_works, row_changes, runs_by, with_replaced, without, Fits};
 ghost use Rattle.wm_table.specs.Table.{TroubleCause};
 
 use crate::table::Trouble;
-use crate::table::change::{Replacement, RunChange, SettingChange, StepChange};
 use crate::table::row_changes::row_changes;
 use std::alloc::{AllocError, Global};
 use std::mem;
 use wm_collections::Items;
 use wm_keeper::{Change, Keeper};
 use wm_machine::{Event, Instance, Record, Run, State};
+use wm_steps::{Replacement, RunChange, SettingChange, StepChange};
 
 /// The lists that a step adds to, while their room counts.
 #[derive(Drop)]

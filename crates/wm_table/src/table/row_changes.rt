@@ -2,13 +2,13 @@
 ghost use Rattle.std.specs.Prelude.{◌≡◌, ◌^◌, ◌<◌, ◌++◌, map, IfOk, OnOk};
 ghost use Rattle.std.specs.List.{AllByRecursion};
 ghost use Rattle.wm_machine.specs.Limits.{FitsRow};
-ghost use Rattle.wm_table.specs.StepChanges.{put_replaced, put_work, remove_numbered, row_changes};
+ghost use Rattle.wm_steps.specs.StepChanges.{put_replaced, put_work, remove_numbered, row_changes};
 
-use crate::table::change::{Replacement, StepChange};
 use std::alloc::{AllocError, Global};
 use wm_keeper::Change;
 use wm_machine::Record;
 use wm_rows::to_row;
+use wm_steps::{Replacement, StepChange};
 
 /// The changes of the rows of the records that are replaced, removed and placed. What is told
 /// changes no row.

@@ -1,9 +1,13 @@
-ghost use Rattle.std.specs.Prelude.{◌≡◌};
+ghost use Rattle.std.specs.Prelude.{◌≡◌, IsSomeAnd};
+ghost use Rattle.wm_machine.specs.Runs.{run_numbered};
+ghost use Rattle.wm_table.specs.Table.{IsTicketIn};
 ghost use Rattle.wm_table.specs.TableState.{ticket_of};
 
 use std::marker::Model;
-use wm_machine::Run;
-use wm_worker::{Kind, Task, Told};
+use wm_data::Data;
+use wm_machine::{Run, State};
+use wm_steps::run_numbered;
+use wm_worker::{Kind, Task};
 
 /// The right to report on one run of a work: it names the work, and holds what the run took and
 /// which turn it is at. It must be spent: [`Table::turn`](crate::Table::turn) or
@@ -61,9 +65,9 @@ impl Ticket {
         self.k
     }
 
-    /// The ticket of a run, with its input out of what its worker told. It takes no memory.
-    pub(crate) fn of(run: &Run, told: Told) -> Ticket
-        requires { told.input ≡ run.now.input }
+    /// The ticket of a run, with a copy of the input that it took. It takes no memory.
+    fn of(run: &Run, input: Data) -> Ticket
+        requires { input ≡ run.now.input }
         ensures { result ≡ ticket_of run.entry.now }
     {
         Ticket {
@@ -71,7 +75,7 @@ impl Ticket {
             task: Task {
                 run: run.run,
                 attempt: run.attempt,
-                input: told.into_input(),
+                input,
             },
             kind: run.kind,
             instance: run.instance,
@@ -88,5 +92,18 @@ impl Ticket {
             instance: _,
             k: _,
         } = self;
+    }
+}
+
+/// The ticket of the run of this number, which took this input. It takes no memory.
+pub(crate) fn ticket_for(state: &State, number: u64, input: Data) -> Ticket
+    requires { IsSomeAnd (run_numbered number state.now.runs) (λ run. input ≡ run.input) }
+    ensures run { result.task.run ≡ number }
+    ensures input { result.task.input ≡ input }
+    ensures ticket { IsTicketIn state.entry.now result }
+{
+    match run_numbered(state.runs.as_slice(), number) {
+        Some(run) => Ticket::of(run, input),
+        None => unreachable!(),
     }
 }

@@ -2,7 +2,7 @@ use Rattle.std.proofs.Common.{◌≡◌, ◌+◌, ◌≤◌, refl, sym, subst}
 use Rattle.wm_machine.specs.declared.state.State.{State}
 use Rattle.wm_table.proofs.StepRows.{change-step, next_run-changed}
 use Rattle.wm_table.proofs.TableSteps.{kept-step, kept-untouched}
-use Rattle.wm_table.specs.StepChanges.{IsStepOf}
+use Rattle.wm_steps.specs.StepChanges.{IsStepOf}
 use Rattle.wm_table.specs.Table.{IsOneStep}
 use Rattle.wm_table.specs.TableState.{TableState}
 use Rattle.wm_table.proofs.table.Table.make.Given.{Over}

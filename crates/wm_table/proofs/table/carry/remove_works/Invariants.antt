@@ -1,5 +1,5 @@
 use Rattle.std.proofs.Common.{◌≡◌, ◌≤◌, drop, vec_len, vec_capacity}
-use Rattle.wm_table.specs.StepChanges.{without}
+use Rattle.wm_steps.specs.StepChanges.{without}
 use Rattle.wm_table.proofs.table.carry.remove_works.Given as goal
 
 -- what is left makes of the works so far what all makes of the works

@@ -1,7 +1,7 @@
 use Rattle.std.proofs.Common.{◌≡◌, ◌<◌, vec_len, vec_capacity}
 use Rattle.std.specs.List.{AllByRecursion}
 use Rattle.std.specs.Vec.Iter.{into_iter_items}
-use Rattle.wm_table.specs.StepChanges.{with_replaced}
+use Rattle.wm_steps.specs.StepChanges.{with_replaced}
 use Rattle.wm_table.proofs.table.carry.replace_works.Given as goal
 
 -- what is left makes of the works so far what all makes of the works

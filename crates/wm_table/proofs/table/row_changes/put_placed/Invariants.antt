@@ -1,5 +1,5 @@
 use Rattle.std.proofs.Common.{◌≡◌, ◌++◌, map, take}
-use Rattle.wm_table.specs.StepChanges.{put_work}
+use Rattle.wm_steps.specs.StepChanges.{put_work}
 use Rattle.wm_table.proofs.table.row_changes.put_placed.Given as goal
 
 -- the rows of the works so far are added

@@ -1,5 +1,5 @@
 use Rattle.std.proofs.Common.{◌≡◌, ◌++◌, map, take}
-use Rattle.wm_table.specs.StepChanges.{remove_numbered}
+use Rattle.wm_steps.specs.StepChanges.{remove_numbered}
 use Rattle.wm_table.proofs.table.row_changes.remove_numbered.Given as goal
 
 -- the numbers so far are added

@@ -1,0 +1,2 @@
+pub mod NumberPlaces
+pub mod ScanLemmas

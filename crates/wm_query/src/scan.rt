@@ -1,0 +1,177 @@
+//! Looking through the records and the instances of a state: which work starts next, and on which
+//! instance.
+ghost use Rattle.std.specs.List.{AllByRecursion};
+ghost use Rattle.std.specs.Option.{option_copied};
+ghost use Rattle.std.specs.Prelude.{◌≡◌, ◌<◌, length, Some, None, slice_get, option_and_then, IfSome, MatchOption};
+ghost use Rattle.wm_collections.specs.Lists.{AllLater};
+ghost use Rattle.wm_machine.specs.Due.{due_of, times_of};
+ghost use Rattle.wm_machine.specs.First.{all_met, comes_before, earlier_of, first_of, has_room, has_succeeded, idle_instance, is_idle, is_live, is_startable, is_succeeded, is_waiting};
+ghost use Rattle.wm_machine.specs.Input.{work_numbered};
+ghost use Rattle.wm_machine.specs.Valid.{Valid, IsBefore, IsRecord};
+ghost use Rattle.wm_machine.specs.declared.record.Record.{Record};
+
+use wm_conditions::met;
+use wm_machine::{How, Instance, Phase, Record, State};
+use wm_schedule::Times;
+
+/// What the moment from which on a work may start depends on.
+fn times_of(work: &Record) -> Times
+    ensures { result ≡ times_of work.now }
+{
+    Times {
+        enqueued_at: work.enqueued_at,
+        initial_delay: work.request.initial_delay(),
+        backoff: work.request.backoff(),
+        backoff_n: work.backoff_n,
+        period: work.request.period(),
+        runs: work.runs,
+    }
+}
+
+/// The moment from which on a work may start.
+#[tactic(auto, unfolding(wm_machine::specs::Due::due_of))]
+pub fn due(work: &Record) -> u64
+    requires { IsRecord work.now }
+    ensures { result ≡ due_of work.now }
+{
+    wm_schedule::due(&times_of(work))
+}
+
+/// Whether a phase is that of work that waits to start.
+pub fn is_waiting(phase: Phase) -> bool
+    ensures { result ≡ is_waiting phase }
+{
+    matches!(phase, Phase::Waiting)
+}
+
+fn is_succeeded(phase: Phase) -> bool
+    ensures { result ≡ is_succeeded phase }
+{
+    matches!(phase, Phase::Done(How::Succeeded))
+}
+
+/// The record of this number, among records in ascending number.
+pub fn work_numbered(works: &[Record], number: u64) -> Option<&Record>
+    requires { AllLater IsBefore works.now }
+    ensures { option_copied result ≡ work_numbered number works.now }
+{
+    match works.binary_search_by(|work| work.seq.cmp(&number)) {
+        Ok(index) => Some(&works[index]),
+        Err(_) => None,
+    }
+}
+
+/// Whether the record of this number has succeeded.
+pub fn has_succeeded(works: &[Record], number: u64) -> bool
+    requires { AllLater IsBefore works.now }
+    ensures { result ≡ has_succeeded works.now number }
+{
+    match work_numbered(works, number) {
+        Some(work) => is_succeeded(work.phase),
+        None => false,
+    }
+}
+
+/// Whether every prerequisite of a work has succeeded.
+#[tactic(auto, unfolding(wm_machine::specs::First::all_met))]
+pub fn all_met(works: &[Record], work: &Record) -> bool
+    requires { AllLater IsBefore works.now }
+    ensures { result ≡ all_met works.now work.now }
+{
+    work.prior
+        .as_slice()
+        .iter()
+        .all(|number| has_succeeded(works, *number))
+}
+
+/// Whether some instance of the class isn't retired.
+#[tactic(auto, unfolding(wm_machine::specs::First::is_live))]
+fn is_live(instances: &[Instance], class: &str) -> bool
+    ensures { result ≡ is_live instances.now class.now }
+{
+    instances.iter().any(|instance| instance.class.as_str() == class && !instance.retired)
+}
+
+fn is_idle(instance: &Instance, class: &str) -> bool
+    ensures { result ≡ is_idle class.now instance.now }
+{
+    instance.class.as_str() == class && !instance.out && !instance.retired
+}
+
+/// The idle instance of a class with the least number.
+#[tactic(auto, unfolding(wm_machine::specs::First::idle_instance))]
+pub fn idle_in<'a>(instances: &'a [Instance], class: &str) -> Option<&'a Instance>
+    ensures { option_copied result ≡ idle_instance instances.now class.now }
+{
+    instances.iter().find(|instance| is_idle(instance, class))
+}
+
+/// Whether a class has an idle instance, or no worker at all.
+fn has_room(instances: &[Instance], class: &str) -> bool
+    ensures { result ≡ has_room instances.now class.now }
+{
+    idle_in(instances, class).is_some() || !is_live(instances, class)
+}
+
+/// Whether a work may start now.
+#[tactic(auto, unfolding(wm_machine::specs::First::is_startable))]
+fn is_startable(state: &State, work: &Record) -> bool
+    requires in_order { AllLater IsBefore state.now.works }
+    requires record { IsRecord work.now }
+    ensures { result ≡ is_startable state.entry.now work.now }
+{
+    is_waiting(work.phase)
+        && all_met(state.works.as_slice(), work)
+        && due(work) <= state.now
+        && met(&work.request.constraints(), &state.conditions)
+        && has_room(state.instances.as_slice(), work.request.class().as_str())
+}
+
+/// Whether the one work starts before the other.
+fn comes_before(one: &Record, other: &Record) -> bool
+    requires one { IsRecord one.now }
+    requires other { IsRecord other.now }
+    ensures { result ≡ comes_before one.now other.now }
+{
+    due(one) < due(other) || due(one) == due(other) && one.seq < other.seq
+}
+
+/// The index of the work that starts next. The records are looked at from the last to the first.
+pub fn first_index(state: &State) -> Option<usize>
+    requires valid { Valid state.now }
+    ensures { MatchOption result (first_of state.entry.now ≡ None)
+        (λ index. (index < length state.entry.now.works)
+        × (first_of state.entry.now ≡ slice_get state.entry.now.works index)) }
+{
+    let works = state.works.as_slice();
+    let mut first = None;
+    let mut index = works.len();
+    'works: while index > 0 {
+        index -= 1;
+        if is_startable(state, &works[index]) {
+            first = Some(earlier(works, index, first));
+        }
+    }
+    first
+}
+
+/// Of the work at an index and another, the index of the one that starts first.
+fn earlier(works: &[Record], index: usize, other: Option<usize>) -> usize
+    requires records { AllByRecursion IsRecord works.now }
+    requires index { index < length works.now }
+    requires other { IfSome other (λ other. other < length works.now) }
+    ensures in_range { result < length works.now }
+    ensures earlier { (work : Record) → slice_get works.now index ≡ Some work
+        → slice_get works.now result ≡ Some (earlier_of work (option_and_then (slice_get works.now) other)) }
+{
+    match other {
+        Some(other) => {
+            if comes_before(&works[other], &works[index]) {
+                other
+            } else {
+                index
+            }
+        }
+        None => index,
+    }
+}

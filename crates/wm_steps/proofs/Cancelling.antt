@@ -1,0 +1,168 @@
+-- The step of a cancel: a work is closed with its unfinished descendants.
+use Rattle.std.proofs.Common.{◌≡◌, ℕ, ◌+◌, Bool, true, false, cond, List, [], ◌∷◌, length, map, Option, Some, None, refl, sym, ◌∙◌, ap, subst, arith, inl}
+use Rattle.std.specs.List.{AllByRecursion}
+use Rattle.std.specs.Prelude.{count_by, is_some, IsSomeAnd}
+use Rattle.std.specs.Str.{bytes_eq}
+use Rattle.std.proofs.lemmas.Bool.{false≢true}
+use Rattle.wm_keeper.specs.declared.row.Row.{Row}
+use Rattle.wm_machine.proofs.Changes.{with_changed}
+use Rattle.wm_machine.proofs.Endings.{closed_in}
+use Rattle.wm_machine.proofs.Lists.{count-cons, find-stored, weight}
+use Rattle.wm_machine.specs.Cancelled.{cancelled, cancelled_by, count_reached, reaches_run, work_with_id}
+use Rattle.wm_machine.specs.Closed.{closed, is_open, is_reached, with_closed}
+use Rattle.wm_machine.specs.Replied.{Outcome, unchanged}
+use Rattle.wm_machine.specs.Rows.{phase_code, row_of, rows_of}
+use Rattle.wm_machine.specs.Step.{Legal, after, state_by}
+use Rattle.wm_machine.specs.Valid.{HasOne, Valid}
+use Rattle.wm_machine.specs.declared.command.Command.TheVariants as command
+use Rattle.wm_machine.specs.declared.command.Target.TheVariants as target
+use Rattle.wm_machine.specs.declared.event.Event.{Event}
+use Rattle.wm_machine.specs.declared.event.Event.TheVariants as event
+use Rattle.wm_machine.specs.declared.record.How.TheVariants as how
+use Rattle.wm_machine.specs.declared.record.Phase.{Phase}
+use Rattle.wm_machine.specs.declared.record.Phase.TheVariants as phase
+use Rattle.wm_machine.specs.declared.record.Record.{Record}
+use Rattle.wm_machine.specs.declared.reply.Refusal.TheVariants.{NoSuchWork}
+use Rattle.wm_machine.specs.declared.reply.Reply.{Reply}
+use Rattle.wm_machine.specs.declared.reply.Reply.TheVariants as reply
+use Rattle.wm_machine.specs.declared.state.State.{State}
+use Rattle.wm_steps.proofs.Executions.{answering-executed}
+use Rattle.wm_steps.proofs.ManyRows.{replacing_all-step}
+use Rattle.wm_steps.proofs.Placings.{narrow-idle}
+use Rattle.wm_steps.proofs.Reaching.{change-numbers, closes-agree, itself_reached, of_stored, touched-closing}
+use Rattle.wm_steps.specs.Builds.{answering, IsExecuted}
+use Rattle.wm_steps.specs.Reached.{at_index, change_by, reached_from, replaced_by_cancel, replacements}
+use Rattle.wm_steps.specs.StepChanges.{replacing_all}
+use Rattle.wm_steps.specs.Builds.{ChangesRows}
+use Rattle.wm_steps.specs.declared.change.RunChange.TheVariants.{Unchanged}
+use Rattle.wm_steps.specs.declared.reach.Reach.TheVariants as reach
+
+-- ---- how many are touched
+
+-- one record more, where one is given
+at_index-count : (i : ℕ) (change : Record → Option Record) (found : Option Record) (works : List Record)
+    → length (at_index i found (replacements change (i + 1) works)) ≡ weight (is_some found) + length (replacements change (i + 1) works)
+at_index-count i change None works = omega arith
+at_index-count i change (Some work) works = omega arith
+
+-- as many are replaced as pass a test that says which are touched
+touched-count : (test : Record → Bool) (change : Record → Option Record) (i : ℕ) (works : List Record)
+    → AllByRecursion (λ work. is_some (change work) ≡ test work) works → length (replacements change i works) ≡ count_by test works
+touched-count test change i [] same = refl
+touched-count test change i (work ∷ works) same =
+    let here = at_index-count i change (change work) works in
+    let weighs : weight (is_some (change work)) ≡ weight (test work) = ap weight same.0 in
+    let rest = touched-count test change (i + 1) works same.1 in
+    let all = count-cons test work works in
+    omega (arith, here, weighs, rest, all)
+
+-- ---- the rows
+
+-- an unfinished phase is stored as another than the one of cancelled work
+open_code : (p : Phase) → is_open p ≡ true → phase_code (phase.Done how.Cancelled) ≡ phase_code p → ⊥
+open_code phase.Waiting unfinished same = absurd (cc)
+open_code phase.Running unfinished same = absurd (cc)
+open_code (phase.Done how) unfinished same = absurd (false≢true unfinished)
+
+-- rows that are the same after a change are so for each record
+rows-each : (change : Record → Record) (works : List Record) → map row_of (map change works) ≡ map row_of works
+    → AllByRecursion (λ work. row_of (change work) ≡ row_of work) works
+rows-each change [] same = tt
+rows-each change (work ∷ works) same = ((cc), rows-each change works (cc))
+
+-- ---- a work that is there and unfinished
+
+module _ (s : State) (line : ℕ) (id : List ℕ) (work : Record) (valid : Valid s) (no_run : s.runs ≡ []) (found : work_with_id s.works id ≡ Some work)
+    (unfinished : is_open work.phase ≡ true) where
+  abbrev count : ℕ
+  count = count_reached work.seq s.works
+
+  abbrev done : Outcome
+  done = record { reply = reply.Cancelled count; state = record s { works = with_closed how.Cancelled work.seq s.works } }
+
+  abbrev touch : Record → Option Record
+  touch = change_by (closed how.Cancelled work) (reach.Closes how.Cancelled (reached_from work.seq s.works)) s.works
+
+  abbrev cancel_event : ℕ → Event
+  cancel_event n = event.Command line (command.Cancel (target.Id id)) (reply.Cancelled n)
+
+  stored : HasOne (λ other. other ≡ work) s.works
+  stored = find-stored (λ other. bytes_eq other.request.id id) s.works work found
+
+  -- no run is stopped
+  none_reached : reaches_run work.seq s.works s.runs ≡ false
+  none_reached = ap (reaches_run work.seq s.works) no_run
+
+  -- the work is closed with those that it reaches
+  outcome-is : cancelled s id ≡ Some done
+  outcome-is =
+      let out : Option Outcome = Some done in
+      ap (cancelled_by s id) found
+      ∙ ap (λ b. cond b (cond (reaches_run work.seq s.works s.runs) None out) (Some (unchanged s (reply.Cancelled 0)))) unfinished
+      ∙ ap (λ b. cond b None out) none_reached
+
+  after-is : after s (cancel_event count) ≡ with_changed s (closed_in how.Cancelled work.seq s.works)
+  after-is = ap (state_by s) outcome-is
+
+  legal : Legal s (cancel_event count)
+  legal = (tt, subst (λ (o : Option Outcome). IsSomeAnd o (λ out. reply.Cancelled count ≡ out.reply)) (sym outcome-is) refl)
+
+  -- each record that is reached is replaced
+  counted : length (replaced_by_cancel s work) ≡ count
+  counted =
+      touched-count (is_reached work.seq s.works) touch 0 s.works
+      (touched-closing how.Cancelled (closed how.Cancelled work) work s.works valid.in_order stored unfinished refl)
+
+  -- the row of the work itself changes
+  rows_change : ChangesRows s (command.Cancel (target.Id id))
+  rows_change same =
+      let change = closed_in how.Cancelled work.seq s.works in
+      let rows : map row_of (map change s.works) ≡ map row_of s.works = ap rows_of (sym after-is) ∙ same in
+      let row = of_stored (λ w. row_of (change w) ≡ row_of w) work s.works (rows-each change s.works rows) stored in
+      open_code work.phase unfinished
+      (ap (λ b. phase_code (cond b (closed how.Cancelled work) work).phase) (sym (itself_reached work s.works stored unfinished))
+      ∙ ap (λ (r : Row). r.phase) row)
+
+  pub cancelling-executed : IsExecuted s line (command.Cancel (target.Id id)) (record {
+    change = replacing_all (replaced_by_cancel s work) Unchanged (cancel_event (length (replaced_by_cancel s work)));
+    reply = reply.Cancelled (length (replaced_by_cancel s work));
+  })
+  cancelling-executed =
+      subst (λ n. IsExecuted s line (command.Cancel (target.Id id)) (record {
+        change = replacing_all (replaced_by_cancel s work) Unchanged (cancel_event n);
+        reply = reply.Cancelled n;
+      })) (sym counted) (record {
+        event = refl;
+        step =
+            replacing_all-step s s touch (closed_in how.Cancelled work.seq s.works) Unchanged (cancel_event count) valid (narrow-idle s no_run) legal
+            (change-numbers (closed how.Cancelled work) (reach.Closes how.Cancelled (reached_from work.seq s.works)) s.works)
+            (closes-agree how.Cancelled (λ w. w) (closed how.Cancelled work) work s.works valid.in_order stored unfinished refl refl (λ other differs. refl))
+            refl after-is;
+        rows = inl rows_change;
+      })
+
+-- ---- any other
+
+-- a cancel that changes nothing
+unchanged-executed : (s : State) (line : ℕ) (id : List ℕ) (answer : Reply) → Valid s → cancelled s id ≡ Some (unchanged s answer)
+    → IsExecuted s line (command.Cancel (target.Id id)) (answering line (command.Cancel (target.Id id)) answer)
+unchanged-executed s line id answer valid is =
+    answering-executed s line (command.Cancel (target.Id id)) answer valid
+    (tt, subst (λ (o : Option Outcome). IsSomeAnd o (λ out. answer ≡ out.reply)) (sym is) refl) (ap (state_by s) is)
+
+-- a finished work is left as it is
+pub finished-executed : (s : State) (line : ℕ) (id : List ℕ) (work : Record) → Valid s → work_with_id s.works id ≡ Some work → is_open work.phase ≡ false
+    → IsExecuted s line (command.Cancel (target.Id id)) (answering line (command.Cancel (target.Id id)) (reply.Cancelled 0))
+finished-executed s line id work valid found finished =
+    let out : Option Outcome = Some (record {
+      reply = reply.Cancelled (count_reached work.seq s.works);
+      state = record s { works = with_closed how.Cancelled work.seq s.works };
+    }) in
+    unchanged-executed s line id (reply.Cancelled 0) valid
+    (ap (cancelled_by s id) found
+    ∙ ap (λ b. cond b (cond (reaches_run work.seq s.works s.runs) None out) (Some (unchanged s (reply.Cancelled 0)))) finished)
+
+-- and so is all where there is none
+pub unknown-executed : (s : State) (line : ℕ) (id : List ℕ) → Valid s → work_with_id s.works id ≡ None
+    → IsExecuted s line (command.Cancel (target.Id id)) (answering line (command.Cancel (target.Id id)) (reply.Refused (NoSuchWork id)))
+unknown-executed s line id valid none = unchanged-executed s line id (reply.Refused (NoSuchWork id)) valid (ap (cancelled_by s id) none)

@@ -1,0 +1,9 @@
+pub mod Cancelling
+pub mod DescendantScans
+pub mod Executions
+pub mod Lookups
+pub mod ManyRows
+pub mod Placings
+pub mod Reaching
+pub mod Reporting
+pub mod StepFits

@@ -1,0 +1,190 @@
+-- The step of an event that changes several records: those that are touched take the places of others.
+use Rattle.std.proofs.Common.{◌≡◌, ◌≢◌, ℕ, suc, ◌+◌, ◌<◌, pos, List, [], ◌∷◌, ◌++◌, append_assoc, drop, get_or, length, map, set, Option, Some, None, refl, sym, ◌∙◌, ap, subst, arith}
+use Rattle.std.specs.List.{AllByRecursion}
+use Rattle.std.proofs.lemmas.Int.{ints}
+use Rattle.std.proofs.lemmas.List.{append-nil, drop_more}
+use Rattle.wm_keeper.specs.Keeper.{changed_number, AreOfDifferentNumbers}
+use Rattle.wm_keeper.specs.declared.row.Change.{Change}
+use Rattle.wm_machine.proofs.Lists.{All-weaker, map-same}
+use Rattle.wm_machine.proofs.Runnings.{WorksAscend, WorksAscend-in_order}
+use Rattle.wm_machine.proofs.Steps.{Valid-after}
+use Rattle.wm_machine.specs.Limits.{FitsRow}
+use Rattle.wm_machine.specs.Narrow.{IsNarrow}
+use Rattle.wm_machine.specs.Step.{Legal, after}
+use Rattle.wm_machine.specs.Valid.{IsRecord, Valid}
+use Rattle.wm_machine.specs.declared.event.Event.{Event}
+use Rattle.wm_machine.specs.declared.record.Record.{Record}
+use Rattle.wm_machine.specs.declared.state.State.{State}
+use Rattle.wm_steps.proofs.StepFits.{unplaced}
+use Rattle.wm_steps.specs.Reached.{at_index, or_same, replacements}
+use Rattle.wm_steps.specs.StepChanges.{changed_state, put_replaced, replacing_all, with_replaced, IsStepOf, KeepsNumber}
+use Rattle.wm_steps.specs.declared.change.Replacement.{Replacement}
+use Rattle.wm_steps.specs.declared.change.RunChange.{RunChange}
+
+-- a record after a change that may leave it
+abbrev pub after_change : (Record → Option Record) → Record → Record
+after_change change work = or_same work (change work)
+
+-- ---- in their places
+
+-- with a record more in front, the indexes are greater by one
+replaced-behind-by : (change : Record → Option Record) (found : Option Record) (i : ℕ) (xs ys : List Record) (front : Record)
+    → ((rest : List Record) → with_replaced (replacements change (suc (i + 1)) xs) (front ∷ rest)
+    ≡ front ∷ with_replaced (replacements change (i + 1) xs) rest)
+    → with_replaced (at_index (suc i) found (replacements change (suc i + 1) xs)) (front ∷ ys)
+    ≡ front ∷ with_replaced (at_index i found (replacements change (i + 1) xs)) ys
+replaced-behind-by change None i xs ys front later =
+    let next : suc i + 1 ≡ suc (i + 1) = omega arith in
+    ap (λ n. with_replaced (replacements change n xs) (front ∷ ys)) next ∙ later ys
+replaced-behind-by change (Some new) i xs ys front later =
+    let next : suc i + 1 ≡ suc (i + 1) = omega arith in
+    ap (λ n. with_replaced (replacements change n xs) (front ∷ set ys i new)) next ∙ later (set ys i new)
+
+replaced-behind : (change : Record → Option Record) (i : ℕ) (xs ys : List Record) (front : Record)
+    → with_replaced (replacements change (suc i) xs) (front ∷ ys) ≡ front ∷ with_replaced (replacements change i xs) ys
+replaced-behind change i [] ys front = refl
+replaced-behind change i (work ∷ xs) ys front =
+    replaced-behind-by change (change work) i xs ys front (λ rest. replaced-behind change (i + 1) xs rest front)
+
+replaced-first : (change : Record → Option Record) (found : Option Record) (work : Record) (works : List Record)
+    → with_replaced (replacements change 0 works) works ≡ map (after_change change) works
+    → with_replaced (at_index 0 found (replacements change (0 + 1) works)) (work ∷ works) ≡ or_same work found ∷ map (after_change change) works
+replaced-first change None work works rest = replaced-behind change 0 works works work ∙ ap (λ rest. work ∷ rest) rest
+replaced-first change (Some new) work works rest = replaced-behind change 0 works works new ∙ ap (λ rest. new ∷ rest) rest
+
+-- the records that a change touches are in their places
+pub replaced-all : (change : Record → Option Record) (works : List Record)
+    → with_replaced (replacements change 0 works) works ≡ map (after_change change) works
+replaced-all change [] = refl
+replaced-all change (work ∷ works) = replaced-first change (change work) work works (replaced-all change works)
+
+at_index-front : (i : ℕ) (found : Option Record) (later : List Replacement) → at_index i found later ≡ at_index i found [] ++ later
+at_index-front i None later = refl
+at_index-front i (Some work) later = refl
+
+-- one record more is looked at
+pub replaced-on : (change : Record → Option Record) (before : List Replacement) (works : List Record) (i : ℕ) (work : Record) (found : Option Record)
+    → i < length works → work ≡ get_or works i work → found ≡ change work
+    → (before ++ at_index i found []) ++ replacements change (i + 1) (drop (i + 1) works) ≡ before ++ replacements change i (drop i works)
+replaced-on change before works i work found within is changed =
+    let left : drop i works ≡ work ∷ drop (i + 1) works = drop_more works i work within ∙ ap (λ w. w ∷ drop (i + 1) works) (sym is) in
+    append_assoc before (at_index i found []) (replacements change (i + 1) (drop (i + 1) works))
+    ∙ ap (λ rest. before ++ rest) (sym (at_index-front i found (replacements change (i + 1) (drop (i + 1) works))))
+    ∙ ap (λ o. before ++ at_index i o (replacements change (i + 1) (drop (i + 1) works))) changed
+    ∙ ap (λ ws. before ++ replacements change i ws) (sym left)
+
+-- ---- of their numbers
+
+-- a change keeps the number of each record
+abbrev pub KeepsNumbers : (Record → Option Record) → Type 0
+KeepsNumbers change = (work : Record) → (after_change change work).seq ≡ work.seq
+
+keeps-behind-by : (change : Record → Option Record) (found : Option Record) (i : ℕ) (xs ys : List Record) (front : Record)
+    → (AllByRecursion (KeepsNumber ys) (replacements change (i + 1) xs) → AllByRecursion (KeepsNumber (front ∷ ys)) (replacements change (suc (i + 1)) xs))
+    → AllByRecursion (KeepsNumber ys) (at_index i found (replacements change (i + 1) xs))
+    → AllByRecursion (KeepsNumber (front ∷ ys)) (at_index (suc i) found (replacements change (suc i + 1) xs))
+keeps-behind-by change None i xs ys front later keep =
+    let next : suc (i + 1) ≡ suc i + 1 = omega arith in
+    subst (λ n. AllByRecursion (KeepsNumber (front ∷ ys)) (replacements change n xs)) next (later keep)
+keeps-behind-by change (Some new) i xs ys front later keep =
+    let next : suc (i + 1) ≡ suc i + 1 = omega arith in
+    (keep.0, subst (λ n. AllByRecursion (KeepsNumber (front ∷ ys)) (replacements change n xs)) next (later keep.1))
+
+keeps-behind : (change : Record → Option Record) (i : ℕ) (xs ys : List Record) (front : Record) → AllByRecursion (KeepsNumber ys) (replacements change i xs)
+    → AllByRecursion (KeepsNumber (front ∷ ys)) (replacements change (suc i) xs)
+keeps-behind change i [] ys front keep = tt
+keeps-behind change i (work ∷ xs) ys front keep =
+    keeps-behind-by change (change work) i xs ys front (λ rest. keeps-behind change (i + 1) xs ys front rest) keep
+
+keeps-first : (change : Record → Option Record) (found : Option Record) (work : Record) (works : List Record) → (or_same work found).seq ≡ work.seq
+    → AllByRecursion (KeepsNumber (work ∷ works)) (replacements change (0 + 1) works)
+    → AllByRecursion (KeepsNumber (work ∷ works)) (at_index 0 found (replacements change (0 + 1) works))
+keeps-first change None work works same keep = keep
+keeps-first change (Some new) work works same keep = (ap (λ n. Some n) (sym same), keep)
+
+replaced-keep : (change : Record → Option Record) (works : List Record) → KeepsNumbers change
+    → AllByRecursion (KeepsNumber works) (replacements change 0 works)
+replaced-keep change [] keeps = tt
+replaced-keep change (work ∷ works) keeps =
+    keeps-first change (change work) work works (keeps work) (keeps-behind change 0 works works work (replaced-keep change works keeps))
+
+-- ---- with rows that fit, each in a commit once
+
+replaced-each-by : (P : Record → Type 0) (change : Record → Option Record) (found : Option Record) (i : ℕ) (work : Record) (works : List Record)
+    → P (or_same work found) → AllByRecursion (λ r. P r.work) (replacements change (i + 1) works)
+    → AllByRecursion (λ r. P r.work) (at_index i found (replacements change (i + 1) works))
+replaced-each-by P change None i work works p later = later
+replaced-each-by P change (Some new) i work works p later = (p, later)
+
+-- what holds of each record after the change holds of those that are replaced
+replaced-each : (P : Record → Type 0) (change : Record → Option Record) (i : ℕ) (works : List Record)
+    → AllByRecursion (λ work. P (after_change change work)) works → AllByRecursion (λ r. P r.work) (replacements change i works)
+replaced-each P change i [] all = tt
+replaced-each P change i (work ∷ works) all =
+    replaced-each-by P change (change work) i work works all.0 (replaced-each P change (i + 1) works all.1)
+
+-- rows of these have other numbers
+later-rows : (number : ℕ) (replaced : List Replacement) → AllByRecursion (λ r. number < r.work.seq) replaced
+    → AllByRecursion (λ (later : Change). pos number ≢ changed_number later) (map put_replaced replaced)
+later-rows number [] above = tt
+later-rows number (r ∷ replaced) above = (
+  λ same. let less = above.0 in let clash : pos number ≡ pos r.work.seq = same in absurd (omega (arith, ints)),
+  later-rows number replaced above.1,
+)
+
+replaced-apart-by : (change : Record → Option Record) (found : Option Record) (i : ℕ) (work : Record) (works : List Record) → KeepsNumbers change
+    → (or_same work found).seq ≡ work.seq → WorksAscend (work ∷ works)
+    → AreOfDifferentNumbers (map put_replaced (replacements change (i + 1) works))
+    → AreOfDifferentNumbers (map put_replaced (at_index i found (replacements change (i + 1) works)))
+replaced-apart-by change None i work works keeps same ascend later = later
+replaced-apart-by change (Some new) i work works keeps same ascend later = (
+  later-rows new.seq (replacements change (i + 1) works)
+      (replaced-each (λ w. new.seq < w.seq) change (i + 1) works
+      (All-weaker (λ later. work.seq < later.seq) (λ later. new.seq < (after_change change later).seq) works
+      (λ later above. let kept = keeps later in omega (arith, above, same, kept)) ascend.0)),
+  later,
+)
+
+replaced-apart : (change : Record → Option Record) (i : ℕ) (works : List Record) → KeepsNumbers change → WorksAscend works
+    → AreOfDifferentNumbers (map put_replaced (replacements change i works))
+replaced-apart change i [] keeps ascend = tt
+replaced-apart change i (work ∷ works) keeps ascend =
+    replaced-apart-by change (change work) i work works keeps (keeps work) ascend (replaced-apart change (i + 1) works keeps ascend.1)
+
+-- ---- the step
+
+All-unmap : {T U : Type 0} (P : U → Type 0) (f : T → U) (xs : List T) → AllByRecursion P (map f xs) → AllByRecursion (λ x. P (f x)) xs
+All-unmap P f [] all = tt
+All-unmap P f (x ∷ xs) all = (all.0, All-unmap P f xs all.1)
+
+-- a legal event that changes the records so, and what its change says of the runs, is made by the change that replaces the touched ones
+pub replacing_all-step : (s t : State) (touch : Record → Option Record) (change : Record → Record) (run : RunChange) (e : Event) → Valid s → IsNarrow s
+    → Legal s e → KeepsNumbers touch → AllByRecursion (λ work. after_change touch work ≡ change work) s.works
+    → changed_state (replacing_all (replacements touch 0 s.works) run e) s
+    ≡ record t { works = with_replaced (replacements touch 0 s.works) s.works ++ []; next = t.next + 0 }
+    → after s e ≡ record t { works = map change s.works } → IsStepOf s (replacing_all (replacements touch 0 s.works) run e)
+replacing_all-step s t touch change run e valid narrow legal keeps agree made then =
+    let replaced = replacements touch 0 s.works in
+    let same = map-same (after_change touch) change s.works agree in
+    let works_are : (after s e).works ≡ map (after_change touch) s.works = ap (λ (t : State). t.works) then ∙ sym same in
+    let records = subst (AllByRecursion IsRecord) works_are (Valid-after s e valid narrow legal).records in
+    let rows_fit =
+    All-weaker (λ work. IsRecord (after_change touch work)) (λ work. FitsRow (after_change touch work)) s.works (λ work is. is.fits)
+    (All-unmap IsRecord (after_change touch) s.works records) in
+    record {
+      fits = record {
+        told = tt;
+        replaced = replaced-keep touch s.works keeps;
+        removed = tt;
+        placed = tt;
+        numbers = omega (arith, valid.next);
+        replaced_rows = replaced-each FitsRow touch 0 s.works rows_fit;
+        placed_rows = tt;
+        apart = subst AreOfDifferentNumbers (sym (append-nil (map put_replaced replaced ++ []) ∙ append-nil (map put_replaced replaced)))
+            (replaced-apart touch 0 s.works keeps (WorksAscend-in_order s.works valid.in_order));
+      };
+      legal = legal;
+      state = made
+          ∙ unplaced t (with_replaced replaced s.works) (map change s.works) (replaced-all touch s.works ∙ same)
+          ∙ sym then;
+    }

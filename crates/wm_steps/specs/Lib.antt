@@ -1,0 +1,5 @@
+pub mod Builds
+pub mod Placed
+pub mod Reached
+pub mod Reports
+pub mod StepChanges

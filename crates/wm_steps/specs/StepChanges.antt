@@ -1,0 +1,159 @@
+-- What the change of a step makes of a state and of the rows held, and when it fits a state. This project's own choice.
+use Rattle.std.specs.Prelude.{◌≡◌, ℕ, ◌+◌, ◌^◌, ◌==◌, ◌≤◌, pos, true, false, not, List, [], ◌∷◌, ◌++◌, length, map, filter, slice_get, slice_set, Some}
+use Rattle.std.specs.List.{AllByRecursion}
+use Rattle.wm_conditions.specs.declared.conditions.Conditions.{Conditions}
+use Rattle.wm_keeper.specs.Keeper.{AreOfDifferentNumbers}
+use Rattle.wm_keeper.specs.declared.row.Change.{Change}
+use Rattle.wm_keeper.specs.declared.row.Change.TheVariants.{Put, Remove}
+use Rattle.wm_machine.specs.Limits.{FitsRow}
+use Rattle.wm_machine.specs.Rows.{row_of}
+use Rattle.wm_machine.specs.Runs.{other_runs, with_out}
+use Rattle.wm_machine.specs.Step.{Legal, after}
+use Rattle.wm_machine.specs.Turns.{with_turned}
+use Rattle.wm_machine.specs.Valid.{HasOne}
+use Rattle.wm_machine.specs.declared.event.Event.{Event}
+use Rattle.wm_machine.specs.declared.record.Record.{Record}
+use Rattle.wm_machine.specs.declared.state.Instance.{Instance}
+use Rattle.wm_machine.specs.declared.state.Run.{Run}
+use Rattle.wm_machine.specs.declared.state.State.{State}
+use Rattle.wm_steps.specs.declared.change.Replacement.{Replacement}
+use Rattle.wm_steps.specs.declared.change.RunChange.{RunChange}
+use Rattle.wm_steps.specs.declared.change.RunChange.TheVariants.{Unchanged, Begin, Turn, End}
+use Rattle.wm_steps.specs.declared.change.SettingChange.{SettingChange}
+use Rattle.wm_steps.specs.declared.change.SettingChange.TheVariants as set
+use Rattle.wm_steps.specs.declared.change.StepChange.{StepChange}
+
+-- ---- the state
+
+-- the records, with each of these in its place
+abbrev pub with_replaced : List Replacement → List Record → List Record
+with_replaced [] works = works
+with_replaced (replaced ∷ later) works = with_replaced later (slice_set works replaced.index replaced.work)
+
+-- the records but for the one of this number
+abbrev pub other_works : ℕ → List Record → List Record
+other_works number works = filter (λ work. not (work.seq == number)) works
+
+-- the records but for those of these numbers
+abbrev pub without : List ℕ → List Record → List Record
+without [] works = works
+without (number ∷ numbers) works = without numbers (other_works number works)
+
+-- a run begins, goes on or is over
+abbrev pub runs_by : RunChange → List Run → List Run
+runs_by Unchanged runs = runs
+runs_by (Begin run) runs = runs ++ run ∷ []
+runs_by (Turn run) runs = with_turned run runs
+runs_by (End run instance) runs = other_runs run runs
+
+-- the instance of a run that begins is out, and that of a run that is over is idle
+abbrev pub instances_by : RunChange → List Instance → List Instance
+instances_by Unchanged instances = instances
+instances_by (Begin run) instances = with_out true run.instance instances
+instances_by (Turn run) instances = instances
+instances_by (End run instance) instances = with_out false instance instances
+
+-- the number after those of the runs
+abbrev pub next_run_by : RunChange → ℕ → ℕ
+next_run_by Unchanged next = next
+next_run_by (Begin run) next = next + 1
+next_run_by (Turn run) next = next
+next_run_by (End run instance) next = next
+
+-- the moment and the conditions, where they are set
+abbrev pub now_by : SettingChange → ℕ → ℕ
+now_by (set.Moment at) now = at
+now_by _ now = now
+
+abbrev pub conditions_by : SettingChange → Conditions → Conditions
+conditions_by (set.Conditions conditions) before = conditions
+conditions_by _ before = before
+
+-- the state after a change: works without the removed ones, with the told and the replaced ones in place and the placed ones at the end
+abbrev pub changed_state : StepChange → State → State
+changed_state change s = record s {
+  works = without change.removed (with_replaced change.replaced (with_replaced change.told s.works)) ++ change.placed;
+  runs = runs_by change.run s.runs;
+  instances = instances_by change.run s.instances;
+  next = s.next + length change.placed;
+  next_run = next_run_by change.run s.next_run;
+  now = now_by change.setting s.now;
+  conditions = conditions_by change.setting s.conditions;
+}
+
+-- ---- the rows
+
+abbrev pub put_replaced : Replacement → Change
+put_replaced replaced = Put (row_of replaced.work)
+
+abbrev pub remove_numbered : ℕ → Change
+remove_numbered number = Remove (pos number)
+
+abbrev pub put_work : Record → Change
+put_work work = Put (row_of work)
+
+-- what the keeper changes: the rows of the records that are replaced, removed and placed; those that are told keep theirs
+abbrev pub row_changes : StepChange → List Change
+row_changes change = map put_replaced change.replaced ++ map remove_numbered change.removed ++ map put_work change.placed
+
+-- ---- when it fits
+
+abbrev pub seqs_of : List Record → List ℕ
+seqs_of works = map (λ work. work.seq) works
+
+-- a record takes the place of one of its number
+abbrev pub KeepsNumber : List Record → Replacement → Type 0
+KeepsNumber works replaced = slice_get (seqs_of works) replaced.index ≡ Some replaced.work.seq
+
+-- and one of its row
+abbrev pub KeepsRow : List Record → Replacement → Type 0
+KeepsRow works told = slice_get (map row_of works) told.index ≡ Some (row_of told.work)
+
+-- the records have the numbers from this one on, in order
+abbrev pub HaveNextNumbers : ℕ → List Record → Type 0
+HaveNextNumbers next [] = Unit {0}
+HaveNextNumbers next (work ∷ works) = (work.seq ≡ next) × HaveNextNumbers (next + 1) works
+
+pub record Fits (s : State) (change : StepChange) : Type 0 where
+  pub told : AllByRecursion (KeepsRow s.works) change.told
+  pub replaced : AllByRecursion (KeepsNumber s.works) change.replaced
+  -- the records removed are there
+  pub removed : AllByRecursion (λ number. HasOne (λ work. work.seq ≡ number) s.works) change.removed
+  pub placed : HaveNextNumbers s.next change.placed
+  pub numbers : s.next + length change.placed ≤ 2 ^ 53
+  pub replaced_rows : AllByRecursion (λ replaced. FitsRow replaced.work) change.replaced
+  pub placed_rows : AllByRecursion FitsRow change.placed
+  -- no row is changed twice
+  pub apart : AreOfDifferentNumbers (row_changes change)
+
+-- the change is that of a legal step
+pub record IsStepOf (s : State) (change : StepChange) : Type 0 where
+  pub fits : Fits s change
+  pub legal : Legal s change.event
+  pub state : changed_state change s ≡ after s change.event
+
+-- ---- changes
+
+-- only the log changes
+abbrev pub telling : Event → StepChange
+telling event = record { told = []; replaced = []; removed = []; placed = []; run = Unchanged; setting = set.Unchanged; event = event }
+
+-- the moment or the conditions are set
+abbrev pub setting : SettingChange → Event → StepChange
+setting to event = record (telling event) { setting = to }
+
+-- one record is replaced
+abbrev pub replacing : ℕ → Record → RunChange → Event → StepChange
+replacing index work run event = record (telling event) { replaced = record { index = index; work = work } ∷ []; run = run }
+
+-- one record tells something, and its run goes on
+abbrev pub turning : ℕ → Record → ℕ → Event → StepChange
+turning index work run event = record (telling event) { told = record { index = index; work = work } ∷ []; run = Turn run }
+
+-- several records are replaced
+abbrev pub replacing_all : List Replacement → RunChange → Event → StepChange
+replacing_all replaced run event = record (telling event) { replaced = replaced; run = run }
+
+-- records are placed
+abbrev pub placing_all : List Record → Event → StepChange
+placing_all placed event = record (telling event) { placed = placed }

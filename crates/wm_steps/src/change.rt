@@ -1,0 +1,172 @@
+//! What a step is about to do.
+ghost use Rattle.std.specs.Prelude.{◌≡◌, IfOk};
+ghost use Rattle.wm_steps.specs.StepChanges.{placing_all, replacing, replacing_all, setting, telling, turning};
+
+use crate::joins::{one, with};
+use std::alloc::{AllocError, Global};
+use wm_collections::Items;
+use wm_conditions::Conditions;
+use wm_machine::{Event, Record, Run};
+
+/// A record that takes the place of the one at an index.
+#[derive(Drop)]
+pub struct Replacement {
+    pub index: usize,
+    pub work: Record,
+}
+
+/// What becomes of runs and instances in a step.
+#[derive(Drop)]
+pub enum RunChange {
+    /// They stay as they are.
+    Unchanged,
+    /// This run begins, and its instance is out.
+    Begin(Run),
+    /// The run of this number is at its next turn.
+    Turn(u64),
+    /// The run of this number is over, and this instance is idle.
+    End { run: u64, instance: u32 },
+}
+
+/// What becomes of the moment and the conditions in a step.
+#[derive(Drop)]
+pub enum SettingChange {
+    /// They stay as they are.
+    Unchanged,
+    /// This is the moment.
+    Moment(u64),
+    /// These are the conditions.
+    Conditions(Conditions),
+}
+
+/// All that one step is about to do, with its memory taken.
+#[derive(Drop)]
+pub struct StepChange {
+    /// The records that take the place of others of their rows.
+    pub told: Items<Replacement>,
+    /// The records that take the place of others of their numbers.
+    pub replaced: Items<Replacement>,
+    /// The numbers of the records that are removed.
+    pub removed: Items<u64>,
+    /// The new records, which go to the end under the next numbers.
+    pub placed: Items<Record>,
+    /// What becomes of runs and instances.
+    pub run: RunChange,
+    /// What becomes of the moment and the conditions.
+    pub setting: SettingChange,
+    /// The event of the step.
+    pub event: Event,
+}
+
+impl StepChange {
+    /// A change of the log alone.
+    pub fn telling(alloc: Global, event: Event) -> StepChange
+        ensures { result ≡ telling event }
+    {
+        StepChange {
+            told: Items::new(alloc),
+            replaced: Items::new(alloc),
+            removed: Items::new(alloc),
+            placed: Items::new(alloc),
+            run: RunChange::Unchanged,
+            setting: SettingChange::Unchanged,
+            event,
+        }
+    }
+
+    /// A change of the moment or the conditions.
+    pub fn setting(alloc: Global, to: SettingChange, event: Event) -> StepChange
+        ensures { result ≡ setting to event }
+    {
+        StepChange {
+            told: Items::new(alloc),
+            replaced: Items::new(alloc),
+            removed: Items::new(alloc),
+            placed: Items::new(alloc),
+            run: RunChange::Unchanged,
+            setting: to,
+            event,
+        }
+    }
+
+    /// The change of the record at an index to this one, and of the runs.
+    pub fn replacing(
+        alloc: Global,
+        index: usize,
+        work: Record,
+        run: RunChange,
+        event: Event,
+    ) -> Result<StepChange, AllocError>
+        ensures { IfOk result (λ change. change ≡ replacing index work run event) }
+    {
+        let replaced = one(alloc, Replacement { index, work });
+        let ((run, event), replaced) = with((run, event), replaced)?;
+        Ok(StepChange {
+            told: Items::new(alloc),
+            replaced,
+            removed: Items::new(alloc),
+            placed: Items::new(alloc),
+            run,
+            setting: SettingChange::Unchanged,
+            event,
+        })
+    }
+
+    /// The change of the record at an index to this one, which has the same row, where the run of
+    /// this number is at its next turn.
+    pub fn turning(
+        alloc: Global,
+        index: usize,
+        work: Record,
+        run: u64,
+        event: Event,
+    ) -> Result<StepChange, AllocError>
+        ensures { IfOk result (λ change. change ≡ turning index work run event) }
+    {
+        let (event, told) = with(event, one(alloc, Replacement { index, work }))?;
+        Ok(StepChange {
+            told,
+            replaced: Items::new(alloc),
+            removed: Items::new(alloc),
+            placed: Items::new(alloc),
+            run: RunChange::Turn(run),
+            setting: SettingChange::Unchanged,
+            event,
+        })
+    }
+
+    /// The change to these records in the places of others, and of the runs. It takes no memory.
+    pub fn replacing_all(
+        alloc: Global,
+        replaced: Items<Replacement>,
+        run: RunChange,
+        event: Event,
+    ) -> StepChange
+        ensures { result ≡ replacing_all replaced run event }
+    {
+        StepChange {
+            told: Items::new(alloc),
+            replaced,
+            removed: Items::new(alloc),
+            placed: Items::new(alloc),
+            run,
+            setting: SettingChange::Unchanged,
+            event,
+        }
+    }
+
+    /// The change by these records more. It takes no memory.
+    pub fn placing_all(alloc: Global, placed: Items<Record>, event: Event) -> StepChange
+        ensures { result ≡ placing_all placed event }
+    {
+        StepChange {
+            told: Items::new(alloc),
+            replaced: Items::new(alloc),
+            removed: Items::new(alloc),
+            placed,
+            run: RunChange::Unchanged,
+            setting: SettingChange::Unchanged,
+            event,
+        }
+    }
+}
