@@ -2,5 +2,6 @@ pub mod Descends
 pub mod Frees
 pub mod Graphs
 pub mod Lists
+pub mod Places
 pub mod Reaches
 pub mod Unmet

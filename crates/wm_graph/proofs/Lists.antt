@@ -31,11 +31,27 @@ All-filter P Q test (x ∷ xs) step all =
     let rest = All-filter P Q test xs step all.1 in
     cond_both (test x) (x ∷ filter test xs) (filter test xs) (AllByRecursion Q) (λ e. (step x e all.0, rest)) (λ e. rest)
 
+pub All-both : {T : Type 0} (P Q : T → Type 0) (xs : List T) → AllByRecursion P xs → AllByRecursion Q xs → AllByRecursion (λ x. P x × Q x) xs
+All-both P Q [] all others = tt
+All-both P Q (x ∷ xs) all others = ((all.0, others.0), All-both P Q xs all.1 others.1)
+
+pub All-front : {T : Type 0} (P : T → Type 0) (xs ys : List T) → AllByRecursion P (xs ++ ys) → AllByRecursion P xs
+All-front P [] ys all = tt
+All-front P (x ∷ xs) ys all = (all.0, All-front P xs ys all.1)
+
+pub All-back : {T : Type 0} (P : T → Type 0) (xs ys : List T) → AllByRecursion P (xs ++ ys) → AllByRecursion P ys
+All-back P [] ys all = all
+All-back P (x ∷ xs) ys all = All-back P xs ys all.1
+
 -- ---- each and each later one
 
 pub AllLater-push : {T : Type 0} (R : T → T → Type 0) (xs : List T) (x : T) → AllLater R xs → AllByRecursion (λ y. R y x) xs → AllLater R (xs ++ x ∷ [])
 AllLater-push R [] x later new = (tt, tt)
 AllLater-push R (y ∷ xs) x later new = (All-push (R y) xs x later.0 new.0, AllLater-push R xs x later.1 new.1)
+
+pub AllLater-front : {T : Type 0} (R : T → T → Type 0) (xs ys : List T) → AllLater R (xs ++ ys) → AllLater R xs
+AllLater-front R [] ys later = tt
+AllLater-front R (x ∷ xs) ys later = (All-front (R x) xs ys later.0, AllLater-front R xs ys later.1)
 
 pub AllLater-map : {T U : Type 0} (R : T → T → Type 0) (Q : U → U → Type 0) (f : T → U) (xs : List T) → ((x y : T) → R x y → Q (f x) (f y)) → AllLater R xs
     → AllLater Q (map f xs)

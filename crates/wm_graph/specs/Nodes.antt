@@ -24,9 +24,13 @@ pub record IsNode (nodes : List NodeFields) (node : NodeFields) : Type 0 where
   pub names : NamesNodes nodes node.before
   pub earlier : AllByRecursion (λ number. number < node.seq) node.before
 
--- nodes in strictly ascending number, each as it may be
+-- nodes in strictly ascending number
+abbrev pub AreAscending : List NodeFields → Type 0
+AreAscending nodes = AllLater (λ node later. node.seq < later.seq) nodes
+
+-- and each as it may be
 pub record IsGraph (nodes : List NodeFields) : Type 0 where
-  pub ascending : AllLater (λ node later. node.seq < later.seq) nodes
+  pub ascending : AreAscending nodes
   pub each : AllByRecursion (IsNode nodes) nodes
 
 -- a node that doesn't have this one as a prerequisite any more

@@ -1,10 +1,10 @@
-ghost use Rattle.std.specs.Prelude.{◌≡◌, ◌==◌, ◌&&◌, ◌<◌, ◌≤◌, [], ◌∷◌, ◌++◌, find, length, map, reverse, false, IfOk, OnOk, OnErr};
+ghost use Rattle.std.specs.Prelude.{◌≡◌, ◌==◌, ◌&&◌, ◌<◌, ◌≤◌, [], ◌∷◌, ◌++◌, find, length, map, reverse, take, false, IfOk, OnOk, OnErr};
 ghost use Rattle.std.specs.List.{AllByRecursion, list_any};
 ghost use Rattle.std.specs.Option.{option_copied};
 ghost use Rattle.wm_graph.specs.Descendants.{AreDescendants, descendants, is_among};
 ghost use Rattle.wm_graph.specs.Marks.{freed_by, frees, is_just, is_met, unmet, unmet_of, with_marked};
 ghost use Rattle.wm_graph.specs.Leaves.{is_leaf, is_needed, leaves};
-ghost use Rattle.wm_graph.specs.Nodes.{forgetting, HasNode, NamesNodes, without};
+ghost use Rattle.wm_graph.specs.Nodes.{forgetting, AreAscending, HasNode, NamesNodes, without};
 
 use crate::node::{Node, is_among};
 use std::alloc::{AllocError, Global};
@@ -53,6 +53,20 @@ impl Graph {
         let before = Vec::from_slice(self.alloc, before)?;
         self.nodes.push(Node { seq, before, done })?;
         Ok(())
+    }
+
+    /// How many nodes there are.
+    pub fn len(&self) -> usize
+        ensures { result ≡ length self.now }
+    {
+        self.nodes.len()
+    }
+
+    /// Whether a node is marked. It takes no memory.
+    pub fn is_done(&self, seq: u64) -> bool
+        ensures { result ≡ is_met self.now seq }
+    {
+        is_met(self.nodes.as_slice(), seq)
     }
 
     /// The numbers of a node and of all that it reaches, ascending, the node itself first. Memory
@@ -137,6 +151,13 @@ impl Graph {
         self.nodes.retain(|node| node.seq() != seq);
         forget_each(self.nodes.as_mut_slice(), seq);
     }
+
+    /// Takes away all nodes but the first ones, of which there are so many. It takes no memory.
+    pub fn truncate(&mut self, count: usize)
+        ensures { self.new ≡ take count self.old }
+    {
+        self.nodes.truncate(count);
+    }
 }
 
 /// The node of this number.
@@ -160,17 +181,20 @@ fn is_needed(nodes: &[Node], among: &[u64], number: u64) -> bool
     nodes.iter().any(|node| is_among(among, node.seq()) && is_among(node.before(), number))
 }
 
-/// Whether the node of this number is marked.
+/// Whether the node of this number is marked, among nodes in ascending number.
 fn is_met(nodes: &[Node], number: u64) -> bool
+    requires { AreAscending nodes.now }
     ensures { result ≡ is_met nodes.now number }
 {
-    nodes
-        .iter()
-        .any(|node| node.seq() == number && node.is_done())
+    match nodes.binary_search_by(|node| node.seq().cmp(&number)) {
+        Ok(index) => nodes[index].is_done(),
+        Err(_) => false,
+    }
 }
 
 /// How many prerequisites of the node of this number aren't marked.
 fn unmet_in(nodes: &[Node], seq: u64) -> usize
+    requires { AreAscending nodes.now }
     ensures { result ≡ unmet nodes.now seq }
 {
     match node_of(nodes, seq) {
@@ -181,6 +205,7 @@ fn unmet_in(nodes: &[Node], seq: u64) -> usize
 
 /// How many of these prerequisites aren't marked.
 fn unmet_count(nodes: &[Node], before: &[u64]) -> usize
+    requires { AreAscending nodes.now }
     ensures { result ≡ length (unmet_of nodes.now before.now) }
 {
     before
@@ -191,10 +216,11 @@ fn unmet_count(nodes: &[Node], before: &[u64]) -> usize
 
 /// Whether this number, which isn't marked, is the one of these prerequisites that isn't.
 fn is_freed(nodes: &[Node], before: &[u64], seq: u64) -> bool
-    requires { is_met nodes.now seq ≡ false }
+    requires ascending { AreAscending nodes.now }
+    requires unmarked { is_met nodes.now seq ≡ false }
     ensures { result ≡ is_just seq (unmet_of nodes.now before.now) }
 {
-    unmet_count(nodes, before) == 1 && is_among(before, seq)
+    is_among(before, seq) && unmet_count(nodes, before) == 1
 }
 
 /// Marks the node of this number.

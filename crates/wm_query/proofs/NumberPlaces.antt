@@ -1,37 +1,15 @@
 -- The place of a number among records in ascending number.
-use Rattle.std.proofs.Common.{◌≡◌, ℕ, zero, suc, ◌+◌, ◌<◌, Bool, true, false, ◌||◌, cond, eqb, ltb, List, [], ◌∷◌, length, get_or, slice_get, Option, Some, None, Result, Ok, Err, Less, Equal, Greater, nat_cmp, is_lt, refl, sym, ◌∙◌, ap, subst, arith, inl, inr}
+use Rattle.std.proofs.Common.{◌≡◌, ℕ, zero, suc, ◌<◌, Bool, true, false, ◌||◌, eqb, List, [], ◌∷◌, length, get_or, slice_get, Option, Some, None, Result, Ok, Err, nat_cmp, refl, sym, ◌∙◌, ap, subst, arith, inl, inr}
 use Rattle.std.specs.List.{AllByRecursion}
 use Rattle.std.specs.List.Sorted.{IsBinarySearchResult, IsSearchInRange}
-use Rattle.std.proofs.lemmas.Bool.{cases_Bool, cond_both, eq-eqb, eqb-true, ltb-true, ltb-false, ne_eqb}
-use Rattle.std.proofs.lemmas.Cmp.{nat_cmp_total, ranked}
-use Rattle.std.proofs.lemmas.List.Sorted.{searchable_from_sorted}
+use Rattle.std.proofs.lemmas.Bool.{cases_Bool, eq-eqb, eqb-true, ne_eqb}
 use Rattle.wm_collections.specs.Lists.{AllLater}
+use Rattle.wm_graph.proofs.Places.{above-at, place-found, place-none}
 use Rattle.wm_machine.proofs.Runnings.{WorksAscend, WorksAscend-in_order}
 use Rattle.wm_machine.specs.First.{has_succeeded, is_succeeded}
 use Rattle.wm_machine.specs.Input.{work_numbered}
 use Rattle.wm_machine.specs.Valid.{IsBefore}
 use Rattle.wm_machine.specs.declared.record.Record.{Record}
-
--- ---- ascending numbers
-
--- what is above a number at each place
-above : (number : ℕ) (works : List Record) (i : ℕ) (d : Record) → AllByRecursion (λ later. number < later.seq) works → i < length works
-    → number < (get_or works i d).seq
-above number [] i d all within = absurd (omega arith)
-above number (work ∷ works) zero d all within = all.0
-above number (work ∷ works) (suc i) d all within = above number works i d all.1 (omega arith)
-
-rises : (works : List Record) (i : ℕ) (d : Record) → WorksAscend works → suc i < length works → (get_or works i d).seq < (get_or works (suc i) d).seq
-rises [] i d ascend within = absurd (omega arith)
-rises (work ∷ works) zero d ascend within = above work.seq works 0 d ascend.0 (omega arith)
-rises (work ∷ works) (suc i) d ascend within = rises works i d ascend.1 (omega arith)
-
--- a greater number doesn't come before a smaller one
-not_less : (one other : ℕ) → other < one → is_lt (nat_cmp one other) ≡ false
-not_less one other less =
-    cond_both (ltb one other) Less (cond (eqb one other) Equal Greater) (λ o. is_lt o ≡ false)
-    (λ e. let more = ltb-true one other e in absurd (omega arith))
-    (λ e. cond_both (eqb one other) Equal Greater (λ o. is_lt o ≡ false) (λ e. refl) (λ e. refl))
 
 -- ---- the record of a number
 
@@ -41,7 +19,7 @@ numbered-at : (number : ℕ) (works : List Record) (i : ℕ) (d : Record) → Wo
 numbered-at number [] i d ascend within is = absurd (omega arith)
 numbered-at number (work ∷ works) zero d ascend within is = let hit = eq-eqb work.seq number is in rw hit refl
 numbered-at number (work ∷ works) (suc i) d ascend within is =
-    let more = above work.seq works i d ascend.0 (omega arith) in
+    let more = above-at (λ (w : Record). w.seq) work.seq works i d ascend.0 (omega arith) in
     let miss = ne_eqb work.seq number (λ e. absurd (omega arith)) in
     rw miss (numbered-at number works i d ascend.1 (omega arith) is)
 
@@ -63,21 +41,9 @@ pub numbered-search : (number : ℕ) (works : List Record) (answer : Result ℕ 
     → IsBinarySearchResult (λ work. nat_cmp work.seq number) works answer → record_at works answer ≡ work_numbered number works
 numbered-search number [] (Ok i) ascend range is = absurd (omega arith)
 numbered-search number (work ∷ works) (Ok i) ascend range is =
-    numbered-at number (work ∷ works) i work ascend range (ranked (get_or (work ∷ works) i work).seq number Equal (sym (is work)))
+    numbered-at number (work ∷ works) i work ascend range (place-found (λ (w : Record). w.seq) number (work ∷ works) i work is)
 numbered-search number works (Err i) ascend range is =
-    let parted =
-    is (searchable_from_sorted nat_cmp_total (λ (w : Record). w.seq) works number (λ k d low high.
-    let next : k + 1 ≡ suc k = omega arith in
-    rw next (not_less (get_or works (suc k) d).seq (get_or works k d).seq (rises works k d ascend (omega arith))))) in
-    sym
-    (numbered-none number works (λ k d within same. elim (cases_Bool (ltb k i)) [
-      | inl e ↦
-          let less = ranked (get_or works k d).seq number Less (sym (parted.0 k d (omega arith) (ltb-true k i e))) in
-          absurd (omega (arith, less, same))
-      | inr e ↦
-          let more = ranked (get_or works k d).seq number Greater (sym (parted.1 k d (ltb-false k i e) within)) in
-          absurd (omega (arith, more, same))
-    ]))
+    sym (numbered-none number works (λ k d within same. place-none (λ (w : Record). w.seq) number works i k d ascend range is within same))
 
 -- ---- whether it has succeeded
 

@@ -29,8 +29,9 @@ use Rattle.wm_machine.specs.declared.state.State.{State}
 use Rattle.wm_steps.proofs.Executions.{answering-executed}
 use Rattle.wm_steps.proofs.ManyRows.{replacing_all-step}
 use Rattle.wm_steps.proofs.Placings.{narrow-idle}
-use Rattle.wm_steps.proofs.Reaching.{change-numbers, closes-agree, itself_reached, of_stored, touched-closing}
+use Rattle.wm_steps.proofs.Reaching.{change-keeps, closes-agree, itself_reached, of_stored, touched-closing}
 use Rattle.wm_steps.specs.Builds.{answering, IsExecuted}
+use Rattle.wm_steps.specs.Nodes.{nodes_of}
 use Rattle.wm_steps.specs.Reached.{at_index, change_by, reached_from, replaced_by_cancel, replacements}
 use Rattle.wm_steps.specs.StepChanges.{replacing_all}
 use Rattle.wm_steps.specs.Builds.{ChangesRows}
@@ -81,7 +82,7 @@ module _ (s : State) (line : ℕ) (id : List ℕ) (work : Record) (valid : Valid
   done = record { reply = reply.Cancelled count; state = record s { works = with_closed how.Cancelled work.seq s.works } }
 
   abbrev touch : Record → Option Record
-  touch = change_by (closed how.Cancelled work) (reach.Closes how.Cancelled (reached_from work.seq s.works)) s.works
+  touch = change_by (closed how.Cancelled work) (reach.Closes how.Cancelled (reached_from work.seq (nodes_of s.works)))
 
   abbrev cancel_event : ℕ → Event
   cancel_event n = event.Command line (command.Cancel (target.Id id)) (reply.Cancelled n)
@@ -135,7 +136,8 @@ module _ (s : State) (line : ℕ) (id : List ℕ) (work : Record) (valid : Valid
         event = refl;
         step =
             replacing_all-step s s touch (closed_in how.Cancelled work.seq s.works) Unchanged (cancel_event count) valid (narrow-idle s no_run) legal
-            (change-numbers (closed how.Cancelled work) (reach.Closes how.Cancelled (reached_from work.seq s.works)) s.works)
+            (change-keeps (closed how.Cancelled work) work (reach.Closes how.Cancelled (reached_from work.seq (nodes_of s.works))) s.works valid.in_order
+            stored unfinished refl refl)
             (closes-agree how.Cancelled (λ w. w) (closed how.Cancelled work) work s.works valid.in_order stored unfinished refl refl (λ other differs. refl))
             refl after-is;
         rows = inl rows_change;

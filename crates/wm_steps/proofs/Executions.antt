@@ -16,7 +16,7 @@ use Rattle.wm_steps.specs.declared.commands.Executed.{Executed}
 -- the step of an event that changes the log alone
 pub telling-step : (s : State) (e : Event) → Valid s → Legal s e → after s e ≡ s → IsStepOf s (telling e)
 telling-step s e valid legal same = record {
-  fits = record { told = tt; replaced = tt; removed = tt; placed = tt; numbers = omega (arith, valid.next); replaced_rows = tt; placed_rows = tt; apart = tt };
+  fits = record { told = tt; replaced = tt; removed = tt; placed = tt; named = tt; numbers = omega (arith, valid.next); replaced_rows = tt; placed_rows = tt; apart = tt };
   legal = legal;
   state = unplaced s s.works s.works refl ∙ sym same;
 }

@@ -1,8 +1,8 @@
 pub mod Cancelling
-pub mod DescendantScans
 pub mod Executions
 pub mod Lookups
 pub mod ManyRows
+pub mod Nodes
 pub mod Placings
 pub mod Reaching
 pub mod Reporting

@@ -5,7 +5,7 @@ use Rattle.std.proofs.lemmas.Int.{ints}
 use Rattle.std.proofs.lemmas.List.{append-nil, drop_more}
 use Rattle.wm_keeper.specs.Keeper.{changed_number, AreOfDifferentNumbers}
 use Rattle.wm_keeper.specs.declared.row.Change.{Change}
-use Rattle.wm_machine.proofs.Lists.{All-weaker, map-same}
+use Rattle.wm_machine.proofs.Lists.{All-both, All-weaker, map-same}
 use Rattle.wm_machine.proofs.Runnings.{WorksAscend, WorksAscend-in_order}
 use Rattle.wm_machine.proofs.Steps.{Valid-after}
 use Rattle.wm_machine.specs.Limits.{FitsRow}
@@ -16,8 +16,9 @@ use Rattle.wm_machine.specs.declared.event.Event.{Event}
 use Rattle.wm_machine.specs.declared.record.Record.{Record}
 use Rattle.wm_machine.specs.declared.state.State.{State}
 use Rattle.wm_steps.proofs.StepFits.{unplaced}
+use Rattle.wm_steps.specs.Nodes.{KeepsNode}
 use Rattle.wm_steps.specs.Reached.{at_index, or_same, replacements}
-use Rattle.wm_steps.specs.StepChanges.{changed_state, put_replaced, replacing_all, with_replaced, IsStepOf, KeepsNumber}
+use Rattle.wm_steps.specs.StepChanges.{changed_state, put_replaced, replacing_all, with_replaced, IsStepOf, KeepsPlace}
 use Rattle.wm_steps.specs.declared.change.Replacement.{Replacement}
 use Rattle.wm_steps.specs.declared.change.RunChange.{RunChange}
 
@@ -73,40 +74,40 @@ replaced-on change before works i work found within is changed =
     ∙ ap (λ o. before ++ at_index i o (replacements change (i + 1) (drop (i + 1) works))) changed
     ∙ ap (λ ws. before ++ replacements change i ws) (sym left)
 
--- ---- of their numbers
+-- ---- of their nodes
 
--- a change keeps the number of each record
-abbrev pub KeepsNumbers : (Record → Option Record) → Type 0
-KeepsNumbers change = (work : Record) → (after_change change work).seq ≡ work.seq
+-- each record of some keeps its node
+abbrev pub KeepNodes : (Record → Option Record) → List Record → Type 0
+KeepNodes change works = AllByRecursion (λ work. KeepsNode work (after_change change work)) works
 
 keeps-behind-by : (change : Record → Option Record) (found : Option Record) (i : ℕ) (xs ys : List Record) (front : Record)
-    → (AllByRecursion (KeepsNumber ys) (replacements change (i + 1) xs) → AllByRecursion (KeepsNumber (front ∷ ys)) (replacements change (suc (i + 1)) xs))
-    → AllByRecursion (KeepsNumber ys) (at_index i found (replacements change (i + 1) xs))
-    → AllByRecursion (KeepsNumber (front ∷ ys)) (at_index (suc i) found (replacements change (suc i + 1) xs))
+    → (AllByRecursion (KeepsPlace ys) (replacements change (i + 1) xs) → AllByRecursion (KeepsPlace (front ∷ ys)) (replacements change (suc (i + 1)) xs))
+    → AllByRecursion (KeepsPlace ys) (at_index i found (replacements change (i + 1) xs))
+    → AllByRecursion (KeepsPlace (front ∷ ys)) (at_index (suc i) found (replacements change (suc i + 1) xs))
 keeps-behind-by change None i xs ys front later keep =
     let next : suc (i + 1) ≡ suc i + 1 = omega arith in
-    subst (λ n. AllByRecursion (KeepsNumber (front ∷ ys)) (replacements change n xs)) next (later keep)
+    subst (λ n. AllByRecursion (KeepsPlace (front ∷ ys)) (replacements change n xs)) next (later keep)
 keeps-behind-by change (Some new) i xs ys front later keep =
     let next : suc (i + 1) ≡ suc i + 1 = omega arith in
-    (keep.0, subst (λ n. AllByRecursion (KeepsNumber (front ∷ ys)) (replacements change n xs)) next (later keep.1))
+    (keep.0, subst (λ n. AllByRecursion (KeepsPlace (front ∷ ys)) (replacements change n xs)) next (later keep.1))
 
-keeps-behind : (change : Record → Option Record) (i : ℕ) (xs ys : List Record) (front : Record) → AllByRecursion (KeepsNumber ys) (replacements change i xs)
-    → AllByRecursion (KeepsNumber (front ∷ ys)) (replacements change (suc i) xs)
+keeps-behind : (change : Record → Option Record) (i : ℕ) (xs ys : List Record) (front : Record) → AllByRecursion (KeepsPlace ys) (replacements change i xs)
+    → AllByRecursion (KeepsPlace (front ∷ ys)) (replacements change (suc i) xs)
 keeps-behind change i [] ys front keep = tt
 keeps-behind change i (work ∷ xs) ys front keep =
     keeps-behind-by change (change work) i xs ys front (λ rest. keeps-behind change (i + 1) xs ys front rest) keep
 
-keeps-first : (change : Record → Option Record) (found : Option Record) (work : Record) (works : List Record) → (or_same work found).seq ≡ work.seq
-    → AllByRecursion (KeepsNumber (work ∷ works)) (replacements change (0 + 1) works)
-    → AllByRecursion (KeepsNumber (work ∷ works)) (at_index 0 found (replacements change (0 + 1) works))
+keeps-first : (change : Record → Option Record) (found : Option Record) (work : Record) (works : List Record) → KeepsNode work (or_same work found)
+    → AllByRecursion (KeepsPlace (work ∷ works)) (replacements change (0 + 1) works)
+    → AllByRecursion (KeepsPlace (work ∷ works)) (at_index 0 found (replacements change (0 + 1) works))
 keeps-first change None work works same keep = keep
-keeps-first change (Some new) work works same keep = (ap (λ n. Some n) (sym same), keep)
+keeps-first change (Some new) work works same keep = (same, keep)
 
-replaced-keep : (change : Record → Option Record) (works : List Record) → KeepsNumbers change
-    → AllByRecursion (KeepsNumber works) (replacements change 0 works)
+replaced-keep : (change : Record → Option Record) (works : List Record) → KeepNodes change works
+    → AllByRecursion (KeepsPlace works) (replacements change 0 works)
 replaced-keep change [] keeps = tt
 replaced-keep change (work ∷ works) keeps =
-    keeps-first change (change work) work works (keeps work) (keeps-behind change 0 works works work (replaced-keep change works keeps))
+    keeps-first change (change work) work works keeps.0 (keeps-behind change 0 works works work (replaced-keep change works keeps.1))
 
 -- ---- with rows that fit, each in a commit once
 
@@ -132,7 +133,7 @@ later-rows number (r ∷ replaced) above = (
   later-rows number replaced above.1,
 )
 
-replaced-apart-by : (change : Record → Option Record) (found : Option Record) (i : ℕ) (work : Record) (works : List Record) → KeepsNumbers change
+replaced-apart-by : (change : Record → Option Record) (found : Option Record) (i : ℕ) (work : Record) (works : List Record) → KeepNodes change works
     → (or_same work found).seq ≡ work.seq → WorksAscend (work ∷ works)
     → AreOfDifferentNumbers (map put_replaced (replacements change (i + 1) works))
     → AreOfDifferentNumbers (map put_replaced (at_index i found (replacements change (i + 1) works)))
@@ -140,16 +141,17 @@ replaced-apart-by change None i work works keeps same ascend later = later
 replaced-apart-by change (Some new) i work works keeps same ascend later = (
   later-rows new.seq (replacements change (i + 1) works)
       (replaced-each (λ w. new.seq < w.seq) change (i + 1) works
-      (All-weaker (λ later. work.seq < later.seq) (λ later. new.seq < (after_change change later).seq) works
-      (λ later above. let kept = keeps later in omega (arith, above, same, kept)) ascend.0)),
+      (All-weaker (λ later. KeepsNode later (after_change change later) × (work.seq < later.seq)) (λ later. new.seq < (after_change change later).seq) works
+      (λ later facts. let above = facts.1 in let kept = facts.0.seq in omega (arith, above, same, kept))
+      (All-both (λ later. KeepsNode later (after_change change later)) (λ later. work.seq < later.seq) works keeps ascend.0))),
   later,
 )
 
-replaced-apart : (change : Record → Option Record) (i : ℕ) (works : List Record) → KeepsNumbers change → WorksAscend works
+replaced-apart : (change : Record → Option Record) (i : ℕ) (works : List Record) → KeepNodes change works → WorksAscend works
     → AreOfDifferentNumbers (map put_replaced (replacements change i works))
 replaced-apart change i [] keeps ascend = tt
 replaced-apart change i (work ∷ works) keeps ascend =
-    replaced-apart-by change (change work) i work works keeps (keeps work) ascend (replaced-apart change (i + 1) works keeps ascend.1)
+    replaced-apart-by change (change work) i work works keeps.1 keeps.0.seq ascend (replaced-apart change (i + 1) works keeps.1 ascend.1)
 
 -- ---- the step
 
@@ -159,7 +161,7 @@ All-unmap P f (x ∷ xs) all = (all.0, All-unmap P f xs all.1)
 
 -- a legal event that changes the records so, and what its change says of the runs, is made by the change that replaces the touched ones
 pub replacing_all-step : (s t : State) (touch : Record → Option Record) (change : Record → Record) (run : RunChange) (e : Event) → Valid s → IsNarrow s
-    → Legal s e → KeepsNumbers touch → AllByRecursion (λ work. after_change touch work ≡ change work) s.works
+    → Legal s e → KeepNodes touch s.works → AllByRecursion (λ work. after_change touch work ≡ change work) s.works
     → changed_state (replacing_all (replacements touch 0 s.works) run e) s
     ≡ record t { works = with_replaced (replacements touch 0 s.works) s.works ++ []; next = t.next + 0 }
     → after s e ≡ record t { works = map change s.works } → IsStepOf s (replacing_all (replacements touch 0 s.works) run e)
@@ -177,6 +179,7 @@ replacing_all-step s t touch change run e valid narrow legal keeps agree made th
         replaced = replaced-keep touch s.works keeps;
         removed = tt;
         placed = tt;
+        named = tt;
         numbers = omega (arith, valid.next);
         replaced_rows = replaced-each FitsRow touch 0 s.works rows_fit;
         placed_rows = tt;

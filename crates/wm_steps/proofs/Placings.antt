@@ -28,10 +28,12 @@ use Rattle.wm_machine.specs.declared.reply.Reply.TheVariants as reply
 use Rattle.wm_machine.specs.declared.state.State.{State}
 use Rattle.wm_request.specs.declared.request.Batch.{Batch}
 use Rattle.wm_request.specs.declared.request.Node.{Node}
+use Rattle.wm_steps.proofs.Nodes.{there-each}
 use Rattle.wm_steps.proofs.StepFits.{unplaced}
 use Rattle.wm_steps.specs.Builds.{IsExecuted}
+use Rattle.wm_steps.specs.Nodes.{is_there}
 use Rattle.wm_steps.specs.Placed.{placed_records, with_placed}
-use Rattle.wm_steps.specs.StepChanges.{placing_all, put_work, seqs_of, HaveNextNumbers}
+use Rattle.wm_steps.specs.StepChanges.{placing_all, put_work, seqs_of, HaveNextNumbers, NameEarlier}
 use Rattle.wm_steps.specs.Builds.{ChangesRows}
 
 -- ---- the records placed
@@ -139,6 +141,39 @@ All-behind : {T : Type 0} (P : T → Type 0) (xs ys : List T) → AllByRecursion
 All-behind P [] ys all = all
 All-behind P (x ∷ xs) ys all = All-behind P xs ys all.1
 
+-- ---- their prerequisites
+
+-- the numbers that are found are those of records that are there
+numbers-there : (all : List Record) (keep : Record → Bool) (works : List Record) → AllByRecursion (λ work. is_there all work.seq ≡ true) works
+    → AllByRecursion (λ number. is_there all number ≡ true) (map (λ (work : Record). work.seq) (filter keep works))
+numbers-there all keep [] there = tt
+numbers-there all keep (work ∷ works) there =
+    let rest = numbers-there all keep works there.1 in
+    cond_both (keep work) (work ∷ filter keep works) (filter keep works)
+    (λ (kept : List Record). AllByRecursion (λ number. is_there all number ≡ true) (map (λ (work : Record). work.seq) kept)) (λ e. (there.0, rest))
+    (λ e. rest)
+
+All-append : {T : Type 0} (P : T → Type 0) (xs ys : List T) → AllByRecursion P xs → AllByRecursion P ys → AllByRecursion P (xs ++ ys)
+All-append P [] ys all others = others
+All-append P (x ∷ xs) ys all others = (all.0, All-append P xs ys all.1 others)
+
+prior-there : (works : List Record) (ids : List (List ℕ)) → AllByRecursion (λ number. is_there works number ≡ true) (numbers_of works ids)
+prior-there works [] = tt
+prior-there works (id ∷ ids) =
+    All-append (λ number. is_there works number ≡ true) (numbers_with works id) (numbers_of works ids)
+    (numbers-there works (λ (work : Record). bytes_eq work.request.id id) works (there-each works)) (prior-there works ids)
+
+-- each new record names records before it
+named : (s : State) (nodes : List Node) → AllByRecursion IsRecord (s.works ++ placed_records s nodes) → NameEarlier s.works (placed_records s nodes)
+named s [] records = tt
+named s (node ∷ nodes) records =
+    let work = placed_record s None node in
+    let is : IsRecord work = (All-behind IsRecord s.works (placed_records s (node ∷ nodes)) records).0 in (
+      record { few = is.prior.few; different = is.prior.different; there = prior-there s.works node.after },
+      named (with_work s work) nodes
+          (subst (AllByRecursion IsRecord) (sym (append_assoc s.works (work ∷ []) (placed_records (with_work s work) nodes))) records),
+    )
+
 -- ---- the room
 
 first_refusal-none : (check : Option Refusal) (checks : List (Option Refusal)) → first_refusal (check ∷ checks) ≡ None
@@ -202,6 +237,7 @@ module _ (s : State) (line : ℕ) (batch : Batch) (valid : Valid s) (no_run : s.
         replaced = tt;
         removed = tt;
         placed = numbered s batch.works;
+        named = named s batch.works valid_after.records;
         numbers = valid_after.next;
         replaced_rows = tt;
         placed_rows = All-weaker IsRecord FitsRow (placed_records s batch.works) (λ work is. is.fits)

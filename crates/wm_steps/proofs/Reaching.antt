@@ -1,29 +1,32 @@
 -- What is touched where a work comes to an end, and that the machine changes just that.
-use Rattle.std.proofs.Common.{◌≡◌, ℕ, ◌&&◌, ◌||◌, Bool, true, false, cond, eqb, List, [], ◌∷◌, Option, Some, None, refl, sym, ◌∙◌, ap, subst, inl, inr}
-use Rattle.std.specs.List.{AllByRecursion, list_all}
+use Rattle.std.proofs.Common.{◌≡◌, ℕ, ◌&&◌, ◌||◌, Bool, true, false, cond, eqb, List, [], ◌∷◌, Option, Some, None, refl, sym, ◌∙◌, ap, subst}
+use Rattle.std.specs.List.{AllByRecursion}
 use Rattle.std.specs.Prelude.{is_some, reverse}
-use Rattle.std.proofs.lemmas.Bool.{and_from, cases_Bool, cond_both, eq-eqb, eqb-false, eqb-true, ne_eqb, or_left, or_right}
+use Rattle.std.proofs.lemmas.Bool.{and_from, and_parts, cond_both, eq-eqb, eqb-false, eqb-true, ne_eqb}
 use Rattle.std.proofs.lemmas.List.{reverse-append}
 use Rattle.std.proofs.lemmas.List.Folds.{list_any-append}
 use Rattle.wm_collections.specs.Lists.{AllLater}
 use Rattle.wm_data.specs.declared.data.DataEntry.{DataEntry}
+use Rattle.wm_graph.specs.Marks.{freed_by}
 use Rattle.wm_machine.proofs.Descendants.{descendant_self}
 use Rattle.wm_machine.proofs.Endings.{closed_in, end_by, freed_in, not_started_by, success}
-use Rattle.wm_machine.proofs.Lists.{All-any, All-both, All-weaker, HasOne-weaker, list_any-same, one_gives}
-use Rattle.wm_machine.proofs.Runnings.{changed, changed_both, IsAlone, IsAlone-stored}
+use Rattle.wm_machine.proofs.Lists.{All-any, All-both, All-weaker, one_gives}
+use Rattle.wm_machine.proofs.Runnings.{changed, IsAlone, IsAlone-stored}
 use Rattle.wm_machine.specs.Closed.{closed, descendants, is_among, is_open, is_reached}
-use Rattle.wm_machine.specs.Ends.{ended_as, enqueued_again, not_started_as, retried, succeeded, with_output}
-use Rattle.wm_machine.specs.First.{all_met, has_succeeded, is_succeeded, is_waiting}
+use Rattle.wm_machine.specs.Ends.{ended_as, enqueued_again, is_freed, not_started_as, retried, succeeded, with_output}
+use Rattle.wm_machine.specs.First.{is_waiting}
 use Rattle.wm_machine.specs.Runs.{changed_work}
-use Rattle.wm_machine.specs.Valid.{HasOne, IsBefore}
+use Rattle.wm_machine.specs.Valid.{ArePriorSound, HasOne, IsBefore}
 use Rattle.wm_machine.specs.declared.event.End.{End}
 use Rattle.wm_machine.specs.declared.event.End.TheVariants.{Success, Failure, Retry}
 use Rattle.wm_machine.specs.declared.record.How.{How}
 use Rattle.wm_machine.specs.declared.record.How.TheVariants as how
 use Rattle.wm_machine.specs.declared.record.Record.{Record}
 use Rattle.wm_schedule.specs.declared.schedule.Period.{Period}
-use Rattle.wm_steps.proofs.ManyRows.{after_change, KeepsNumbers}
-use Rattle.wm_steps.specs.Reached.{change_by, end_reach, met_with, not_started_reach, or_same, reached_by, reached_from}
+use Rattle.wm_steps.proofs.ManyRows.{after_change}
+use Rattle.wm_steps.proofs.Nodes.{freed-nodes, open_not_succeeded, reached-nodes}
+use Rattle.wm_steps.specs.Nodes.{nodes_of, KeepsNode}
+use Rattle.wm_steps.specs.Reached.{change_by, end_reach, not_started_reach, or_same, reached_by, reached_from}
 use Rattle.wm_steps.specs.declared.reach.Reach.{Reach}
 use Rattle.wm_steps.specs.declared.reach.Reach.TheVariants as reach
 
@@ -34,32 +37,38 @@ or_same-cond : (test : Bool) (work new : Record) → or_same work (cond test (So
 or_same-cond true work new = refl
 or_same-cond false work new = refl
 
--- each keeps its number
-reached-number : (to : Reach) (works : List Record) (work : Record) → (or_same work (reached_by to works work)).seq ≡ work.seq
-reached-number reach.Stays works work = refl
-reached-number (reach.Closes way numbers) works work =
-    cond_both (is_open work.phase && is_among numbers work.seq) (Some (closed way work)) None (λ (o : Option Record). (or_same work o).seq ≡ work.seq)
-    (λ e. refl) (λ e. refl)
-reached-number (reach.Frees seq now) works work =
-    cond_both (is_waiting work.phase && (is_among work.prior seq && met_with works seq work)) (Some (record work { enqueued_at = now })) None
-    (λ (o : Option Record). (or_same work o).seq ≡ work.seq) (λ e. refl) (λ e. refl)
-
-pub change-numbers : (itself : Record) (to : Reach) (works : List Record) → KeepsNumbers (change_by itself to works)
-change-numbers itself to works work =
-    cond_both (eqb work.seq itself.seq) (Some itself) (reached_by to works work) (λ (o : Option Record). (or_same work o).seq ≡ work.seq)
-    (λ e. sym (eqb-true work.seq itself.seq e)) (λ e. reached-number to works work)
+-- each keeps its node, and what has succeeded stays so
+reached-keeps : (to : Reach) (work : Record) → KeepsNode work (or_same work (reached_by to work))
+reached-keeps reach.Stays work = record { seq = refl; prior = refl; succeeded = λ is. is }
+reached-keeps (reach.Closes way numbers) work =
+    cond_both (is_open work.phase && is_among numbers work.seq) (Some (closed way work)) None (λ (o : Option Record). KeepsNode work (or_same work o))
+    (λ e. record { seq = refl; prior = refl; succeeded = λ is. absurd (open_not_succeeded work.phase (and_parts _ _ e).0 is) })
+    (λ e. record { seq = refl; prior = refl; succeeded = λ is. is })
+reached-keeps (reach.Frees numbers now) work =
+    cond_both (is_waiting work.phase && is_among numbers work.seq) (Some (record work { enqueued_at = now })) None
+    (λ (o : Option Record). KeepsNode work (or_same work o)) (λ e. record { seq = refl; prior = refl; succeeded = λ is. is })
+    (λ e. record { seq = refl; prior = refl; succeeded = λ is. is })
 
 -- What holds of the record that is stored under a number, and of those of other numbers, holds of each. The record may have been changed.
 itself-or-other : (P : Record → Option Record → Type 0) (itself work : Record) (to : Reach) (works : List Record) → AllLater IsBefore works
     → HasOne (λ other. other ≡ work) works → itself.seq ≡ work.seq → P work (Some itself)
-    → AllByRecursion (λ w. (w.seq ≡ work.seq → ⊥) → P w (reached_by to works w)) works
-    → AllByRecursion (λ w. P w (change_by itself to works w)) works
+    → AllByRecursion (λ w. (w.seq ≡ work.seq → ⊥) → P w (reached_by to w)) works
+    → AllByRecursion (λ w. P w (change_by itself to w)) works
 itself-or-other P itself work to works order stored same here others =
-    All-weaker (λ w. IsAlone work w × ((w.seq ≡ work.seq → ⊥) → P w (reached_by to works w))) (λ w. P w (change_by itself to works w)) works
-    (λ w facts. cond_both (eqb w.seq itself.seq) (Some itself) (reached_by to works w) (P w)
+    All-weaker (λ w. IsAlone work w × ((w.seq ≡ work.seq → ⊥) → P w (reached_by to w))) (λ w. P w (change_by itself to w)) works
+    (λ w facts. cond_both (eqb w.seq itself.seq) (Some itself) (reached_by to w) (P w)
     (λ e. subst (λ w. P w (Some itself)) (sym (facts.0 (eqb-true w.seq itself.seq e ∙ same))) here)
     (λ e. facts.1 (λ also. eqb-false w.seq itself.seq e (also ∙ sym same))))
-    (All-both (IsAlone work) (λ w. (w.seq ≡ work.seq → ⊥) → P w (reached_by to works w)) works (IsAlone-stored work works order stored) others)
+    (All-both (IsAlone work) (λ w. (w.seq ≡ work.seq → ⊥) → P w (reached_by to w)) works (IsAlone-stored work works order stored) others)
+
+-- the work that comes to an end keeps its node, as all others do
+pub change-keeps : (itself work : Record) (to : Reach) (works : List Record) → AllLater IsBefore works → HasOne (λ other. other ≡ work) works
+    → is_open work.phase ≡ true → itself.seq ≡ work.seq → itself.prior ≡ work.prior
+    → AllByRecursion (λ w. KeepsNode w (after_change (change_by itself to) w)) works
+change-keeps itself work to works order stored unfinished same prior =
+    itself-or-other (λ w o. KeepsNode w (or_same w o)) itself work to works order stored same
+    (record { seq = same; prior = prior; succeeded = λ is. absurd (open_not_succeeded work.phase unfinished is) })
+    (All-any (λ w. (w.seq ≡ work.seq → ⊥) → KeepsNode w (or_same w (reached_by to w))) works (λ w differs. reached-keeps to w))
 
 -- a change of one record leaves those of other numbers
 changed-miss : (change : Record → Record) (seq : ℕ) (work : Record) → (work.seq ≡ seq → ⊥) → changed change seq work ≡ work
@@ -72,7 +81,7 @@ changed-hit change seq work same = ap (λ b. cond b (change work) work) (eq-eqb 
 
 pub stays-agree : (change : Record → Record) (itself work : Record) (works : List Record) → AllLater IsBefore works → HasOne (λ other. other ≡ work) works
     → itself.seq ≡ work.seq → itself ≡ change work
-    → AllByRecursion (λ w. after_change (change_by itself reach.Stays works) w ≡ changed change work.seq w) works
+    → AllByRecursion (λ w. after_change (change_by itself reach.Stays) w ≡ changed change work.seq w) works
 stays-agree change itself work works order stored same is =
     itself-or-other (λ w o. or_same w o ≡ changed change work.seq w) itself work reach.Stays works order stored same
     (is ∙ sym (changed-hit change work.seq work refl))
@@ -96,26 +105,22 @@ among-reverse (one ∷ numbers) number =
     ∙ or_swap (is_among numbers number) (eqb one number)
 
 -- those that are reached are the unfinished descendants
-pub reached-test : (seq : ℕ) (works : List Record) (work : Record)
-    → (is_open work.phase && is_among (reached_from seq works) work.seq) ≡ is_reached seq works work
+reached-test : (seq : ℕ) (works : List Record) (work : Record)
+    → (is_open work.phase && is_among (reached_from seq (nodes_of works)) work.seq) ≡ is_reached seq works work
 unfolding is_reached
-reached-test seq works work = ap (λ b. is_open work.phase && b) (among-reverse (descendants seq (reverse works)) work.seq)
+reached-test seq works work =
+    ap (λ numbers. is_open work.phase && is_among numbers work.seq) (reached-nodes seq works)
+    ∙ ap (λ b. is_open work.phase && b) (among-reverse (descendants seq (reverse works)) work.seq)
 
 closes-other : (way : How) (seq : ℕ) (works : List Record) (work : Record)
-    → or_same work (reached_by (reach.Closes way (reached_from seq works)) works work) ≡ closed_in way seq works work
+    → or_same work (reached_by (reach.Closes way (reached_from seq (nodes_of works))) work) ≡ closed_in way seq works work
 closes-other way seq works work =
-    or_same-cond (is_open work.phase && is_among (reached_from seq works) work.seq) work (closed way work)
+    or_same-cond (is_open work.phase && is_among (reached_from seq (nodes_of works)) work.seq) work (closed way work)
     ∙ ap (λ b. cond b (closed way work) work) (reached-test seq works work)
 
 -- what holds of each record holds of one that is there
 pub of_stored : (P : Record → Type 0) (work : Record) (works : List Record) → AllByRecursion P works → HasOne (λ other. other ≡ work) works → P work
 of_stored P work works all stored = one_gives P (λ other. other ≡ work) (P work) works (λ other p same. subst P same p) all stored
-
--- a record that is there has its number
-HasOne-number : (work : Record) (works : List Record) → HasOne (λ other. other ≡ work) works → HasOne (λ other. other.seq ≡ work.seq) works
-HasOne-number work works stored =
-    HasOne-weaker (λ other. Unit {0}) (λ other. other ≡ work) (λ other. other.seq ≡ work.seq) works (λ other u is. ap (λ (w : Record). w.seq) is)
-    (All-any (λ other. Unit {0}) works (λ other. tt)) stored
 
 -- an unfinished work reaches itself
 pub itself_reached : (work : Record) (works : List Record) → HasOne (λ other. other ≡ work) works → is_open work.phase ≡ true
@@ -130,13 +135,13 @@ itself_reached work works stored unfinished =
 pub closes-agree : (way : How) (then : Record → Record) (itself work : Record) (works : List Record) → AllLater IsBefore works
     → HasOne (λ other. other ≡ work) works → is_open work.phase ≡ true → itself.seq ≡ work.seq → itself ≡ then (closed way work)
     → ((other : Record) → (other.seq ≡ work.seq → ⊥) → then other ≡ other)
-    → AllByRecursion (λ w. after_change (change_by itself (reach.Closes way (reached_from work.seq works)) works) w
+    → AllByRecursion (λ w. after_change (change_by itself (reach.Closes way (reached_from work.seq (nodes_of works)))) w
     ≡ then (closed_in way work.seq works w)) works
 closes-agree way then itself work works order stored unfinished same is others =
-    let to = reach.Closes way (reached_from work.seq works) in
+    let to = reach.Closes way (reached_from work.seq (nodes_of works)) in
     itself-or-other (λ w o. or_same w o ≡ then (closed_in way work.seq works w)) itself work to works order stored same
     (is ∙ ap (λ b. then (cond b (closed way work) work)) (sym (itself_reached work works stored unfinished)))
-    (All-any (λ w. (w.seq ≡ work.seq → ⊥) → or_same w (reached_by to works w) ≡ then (closed_in way work.seq works w)) works
+    (All-any (λ w. (w.seq ≡ work.seq → ⊥) → or_same w (reached_by to w) ≡ then (closed_in way work.seq works w)) works
     (λ w differs.
     closes-other way work.seq works w
     ∙ sym (others (closed_in way work.seq works w)
@@ -149,92 +154,72 @@ is_some-cond false new = refl
 -- those that are touched are those that it reaches
 pub touched-closing : (way : How) (itself work : Record) (works : List Record) → AllLater IsBefore works → HasOne (λ other. other ≡ work) works
     → is_open work.phase ≡ true → itself.seq ≡ work.seq
-    → AllByRecursion (λ w. is_some (change_by itself (reach.Closes way (reached_from work.seq works)) works w) ≡ is_reached work.seq works w) works
+    → AllByRecursion (λ w. is_some (change_by itself (reach.Closes way (reached_from work.seq (nodes_of works))) w) ≡ is_reached work.seq works w) works
 touched-closing way itself work works order stored unfinished same =
-    let to = reach.Closes way (reached_from work.seq works) in
+    let to = reach.Closes way (reached_from work.seq (nodes_of works)) in
     itself-or-other (λ w o. is_some o ≡ is_reached work.seq works w) itself work to works order stored same
     (sym (itself_reached work works stored unfinished))
-    (All-any (λ w. (w.seq ≡ work.seq → ⊥) → is_some (reached_by to works w) ≡ is_reached work.seq works w) works
+    (All-any (λ w. (w.seq ≡ work.seq → ⊥) → is_some (reached_by to w) ≡ is_reached work.seq works w) works
     (λ w differs.
-    is_some-cond (is_open w.phase && is_among (reached_from work.seq works) w.seq) (closed way w) ∙ reached-test work.seq works w))
+    is_some-cond (is_open w.phase && is_among (reached_from work.seq (nodes_of works)) w.seq) (closed way w) ∙ reached-test work.seq works w))
 
 -- ---- a success
 
--- of the number of a work that has succeeded a record has
-succeeded-hit : (output : List DataEntry) (seq : ℕ) (works : List Record) → HasOne (λ other. other.seq ≡ seq) works
-    → has_succeeded (changed_work (succeeded output) seq works) seq ≡ true
-succeeded-hit output seq [] one = absurd one
-succeeded-hit output seq (work ∷ works) (inl is) =
-    let here = changed-hit (succeeded output) seq work is in
-    or_left _ _ (ap (λ (w : Record). eqb w.seq seq && is_succeeded w.phase) here ∙ and_from _ _ (eq-eqb work.seq seq is) refl)
-succeeded-hit output seq (work ∷ works) (inr one) = or_right _ _ (succeeded-hit output seq works one)
-
--- of other numbers just those have that had
-succeeded-miss : (output : List DataEntry) (seq number : ℕ) (works : List Record) → (number ≡ seq → ⊥)
-    → has_succeeded (changed_work (succeeded output) seq works) number ≡ has_succeeded works number
-succeeded-miss output seq number works differs =
-    list_any-same (λ w. eqb w.seq number && is_succeeded w.phase) (changed (succeeded output) seq) works
-    (λ w. changed_both (λ c. (eqb c.seq number && is_succeeded c.phase) ≡ (eqb w.seq number && is_succeeded w.phase)) (succeeded output) seq w
-    (λ same. let miss = ne_eqb w.seq number (λ e. absurd (differs (sym e ∙ same))) in rw miss refl) (λ other. refl))
-
-succeeded-now : (output : List DataEntry) (seq number : ℕ) (works : List Record) → HasOne (λ other. other.seq ≡ seq) works
-    → has_succeeded (changed_work (succeeded output) seq works) number ≡ (eqb number seq || has_succeeded works number)
-succeeded-now output seq number works one = elim (cases_Bool (eqb number seq)) [
-  | inl e ↦
-      let same = eqb-true number seq e in
-      ap (has_succeeded (changed_work (succeeded output) seq works)) same
-      ∙ succeeded-hit output seq works one ∙ ap (λ b. b || has_succeeded works number) (sym e)
-  | inr e ↦
-      succeeded-miss output seq number works (eqb-false number seq e) ∙ ap (λ b. b || has_succeeded works number) (sym e)
-]
-
-list_all-same : {T : Type 0} (test other : T → Bool) (xs : List T) → ((x : T) → test x ≡ other x) → list_all test xs ≡ list_all other xs
-list_all-same test other [] same = refl
-list_all-same test other (x ∷ xs) same = rw (same x, list_all-same test other xs same) refl
-
-met-now : (output : List DataEntry) (seq : ℕ) (works : List Record) (work : Record) → HasOne (λ other. other.seq ≡ seq) works
-    → all_met (changed_work (succeeded output) seq works) work ≡ met_with works seq work
-unfolding all_met
-met-now output seq works work one =
-    list_all-same (has_succeeded (changed_work (succeeded output) seq works)) (λ number. eqb number seq || has_succeeded works number) work.prior
-    (λ number. succeeded-now output seq number works one)
-
-frees-other : (now seq : ℕ) (output : List DataEntry) (works : List Record) (work : Record) → HasOne (λ other. other.seq ≡ seq) works
-    → (work.seq ≡ seq → ⊥) → or_same work (reached_by (reach.Frees seq now) works work) ≡ success now seq output works work
-frees-other now seq output works work one differs =
+frees-other : (now seq : ℕ) (output : List DataEntry) (works : List Record) (work : Record)
+    → (is_waiting work.phase && is_among (freed_by (nodes_of works) seq) work.seq) ≡ is_freed seq (changed_work (succeeded output) seq works) work
+    → (work.seq ≡ seq → ⊥) → or_same work (reached_by (reach.Frees (freed_by (nodes_of works) seq) now) work) ≡ success now seq output works work
+frees-other now seq output works work test differs =
     let then = changed_work (succeeded output) seq works in
     let free : Record = record work { enqueued_at = now } in
-    or_same-cond (is_waiting work.phase && (is_among work.prior seq && met_with works seq work)) work free
-    ∙ ap (λ b. cond (is_waiting work.phase && (is_among work.prior seq && b)) free work) (sym (met-now output seq works work one))
+    or_same-cond (is_waiting work.phase && is_among (freed_by (nodes_of works) seq) work.seq) work free
+    ∙ ap (λ b. cond b free work) test
     ∙ ap (freed_in now seq then) (sym (changed-miss (succeeded output) seq work differs))
 
-pub frees-agree : (now : ℕ) (output : List DataEntry) (work : Record) (works : List Record) → AllLater IsBefore works → HasOne (λ other. other ≡ work) works
-    → AllByRecursion (λ w. after_change (change_by (succeeded output work) (reach.Frees work.seq now) works) w ≡ success now work.seq output works w) works
-frees-agree now output work works order stored =
-    let to = reach.Frees work.seq now in
+pub frees-agree : (now : ℕ) (output : List DataEntry) (work : Record) (works : List Record) → AllLater IsBefore works
+    → AllByRecursion (λ w. ArePriorSound works w.phase w.prior) works → HasOne (λ other. other ≡ work) works
+    → AllByRecursion (λ w. after_change (change_by (succeeded output work) (reach.Frees (freed_by (nodes_of works) work.seq) now)) w
+    ≡ success now work.seq output works w) works
+frees-agree now output work works order sound stored =
+    let to = reach.Frees (freed_by (nodes_of works) work.seq) now in
     let then = changed_work (succeeded output) work.seq works in
-    let one = HasOne-number work works stored in
     itself-or-other (λ w o. or_same w o ≡ success now work.seq output works w) (succeeded output work) work to works order stored refl
     (ap (freed_in now work.seq then) (sym (changed-hit (succeeded output) work.seq work refl)))
-    (All-any (λ w. (w.seq ≡ work.seq → ⊥) → or_same w (reached_by to works w) ≡ success now work.seq output works w) works
-    (λ w differs. frees-other now work.seq output works w one differs))
+    (All-weaker (λ w. (is_waiting w.phase && is_among (freed_by (nodes_of works) work.seq) w.seq) ≡ is_freed work.seq then w)
+    (λ w. (w.seq ≡ work.seq → ⊥) → or_same w (reached_by to w) ≡ success now work.seq output works w) works
+    (λ w test differs. frees-other now work.seq output works w test differs) (freed-nodes work.seq output works order sound))
 
 -- ---- the ends
 
+-- the work of a run that ends keeps its number and its prerequisites
+pub ended-same : (period : Option Period) (now : ℕ) (end : End) (work : Record)
+    → ((ended_as period now end work).seq ≡ work.seq) × ((ended_as period now end work).prior ≡ work.prior)
+ended-same None now Retry work = (refl, refl)
+ended-same None now (Success output) work = (refl, refl)
+ended-same None now (Failure output) work = (refl, refl)
+ended-same (Some period) now Retry work = (refl, refl)
+ended-same (Some period) now (Success output) work = (refl, refl)
+ended-same (Some period) now (Failure output) work = (refl, refl)
+
+-- and so does one that can't start
+pub not_started-same : (period : Option Period) (now : ℕ) (work : Record)
+    → ((not_started_as period now work).seq ≡ work.seq) × ((not_started_as period now work).prior ≡ work.prior)
+not_started-same None now work = (refl, refl)
+not_started-same (Some period) now work = (refl, refl)
+
 -- the end of a run changes just what is touched
 pub end-agree : (period : Option Period) (now : ℕ) (end : End) (work : Record) (works : List Record) → AllLater IsBefore works
-    → HasOne (λ other. other ≡ work) works → is_open work.phase ≡ true
-    → AllByRecursion (λ w. after_change (change_by (ended_as period now end work) (end_reach period now work.seq end works) works) w
+    → AllByRecursion (λ w. ArePriorSound works w.phase w.prior) works → HasOne (λ other. other ≡ work) works → is_open work.phase ≡ true
+    → AllByRecursion (λ w. after_change (change_by (ended_as period now end work) (end_reach period now work.seq end (nodes_of works))) w
     ≡ end_by now work.seq period end works w) works
-end-agree None now Retry work works order stored unfinished = stays-agree (retried now) (retried now work) work works order stored refl refl
-end-agree (Some period) now Retry work works order stored unfinished =
+end-agree None now Retry work works order sound stored unfinished = stays-agree (retried now) (retried now work) work works order stored refl refl
+end-agree (Some period) now Retry work works order sound stored unfinished =
     stays-agree (retried now) (retried now work) work works order stored refl refl
-end-agree (Some period) now (Success output) work works order stored unfinished =
+end-agree (Some period) now (Success output) work works order sound stored unfinished =
     stays-agree (enqueued_again now) (enqueued_again now work) work works order stored refl refl
-end-agree (Some period) now (Failure output) work works order stored unfinished =
+end-agree (Some period) now (Failure output) work works order sound stored unfinished =
     stays-agree (enqueued_again now) (enqueued_again now work) work works order stored refl refl
-end-agree None now (Success output) work works order stored unfinished = frees-agree now output work works order stored
-end-agree None now (Failure output) work works order stored unfinished =
+end-agree None now (Success output) work works order sound stored unfinished = frees-agree now output work works order sound stored
+end-agree None now (Failure output) work works order sound stored unfinished =
     closes-agree how.Failed (changed (with_output output) work.seq) (with_output output (closed how.Failed work)) work works order stored unfinished refl
     (sym (changed-hit (with_output output) work.seq (closed how.Failed work) refl))
     (λ other differs. changed-miss (with_output output) work.seq other differs)
@@ -242,7 +227,7 @@ end-agree None now (Failure output) work works order stored unfinished =
 -- and so does a failed start
 pub no_start-agree : (period : Option Period) (now : ℕ) (work : Record) (works : List Record) → AllLater IsBefore works
     → HasOne (λ other. other ≡ work) works → is_open work.phase ≡ true
-    → AllByRecursion (λ w. after_change (change_by (not_started_as period now work) (not_started_reach period work.seq works) works) w
+    → AllByRecursion (λ w. after_change (change_by (not_started_as period now work) (not_started_reach period work.seq (nodes_of works))) w
     ≡ not_started_by now work.seq period works w) works
 no_start-agree None now work works order stored unfinished =
     closes-agree how.Failed (λ w. w) (closed how.Failed work) work works order stored unfinished refl refl (λ other differs. refl)

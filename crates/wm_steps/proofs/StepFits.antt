@@ -1,5 +1,6 @@
 -- A change of one record fits the state, and is that of the step of its event.
-use Rattle.std.proofs.Common.{◌≡◌, ℕ, ◌+◌, List, [], ◌++◌, set, slice_get, Some, option_map, sym, ◌∙◌, ap, arith}
+use Rattle.std.proofs.Common.{◌≡◌, ℕ, ◌+◌, List, [], ◌++◌, set, slice_get, Option, Some, option_map, sym, ◌∙◌, ap, subst, arith}
+use Rattle.std.specs.Prelude.{IsSomeAnd}
 use Rattle.std.proofs.lemmas.List.{append-nil}
 use Rattle.std.proofs.lemmas.Option.{slice_get-map}
 use Rattle.wm_keeper.specs.declared.row.Row.{Row}
@@ -12,18 +13,19 @@ use Rattle.wm_machine.specs.declared.event.Event.{Event}
 use Rattle.wm_machine.specs.declared.record.Record.{Record}
 use Rattle.wm_machine.specs.declared.state.State.{State}
 use Rattle.wm_steps.proofs.Lookups.{changed_work-at}
+use Rattle.wm_steps.specs.Nodes.{KeepsNode}
 use Rattle.wm_steps.specs.StepChanges.{changed_state, replacing, turning, Fits, IsStepOf}
 use Rattle.wm_steps.specs.declared.change.RunChange.{RunChange}
 
--- one record that is replaced by one of its number
-Fits-replacing : (s : State) (i : ℕ) (work new : Record) (run : RunChange) (e : Event) → Valid s → slice_get s.works i ≡ Some work → new.seq ≡ work.seq
-    → IsRecord new → Fits s (replacing i new run e)
+-- one record that is replaced by one that keeps its node
+Fits-replacing : (s : State) (i : ℕ) (work new : Record) (run : RunChange) (e : Event) → Valid s → slice_get s.works i ≡ Some work
+    → KeepsNode work new → IsRecord new → Fits s (replacing i new run e)
 Fits-replacing s i work new run e valid at keeps is = record {
   told = tt;
-  replaced =
-      (slice_get-map (λ (w : Record). w.seq) s.works i ∙ ap (option_map (λ (w : Record). w.seq)) at ∙ ap (λ number. Some number) (sym keeps), tt);
+  replaced = (subst (λ (o : Option Record). IsSomeAnd o (λ old. KeepsNode old new)) (sym at) keeps, tt);
   removed = tt;
   placed = tt;
+  named = tt;
   numbers = omega (arith, valid.next);
   replaced_rows = (is.fits, tt);
   placed_rows = tt;
@@ -38,6 +40,7 @@ Fits-turning s i work new run e valid at keeps = record {
   replaced = tt;
   removed = tt;
   placed = tt;
+  named = tt;
   numbers = omega (arith, valid.next);
   replaced_rows = tt;
   placed_rows = tt;
@@ -60,7 +63,7 @@ state-replacing s t i work change valid at =
 
 -- a legal event that changes one record, and what its change says of the runs, is made by the change that replaces it
 pub replacing-step : (s t : State) (i : ℕ) (work : Record) (change : Record → Record) (run : RunChange) (e : Event) → Valid s
-    → slice_get s.works i ≡ Some work → (change work).seq ≡ work.seq → IsRecord (change work) → Legal s e
+    → slice_get s.works i ≡ Some work → KeepsNode work (change work) → IsRecord (change work) → Legal s e
     → changed_state (replacing i (change work) run e) s ≡ record t { works = set s.works i (change work) ++ []; next = t.next + 0 }
     → after s e ≡ record t { works = changed_work change work.seq s.works } → IsStepOf s (replacing i (change work) run e)
 replacing-step s t i work change run e valid at keeps fine legal made then = record {

@@ -1,4 +1,5 @@
 pub mod Builds
+pub mod Nodes
 pub mod Placed
 pub mod Reached
 pub mod Reports

@@ -1,5 +1,5 @@
 -- What the change of a step makes of a state and of the rows held, and when it fits a state. This project's own choice.
-use Rattle.std.specs.Prelude.{◌≡◌, ℕ, ◌+◌, ◌^◌, ◌==◌, ◌≤◌, pos, true, false, not, List, [], ◌∷◌, ◌++◌, length, map, filter, slice_get, slice_set, Some}
+use Rattle.std.specs.Prelude.{◌≡◌, ℕ, ◌+◌, ◌^◌, ◌==◌, ◌≤◌, pos, true, false, not, List, [], ◌∷◌, ◌++◌, length, map, filter, slice_get, slice_set, Some, IsSomeAnd}
 use Rattle.std.specs.List.{AllByRecursion}
 use Rattle.wm_conditions.specs.declared.conditions.Conditions.{Conditions}
 use Rattle.wm_keeper.specs.Keeper.{AreOfDifferentNumbers}
@@ -16,6 +16,7 @@ use Rattle.wm_machine.specs.declared.record.Record.{Record}
 use Rattle.wm_machine.specs.declared.state.Instance.{Instance}
 use Rattle.wm_machine.specs.declared.state.Run.{Run}
 use Rattle.wm_machine.specs.declared.state.State.{State}
+use Rattle.wm_steps.specs.Nodes.{AreThere, KeepsNode}
 use Rattle.wm_steps.specs.declared.change.Replacement.{Replacement}
 use Rattle.wm_steps.specs.declared.change.RunChange.{RunChange}
 use Rattle.wm_steps.specs.declared.change.RunChange.TheVariants.{Unchanged, Begin, Turn, End}
@@ -101,9 +102,9 @@ row_changes change = map put_replaced change.replaced ++ map remove_numbered cha
 abbrev pub seqs_of : List Record → List ℕ
 seqs_of works = map (λ work. work.seq) works
 
--- a record takes the place of one of its number
-abbrev pub KeepsNumber : List Record → Replacement → Type 0
-KeepsNumber works replaced = slice_get (seqs_of works) replaced.index ≡ Some replaced.work.seq
+-- a record takes the place of one whose node it keeps
+abbrev pub KeepsPlace : List Record → Replacement → Type 0
+KeepsPlace works replaced = IsSomeAnd (slice_get works replaced.index) (λ old. KeepsNode old replaced.work)
 
 -- and one of its row
 abbrev pub KeepsRow : List Record → Replacement → Type 0
@@ -114,12 +115,18 @@ abbrev pub HaveNextNumbers : ℕ → List Record → Type 0
 HaveNextNumbers next [] = Unit {0}
 HaveNextNumbers next (work ∷ works) = (work.seq ≡ next) × HaveNextNumbers (next + 1) works
 
+-- the prerequisites of new records are different records that stand before them, at most 100 of each
+abbrev pub NameEarlier : List Record → List Record → Type 0
+NameEarlier works [] = Unit {0}
+NameEarlier works (work ∷ placed) = AreThere works work.prior × NameEarlier (works ++ work ∷ []) placed
+
 pub record Fits (s : State) (change : StepChange) : Type 0 where
   pub told : AllByRecursion (KeepsRow s.works) change.told
-  pub replaced : AllByRecursion (KeepsNumber s.works) change.replaced
+  pub replaced : AllByRecursion (KeepsPlace s.works) change.replaced
   -- the records removed are there
   pub removed : AllByRecursion (λ number. HasOne (λ work. work.seq ≡ number) s.works) change.removed
   pub placed : HaveNextNumbers s.next change.placed
+  pub named : NameEarlier s.works change.placed
   pub numbers : s.next + length change.placed ≤ 2 ^ 53
   pub replaced_rows : AllByRecursion (λ replaced. FitsRow replaced.work) change.replaced
   pub placed_rows : AllByRecursion FitsRow change.placed

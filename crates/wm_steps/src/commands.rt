@@ -4,6 +4,7 @@ ghost use Rattle.std.specs.Prelude.{◌≡◌, [], IfOk};
 ghost use Rattle.wm_machine.specs.Outcome.{IsBuilt};
 ghost use Rattle.wm_machine.specs.Valid.{Valid};
 ghost use Rattle.wm_steps.specs.Builds.{answering, setting_by, IsExecuted};
+ghost use Rattle.wm_steps.specs.Nodes.{nodes_of};
 
 mod cancel;
 mod conditions;
@@ -16,6 +17,7 @@ mod query;
 use crate::change::{SettingChange, StepChange};
 use crate::joins::copied;
 use std::alloc::{AllocError, Global};
+use wm_graph::Graph;
 use wm_machine::{Command, Event, Reply, State};
 
 /// The change of a command's step, and its reply.
@@ -70,21 +72,23 @@ impl Executed {
     }
 }
 
-/// What the command of a line comes to in a state.
+/// What the command of a line comes to in a state, of whose records this is the graph.
 pub fn execute(
     alloc: Global,
     state: &State,
+    graph: &Graph,
     line: u32,
     command: Command,
 ) -> Result<Executed, AllocError>
     requires valid { Valid state.now }
     requires no_run { state.now.runs ≡ [] }
+    requires nodes { graph.now ≡ nodes_of state.now.works }
     requires built { IsBuilt command }
     ensures { IfOk result (IsExecuted state.entry.now line command) }
 {
     match command {
         Command::Enqueue { named: None, batch } => enqueue::execute(alloc, state, line, batch),
-        Command::Cancel(target) => cancel::execute(alloc, state, line, target),
+        Command::Cancel(target) => cancel::execute(alloc, state, graph, line, target),
         Command::Moment(at) => moment::execute(alloc, state, line, at),
         Command::Conditions(conditions) => conditions::execute(alloc, state, line, conditions),
         Command::Query(query) => query::execute(alloc, state, line, query),

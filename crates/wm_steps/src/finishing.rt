@@ -1,10 +1,10 @@
 //! How a run ends by the report of its worker.
 ghost use Rattle.std.specs.Prelude.{◌≡◌, true, false, IfOk, IsSome};
-ghost use Rattle.wm_collections.specs.Lists.{AllLater};
 ghost use Rattle.wm_machine.specs.Ends.{retried};
 ghost use Rattle.wm_machine.specs.Narrow.{IsNarrow};
-ghost use Rattle.wm_machine.specs.Valid.{IsBefore, Valid};
+ghost use Rattle.wm_machine.specs.Valid.{Valid};
 ghost use Rattle.wm_steps.specs.Builds.{over, IsEndOf, IsFinish};
+ghost use Rattle.wm_steps.specs.Nodes.{nodes_of, IsUnmarked};
 ghost use Rattle.wm_steps.specs.Reached.{replaced_by, replaced_by_end};
 ghost use Rattle.wm_steps.specs.StepChanges.{replacing_all};
 ghost use Rattle.wm_steps.specs.Reports.{goes_on, CountsIn};
@@ -16,6 +16,7 @@ use crate::reach::{Reach, end_reach, replaced_by};
 use crate::reports::{run_of, work_index};
 use std::alloc::{AllocError, Global};
 use wm_collections::{Items, Replica};
+use wm_graph::Graph;
 use wm_lifecycle::{ended, timed_out};
 use wm_machine::{End, Event, Record, Run, State};
 use wm_worker::{Answer, Told};
@@ -29,9 +30,16 @@ pub struct Ending {
 }
 
 /// The end of the run of this number, for which the report counts, and which doesn't go on.
-pub fn finish(alloc: Global, state: &State, number: u64, told: &Told) -> Result<Ending, AllocError>
+pub fn finish(
+    alloc: Global,
+    state: &State,
+    graph: &Graph,
+    number: u64,
+    told: &Told,
+) -> Result<Ending, AllocError>
     requires valid { Valid state.now }
     requires narrow { IsNarrow state.now }
+    requires nodes { graph.now ≡ nodes_of state.now.works }
     requires counts { CountsIn state.now number told.now }
     requires over { goes_on told.now ≡ false }
     ensures { IfOk result (λ ending.
@@ -45,7 +53,7 @@ pub fn finish(alloc: Global, state: &State, number: u64, told: &Told) -> Result<
     };
     let work = at(state.works.as_slice(), index);
     match end_of(alloc, told.answer())? {
-        Some(end) => finish_by(alloc, state, work, run, end),
+        Some(end) => finish_by(alloc, state, graph, work, run, end),
         None => time_out(alloc, state, work, run),
     }
 }
@@ -68,17 +76,19 @@ fn end_of(alloc: Global, answer: &Answer) -> Result<Option<End>, AllocError>
 fn finish_by(
     alloc: Global,
     state: &State,
+    graph: &Graph,
     work: &Record,
     run: &Run,
     end: End,
 ) -> Result<Ending, AllocError>
-    requires { AllLater IsBefore state.now.works }
+    requires nodes { graph.now ≡ nodes_of state.now.works }
+    requires unmarked { IsUnmarked graph.now work.now.seq }
     ensures { IfOk result (λ ending. ending ≡ record {
       change = replacing_all (replaced_by_end state.entry.now work.entry.now end) (over run.entry.now) (Event.Finish run.entry.now.run end);
       timed_out = false;
     }) }
 {
-    let replaced = replaced_by_end(alloc, state, work, &end);
+    let replaced = replaced_by_end(alloc, state, graph, work, &end);
     let (end, replaced) = with(end, replaced)?;
     let event = Event::Finish { run: run.run, end };
     Ok(Ending {
@@ -91,21 +101,22 @@ fn finish_by(
 fn replaced_by_end(
     alloc: Global,
     state: &State,
+    graph: &Graph,
     work: &Record,
     end: &End,
 ) -> Result<Items<Replacement>, AllocError>
-    requires { AllLater IsBefore state.now.works }
+    requires nodes { graph.now ≡ nodes_of state.now.works }
+    requires unmarked { IsUnmarked graph.now work.now.seq }
     ensures { IfOk result (λ replaced. replaced
         ≡ replaced_by_end state.entry.now work.entry.now end.now) }
 {
     let itself = ended(alloc, work, end, state.now)?;
-    let (itself, reach) = with(itself, end_reach(alloc, state, work, end))?;
+    let (itself, reach) = with(itself, end_reach(graph, state, work, end))?;
     replaced_by(alloc, &itself, &reach, state.works.as_slice())
 }
 
 /// The end of a run of a work that has no turn left.
 fn time_out(alloc: Global, state: &State, work: &Record, run: &Run) -> Result<Ending, AllocError>
-    requires { AllLater IsBefore state.now.works }
     ensures { IfOk result (λ ending. ending ≡ record {
       change = replacing_all (replaced_by (retried state.entry.now.now work.entry.now) Reach.Stays state.entry.now.works)
           (over run.entry.now) (Event.TimedOut run.entry.now.run);

@@ -1,6 +1,7 @@
 //! How the work that is first starts: its run begins, or it can't start.
 ghost use Rattle.std.specs.Prelude.{◌≡◌, ◌∷◌, Err, Ok, Some, None, IfOk, MatchOption};
 ghost use Rattle.wm_collections.specs.Lists.{AllLater};
+ghost use Rattle.wm_graph.specs.Nodes.{HasNode};
 ghost use Rattle.wm_machine.specs.First.{first_of, idle_instance};
 ghost use Rattle.wm_machine.specs.Input.{cause_in, input_of, outputs_for};
 ghost use Rattle.wm_machine.specs.Narrow.{IsNarrow};
@@ -8,6 +9,7 @@ ghost use Rattle.wm_machine.specs.Runs.{one_attempt_more, run_on, start_refusal}
 ghost use Rattle.wm_machine.specs.Valid.{IsBefore, Valid};
 ghost use Rattle.wm_merge.specs.Merged.{merged};
 ghost use Rattle.wm_steps.specs.Builds.{IsClaiming, IsFirstAt, IsTaken};
+ghost use Rattle.wm_steps.specs.Nodes.{nodes_of};
 ghost use Rattle.wm_steps.specs.Reached.{replaced_by_no_start};
 
 use crate::change::{Replacement, RunChange, StepChange};
@@ -16,6 +18,7 @@ use crate::reach::{not_started_reach, replaced_by};
 use std::alloc::{AllocError, Global};
 use wm_collections::{Items, Replica};
 use wm_data::Data;
+use wm_graph::Graph;
 use wm_lifecycle::{not_started, started};
 use wm_machine::{Cause, Event, Instance, Record, Run, State};
 use wm_merge::{MergeFault, merge};
@@ -38,9 +41,14 @@ pub struct Claiming {
 }
 
 /// The start of the work that is first; none where nothing is startable.
-pub fn claim_first(alloc: Global, state: &State) -> Result<Option<Claiming>, AllocError>
+pub fn claim_first(
+    alloc: Global,
+    state: &State,
+    graph: &Graph,
+) -> Result<Option<Claiming>, AllocError>
     requires valid { Valid state.now }
     requires narrow { IsNarrow state.now }
+    requires nodes { graph.now ≡ nodes_of state.now.works }
     ensures { IfOk result (λ found. MatchOption found (first_of state.entry.now ≡ None) (IsClaiming state.entry.now)) }
 {
     let Some(index) = first_index(state) else {
@@ -48,8 +56,8 @@ pub fn claim_first(alloc: Global, state: &State) -> Result<Option<Claiming>, All
     };
     let work = at(state.works.as_slice(), index);
     match idle_in(state.instances.as_slice(), work.request.class().as_str()) {
-        Some(idle) => Ok(Some(start_merged(alloc, state, index, work, idle)?)),
-        None => Ok(Some(fail(alloc, state, work, Cause::NoWorker)?)),
+        Some(idle) => Ok(Some(start_merged(alloc, state, graph, index, work, idle)?)),
+        None => Ok(Some(fail(alloc, state, graph, work, Cause::NoWorker)?)),
     }
 }
 
@@ -57,19 +65,21 @@ pub fn claim_first(alloc: Global, state: &State) -> Result<Option<Claiming>, All
 fn start_merged(
     alloc: Global,
     state: &State,
+    graph: &Graph,
     index: usize,
     work: &Record,
     idle: &Instance,
 ) -> Result<Claiming, AllocError>
     requires valid { Valid state.now }
     requires narrow { IsNarrow state.now }
+    requires nodes { graph.now ≡ nodes_of state.now.works }
     requires first { IsFirstAt state.now index work.now }
     requires idle { idle_instance state.now.instances work.now.request.class ≡ Some idle.now }
     ensures { IfOk result (IsClaiming state.entry.now) }
 {
     match taken_by(alloc, state, work)? {
         Ok(input) => start(alloc, state, index, work, idle, input),
-        Err(cause) => fail(alloc, state, work, cause),
+        Err(cause) => fail(alloc, state, graph, work, cause),
     }
 }
 
@@ -99,14 +109,21 @@ fn start(
 }
 
 /// The failure of a work that can't start for this cause.
-fn fail(alloc: Global, state: &State, work: &Record, cause: Cause) -> Result<Claiming, AllocError>
+fn fail(
+    alloc: Global,
+    state: &State,
+    graph: &Graph,
+    work: &Record,
+    cause: Cause,
+) -> Result<Claiming, AllocError>
     requires valid { Valid state.now }
     requires narrow { IsNarrow state.now }
+    requires nodes { graph.now ≡ nodes_of state.now.works }
     requires first { first_of state.now ≡ Some work.now }
     requires refused { start_refusal state.now work.now ≡ Some cause }
     ensures { IfOk result (IsClaiming state.entry.now) }
 {
-    let (cause, replaced) = with(cause, replaced_by_no_start(alloc, state, work))?;
+    let (cause, replaced) = with(cause, replaced_by_no_start(alloc, state, graph, work))?;
     let (cause, logged, replaced) = copied(alloc, cause, replaced)?;
     let event = Event::StartFailed {
         seq: work.seq,
@@ -124,16 +141,17 @@ fn fail(alloc: Global, state: &State, work: &Record, cause: Cause) -> Result<Cla
 fn replaced_by_no_start(
     alloc: Global,
     state: &State,
+    graph: &Graph,
     work: &Record,
 ) -> Result<Items<Replacement>, AllocError>
-    requires { AllLater IsBefore state.now.works }
+    requires nodes { graph.now ≡ nodes_of state.now.works }
+    requires there { HasNode graph.now work.now.seq }
     ensures { IfOk result (λ replaced. replaced
         ≡ replaced_by_no_start state.entry.now work.entry.now) }
 {
-    let works = state.works.as_slice();
     let itself = not_started(alloc, work, state.now)?;
-    let (itself, reach) = with(itself, not_started_reach(alloc, works, work))?;
-    replaced_by(alloc, &itself, &reach, works)
+    let (itself, reach) = with(itself, not_started_reach(graph, work))?;
+    replaced_by(alloc, &itself, &reach, state.works.as_slice())
 }
 
 /// What a run of a work takes, or why it takes nothing: of periodic work its own input, and of

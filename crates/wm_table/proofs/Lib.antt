@@ -1,2 +1,3 @@
+pub mod StepNodes
 pub mod StepRows
 pub mod TableSteps

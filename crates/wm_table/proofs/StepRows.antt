@@ -16,7 +16,7 @@ use Rattle.wm_machine.specs.Rows.{row_of, rows_of}
 use Rattle.wm_machine.specs.Valid.{HasOne, IsValidRun, Valid}
 use Rattle.wm_machine.specs.declared.record.Record.{Record}
 use Rattle.wm_machine.specs.declared.state.State.{State}
-use Rattle.wm_steps.specs.StepChanges.{changed_state, next_run_by, other_works, put_replaced, put_work, remove_numbered, row_changes, seqs_of, with_replaced, without, HaveNextNumbers, Fits, IsStepOf, KeepsNumber, KeepsRow}
+use Rattle.wm_steps.specs.StepChanges.{changed_state, next_run_by, other_works, put_replaced, put_work, remove_numbered, row_changes, seqs_of, with_replaced, without, HaveNextNumbers, Fits, IsStepOf, KeepsPlace, KeepsRow}
 use Rattle.wm_table.specs.Table.{HoldsRowsOf, IsOneStep}
 use Rattle.wm_table.specs.TableState.{TableState}
 use Rattle.wm_steps.specs.declared.change.Replacement.{Replacement}
@@ -25,6 +25,19 @@ use Rattle.wm_steps.specs.declared.change.StepChange.{StepChange}
 
 -- ---- a record that takes the place of one of its number
 
+abbrev KeepsNumber : List Record → Replacement → Type 0
+KeepsNumber works replaced = slice_get (seqs_of works) replaced.index ≡ Some replaced.work.seq
+
+number-of_place : (works : List Record) (i : ℕ) (new : Record) → KeepsPlace works (record { index = i; work = new })
+    → slice_get (seqs_of works) i ≡ Some new.seq
+number-of_place [] i new keeps = absurd keeps
+number-of_place (work ∷ works) zero new keeps = ap (λ (n : ℕ). Some n) (sym keeps.seq)
+number-of_place (work ∷ works) (suc i) new keeps = number-of_place works i new keeps
+
+-- one that keeps a node has its number
+pub keeps_number : (works : List Record) (replaced : Replacement) → KeepsPlace works replaced → KeepsNumber works replaced
+keeps_number works replaced keeps = number-of_place works replaced.index replaced.work keeps
+
 -- what holds of each number holds of the one at an index
 All-seq : (P : ℕ → Type 0) (works : List Record) (i number : ℕ) → AllByRecursion (λ work. P work.seq) works → slice_get (seqs_of works) i ≡ Some number
     → P number
@@ -32,7 +45,7 @@ All-seq P [] i number all is = absurd (none-some number is)
 All-seq P (work ∷ works) zero number all is = subst P (same_Some work.seq number is) all.0
 All-seq P (work ∷ works) (suc i) number all is = All-seq P works i number all.1 is
 
-seqs-set : (works : List Record) (i : ℕ) (new : Record) → slice_get (seqs_of works) i ≡ Some new.seq → seqs_of (set works i new) ≡ seqs_of works
+pub seqs-set : (works : List Record) (i : ℕ) (new : Record) → slice_get (seqs_of works) i ≡ Some new.seq → seqs_of (set works i new) ≡ seqs_of works
 seqs-set [] i new is = refl
 seqs-set (work ∷ works) zero new is = ap (λ number. number ∷ seqs_of works) (sym (same_Some work.seq new.seq is))
 seqs-set (work ∷ works) (suc i) new is = ap (λ rest. work.seq ∷ rest) (seqs-set works i new is)
@@ -43,7 +56,7 @@ All-set P [] i new is all = tt
 All-set P (work ∷ works) zero new is all = (subst P (same_Some work.seq new.seq is) all.0, all.1)
 All-set P (work ∷ works) (suc i) new is all = (all.0, All-set P works i new is all.1)
 
-WorksAscend-set : (works : List Record) (i : ℕ) (new : Record) → slice_get (seqs_of works) i ≡ Some new.seq → WorksAscend works
+pub WorksAscend-set : (works : List Record) (i : ℕ) (new : Record) → slice_get (seqs_of works) i ≡ Some new.seq → WorksAscend works
     → WorksAscend (set works i new)
 WorksAscend-set [] i new is ascend = tt
 WorksAscend-set (work ∷ works) zero new is ascend =
@@ -128,7 +141,7 @@ All-kept : (P : Record → Type 0) (keep : Record → Bool) (works : List Record
 All-kept P keep works all = All-filter P keep works (All-weaker P (λ work. keep work ≡ true → P work) works (λ work is e. is) all)
 
 -- records above a number stay
-other_works-above : (number : ℕ) (works : List Record) → AllByRecursion (λ later. number < later.seq) works → other_works number works ≡ works
+pub other_works-above : (number : ℕ) (works : List Record) → AllByRecursion (λ later. number < later.seq) works → other_works number works ≡ works
 other_works-above number [] above = refl
 other_works-above number (work ∷ works) above =
     let other = ne_eqb work.seq number (λ e. absurd (omega (arith, above.0))) in
@@ -193,7 +206,9 @@ rows-changed s change valid fits =
     let placed = map put_work change.placed in
     let works = with_replaced change.told s.works in
     let told = rows-told s.next change.told s.works fits.told (WorksAscend-in_order s.works valid.in_order, valid.numbers) in
-    let keep = subst (λ numbers. AllByRecursion (λ r. slice_get numbers r.index ≡ Some r.work.seq) change.replaced) (sym told.numbers) fits.replaced in
+    let keep =
+    subst (λ numbers. AllByRecursion (λ r. slice_get numbers r.index ≡ Some r.work.seq) change.replaced) (sym told.numbers)
+    (All-weaker (KeepsPlace s.works) (KeepsNumber s.works) change.replaced (keeps_number s.works) fits.replaced) in
     let replaced = rows-replaced s.next change.replaced works keep told.below in
     let left = rows-removed s.next change.removed (with_replaced change.replaced works) replaced.1 in
     changed-append (puts ++ removes) placed (rows_of s)
@@ -245,11 +260,11 @@ removed_fit s change valid fits =
     fits.removed
 
 -- the records that are replaced are there
-pub replaced_within : (works : List Record) (replaced : List Replacement) → AllByRecursion (KeepsNumber works) replaced
+pub replaced_within : (works : List Record) (replaced : List Replacement) → AllByRecursion (KeepsPlace works) replaced
     → AllByRecursion (λ r. r.index < length works) replaced
 replaced_within works replaced keep =
-    All-weaker (KeepsNumber works) (λ r. r.index < length works) replaced (λ r is.
-    omega (arith, slice_get_within (seqs_of works) r.index r.work.seq is, length-map works (λ (work : Record). work.seq))) keep
+    All-weaker (KeepsPlace works) (λ r. r.index < length works) replaced (λ r is.
+    omega (arith, slice_get_within (seqs_of works) r.index r.work.seq (keeps_number works r is), length-map works (λ (work : Record). work.seq))) keep
 
 -- and so are those that tell something
 pub told_within : (works : List Record) (told : List Replacement) → AllByRecursion (KeepsRow works) told

@@ -3,6 +3,7 @@ use Rattle.std.proofs.Common.{◌≡◌, ℕ, zero, suc, ◌+◌, ◌-◌, ◌<�
 use Rattle.std.specs.Prelude.{◌↔◌, is_some, IfSome, IsTrue, MatchOption}
 use Rattle.std.proofs.lemmas.Bool.{true≢false}
 use Rattle.std.proofs.lemmas.Option.{none-some}
+use Rattle.wm_graph.specs.Nodes.{NodeFields}
 use Rattle.wm_keeper.specs.declared.row.Row.{Row}
 use Rattle.wm_machine.proofs.Lists.{All-weaker}
 use Rattle.wm_machine.proofs.Logs.{Replay-push}
@@ -16,6 +17,7 @@ use Rattle.wm_machine.specs.Valid.{IsOutForRun, Valid}
 use Rattle.wm_machine.specs.declared.event.Event.{Event}
 use Rattle.wm_machine.specs.declared.state.Instance.{Instance}
 use Rattle.wm_machine.specs.declared.state.State.{State}
+use Rattle.wm_steps.specs.Nodes.{nodes_of}
 use Rattle.wm_table.specs.Table.{last_of, AreFresh, HoldsRowsOf, IsFresh, IsOneStep, TableInvariant, IsUntouched}
 use Rattle.wm_table.specs.TableState.{TableState}
 
@@ -70,26 +72,27 @@ holds_none None none = refl
 holds_none (Some rows) none = ap (λ (rs : List Row). Some rs) (sym none)
 
 -- what a table keeps when it begins
-pub kept-opening : (instances : List Instance) (rows : List Row) (held : Option (List Row)) (first s : State) (log : List Event) → AreFresh instances
-    → IfSome held (λ stored. rows ≡ stored) → rows ≡ [] → first ≡ opening_state [] instances → s ≡ opening_state [] instances → log ≡ []
-    → TableInvariant first s log held
-kept-opening instances rows held first s log fresh told none first_is s_is log_is =
+pub kept-opening : (instances : List Instance) (rows : List Row) (held : Option (List Row)) (first s : State) (graph : List NodeFields) (log : List Event) → AreFresh instances
+    → IfSome held (λ stored. rows ≡ stored) → rows ≡ [] → first ≡ opening_state [] instances → s ≡ opening_state [] instances → graph ≡ []
+    → log ≡ [] → TableInvariant first s graph log held
+kept-opening instances rows held first s graph log fresh told none first_is s_is graph_is log_is =
     let stored : IfSome held (λ stored. [] ≡ stored) = subst (λ (rs : List Row). IfSome held (λ stored. rs ≡ stored)) none told in
-    rw (first_is, s_is, log_is) (record {
+    rw (first_is, s_is, graph_is, log_is) (record {
       replay = refl;
       valid = Valid-opening instances fresh;
       narrow = IsNarrow-opening instances;
       rows = holds_none held stored;
+      graph_is = refl;
       few_runs = omega arith;
     })
 
 -- ---- what a table keeps
 
-module _ {K : Type 0} (held : K → Option (List Row)) (old new : TableState K) where
+module _ {K : Type 0} (held : K → Option (List Row)) (old new : TableState K) (before now : List NodeFields) where
   -- a step that begins one run at most
-  pub kept-step : (e : Event) → TableInvariant old.first old.state old.log (held old.keeper) → IsOneStep held e old new
-      → new.state.next_run ≤ old.state.next_run + 1 → TableInvariant new.first new.state new.log (held new.keeper)
-  kept-step e kept step more =
+  pub kept-step : (e : Event) → TableInvariant old.first old.state before old.log (held old.keeper) → IsOneStep held e old new
+      → new.state.next_run ≤ old.state.next_run + 1 → now ≡ nodes_of new.state.works → TableInvariant new.first new.state now new.log (held new.keeper)
+  kept-step e kept step more graph_is =
       let longer : length new.log ≡ length old.log + 1 = ap length step.appended ∙ length-append old.log (e ∷ []) in
       let few : new.state.next_run ≤ length new.log + 1 = omega (arith, kept.few_runs) in
       let rows : HoldsRowsOf new.state (held new.keeper) = HoldsRowsOf-told new.state (held old.keeper) (held new.keeper) step.rows in
@@ -98,12 +101,15 @@ module _ {K : Type 0} (held : K → Option (List Row)) (old new : TableState K) 
         valid = rw step.state (Valid-after old.state e kept.valid kept.narrow step.legal);
         narrow = rw step.state (IsNarrow-after old.state e kept.valid kept.narrow step.legal);
         rows = rows;
+        graph_is = graph_is;
         few_runs = few;
       }
 
-  pub kept-untouched : TableInvariant old.first old.state old.log (held old.keeper) → IsUntouched held old new
-      → TableInvariant new.first new.state new.log (held new.keeper)
-  kept-untouched kept same = rw (same.first, same.state, same.log, same.rows) kept
+  pub kept-untouched : TableInvariant old.first old.state before old.log (held old.keeper) → IsUntouched held old new → now ≡ nodes_of old.state.works
+      → TableInvariant new.first new.state now new.log (held new.keeper)
+  kept-untouched kept same graph_is =
+      let graph_same : now ≡ before = graph_is ∙ sym kept.graph_is in
+      rw (same.first, same.state, same.log, same.rows, graph_same) kept
 
 -- ---- rest
 

@@ -1,3 +1,4 @@
+pub mod Following
 pub mod Table
 pub mod TableState
 pub mod Trouble

@@ -14,6 +14,7 @@ ghost use Rattle.wm_steps.specs.Reports.{goes_on, CountsIn};
 ghost use Rattle.wm_table.specs.Table.{last_of, AreFresh, BeginCause, HasClaimed, HoldsRowsOf, IsClaim, IsClaimAnswer, IsFinished, IsOneStep, IsTurnAnswer, IsTurned, IsUntouched, Stands, TroubleCause, TurnCause};
 
 mod carry;
+mod follow;
 mod row_changes;
 pub mod ticket;
 
@@ -23,6 +24,7 @@ use std::alloc::{AllocError, Global};
 use std::marker::Model;
 use ticket::{Ticket, ticket_for};
 use wm_collections::{Items, Replica};
+use wm_graph::Graph;
 use wm_keeper::{KeepFault, Keeper, Row};
 use wm_machine::{Cause, Command, Event, Instance, Reply, State};
 use wm_query::first_index;
@@ -122,8 +124,9 @@ pub struct TableEnd<K> {
 }
 
 /// The state, the log of the events that led to it from the first state, and the keeper of its
-/// rows. Its type keeps that the log replays, that the state is valid, and that the keeper holds
-/// the state's rows, where it tells them. A contract sees first state, state, log and keeper.
+/// rows. Beside the state it has the graph of its records, which is asked what a work reaches. Its
+/// type keeps that the log replays, that the state is valid, that the graph is that of the state's
+/// records, and that the keeper holds the state's rows, where it tells them. A contract sees first state, state, log and keeper.
 ///
 /// Each call makes at most one event. It takes all its memory first, then commits the rows that
 /// change, and changes the state last: so nothing can fail after a commit, and where there is
@@ -132,6 +135,7 @@ pub struct Table<K: Keeper> {
     alloc: Global,
     first: State,
     state: State,
+    graph: Graph,
     log: Items<Event>,
     keeper: K,
 }
@@ -145,7 +149,7 @@ impl<K: Keeper> Model for Table<K> {
 
     ghost view = { λ t. record { first = t.first; state = t.state; log = t.log; keeper = t.keeper } };
 
-    ghost invariant = { λ t. TableInvariant t.first t.state t.log (K.held t.keeper) };
+    ghost invariant = { λ t. TableInvariant t.first t.state t.graph t.log (K.held t.keeper) };
 }
 
 impl<K: Keeper> Table<K> {
@@ -180,6 +184,7 @@ impl<K: Keeper> Table<K> {
                 alloc,
                 first: opening_state(alloc, copies),
                 state: opening_state(alloc, instances),
+                graph: Graph::new(alloc),
                 log: Items::new(alloc),
                 keeper,
             }),
@@ -201,7 +206,13 @@ impl<K: Keeper> Table<K> {
         ensures keeper_fault { result ≡ Err Trouble.KeeperFault
             → ChangesRows self.old.state command }
     {
-        let Executed { change, reply } = execute(self.alloc, &self.state, line, command)?;
+        let Executed { change, reply } = execute(
+            self.alloc,
+            &self.state,
+            &self.graph,
+            line,
+            command,
+        )?;
         match self.make(change) {
             Ok(()) => Ok(reply),
             Err(trouble) => {
@@ -218,7 +229,7 @@ impl<K: Keeper> Table<K> {
         ensures err { OnErr result (IsUntouched K.held self.old self.new) }
         ensures cause { TroubleCause result (K.faults self.old.keeper) (K.faults self.new.keeper) }
     {
-        let Some(claiming) = claim_first(self.alloc, &self.state)? else {
+        let Some(claiming) = claim_first(self.alloc, &self.state, &self.graph)? else {
             return Ok(None);
         };
         let Claiming { change, claimed } = claiming;
@@ -302,6 +313,7 @@ impl<K: Keeper> Table<K> {
             alloc: _,
             first,
             state,
+            graph: _,
             log,
             keeper,
         } = self;
@@ -374,7 +386,8 @@ impl<K: Keeper> Table<K> {
         ensures err { OnErr result (IsUntouched K.held self.old self.new) }
         ensures cause { TroubleCause result (K.faults self.old.keeper) (K.faults self.new.keeper) }
     {
-        let Ending { change, timed_out } = finish(self.alloc, &self.state, number, told)?;
+        let ending = finish(self.alloc, &self.state, &self.graph, number, told)?;
+        let Ending { change, timed_out } = ending;
         self.make(change)?;
         Ok(timed_out)
     }
@@ -391,6 +404,7 @@ impl<K: Keeper> Table<K> {
         carry_out(
             self.alloc,
             &mut self.state,
+            &mut self.graph,
             &mut self.log,
             &mut self.keeper,
             change,

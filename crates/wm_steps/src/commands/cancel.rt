@@ -1,12 +1,13 @@
 //! A work is cancelled by its id, with its unfinished descendants.
 ghost use Rattle.std.specs.Prelude.{◌≡◌, [], true, Some, IfOk};
 ghost use Rattle.std.specs.Option.{option_copied};
-ghost use Rattle.wm_collections.specs.Lists.{AllLater};
+ghost use Rattle.wm_graph.specs.Nodes.{HasNode};
 ghost use Rattle.wm_machine.specs.Cancelled.{work_with_id};
 ghost use Rattle.wm_machine.specs.Closed.{is_open};
 ghost use Rattle.wm_machine.specs.Outcome.{IsBuilt};
-ghost use Rattle.wm_machine.specs.Valid.{IsBefore, Valid};
+ghost use Rattle.wm_machine.specs.Valid.{Valid};
 ghost use Rattle.wm_steps.specs.Builds.{IsExecuted};
+ghost use Rattle.wm_steps.specs.Nodes.{nodes_of};
 ghost use Rattle.wm_steps.specs.Reached.{replaced_by_cancel};
 
 use crate::change::{Replacement, RunChange, StepChange};
@@ -16,6 +17,7 @@ use crate::reach::{closing, is_open, replaced_by};
 use std::alloc::{AllocError, Global};
 use uuid::Uuid;
 use wm_collections::Items;
+use wm_graph::Graph;
 use wm_lifecycle::closed;
 use wm_machine::{Command, Event, How, Record, Refusal, Reply, State, Target};
 
@@ -30,33 +32,36 @@ fn work_with_id(works: &[Record], id: Uuid) -> Option<&Record>
 fn replaced_by_cancel(
     alloc: Global,
     state: &State,
+    graph: &Graph,
     work: &Record,
 ) -> Result<Items<Replacement>, AllocError>
-    requires { AllLater IsBefore state.now.works }
+    requires nodes { graph.now ≡ nodes_of state.now.works }
+    requires there { HasNode graph.now work.now.seq }
     ensures { IfOk result (λ replaced. replaced
         ≡ replaced_by_cancel state.entry.now work.entry.now) }
 {
-    let works = state.works.as_slice();
     let itself = closed(alloc, work, How::Cancelled)?;
-    let (itself, reach) = with(itself, closing(alloc, works, work.seq, How::Cancelled))?;
-    replaced_by(alloc, &itself, &reach, works)
+    let (itself, reach) = with(itself, closing(graph, work.seq, How::Cancelled))?;
+    replaced_by(alloc, &itself, &reach, state.works.as_slice())
 }
 
 /// Cancels an unfinished work. No run is unreturned, so none is stopped.
 fn cancel(
     alloc: Global,
     state: &State,
+    graph: &Graph,
     line: u32,
     id: Uuid,
     work: &Record,
 ) -> Result<Executed, AllocError>
     requires valid { Valid state.now }
     requires no_run { state.now.runs ≡ [] }
+    requires nodes { graph.now ≡ nodes_of state.now.works }
     requires found { work_with_id state.now.works id ≡ Some work.now }
     requires unfinished { is_open work.now.phase ≡ true }
     ensures { IfOk result (IsExecuted state.entry.now line (Command.Cancel (Target.Id id))) }
 {
-    let replaced = replaced_by_cancel(alloc, state, work)?;
+    let replaced = replaced_by_cancel(alloc, state, graph, work)?;
     let count = replaced.len() as u64;
     let event = Event::Command {
         line,
@@ -70,13 +75,20 @@ fn cancel(
 }
 
 /// What the cancelling of the work with this id comes to.
-fn cancel_id(alloc: Global, state: &State, line: u32, id: Uuid) -> Result<Executed, AllocError>
+fn cancel_id(
+    alloc: Global,
+    state: &State,
+    graph: &Graph,
+    line: u32,
+    id: Uuid,
+) -> Result<Executed, AllocError>
     requires valid { Valid state.now }
     requires no_run { state.now.runs ≡ [] }
+    requires nodes { graph.now ≡ nodes_of state.now.works }
     ensures { IfOk result (IsExecuted state.entry.now line (Command.Cancel (Target.Id id))) }
 {
     match work_with_id(state.works.as_slice(), id) {
-        Some(work) if is_open(work.phase) => cancel(alloc, state, line, id, work),
+        Some(work) if is_open(work.phase) => cancel(alloc, state, graph, line, id, work),
         Some(_) => {
             let command = Command::Cancel(Target::Id(id));
             Executed::answering(alloc, line, command, Reply::Cancelled(0))
@@ -93,16 +105,18 @@ fn cancel_id(alloc: Global, state: &State, line: u32, id: Uuid) -> Result<Execut
 pub fn execute(
     alloc: Global,
     state: &State,
+    graph: &Graph,
     line: u32,
     target: Target,
 ) -> Result<Executed, AllocError>
     requires valid { Valid state.now }
     requires no_run { state.now.runs ≡ [] }
+    requires nodes { graph.now ≡ nodes_of state.now.works }
     requires built { IsBuilt (Command.Cancel target) }
     ensures { IfOk result (IsExecuted state.entry.now line (Command.Cancel target)) }
 {
     match target {
-        Target::Id(id) => cancel_id(alloc, state, line, id),
+        Target::Id(id) => cancel_id(alloc, state, graph, line, id),
         _ => unreachable!(),
     }
 }

@@ -1,20 +1,24 @@
 //! How the change of a step is carried out: first all that takes memory, then the commit of the
 //! rows, and the state last.
-ghost use Rattle.std.specs.Prelude.{◌≡◌, ◌≢◌, ◌+◌, ◌^◌, ◌<◌, ◌≤◌, ◌∷◌, ◌++◌, [], length, vec_len, vec_capacity, option_map, Err, OnOk, OnErr};
+ghost use Rattle.std.specs.Prelude.{◌≡◌, ◌≢◌, ◌+◌, ◌^◌, ◌<◌, ◌≤◌, ◌∷◌, ◌++◌, [], length, map, take, vec_len, vec_capacity, option_map, Err, OnOk, OnErr};
 ghost use Rattle.std.specs.List.{AllByRecursion};
 ghost use Rattle.wm_keeper.specs.Keeper.{changed, AreOfDifferentNumbers};
 ghost use Rattle.wm_machine.specs.Limits.{FitsRow};
 ghost use Rattle.wm_machine.specs.Runs.{other_runs, with_out};
 ghost use Rattle.wm_machine.specs.Turns.{with_turned};
 ghost use Rattle.wm_machine.specs.Valid.{Valid};
+ghost use Rattle.wm_steps.specs.Nodes.{nodes_of};
 ghost use Rattle.wm_steps.specs.StepChanges.{changed_state, conditions_by, instances_by, next_run_by, now_by, other_works, row_changes, runs_by, with_replaced, without, Fits};
+ghost use Rattle.wm_table.specs.Following.{placed_node, AreAddable};
 ghost use Rattle.wm_table.specs.Table.{TroubleCause};
 
 use crate::table::Trouble;
+use crate::table::follow::{add_nodes, change_nodes};
 use crate::table::row_changes::row_changes;
 use std::alloc::{AllocError, Global};
 use std::mem;
 use wm_collections::Items;
+use wm_graph::Graph;
 use wm_keeper::{Change, Keeper};
 use wm_machine::{Event, Instance, Record, Run, State};
 use wm_steps::{Replacement, RunChange, SettingChange, StepChange};
@@ -264,6 +268,7 @@ fn commit<K: Keeper>(keeper: &mut K, changes: &[Change]) -> Result<(), Trouble>
 fn store<K: Keeper>(
     alloc: Global,
     lists: &mut Lists,
+    graph: &mut Graph,
     keeper: &mut K,
     change: &StepChange,
 ) -> Result<(), Trouble>
@@ -271,12 +276,15 @@ fn store<K: Keeper>(
     requires removed { AllByRecursion (λ number. number < 2 ^ 53) change.now.removed }
     requires placed { AllByRecursion FitsRow change.now.placed }
     requires apart { AreOfDifferentNumbers (row_changes change.now) }
+    requires addable { AreAddable graph.old (map placed_node change.now.placed) }
     ensures works { lists.new.works.items ≡ lists.old.works.items }
     ensures runs { lists.new.runs.items ≡ lists.old.runs.items }
     ensures log { lists.new.log.items ≡ lists.old.log.items }
     ensures works_room { OnOk result (vec_len lists.new.works + length change.now.placed ≤ vec_capacity lists.new.works) }
     ensures run_room { OnOk result (vec_len lists.new.runs < vec_capacity lists.new.runs) }
     ensures log_room { OnOk result (vec_len lists.new.log < vec_capacity lists.new.log) }
+    ensures nodes { OnOk result (graph.new ≡ graph.old ++ map placed_node change.now.placed) }
+    ensures first_nodes { take (length graph.old) graph.new ≡ graph.old }
     ensures ok { OnOk result (K.held keeper.new ≡ option_map (changed (row_changes change.now)) (K.held keeper.old)) }
     ensures err { OnErr result (K.held keeper.new ≡ K.held keeper.old) }
     ensures cause { TroubleCause result (K.faults keeper.old) (K.faults keeper.new) }
@@ -285,22 +293,27 @@ fn store<K: Keeper>(
 {
     let changes = row_changes(alloc, change)?;
     lists.reserve(change.placed.len())?;
+    add_nodes(graph, change.placed.as_slice())?;
     commit(keeper, &changes)
 }
 
 /// Carries a change out: the event is appended, the rows that change are committed at once, and the
-/// state is changed. Where there is trouble, nothing has changed.
+/// state and the graph of its records are changed. Where there is trouble, nothing has changed.
 pub fn carry_out<K: Keeper>(
     alloc: Global,
     state: &mut State,
+    graph: &mut Graph,
     log: &mut Items<Event>,
     keeper: &mut K,
     change: StepChange,
 ) -> Result<(), Trouble>
     requires valid { Valid state.old }
     requires fits { Fits state.old change }
+    requires graph { graph.old ≡ nodes_of state.old.works }
     requires few_runs { state.old.next_run ≤ length log.old + 1 }
     ensures state { OnOk result (state.new ≡ changed_state change state.old) }
+    ensures nodes { OnOk result (graph.new ≡ nodes_of (changed_state change state.old).works) }
+    ensures nodes_err { OnErr result (graph.new ≡ nodes_of state.old.works) }
     ensures log { OnOk result (log.new ≡ log.old ++ change.event ∷ []) }
     ensures rows { OnOk result (K.held keeper.new ≡ option_map (changed (row_changes change)) (K.held keeper.old)) }
     ensures state_err { OnErr result (state.new ≡ state.old) }
@@ -310,15 +323,18 @@ pub fn carry_out<K: Keeper>(
     ensures untouched_keeper { row_changes change ≡ [] → keeper.new ≡ keeper.old }
     ensures no_keeper_fault { row_changes change ≡ [] → result ≢ Err Trouble.KeeperFault }
 {
+    let count = graph.len();
     let mut lists = Lists::take(alloc, state, log);
-    match store(alloc, &mut lists, keeper, &change) {
+    match store(alloc, &mut lists, graph, keeper, &change) {
         Ok(()) => {
+            change_nodes(graph, &change);
             lists.change(alloc, state, change);
             lists.put_back(state, log);
             Ok(())
         }
         Err(trouble) => {
             drop(change);
+            graph.truncate(count);
             lists.put_back(state, log);
             Err(trouble)
         }

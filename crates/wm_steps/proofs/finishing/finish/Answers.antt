@@ -3,6 +3,7 @@ use Rattle.std.specs.List.{AllByRecursion}
 use Rattle.std.proofs.lemmas.Bool.{and_from, cases_Bool, false≢true, ltb-false, true≢false}
 use Rattle.std.proofs.lemmas.Result.{IfOk-weaker}
 use Rattle.wm_data.specs.declared.data.DataEntry.{DataEntry}
+use Rattle.wm_graph.specs.Nodes.{NodeFields}
 use Rattle.wm_machine.proofs.Changes.{OfNumber}
 use Rattle.wm_machine.proofs.Endings.{end_by, end_in, same_period}
 use Rattle.wm_machine.proofs.Finishes.{after_finish, after_timed_out}
@@ -22,14 +23,17 @@ use Rattle.wm_machine.specs.declared.record.Record.{Record}
 use Rattle.wm_machine.specs.declared.state.Run.{Run}
 use Rattle.wm_machine.specs.declared.state.State.{State}
 use Rattle.wm_steps.proofs.Lookups.{All-at, at-some, found-numbered, stored-at}
-use Rattle.wm_steps.proofs.ManyRows.{after_change, replacing_all-step}
-use Rattle.wm_steps.proofs.Reaching.{change-numbers, end-agree}
+use Rattle.wm_steps.proofs.ManyRows.{after_change, KeepNodes, replacing_all-step}
+use Rattle.wm_steps.proofs.Nodes.{unmarked-open}
+use Rattle.wm_steps.proofs.Reaching.{change-keeps, end-agree, ended-same}
 use Rattle.wm_steps.proofs.Reporting.{counted, may-give}
 use Rattle.wm_steps.specs.Builds.{over, IsFinish}
+use Rattle.wm_steps.specs.Nodes.{nodes_of, IsUnmarked}
 use Rattle.wm_steps.specs.Reached.{change_by, end_reach, replaced_by, replaced_by_end}
 use Rattle.wm_steps.specs.StepChanges.{replacing_all}
 use Rattle.wm_steps.specs.Reports.{goes_on, wants_more, CountsIn}
 use Rattle.wm_steps.specs.declared.finishing.Ending.{Ending}
+use Rattle.wm_steps.specs.declared.reach.Reach.{Reach}
 use Rattle.wm_steps.specs.declared.reach.Reach.TheVariants as reach
 use Rattle.wm_worker.specs.Answers.{given_of, MayGive}
 use Rattle.wm_worker.specs.Told.{IsAllowed, Report}
@@ -57,16 +61,22 @@ may-report s number i told run work gave is told_is =
 -- the end of a run changes just what is touched: its work and those that it reaches
 ends-agree : (s : State) (i : ℕ) (run : Run) (work : Record) (end : End) → IsReached s → slice_get s.works i ≡ Some work → IsWorkOf run work
     → AllByRecursion (λ w. after_change (change_by (ended_as work.request.period s.now end work)
-    (end_reach work.request.period s.now work.seq end s.works) s.works) w ≡ end_in s run end w) s.works
+    (end_reach work.request.period s.now work.seq end (nodes_of s.works))) w ≡ end_in s run end w) s.works
 ends-agree s i run work end reached at of =
     let valid = reached.valid in
     let period : work.request.period ≡ period_of run.seq s.works =
     All-at (OfNumber run.seq (λ w. w.request.period ≡ period_of run.seq s.works)) s.works i work (same_period run.seq s.works valid.in_order) at of.seq in
     let agree =
-    end-agree work.request.period s.now end work s.works valid.in_order (stored-at s.works i work at) (ap is_open of.running) in
-    let touch = change_by (ended_as work.request.period s.now end work) (end_reach work.request.period s.now work.seq end s.works) s.works in
+    end-agree work.request.period s.now end work s.works valid.in_order valid.sound (stored-at s.works i work at) (ap is_open of.running) in
+    let touch = change_by (ended_as work.request.period s.now end work) (end_reach work.request.period s.now work.seq end (nodes_of s.works)) in
     subst (λ number. AllByRecursion (λ w. after_change touch w ≡ end_by s.now number (period_of run.seq s.works) end s.works w) s.works) of.seq
     (subst (λ kind. AllByRecursion (λ w. after_change touch w ≡ end_by s.now work.seq kind end s.works w) s.works) period agree)
+
+-- each record keeps its node where a run of a work ends
+run-keeps : (s : State) (i : ℕ) (run : Run) (work itself : Record) (to : Reach) → IsReached s → slice_get s.works i ≡ Some work → IsWorkOf run work
+    → itself.seq ≡ work.seq → itself.prior ≡ work.prior → KeepNodes (change_by itself to) s.works
+run-keeps s i run work itself to reached at of seq prior =
+    change-keeps itself work to s.works reached.valid.in_order (stored-at s.works i work at) (ap is_open of.running) seq prior
 
 -- the run is over by this end
 finish-step : (s : State) (number i : ℕ) (told : Report) (run : Run) (work : Record) (end : End) → IsReported s number i told run work
@@ -84,7 +94,8 @@ finish-step s number i told run work end is told_is =
     } in
     let gone : State = record s { runs = other_runs run.run s.runs; instances = with_out false run.instance s.instances } in
     let itself = ended_as work.request.period s.now end work in
-    let to = end_reach work.request.period s.now work.seq end s.works in
+    let to = end_reach work.request.period s.now work.seq end (nodes_of s.works) in
+    let same = ended-same work.request.period s.now end work in
     record {
       reported = This (given_by end);
       gave = given_by end;
@@ -93,8 +104,8 @@ finish-step s number i told run work end is told_is =
       ends = ap (λ n. role.Ends n (This (given_by end))) named;
       how = refl;
       step =
-          replacing_all-step s gone (change_by itself to s.works) (end_in s run end) (over run) (event.Finish run.run end) valid is.reached.narrow legal
-          (change-numbers itself to s.works) (ends-agree s i run work end is.reached is.at is.of) refl (after_finish s run.run end legal);
+          replacing_all-step s gone (change_by itself to) (end_in s run end) (over run) (event.Finish run.run end) valid is.reached.narrow legal
+          (run-keeps s i run work itself to is.reached is.at is.of same.0 same.1) (ends-agree s i run work end is.reached is.at is.of) refl (after_finish s run.run end legal);
     }
 
 -- a report that asks for one more turn where the run doesn't go on is in the last one
@@ -122,7 +133,7 @@ timeout-step s number i told run work progress is stays told_is =
     } in
     let legal : IsTimeout s run.run = record { progress = progress; report = report; none_left = omega arith } in
     let gone : State = record s { runs = other_runs run.run s.runs; instances = with_out false run.instance s.instances } in
-    let touch = change_by (retried s.now work) reach.Stays s.works in
+    let touch = change_by (retried s.now work) reach.Stays in
     record {
       reported = SomeMore;
       gave = More progress;
@@ -132,7 +143,7 @@ timeout-step s number i told run work progress is stays told_is =
       how = refl;
       step =
           replacing_all-step s gone touch (end_in s run Retry) (over run) (event.TimedOut run.run) valid is.reached.narrow legal
-          (change-numbers (retried s.now work) reach.Stays s.works) (ends-agree s i run work Retry is.reached is.at is.of) refl
+          (run-keeps s i run work (retried s.now work) reach.Stays is.reached is.at is.of refl refl) (ends-agree s i run work Retry is.reached is.at is.of) refl
           (after_timed_out s run.run legal);
     }
 
@@ -143,6 +154,17 @@ asked-more (Some (More progress)) asks = (progress, refl)
 asked-more (Some (Success output)) asks = absurd (false≢true asks)
 asked-more (Some (Failure output)) asks = absurd (false≢true asks)
 asked-more (Some given.Retry) asks = absurd (false≢true asks)
+
+pub finish_by-requires-clause-unmarked : goal.finish_by-requires-clause-unmarked
+finish_by-requires-clause-unmarked c =
+    let s = c.args.state.now in
+    let run = c.in-Some.run'.now in
+    let index = c.in-Some-work_index.index in
+    let work = c.at-work.result.now in
+    let work_at : slice_get s.works index ≡ Some work = search rules in
+    let of = at-some (IsWorkOf run) s.works index work work_at c.in-Some-work_index.ensures.1 in
+    subst (λ (nodes : List NodeFields). IsUnmarked nodes work.seq) (sym c.requires.nodes)
+    (unmarked-open work s.works c.requires.valid.in_order (stored-at s.works index work work_at) (ap is_open of.running))
 
 pub returns-in-Some-2 : goal.returns-in-Some-2
 returns-in-Some-2 c =

@@ -5,4 +5,4 @@ use Rattle.wm_steps.proofs.reach.replaced_by.Given as goal
 -- the replacements so far and those of the works that are left are all
 abbrev pub invariant-loop-index : goal.invariant-loop-index
 invariant-loop-index l =
-    l.replaced ++ replacements (change_by l.itself l.reach l.works) l.index (drop l.index l.works) ≡ replaced_by l.itself l.reach l.works
+    l.replaced ++ replacements (change_by l.itself l.reach) l.index (drop l.index l.works) ≡ replaced_by l.itself l.reach l.works

@@ -1,5 +1,6 @@
-use Rattle.std.proofs.Common.{◌≡◌, Some, rules, refl, subst}
+use Rattle.std.proofs.Common.{◌≡◌, List, Some, rules, refl, sym, subst}
 use Rattle.std.specs.List.{AllByRecursion}
+use Rattle.wm_graph.specs.Nodes.{HasNode, NodeFields}
 use Rattle.wm_machine.proofs.Changes.{OfNumber}
 use Rattle.wm_machine.proofs.Endings.{not_started_by, open-waiting, same_period}
 use Rattle.wm_machine.proofs.Firsts.{first_of-stored, first_of-waiting}
@@ -15,8 +16,10 @@ use Rattle.wm_machine.specs.declared.event.Event.TheVariants as event
 use Rattle.wm_machine.specs.declared.record.Record.{Record}
 use Rattle.wm_machine.specs.declared.state.State.{State}
 use Rattle.wm_steps.proofs.ManyRows.{after_change, replacing_all-step}
-use Rattle.wm_steps.proofs.Reaching.{change-numbers, no_start-agree, of_stored}
+use Rattle.wm_steps.proofs.Nodes.{node-stored}
+use Rattle.wm_steps.proofs.Reaching.{change-keeps, no_start-agree, not_started-same, of_stored}
 use Rattle.wm_steps.specs.Builds.{IsClaiming}
+use Rattle.wm_steps.specs.Nodes.{nodes_of}
 use Rattle.wm_steps.specs.Reached.{change_by, not_started_reach, replaced_by_no_start}
 use Rattle.wm_steps.specs.StepChanges.{replacing_all}
 use Rattle.wm_steps.specs.declared.starting.Claimed.TheVariants as claimed
@@ -33,20 +36,28 @@ failure-claims s work cause valid narrow first refused =
     let legal : IsStartFailure s work.seq cause = record { work = work; is_first = first; refused = refused; seq_is = refl } in
     let stored = first_of-stored s work first in
     let itself = not_started s.now work in
-    let to = not_started_reach work.request.period work.seq s.works in
-    let touch = change_by itself to s.works in
+    let to = not_started_reach work.request.period work.seq (nodes_of s.works) in
+    let touch = change_by itself to in
     let period : work.request.period ≡ period_of work.seq s.works =
     of_stored (OfNumber work.seq (λ w. w.request.period ≡ period_of work.seq s.works)) work s.works (same_period work.seq s.works valid.in_order) stored refl in
-    let agree =
-    no_start-agree work.request.period s.now work s.works valid.in_order stored (open-waiting work.phase (first_of-waiting s work first)) in
+    let unfinished = open-waiting work.phase (first_of-waiting s work first) in
+    let same = not_started-same work.request.period s.now work in
+    let agree = no_start-agree work.request.period s.now work s.works valid.in_order stored unfinished in
     record {
       step =
           replacing_all-step s s touch (not_started_in s work) Unchanged (event.StartFailed work.seq cause) valid narrow legal
-          (change-numbers itself to s.works)
+          (change-keeps itself work to s.works valid.in_order stored unfinished same.0 same.1)
           (subst (λ kind. AllByRecursion (λ w. after_change touch w ≡ not_started_by s.now work.seq kind s.works w) s.works) period agree) refl
           (after_start_failed s work.seq cause legal);
       claimed = refl;
     }
+
+pub replaced_by_no_start-requires-clause-there : goal.replaced_by_no_start-requires-clause-there
+replaced_by_no_start-requires-clause-there c =
+    let s = c.args.state.now in
+    let work = c.args.work.now in
+    subst (λ (nodes : List NodeFields). HasNode nodes work.seq) (sym c.requires.nodes)
+    (node-stored work s.works (first_of-stored s work c.requires.first))
 
 pub returns : goal.returns
 returns c =

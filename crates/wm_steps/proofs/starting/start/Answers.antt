@@ -1,6 +1,7 @@
 use Rattle.std.proofs.Common.{◌≡◌, ℕ, ◌<◌, List, Option, Some, Ok, rules, refl, sym, subst}
 use Rattle.std.specs.Prelude.{IsSomeAnd}
 use Rattle.wm_data.specs.declared.data.DataEntry.{DataEntry}
+use Rattle.wm_machine.proofs.Endings.{open-waiting}
 use Rattle.wm_machine.proofs.Firsts.{first_of-waiting}
 use Rattle.wm_machine.proofs.Lists.{All-weaker}
 use Rattle.wm_machine.proofs.Records.{IsRecord-started}
@@ -18,8 +19,10 @@ use Rattle.wm_machine.specs.declared.state.Instance.{Instance}
 use Rattle.wm_machine.specs.declared.state.Run.{Run}
 use Rattle.wm_machine.specs.declared.state.State.{State}
 use Rattle.wm_steps.proofs.Lookups.{All-at, run_numbered-push}
+use Rattle.wm_steps.proofs.Nodes.{open_not_succeeded}
 use Rattle.wm_steps.proofs.StepFits.{replacing-step}
 use Rattle.wm_steps.specs.Builds.{IsClaimOf, IsClaiming, IsFirstAt}
+use Rattle.wm_steps.specs.Nodes.{KeepsNode}
 use Rattle.wm_steps.specs.StepChanges.{replacing}
 use Rattle.wm_steps.specs.declared.change.RunChange.TheVariants.{Begin}
 use Rattle.wm_steps.specs.declared.starting.Claimed.TheVariants as claimed
@@ -59,9 +62,15 @@ start-claims s i work idle input valid narrow first is_idle takes =
     } in
     let reached = after_start s s.next_run work.seq idle.number input legal in
     let fine = IsRecord-started work (first_of-waiting s work first.is_first) (All-at IsRecord s.works i work valid.records first.at) in
+    let unfinished = open-waiting work.phase (first_of-waiting s work first.is_first) in
+    let keeps : KeepsNode work (started work) = record {
+      seq = refl;
+      prior = refl;
+      succeeded = λ is. absurd (open_not_succeeded work.phase unfinished is);
+    } in
     record {
       step =
-          replacing-step s (with_start s work idle input) i work started (Begin run) (start_event s work idle input) valid first.at refl fine legal refl
+          replacing-step s (with_start s work idle input) i work started (Begin run) (start_event s work idle input) valid first.at keeps fine legal refl
           reached;
       claimed =
           subst (λ (t : State). IsClaimOf t (start_event s work idle input) (claimed.Run s.next_run input)) (sym reached)

@@ -1,13 +1,24 @@
-use Rattle.std.proofs.Common.{◌≡◌, length, rules}
+use Rattle.std.proofs.Common.{◌≡◌, List, length, rules, sym, subst}
+use Rattle.std.specs.Str.{bytes_eq}
+use Rattle.wm_graph.specs.Nodes.{HasNode, NodeFields}
+use Rattle.wm_machine.proofs.Lists.{find-stored}
 use Rattle.wm_machine.specs.declared.command.Command.TheVariants as command
 use Rattle.wm_machine.specs.declared.command.Target.TheVariants as target
 use Rattle.wm_machine.specs.declared.event.Event.TheVariants as event
 use Rattle.wm_machine.specs.declared.reply.Reply.TheVariants as reply
 use Rattle.wm_steps.proofs.Cancelling.{cancelling-executed}
+use Rattle.wm_steps.proofs.Nodes.{node-stored}
 use Rattle.wm_steps.specs.Reached.{replaced_by_cancel}
 use Rattle.wm_steps.specs.StepChanges.{replacing_all}
 use Rattle.wm_steps.specs.declared.change.RunChange.TheVariants.{Unchanged}
 use Rattle.wm_steps.proofs.commands.cancel.cancel.Goals as goal
+
+pub replaced_by_cancel-requires-clause-there : goal.replaced_by_cancel-requires-clause-there
+replaced_by_cancel-requires-clause-there c =
+    let s = c.args.state.now in
+    let work = c.args.work.now in
+    subst (λ (nodes : List NodeFields). HasNode nodes work.seq) (sym c.requires.nodes)
+    (node-stored work s.works (find-stored (λ other. bytes_eq other.request.id c.args.id) s.works work c.requires.found))
 
 pub returns : goal.returns
 returns c =

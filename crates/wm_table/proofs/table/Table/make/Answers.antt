@@ -1,7 +1,8 @@
-use Rattle.std.proofs.Common.{◌≡◌, ◌+◌, ◌≤◌, refl, sym, subst}
+use Rattle.std.proofs.Common.{◌≡◌, ◌+◌, ◌≤◌, refl, sym, ◌∙◌, ap, subst}
 use Rattle.wm_machine.specs.declared.state.State.{State}
 use Rattle.wm_table.proofs.StepRows.{change-step, next_run-changed}
 use Rattle.wm_table.proofs.TableSteps.{kept-step, kept-untouched}
+use Rattle.wm_steps.specs.Nodes.{nodes_of}
 use Rattle.wm_steps.specs.StepChanges.{IsStepOf}
 use Rattle.wm_table.specs.Table.{IsOneStep}
 use Rattle.wm_table.specs.TableState.{TableState}
@@ -19,13 +20,13 @@ invariant_of-self g c =
     kept-untouched g.K.Keeper.held
     (record { first = i.first; state = i.state; log = i.log; keeper = i.keeper })
     (record { first = i.first; state = c.carry_out.new.state; log = c.carry_out.new.log; keeper = c.carry_out.new.keeper })
-    c.self.invariant
+    i.graph c.carry_out.new.graph c.self.invariant
     (record {
       first = refl;
       state = c.in_err-carry_out.ensures.state_err;
       log = c.in_err-carry_out.ensures.log_err;
       rows = c.in_err-carry_out.ensures.rows_err;
-    })
+    }) c.in_err-carry_out.ensures.nodes_err
 
 abbrev before : (g : Over) (c : goal.In_ok-carry_out g) → TableState g.row.K.Denot
 before g c = let i = c.self.inside in record { first = i.first; state = i.state; log = i.log; keeper = i.keeper }
@@ -42,9 +43,10 @@ made g c =
 
 pub invariant_of-self-2 : goal.invariant_of-self-2
 invariant_of-self-2 g c =
-    kept-step g.K.Keeper.held (before g c) (now g c) c.args.change.event c.self.invariant (made g c)
+    kept-step g.K.Keeper.held (before g c) (now g c) c.self.inside.graph c.carry_out.new.graph c.args.change.event c.self.invariant (made g c)
     (subst (λ (s : State). s.next_run ≤ c.self.inside.state.next_run + 1) (sym c.in_ok-carry_out.ensures.state)
     (next_run-changed c.self.inside.state c.args.change))
+    (c.in_ok-carry_out.ensures.nodes ∙ ap (λ (s : State). nodes_of s.works) (sym c.in_ok-carry_out.ensures.state))
 
 pub returns-clause-ok : goal.returns-clause-ok
 returns-clause-ok g c =

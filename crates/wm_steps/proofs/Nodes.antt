@@ -1,0 +1,231 @@
+-- The nodes of records: what they reach, and what they free, is what the machine says of the records.
+use Rattle.std.proofs.Common.{◌≡◌, ℕ, ◌<◌, ◌&&◌, ◌||◌, Bool, true, false, cond, eqb, List, [], ◌∷◌, ◌++◌, filter, map, refl, sym, ◌∙◌, ap, subst, arith, inl, inr}
+use Rattle.std.specs.List.{AllByRecursion, list_all, list_any}
+use Rattle.std.specs.Prelude.{reverse}
+use Rattle.std.proofs.lemmas.Bool.{cases_Bool, cond_both, eq-eqb, eqb-true, false≢true, ne_eqb, or_cases}
+use Rattle.std.proofs.lemmas.List.{map-append, reverse-append}
+use Rattle.std.proofs.lemmas.Map.Views.{any-filter_same}
+use Rattle.wm_collections.specs.Lists.{AllLater}
+use Rattle.wm_data.specs.declared.data.DataEntry.{DataEntry}
+use Rattle.wm_graph.specs.Descendants as graph
+use Rattle.wm_graph.specs.Marks.{freed_by, is_met, with_marked}
+use Rattle.wm_graph.specs.Nodes.{HasNode, NodeFields}
+use Rattle.wm_machine.proofs.Lists.{All-both, All-reverse, All-stored, All-weaker, list_any-false, list_any-stored}
+use Rattle.wm_machine.proofs.Runnings.{IsAlone, IsAlone-stored, WorksAscend, WorksAscend-in_order}
+use Rattle.wm_machine.specs.Closed.{descendants, is_among, is_open}
+use Rattle.wm_machine.specs.Ends.{is_freed, succeeded}
+use Rattle.wm_machine.specs.First.{all_met, has_succeeded, is_succeeded, is_waiting}
+use Rattle.wm_machine.specs.Runs.{changed_work}
+use Rattle.wm_machine.specs.Valid.{ArePriorSound, HasOne, IsBefore, IsPrerequisite}
+use Rattle.wm_machine.specs.declared.record.Phase.{Phase}
+use Rattle.wm_machine.specs.declared.record.Phase.TheVariants as phase
+use Rattle.wm_machine.specs.declared.record.Record.{Record}
+use Rattle.wm_steps.specs.Nodes.{is_there, node_of, nodes_of, IsUnmarked}
+use Rattle.wm_steps.specs.Reached.{reached_from}
+
+-- ---- what is there
+
+-- each record is there
+pub there-each : (works : List Record) → AllByRecursion (λ work. is_there works work.seq ≡ true) works
+there-each works =
+    All-weaker (λ work. HasOne (λ other. other ≡ work) works) (λ work. is_there works work.seq ≡ true) works
+    (λ work stored. list_any-stored (λ other. eqb other.seq work.seq) works work stored (eq-eqb work.seq work.seq refl)) (All-stored works)
+
+-- what holds of each number holds of one that is among them
+among-gives : (P : ℕ → Type 0) (numbers : List ℕ) (number : ℕ) → AllByRecursion P numbers → is_among numbers number ≡ true → P number
+among-gives P [] number all is = absurd (false≢true is)
+among-gives P (one ∷ numbers) number all is = elim (or_cases (eqb one number) (is_among numbers number) is) [
+  | inl here ↦ subst P (eqb-true one number here) all.0
+  | inr there ↦ among-gives P numbers number all.1 there
+]
+
+-- ---- the descendants
+
+descendants_there : (all : List Record) (seq : ℕ) (works : List Record) → AllByRecursion (λ work. is_there all work.seq ≡ true) works
+    → AllByRecursion (λ number. is_there all number ≡ true) (descendants seq works)
+descendants_there all seq [] there = tt
+descendants_there all seq (work ∷ earlier) there =
+    let rest = descendants_there all seq earlier there.1 in
+    let found = descendants seq earlier in
+    cond_both (eqb work.seq seq || list_any (is_among found) work.prior) (work.seq ∷ found) found (AllByRecursion (λ number. is_there all number ≡ true))
+    (λ e. (there.0, rest)) (λ e. rest)
+
+-- a prerequisite that isn't there isn't among what is found
+any-there : (all : List Record) (found prior : List ℕ) → AllByRecursion (λ number. is_there all number ≡ true) found
+    → list_any (is_among found) (filter (is_there all) prior) ≡ list_any (is_among found) prior
+any-there all found prior there =
+    any-filter_same (is_among found) (is_there all) true (λ number is. among-gives (λ n. is_there all n ≡ true) found number there is) prior
+
+descendants-nodes : (all : List Record) (seq : ℕ) (works : List Record) → AllByRecursion (λ work. is_there all work.seq ≡ true) works
+    → graph.descendants seq (map (node_of all) works) ≡ descendants seq works
+descendants-nodes all seq [] there = refl
+descendants-nodes all seq (work ∷ earlier) there =
+    let found = descendants seq earlier in
+    ap (λ found. cond (eqb work.seq seq || list_any (is_among found) (filter (is_there all) work.prior)) (work.seq ∷ found) found)
+    (descendants-nodes all seq earlier there.1)
+    ∙ ap (λ b. cond (eqb work.seq seq || b) (work.seq ∷ found) found) (any-there all found work.prior (descendants_there all seq earlier there.1))
+
+map-reverse : {T U : Type 0} (f : T → U) (xs : List T) → map f (reverse xs) ≡ reverse (map f xs)
+map-reverse f [] = refl
+map-reverse f (x ∷ xs) =
+    ap (map f) (reverse-append (x ∷ []) xs) ∙ map-append f (reverse xs) (x ∷ []) ∙ ap (λ rest. rest ++ f x ∷ []) (map-reverse f xs)
+    ∙ sym (reverse-append (f x ∷ []) (map f xs))
+
+-- the descendants of a node are those of its record
+pub reached-nodes : (seq : ℕ) (works : List Record) → reached_from seq (nodes_of works) ≡ reverse (descendants seq (reverse works))
+reached-nodes seq works =
+    ap (λ (list : List NodeFields). reverse (graph.descendants seq list)) (sym (map-reverse (node_of works) works))
+    ∙ ap reverse (descendants-nodes works seq (reverse works) (All-reverse (λ work. is_there works work.seq ≡ true) works (there-each works)))
+
+-- ---- those that are freed
+
+-- what is marked once a node is has succeeded once its work has
+head-marked : (b : Bool) (all : List Record) (work : Record) (output : List DataEntry) (number : ℕ)
+    → (let node = node_of all work in let now = cond b (record node { done = true }) node in eqb now.seq number && now.done)
+    ≡ (let now = cond b (succeeded output work) work in eqb now.seq number && is_succeeded now.phase)
+head-marked true all work output number = refl
+head-marked false all work output number = refl
+
+met-marked : (all works : List Record) (output : List DataEntry) (seq number : ℕ)
+    → is_met (with_marked seq (map (node_of all) works)) number ≡ has_succeeded (changed_work (succeeded output) seq works) number
+met-marked all [] output seq number = refl
+met-marked all (work ∷ works) output seq number =
+    let rest = met-marked all works output seq number in
+    let now = cond (eqb work.seq seq) (succeeded output work) work in
+    ap (λ b. b || is_met (with_marked seq (map (node_of all) works)) number) (head-marked (eqb work.seq seq) all work output number)
+    ∙ ap (λ b. (eqb now.seq number && is_succeeded now.phase) || b) rest
+
+-- the numbers of the nodes that pass a test
+abbrev picked : (NodeFields → Bool) → List Record → List Record → List ℕ
+picked test all works = map (λ (node : NodeFields). node.seq) (filter test (map (node_of all) works))
+
+picked_not : (test : NodeFields → Bool) (all : List Record) (number : ℕ) (works : List Record) → AllByRecursion (λ work. number < work.seq) works
+    → is_among (picked test all works) number ≡ false
+picked_not test all number [] above = refl
+picked_not test all number (work ∷ works) above =
+    let rest = picked_not test all number works above.1 in
+    let miss = ne_eqb work.seq number (λ e. absurd (omega (arith, above.0))) in
+    cond_both (test (node_of all work)) (node_of all work ∷ filter test (map (node_of all) works)) (filter test (map (node_of all) works))
+    (λ (nodes : List NodeFields). is_among (map (λ (node : NodeFields). node.seq) nodes) number ≡ false) (λ e. rw (miss) rest) (λ e. rest)
+
+-- a record's number is among them where its node passes
+picked-each : (test : NodeFields → Bool) (all works : List Record) → WorksAscend works
+    → AllByRecursion (λ work. is_among (picked test all works) work.seq ≡ test (node_of all work)) works
+picked-each test all [] ascend = tt
+picked-each test all (work ∷ works) ascend =
+    let rest = picked-each test all works ascend.1 in
+    let later = filter test (map (node_of all) works) in
+    let hit = eq-eqb work.seq work.seq refl in
+    let P : List NodeFields → Type 0 =
+    λ nodes. AllByRecursion (λ other. is_among (map (λ (node : NodeFields). node.seq) nodes) other.seq ≡ test (node_of all other)) works in
+    let others : P (cond (test (node_of all work)) (node_of all work ∷ later) later) =
+    cond_both (test (node_of all work)) (node_of all work ∷ later) later P
+    (λ e. All-weaker (λ other. (work.seq < other.seq) × (is_among (picked test all works) other.seq ≡ test (node_of all other)))
+    (λ other. (eqb work.seq other.seq || is_among (picked test all works) other.seq) ≡ test (node_of all other)) works
+    (λ other facts. let miss = ne_eqb work.seq other.seq (λ e. absurd (omega (arith, facts.0))) in rw miss facts.1)
+    (All-both (λ other. work.seq < other.seq) (λ other. is_among (picked test all works) other.seq ≡ test (node_of all other)) works ascend.0 rest))
+    (λ e. rest) in
+    let here : is_among (picked test all (work ∷ works)) work.seq ≡ test (node_of all work) =
+    cond_both (test (node_of all work)) (node_of all work ∷ later) later
+    (λ (nodes : List NodeFields). is_among (map (λ (node : NodeFields). node.seq) nodes) work.seq ≡ test (node_of all work))
+    (λ e. rw (hit) (sym e)) (λ e. picked_not test all work.seq works ascend.0 ∙ sym e) in
+    (here, others)
+
+-- a test that each passes leaves all
+pub filter-each : {T : Type 0} (keep : T → Bool) (xs : List T) → AllByRecursion (λ x. keep x ≡ true) xs → filter keep xs ≡ xs
+filter-each keep [] all = refl
+filter-each keep (x ∷ xs) all = rw (all.0) (ap (λ rest. x ∷ rest) (filter-each keep xs all.1))
+
+list_all-same : {T : Type 0} (test other : T → Bool) (xs : List T) → ((x : T) → test x ≡ other x) → list_all test xs ≡ list_all other xs
+list_all-same test other [] same = refl
+list_all-same test other (x ∷ xs) same = rw (same x, list_all-same test other xs same) refl
+
+-- a prerequisite that is sound is there
+prerequisite-there : (number : ℕ) (works : List Record) → HasOne (IsPrerequisite number) works → is_there works number ≡ true
+prerequisite-there number [] one = absurd one
+prerequisite-there number (work ∷ works) (inl is) = let hit = eq-eqb work.seq number is.seq in rw hit refl
+prerequisite-there number (work ∷ works) (inr one) =
+    elim (cases_Bool (eqb work.seq number)) [
+      | inl hit ↦ rw hit refl
+      | inr miss ↦ rw miss (prerequisite-there number works one)
+    ]
+
+-- all prerequisites of waiting work are there
+waiting-there : (works : List Record) (p : Phase) (prior : List ℕ) → is_waiting p ≡ true → ArePriorSound works p prior
+    → filter (is_there works) prior ≡ prior
+waiting-there works phase.Waiting prior waits sound =
+    filter-each (is_there works) prior
+    (All-weaker (λ number. HasOne (IsPrerequisite number) works) (λ number. is_there works number ≡ true) prior
+    (λ number one. prerequisite-there number works one) sound)
+waiting-there works phase.Running prior waits sound = absurd (false≢true waits)
+waiting-there works (phase.Done how) prior waits sound = absurd (false≢true waits)
+
+and-when : (a x y : Bool) → (a ≡ true → x ≡ y) → (a && x) ≡ (a && y)
+and-when true x y same = same refl
+and-when false x y same = refl
+
+-- the waiting works that a node frees are those that its work frees
+pub freed-nodes : (seq : ℕ) (output : List DataEntry) (works : List Record) → AllLater IsBefore works
+    → AllByRecursion (λ work. ArePriorSound works work.phase work.prior) works
+    → AllByRecursion (λ work. (is_waiting work.phase && is_among (freed_by (nodes_of works) seq) work.seq)
+    ≡ is_freed seq (changed_work (succeeded output) seq works) work) works
+unfolding all_met
+freed-nodes seq output works order sound =
+    let then = changed_work (succeeded output) seq works in
+    let marked = with_marked seq (nodes_of works) in
+    let test : NodeFields → Bool = λ node. is_among node.before seq && list_all (is_met marked) node.before in
+    All-weaker (λ work. ArePriorSound works work.phase work.prior × (is_among (picked test works works) work.seq ≡ test (node_of works work)))
+    (λ work. (is_waiting work.phase && is_among (picked test works works) work.seq) ≡ is_freed seq then work) works
+    (λ work facts.
+    and-when (is_waiting work.phase) (is_among (picked test works works) work.seq) (is_among work.prior seq && all_met then work)
+    (λ waits.
+    facts.1
+    ∙ ap (λ prior. is_among prior seq && list_all (is_met marked) prior) (waiting-there works work.phase work.prior waits facts.0)
+    ∙ ap (λ b. is_among work.prior seq && b)
+    (list_all-same (is_met marked) (has_succeeded then) work.prior (λ number. met-marked works works output seq number))))
+    (All-both (λ work. ArePriorSound works work.phase work.prior) (λ work. is_among (picked test works works) work.seq ≡ test (node_of works work)) works sound
+    (picked-each test works works (WorksAscend-in_order works order)))
+
+-- ---- a work that is unfinished
+
+not_succeeded : (p : Phase) → is_open p ≡ true → is_succeeded p ≡ false
+not_succeeded phase.Waiting unfinished = refl
+not_succeeded phase.Running unfinished = refl
+not_succeeded (phase.Done how) unfinished = absurd (false≢true unfinished)
+
+pub open_not_succeeded : (p : Phase) → is_open p ≡ true → is_succeeded p ≡ true → ⊥
+open_not_succeeded p unfinished is = false≢true (sym (not_succeeded p unfinished) ∙ is)
+
+-- the nodes have the numbers of the records
+pub nodes-there : (all works : List Record) (number : ℕ)
+    → list_any (λ (node : NodeFields). eqb node.seq number) (map (node_of all) works) ≡ is_there works number
+nodes-there all [] number = refl
+nodes-there all (work ∷ works) number = ap (λ b. eqb work.seq number || b) (nodes-there all works number)
+
+-- and those are marked that have succeeded
+pub nodes-met : (all works : List Record) (number : ℕ) → is_met (map (node_of all) works) number ≡ has_succeeded works number
+nodes-met all [] number = refl
+nodes-met all (work ∷ works) number = ap (λ b. (eqb work.seq number && is_succeeded work.phase) || b) (nodes-met all works number)
+
+-- a record that is there has its node
+pub node-stored : (work : Record) (works : List Record) → HasOne (λ other. other ≡ work) works → HasNode (nodes_of works) work.seq
+node-stored work works stored =
+    nodes-there works works work.seq
+    ∙ list_any-stored (λ other. eqb other.seq work.seq) works work stored (eq-eqb work.seq work.seq refl)
+
+-- and where the work is unfinished, the node isn't marked
+pub unmarked-open : (work : Record) (works : List Record) → AllLater IsBefore works → HasOne (λ other. other ≡ work) works → is_open work.phase ≡ true
+    → IsUnmarked (nodes_of works) work.seq
+unmarked-open work works order stored unfinished = record {
+  there = node-stored work works stored;
+  unmarked =
+      nodes-met works works work.seq
+      ∙ list_any-false (λ other. eqb other.seq work.seq && is_succeeded other.phase) works
+      (All-weaker (IsAlone work) (λ other. (eqb other.seq work.seq && is_succeeded other.phase) ≡ false) works
+      (λ other alone. elim (cases_Bool (eqb other.seq work.seq)) [
+        | inl here ↦
+            let same = alone (eqb-true other.seq work.seq here) in
+            rw here (ap (λ (w : Record). is_succeeded w.phase) same ∙ not_succeeded work.phase unfinished)
+        | inr miss ↦ rw miss refl
+      ]) (IsAlone-stored work works order stored));
+}

@@ -1,0 +1,37 @@
+-- The records as the nodes of a graph. This project's own choice.
+use Rattle.std.specs.Prelude.{◌≡◌, ◌≢◌, ℕ, ◌==◌, ◌≤◌, Bool, true, false, List, length, map, filter}
+use Rattle.std.specs.List.{AllByRecursion, list_any}
+use Rattle.wm_collections.specs.Lists.{AllLater}
+use Rattle.wm_graph.specs.Marks.{is_met}
+use Rattle.wm_graph.specs.Nodes.{HasNode, NodeFields}
+use Rattle.wm_machine.specs.First.{is_succeeded}
+use Rattle.wm_machine.specs.declared.record.Record.{Record}
+
+-- whether a record of this number is there
+abbrev pub is_there : List Record → ℕ → Bool
+is_there works number = list_any (λ work. work.seq == number) works
+
+-- different records that are there, at most 100
+pub record AreThere (works : List Record) (numbers : List ℕ) : Type 0 where
+  pub few : length numbers ≤ 100
+  pub different : AllLater (λ number later. number ≢ later) numbers
+  pub there : AllByRecursion (λ number. is_there works number ≡ true) numbers
+
+-- a record as a node among the records: its number, those of its prerequisites that are there, and whether it has succeeded
+abbrev pub node_of : List Record → Record → NodeFields
+node_of works work = record { seq = work.seq; before = filter (is_there works) work.prior; done = is_succeeded work.phase }
+
+abbrev pub nodes_of : List Record → List NodeFields
+nodes_of works = map (node_of works) works
+
+-- A record that may take the place of another leaves the graph as it is, or marks its node: it has the same number and the same prerequisites, and
+-- what has succeeded stays so.
+pub record KeepsNode (old new : Record) : Type 0 where
+  pub seq : new.seq ≡ old.seq
+  pub prior : new.prior ≡ old.prior
+  pub succeeded : is_succeeded old.phase ≡ true → is_succeeded new.phase ≡ true
+
+-- a node that is there and isn't marked
+pub record IsUnmarked (nodes : List NodeFields) (seq : ℕ) : Type 0 where
+  pub there : HasNode nodes seq
+  pub unmarked : is_met nodes seq ≡ false
