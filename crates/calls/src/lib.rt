@@ -4,6 +4,8 @@
 #![tactic(auto)]
 
 #[cfg(test)]
+mod checks;
+#[cfg(test)]
 mod lifecycle;
 #[cfg(test)]
 mod runs;
@@ -11,3 +13,5 @@ mod runs;
 mod table;
 #[cfg(test)]
 mod texts;
+#[cfg(test)]
+mod unique;

@@ -24,6 +24,7 @@ fn name_of(command: &Command) -> &'static str {
         Command::Enqueue { .. } => "enqueue",
         Command::Moment(_) => "moment",
         Command::Conditions(_) => "conditions",
+        Command::Prune => "prune",
         Command::Query(_) => "query",
         Command::Faulty(LineFault::NotBuilt) => "not built",
         _ => "another",
@@ -56,7 +57,7 @@ not json
         "enqueue",
         "query",
         "not built",
-        "not built",
+        "prune",
         "moment",
         "conditions",
     ];

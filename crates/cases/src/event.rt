@@ -4,7 +4,9 @@ use std::alloc::{AllocError, Global};
 use uuid::Uuid;
 use wm_conditions::{Conditions, Constraints, Network};
 use wm_data::{Data, Merger};
-use wm_machine::{Cause, Command, End, Event, LineFault, Refusal, Reply, Target};
+use wm_machine::{
+    Applied, Cause, Command, End, Event, LineFault, Policy, Refusal, Reply, Target, UniqueName,
+};
 use wm_request::{Batch, Request};
 use wm_schedule::{Backoff, BackoffPolicy, Period};
 
@@ -48,10 +50,15 @@ pub fn event_words(alloc: Global, event: &Event) -> Result<String, AllocError> {
 
 fn command_words(alloc: Global, command: &Command) -> Result<String, AllocError> {
     match command {
-        Command::Enqueue { named: None, batch } => enqueue_words(alloc, batch),
+        Command::Enqueue { named, batch } => enqueue_words(alloc, named, batch),
         Command::Cancel(Target::Id(id)) => format!(in alloc; "cancel {id}"),
+        Command::Update(request) => {
+            let work = work_words(alloc, request)?;
+            format!(in alloc; "update {work}")
+        }
         Command::Moment(at) => format!(in alloc; "moment {at}"),
         Command::Conditions(conditions) => conditions_words(alloc, conditions),
+        Command::Prune => String::from_str(alloc, "prune"),
         Command::Query(_) => String::from_str(alloc, "query"),
         Command::Faulty(fault) => {
             let fault = fault_words(alloc, fault)?;
@@ -61,9 +68,15 @@ fn command_words(alloc: Global, command: &Command) -> Result<String, AllocError>
     }
 }
 
-/// An enqueue with its works, each with the ids of those that it is after.
-fn enqueue_words(alloc: Global, batch: &Batch) -> Result<String, AllocError> {
+/// An enqueue with its unique name where it has one, and its works, each with the ids of those that
+/// it is after.
+fn enqueue_words(
+    alloc: Global,
+    named: &Option<UniqueName>,
+    batch: &Batch,
+) -> Result<String, AllocError> {
     let mut words = String::from_str(alloc, "enqueue")?;
+    add_name(alloc, &mut words, named)?;
     for (index, node) in batch.works().as_slice().iter().enumerate() {
         let work = work_words(alloc, &node.request)?;
         words.push_str(if index == 0 { " " } else { ", " })?;
@@ -71,6 +84,31 @@ fn enqueue_words(alloc: Global, batch: &Batch) -> Result<String, AllocError> {
         add_after(alloc, &mut words, node.after.as_slice())?;
     }
     Ok(words)
+}
+
+/// Adds a unique name with its policy, where there is one.
+fn add_name(
+    alloc: Global,
+    words: &mut String,
+    named: &Option<UniqueName>,
+) -> Result<(), AllocError> {
+    if let Some(unique) = named {
+        let name = unique.name.as_str();
+        let policy = policy_name(unique.policy);
+        words.push_str(format!(in alloc; " {name:?} {policy}")?.as_str())?;
+    }
+    Ok(())
+}
+
+fn policy_name(policy: Policy) -> &'static str {
+    match policy {
+        Policy::Keep => "KEEP",
+        Policy::Replace => "REPLACE",
+        Policy::Append => "APPEND",
+        Policy::AppendOrReplace => "APPEND_OR_REPLACE",
+        Policy::CancelAndReenqueue => "CANCEL_AND_REENQUEUE",
+        Policy::Update => "UPDATE",
+    }
 }
 
 /// Adds the ids of the works that a work is after where there are any.
@@ -235,6 +273,12 @@ fn reply_words(alloc: Global, reply: &Reply) -> Result<String, AllocError> {
         Reply::Moment => String::from_str(alloc, "moment"),
         Reply::Conditions { stopped } => format!(in alloc; "conditions stopped {stopped}"),
         Reply::Cancelled(count) => format!(in alloc; "cancelled {count}"),
+        Reply::Kept => String::from_str(alloc, "kept"),
+        Reply::Updated { result, generation } => {
+            let applied = applied_name(*result);
+            format!(in alloc; "updated {applied} generation {generation}")
+        }
+        Reply::Pruned(count) => format!(in alloc; "pruned {count}"),
         Reply::Refused(refusal) => {
             let refusal = refusal_words(alloc, refusal)?;
             format!(in alloc; "refused {refusal}")
@@ -243,11 +287,20 @@ fn reply_words(alloc: Global, reply: &Reply) -> Result<String, AllocError> {
     }
 }
 
+fn applied_name(applied: Applied) -> &'static str {
+    match applied {
+        Applied::NotApplied => "NOT_APPLIED",
+        Applied::Immediately => "APPLIED_IMMEDIATELY",
+        Applied::ForNextRun => "APPLIED_FOR_NEXT_RUN",
+    }
+}
+
 fn refusal_words(alloc: Global, refusal: &Refusal) -> Result<String, AllocError> {
     match refusal {
         Refusal::Line(fault) => fault_words(alloc, fault),
         Refusal::MomentBack { now } => format!(in alloc; "MomentBack now {now}"),
         Refusal::NoSuchWork { id } => format!(in alloc; "NoSuchWork {id}"),
+        Refusal::KindMismatch { id } => format!(in alloc; "KindMismatch {id}"),
         Refusal::IdInUse { id } => format!(in alloc; "IdInUse {id}"),
         Refusal::NoSuchPrerequisite { id } => format!(in alloc; "NoSuchPrerequisite {id}"),
         Refusal::PeriodicInChain { id } => format!(in alloc; "PeriodicInChain {id}"),

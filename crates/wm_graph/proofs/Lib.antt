@@ -2,6 +2,5 @@ pub mod Descends
 pub mod Frees
 pub mod Graphs
 pub mod Lists
-pub mod Places
 pub mod Reaches
 pub mod Unmet

@@ -6,7 +6,7 @@ use Rattle.std.specs.Option.{option_map_or}
 use Rattle.std.proofs.lemmas.Bool.{cond_both, eq-eqb, eqb-true, ne_eqb}
 use Rattle.std.proofs.lemmas.Map.Views.{any-filter_same}
 use Rattle.wm_graph.proofs.Lists.{fewer-filter}
-use Rattle.wm_graph.proofs.Places.{above-at, place-found, place-none}
+use Rattle.wm_collections.proofs.Places.{above-at, place-found, place-none}
 use Rattle.wm_graph.specs.Descendants.{is_among}
 use Rattle.wm_graph.specs.Marks.{before_of, is_just, is_met, unmet, unmet_of}
 use Rattle.wm_graph.specs.Nodes.{AreAscending, IsGraph, IsNode, NodeFields}

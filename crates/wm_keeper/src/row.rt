@@ -2,7 +2,7 @@ use std::alloc::{AllocError, Global};
 use wm_collections::{Items, Replica, Text};
 
 /// One stored work. Numbers and codes are as `docs/FORMATS.md`, "Rows", says.
-#[derive(Drop)]
+#[derive(Drop, PartialEq, Eq)]
 pub struct Row {
     /// The form of the row, 1.
     pub version: i64,

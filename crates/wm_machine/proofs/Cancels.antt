@@ -74,32 +74,37 @@ none_runs s seq valid none =
     (All-stored s.works) valid.running)
 
 keeps_all : (work : Record) → KeepsShape work work
-keeps_all work = record { same = record { seq = refl; name = refl; request = refl; prior = refl }; phase_is = refl; attempt = refl; due = refl }
+keeps_all work = record { same = record { seq = refl; name = λ text is. is; request = refl; prior = refl }; phase_is = refl; attempt = refl; due = refl }
 
-reached-closed : (s : State) (work : Record) → IsReached s → HasOne (λ other. other ≡ work) s.works → is_open work.phase ≡ true
-    → reaches_run work.seq s.works s.runs ≡ false → IsReached (record s { works = with_closed how.Cancelled work.seq s.works })
-reached-closed s work reached stored unfinished none =
+-- closing a work that hasn't succeeded and reaches no run
+pub reached-closed : (s : State) (seq : ℕ) → IsReached s → AllByRecursion (OfNumber seq (λ other. Succeeded other.phase → ⊥)) s.works
+    → reaches_run seq s.works s.runs ≡ false → IsReached (record s { works = with_closed how.Cancelled seq s.works })
+reached-closed s seq reached not_yet none =
     let valid = reached.valid in
-    let change = closed_in how.Cancelled work.seq s.works in
-    let not_yet =
-    All-weaker (IsAlone work) (OfNumber work.seq (λ other. Succeeded other.phase → ⊥)) s.works
-    (λ other same e succeeded. succeeded-open work.phase (sym (ap (λ (w : Record). w.phase) (same e)) ∙ succeeded) unfinished)
-    (IsAlone-stored work s.works valid.in_order stored) in
+    let change = closed_in how.Cancelled seq s.works in
     let fits =
     All-weaker IsRecord (λ other. IsRecord (change other)) s.works
     (λ other is.
-    closed_both IsRecord how.Cancelled work.seq s.works other
-    (λ e. IsRecord-cancelled other (reached_parts work.seq s.works other e).0 is) (λ e. is)) valid.records in
+    closed_both IsRecord how.Cancelled seq s.works other
+    (λ e. IsRecord-cancelled other (reached_parts seq s.works other e).0 is) (λ e. is)) valid.records in
     reached-changed s change reached
-    (IsChange-closing s work.seq how.Cancelled (λ (w : Record). w) keeps_all valid not_yet (λ change p prior. tt) fits)
-    (All-weaker (λ other. is_reached work.seq s.works other ≡ true → other.phase ≡ phase.Running → ⊥) (λ other. KeepsRun other (change other)) s.works
+    (IsChange-closing s seq how.Cancelled (λ (w : Record). w) keeps_all valid not_yet (λ change p prior. tt) fits)
+    (All-weaker (λ other. is_reached seq s.works other ≡ true → other.phase ≡ phase.Running → ⊥) (λ other. KeepsRun other (change other)) s.works
     (λ other idle.
-    closed_both (KeepsRun other) how.Cancelled work.seq s.works other
+    closed_both (KeepsRun other) how.Cancelled seq s.works other
     (λ e. record {
       ran = λ running. absurd (idle-done how.Cancelled running);
       runs = λ running. absurd (idle e running);
       attempt = λ running. absurd (idle e running);
-    }) (λ e. KeepsRun-same other other refl refl)) (none_runs s work.seq valid none))
+    }) (λ e. KeepsRun-same other other refl refl)) (none_runs s seq valid none))
+
+-- a record that is unfinished hasn't succeeded, nor has any of its number
+pub not_yet_unfinished : (s : State) (work : Record) → Valid s → HasOne (λ other. other ≡ work) s.works → is_open work.phase ≡ true
+    → AllByRecursion (OfNumber work.seq (λ other. Succeeded other.phase → ⊥)) s.works
+not_yet_unfinished s work valid stored unfinished =
+    All-weaker (IsAlone work) (OfNumber work.seq (λ other. Succeeded other.phase → ⊥)) s.works
+    (λ other same e succeeded. succeeded-open work.phase (sym (ap (λ (w : Record). w.phase) (same e)) ∙ succeeded) unfinished)
+    (IsAlone-stored work s.works valid.in_order stored)
 
 reached-work : (s : State) (work : Record) → IsReached s → HasOne (λ other. other ≡ work) s.works → IsReached (state_by s (cancelled_work s work))
 reached-work s work reached stored =
@@ -110,7 +115,7 @@ reached-work s work reached stored =
     cond_both (is_open work.phase) (cond (reaches_run work.seq s.works s.runs) None (Some done)) (Some (unchanged s (reply.Cancelled 0)))
     (λ (o : Option Outcome). IsReached (state_by s o))
     (λ e. cond_both (reaches_run work.seq s.works s.runs) None (Some done) (λ (o : Option Outcome). IsReached (state_by s o)) (λ f. reached)
-    (λ f. reached-closed s work reached stored e f)) (λ e. reached)
+    (λ f. reached-closed s work.seq reached (not_yet_unfinished s work reached.valid stored e) f)) (λ e. reached)
 
 reached-by : (s : State) (id : List ℕ) (found : Option Record) → work_with_id s.works id ≡ found → IsReached s
     → IsReached (state_by s (cancelled_by s id found))

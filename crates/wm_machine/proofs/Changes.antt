@@ -1,11 +1,11 @@
 -- What holds of the records of a state after a change of each of them by itself, and of the state where no run begins or ends.
-use Rattle.std.proofs.Common.{◌≡◌, ◌∙◌, ℕ, ◌<◌, ◌≤◌, true, List, [], ◌∷◌, length, map, refl, ap, subst, sym}
+use Rattle.std.proofs.Common.{◌≡◌, ◌∙◌, ℕ, ◌<◌, ◌≤◌, Bool, true, List, [], ◌∷◌, length, map, is_some, refl, ap, subst, sym}
 use Rattle.std.specs.List.{AllByRecursion}
 use Rattle.std.proofs.lemmas.Bool.{false≢true}
 use Rattle.std.proofs.lemmas.List.{length-map}
 use Rattle.wm_collections.specs.Lists.{AllLater}
 use Rattle.wm_machine.proofs.Lists.{All-any, All-both, All-map, All-weaker, AllLater-map, HasOne-map, HasOne-weaker}
-use Rattle.wm_machine.proofs.Runnings.{all_of_number, changed, changed_both, IsBefore-same, IsSameWork}
+use Rattle.wm_machine.proofs.Runnings.{all_of_number, changed, changed_both, HasNoOtherName, IsBefore-same, IsSameWork, still_one_time}
 use Rattle.wm_machine.specs.Closed.{is_open}
 use Rattle.wm_machine.specs.Narrow.{IsReached}
 use Rattle.wm_machine.specs.Valid.{ArePriorSound, HasOne, HasSucceeded, IsBefore, IsCurrentOf, IsOpenPhase, IsPrerequisite, IsRecord, IsValidRun, IsWorkOf, Valid}
@@ -19,11 +19,15 @@ use Rattle.wm_request.specs.Requests.{RequestFields}
 
 -- ---- a change
 
--- two records are of one work that was asked for in one way
+-- what no change makes another in a request: its id, and whether it is for periodic work
+abbrev pub lasting : RequestFields → List ℕ × Bool
+lasting request = (request.id, is_some request.period)
+
+-- two records are of one work, which keeps what lasts of its request, and has no other name
 pub record IsSameRequest (one other : Record) : Type 0 where
   pub seq : other.seq ≡ one.seq
-  pub name : other.name ≡ one.name
-  pub request : other.request ≡ one.request
+  pub name : HasNoOtherName one.name other.name
+  pub request : lasting other.request ≡ lasting one.request
   pub prior : other.prior ≡ one.prior
 
 abbrev pub Succeeded : Phase → Type 0
@@ -107,7 +111,7 @@ module _ (works : List Record) (change : Record → Record) (is : IsChange works
       let same = is.same work in record {
         seq = same.seq ∙ of.seq;
         open_is = open_then of.seq of.open_is;
-        one_time = ap (λ (r : RequestFields). r.period) same.request ∙ of.one_time;
+        one_time = still_one_time work.request.period (change work).request.period (ap (λ (l : List ℕ × Bool). l.1) same.request) of.one_time;
       }) opens one
 
   -- what has succeeded has after the change
@@ -168,7 +172,7 @@ IsChange-one works seq change same records sound fits moves not_yet opens =
     (λ work then before. changed_both (λ c. IsOpenPhase c.phase) change seq work then (λ differs. before)) opens in
     record {
       same = λ work. changed_both (IsSameRequest work) change seq work (λ e. same work)
-          (λ differs. record { seq = refl; name = refl; request = refl; prior = refl });
+          (λ differs. record { seq = refl; name = λ text is. is; request = refl; prior = refl });
       fits = All-weaker (λ work. IsRecord work × OfNumber seq (λ work. IsRecord (change work)) work) (λ work. IsRecord (changed change seq work)) works
           (λ work both. changed_both IsRecord change seq work both.1 (λ differs. both.0))
           (All-both IsRecord (OfNumber seq (λ work. IsRecord (change work))) works records fits);
@@ -182,6 +186,22 @@ IsChange-one works seq change same records sound fits moves not_yet opens =
           (OfNumber seq (λ work. MovesTo works (changed change seq) work.phase work.prior (change work).phase)) works sound moves);
       stays = All-weaker (OfNumber seq (λ work. Succeeded work.phase → ⊥)) (λ work. Succeeded work.phase → Succeeded (changed change seq work).phase) works
           (λ work not succeeded. changed_both (λ c. Succeeded c.phase) change seq work (λ e. absurd (not e succeeded)) (λ differs. succeeded)) not_yet;
+    }
+
+-- a change that leaves each record in its phase
+pub IsChange-still : (works : List Record) (change : Record → Record) → ((work : Record) → IsSameRequest work (change work))
+    → ((work : Record) → (change work).phase ≡ work.phase) → AllByRecursion (λ work. IsRecord (change work)) works
+    → AllByRecursion (λ work. ArePriorSound works work.phase work.prior) works → IsChange works change
+IsChange-still works change same still fits sound =
+    let opens =
+    All-any (λ work. IsOpenPhase work.phase → IsOpenPhase (change work).phase) works (λ work before. subst IsOpenPhase (sym (still work)) before) in
+    record {
+      same = same;
+      fits = fits;
+      moves = All-weaker (λ work. ArePriorSound works work.phase work.prior) (λ work. MovesTo works change work.phase work.prior (change work).phase) works
+          (λ work is. subst (MovesTo works change work.phase work.prior) (sym (still work))
+          (moves-kept works change work.phase work.prior is (λ waits. all_open works change work.prior opens))) sound;
+      stays = All-any (λ work. Succeeded work.phase → Succeeded (change work).phase) works (λ work succeeded. still work ∙ succeeded);
     }
 
 -- where a change brings a record goes by the phases that it gives
@@ -225,9 +245,9 @@ pub record AreFine (s : State) (works : List Record) : Type 0 where
 same_work : (one other : Record) → IsSameRequest one other → IsSameWork one other
 same_work one other is = record {
   seq = is.seq;
-  id = ap (λ (r : RequestFields). r.id) is.request;
+  id = ap (λ (l : List ℕ × Bool). l.0) is.request;
   name = is.name;
-  period = ap (λ (r : RequestFields). r.period) is.request;
+  kind = ap (λ (l : List ℕ × Bool). l.1) is.request;
 }
 
 -- the records after a change

@@ -1,9 +1,12 @@
 -- What holds of every command, with a row for each.
-use Rattle.std.proofs.Common.{None, refl}
+use Rattle.std.proofs.Common.{Some, None, refl}
 use Rattle.wm_machine.proofs.Cancels.{cancel-answered}
 use Rattle.wm_machine.proofs.Enqueues.{enqueue-answered}
+use Rattle.wm_machine.proofs.Names.{enqueue-named-answered}
 use Rattle.wm_machine.proofs.Owed.{IsAnswered}
+use Rattle.wm_machine.proofs.Prunes.{prune-answered}
 use Rattle.wm_machine.proofs.Settings.{conditions-answered, moment-answered}
+use Rattle.wm_machine.proofs.Updates.{update-answered}
 use Rattle.wm_machine.specs.Outcome.{IsBuilt}
 use Rattle.wm_machine.specs.Queried.{answer_to}
 use Rattle.wm_machine.specs.declared.command.Command.{Command}
@@ -16,9 +19,12 @@ use Rattle.wm_machine.specs.declared.state.State.{State}
 -- each command that is built has a reply where no run is unreturned, keeps what holds of the states, and changes neither runs nor instances
 pub answered : (s : State) (asked : Command) → IsBuilt asked → IsAnswered s asked
 answered s (command.Enqueue None batch) built = enqueue-answered s batch built
+answered s (command.Enqueue (Some unique) batch) built = enqueue-named-answered s unique batch built
 answered s (command.Cancel (target.Id id)) built = cancel-answered s id
+answered s (command.Update request) built = update-answered s request built
 answered s (command.Moment at) built = moment-answered s at built
 answered s (command.Conditions conditions) built = conditions-answered s conditions
+answered s command.Prune built = prune-answered s
 answered s (command.Query query) built =
     record { answered = λ no_run. (reply.Query (answer_to s query), refl); reached = λ reached. reached; frame = refl }
 answered s (command.Faulty fault) built =

@@ -52,7 +52,7 @@ unfolding is_reached
 reached_parts seq works work is = and_parts _ _ is
 
 -- an unfinished descendant is reached
-reached_from : (seq : ℕ) (works : List Record) (work : Record) → is_open work.phase ≡ true → is_descendant seq works work.seq ≡ true
+pub reached_from : (seq : ℕ) (works : List Record) (work : Record) → is_open work.phase ≡ true → is_descendant seq works work.seq ≡ true
     → is_reached seq works work ≡ true
 unfolding is_reached
 reached_from seq works work unfinished is = and_from _ _ unfinished is
@@ -320,8 +320,8 @@ KeepsShape-output : (output : List DataEntry) (seq : ℕ) (work : Record) → Ke
 unfolding due_of
 KeepsShape-output output seq work =
     changed_both (KeepsShape work) (with_output output) seq work
-    (λ e. record { same = record { seq = refl; name = refl; request = refl; prior = refl }; phase_is = refl; attempt = refl; due = refl })
-    (λ differs. record { same = record { seq = refl; name = refl; request = refl; prior = refl }; phase_is = refl; attempt = refl; due = refl })
+    (λ e. record { same = record { seq = refl; name = λ text is. is; request = refl; prior = refl }; phase_is = refl; attempt = refl; due = refl })
+    (λ differs. record { same = record { seq = refl; name = λ text is. is; request = refl; prior = refl }; phase_is = refl; attempt = refl; due = refl })
 
 -- a work that is left after a success was left before: one that is freed was blocked
 success_left : (now seq : ℕ) (output : List DataEntry) (works : List Record) → IsChange works (success now seq output works)
@@ -399,7 +399,7 @@ module _ (s : State) (run : Run) (valid : Valid s)
       let facts =
       All-both (OfNumber run.seq (λ work. work.phase ≡ phase.Running)) (λ work. IsRecord work × ArePriorSound s.works work.phase work.prior) s.works running
       (All-both IsRecord (λ work. ArePriorSound s.works work.phase work.prior) s.works valid.records valid.sound) in
-      put_back (retried s.now) (λ work. record { seq = refl; name = refl; request = refl; prior = refl }) (λ work. refl)
+      put_back (retried s.now) (λ work. record { seq = refl; name = λ text is. is; request = refl; prior = refl }) (λ work. refl)
       (All-weaker (λ work. OfNumber run.seq (λ work. work.phase ≡ phase.Running) work × (IsRecord work × ArePriorSound s.works work.phase work.prior))
       (OfNumber run.seq (λ work. IsRecord (retried s.now work))) s.works
       (λ work is e. IsRecord-ended s.now Retry work below tt (is.0 e) is.1.0) facts)
@@ -415,7 +415,7 @@ module _ (s : State) (run : Run) (valid : Valid s)
       → HasEnded s run (changed (enqueued_again s.now) run.seq)
   has_again period below repeats =
       let facts = All-both (OfNumber run.seq (λ work. work.request.period ≡ Some period)) IsRecord s.works repeats valid.records in
-      put_back (enqueued_again s.now) (λ work. record { seq = refl; name = refl; request = refl; prior = refl }) (λ work. refl)
+      put_back (enqueued_again s.now) (λ work. record { seq = refl; name = λ text is. is; request = refl; prior = refl }) (λ work. refl)
       (All-weaker (λ work. OfNumber run.seq (λ work. work.request.period ≡ Some period) work × IsRecord work)
       (OfNumber run.seq (λ work. IsRecord (enqueued_again s.now work))) s.works
       (λ work is e. IsRecord-again period s.now work below (is.0 e) is.1) facts)
@@ -462,7 +462,7 @@ module _ (s : State) (run : Run) (valid : Valid s)
       All-both (OfNumber seq (λ work. work.phase ≡ phase.Running)) (λ work. OfNumber seq (λ w. w.request.period ≡ None) work × IsRecord work) s.works running
       (All-both (OfNumber seq (λ w. w.request.period ≡ None)) IsRecord s.works one_time valid.records) in
       let first =
-      IsChange-one s.works seq (succeeded output) (λ work. record { seq = refl; name = refl; request = refl; prior = refl }) valid.records valid.sound
+      IsChange-one s.works seq (succeeded output) (λ work. record { seq = refl; name = λ text is. is; request = refl; prior = refl }) valid.records valid.sound
       (All-weaker (λ work. OfNumber seq (λ work. work.phase ≡ phase.Running) work × (OfNumber seq (λ w. w.request.period ≡ None) work × IsRecord work))
       (OfNumber seq (λ work. IsRecord (succeeded output work))) s.works
       (λ work is e. IsRecord-succeeded output work gave (is.0 e) (is.1.0 e) is.1.1) facts)

@@ -1,18 +1,19 @@
 -- What is owed for an enqueue.
-use Rattle.std.proofs.Common.{◌≡◌, ◌≢◌, ◌&&◌, ℕ, ◌+◌, ◌^◌, ◌<◌, ◌≤◌, Bool, true, false, cond, ltb, List, [], ◌∷◌, ◌++◌, filter, find, is_some, length, map, Option, Some, None, option_map, refl, sym, ◌∙◌, ap, subst, arith, inl, inr, length-append}
+use Rattle.std.proofs.Common.{◌≡◌, ◌≢◌, ◌&&◌, ℕ, ◌+◌, ◌^◌, ◌<◌, ◌≤◌, Bool, true, false, cond, ltb, List, [], ◌∷◌, ◌++◌, filter, find, is_some, length, map, Option, Some, None, option_map, IfSome, refl, sym, ◌∙◌, ap, subst, arith, inl, inr, length-append}
 use Rattle.std.specs.List.{AllByRecursion}
 use Rattle.std.specs.Str.{bytes_eq}
 use Rattle.std.proofs.lemmas.Bool.{cases_Bool, cond_both, ltb-false, or_left, or_right, true≢false}
 use Rattle.wm_collections.specs.Lists.{AllLater}
 use Rattle.wm_machine.proofs.Changes.{Succeeded}
-use Rattle.wm_machine.proofs.Lists.{All-both, All-map, All-push, All-stored, All-weaker, AllLater-push, HasOne-front, list_any-false, map-push, none_pass}
+use Rattle.wm_machine.proofs.Lists.{All-any, All-both, All-map, All-push, All-stored, All-weaker, AllLater-any, AllLater-push, HasOne-front, list_any-false, map-push, none_pass}
 use Rattle.wm_machine.proofs.Owed.{IsAnswered}
-use Rattle.wm_machine.proofs.Placings.{bytes_eq-refl, bytes_eq-same, idle-placed, IsPlaceable, IsRecord-placed, sound-placed}
+use Rattle.wm_machine.proofs.Placings.{bytes_eq-refl, bytes_eq-same, few_named, few_others, idle-placed, IsOneTime, IsPlaceable, IsRecord-placed, placeable-naming, prior-both, sound-placed}
 use Rattle.wm_machine.specs.Built.{AreAsked}
-use Rattle.wm_machine.specs.Enqueued.{enqueued, first_refusal, id_in_use, is_stored, is_stored_periodic, no_such_prerequisite, numbers_of, numbers_spent, outcome_by, periodic_in_chain, placed, placed_record, refusal_of, too_many_prerequisites, too_many_works, with_work}
+use Rattle.wm_machine.specs.Enqueued.{count_prior, enqueued, first_refusal, id_in_use, is_stored, is_stored_periodic, new_record, no_such_prerequisite, numbers_spent, outcome_by, periodic_in_chain, placed_after, prior_of, refusal_of, refusal_of_placing, too_many_after, too_many_works, with_work, without}
 use Rattle.wm_machine.specs.Frame.{untouched}
 use Rattle.wm_machine.specs.Narrow.{IsReached}
-use Rattle.wm_machine.specs.Valid.{ArePriorSound, HasOne, HasSucceeded, IsBefore, IsCurrentOf, IsPrerequisite, IsRecord, IsValidRun, IsWorkOf, Valid}
+use Rattle.wm_machine.specs.Plan.{placed_freely, Placing}
+use Rattle.wm_machine.specs.Valid.{AreOfOneKind, ArePriorSound, HasOne, HasSucceeded, IsBefore, IsCurrentOf, IsPrerequisite, IsRecord, IsValidRun, IsWorkOf, Valid}
 use Rattle.wm_machine.specs.declared.command.Command.{Command}
 use Rattle.wm_machine.specs.declared.command.Command.TheVariants as command
 use Rattle.wm_machine.specs.declared.record.How.TheVariants as how
@@ -23,7 +24,7 @@ use Rattle.wm_machine.specs.declared.reply.Refusal.{Refusal}
 use Rattle.wm_machine.specs.declared.reply.Refusal.TheVariants.{IdInUse, NumbersSpent, PeriodicInChain, TooManyPrerequisites, TooManyWorks}
 use Rattle.wm_machine.specs.declared.state.State.{State}
 use Rattle.wm_request.specs.Batches.{has_id, ids_of, is_periodic, periodic_ids, AreDifferent, BatchFields, IsChained}
-use Rattle.wm_request.specs.Requests.{IsRequest, RequestFields}
+use Rattle.wm_request.specs.Requests.{IsRequest, IsShortText, RequestFields}
 use Rattle.wm_request.specs.declared.request.Node.{Node}
 use Rattle.wm_schedule.specs.declared.schedule.Period.{Period}
 
@@ -68,11 +69,12 @@ sound-with_work s work valid numbered new =
     (All-both (λ other. other.seq < s.next) (λ other. IsRecord other × ArePriorSound s.works other.phase other.prior) s.works valid.numbers
     (All-both IsRecord (λ other. ArePriorSound s.works other.phase other.prior) s.works valid.records valid.sound))) new
 
--- a record under the next number and with a new id, without a unique name, which isn't running, keeps what is valid, where there is room
-Valid-with_work : (s : State) (work : Record) → Valid s → ArePriorSound (s.works ++ work ∷ []) work.phase work.prior → work.seq ≡ s.next → work.name ≡ None
-    → is_stored s.works work.request.id ≡ false → IsRecord work → (work.phase ≡ phase.Running → ⊥)
+-- a record under the next number and with a new id, of one kind with those of its name, which isn't running, keeps what is valid, where there
+-- is room
+Valid-with_work : (s : State) (work : Record) → Valid s → ArePriorSound (s.works ++ work ∷ []) work.phase work.prior → work.seq ≡ s.next
+    → AllByRecursion (λ other. AreOfOneKind other work) s.works → is_stored s.works work.request.id ≡ false → IsRecord work → (work.phase ≡ phase.Running → ⊥)
     → length s.works + 1 ≤ 100000 → s.next + 1 ≤ 2 ^ 53 → Valid (with_work s work)
-Valid-with_work s work valid sound numbered unnamed new fine idle room numbers =
+Valid-with_work s work valid sound numbered named new fine idle room numbers =
     let others =
     All-both (λ other. other.seq < s.next) (λ other. bytes_eq other.request.id work.request.id ≡ false) s.works valid.numbers
     (none_pass (λ other. bytes_eq other.request.id work.request.id) s.works new) in
@@ -85,12 +87,15 @@ Valid-with_work s work valid sound numbered unnamed new fine idle room numbers =
       few_works = omega (arith, length-append s.works (work ∷ []));
       records = All-push IsRecord s.works work valid.records fine;
       in_order = AllLater-push IsBefore s.works work valid.in_order
-          (All-weaker (λ other. (other.seq < s.next) × (bytes_eq other.request.id work.request.id ≡ false)) (λ other. IsBefore other work) s.works
+          (All-weaker (λ other. AreOfOneKind other work × ((other.seq < s.next) × (bytes_eq other.request.id work.request.id ≡ false)))
+          (λ other. IsBefore other work) s.works
           (λ other is. record {
-            number = let below = is.0 in omega arith;
-            id = λ e. true≢false (sym (ap (λ id. bytes_eq id work.request.id) e ∙ bytes_eq-refl work.request.id) ∙ is.1);
-            name = λ name has named. let clash : None ≡ Some name = sym unnamed ∙ named in absurd (cc);
-          }) others);
+            number = let below = is.1.0 in omega arith;
+            id = λ e. true≢false (sym (ap (λ id. bytes_eq id work.request.id) e ∙ bytes_eq-refl work.request.id) ∙ is.1.1);
+            name = is.0;
+          })
+          (All-both (λ other. AreOfOneKind other work) (λ other. (other.seq < s.next) × (bytes_eq other.request.id work.request.id ≡ false)) s.works
+          named others));
       sound = sound-with_work s work valid numbered sound;
       running = All-push (λ w. w.phase ≡ phase.Running → HasOne (IsCurrentOf w.seq) s.runs) s.works work valid.running (λ e. absurd (idle e));
       runs = All-weaker (IsValidRun s) (IsValidRun (with_work s work)) s.runs (λ run is. record {
@@ -107,36 +112,36 @@ Valid-with_work s work valid sound numbered unnamed new fine idle room numbers =
       now = valid.now;
     }
 
-first_refusal-none : (check : Option Refusal) (checks : List (Option Refusal)) → first_refusal (check ∷ checks) ≡ None
+pub first_refusal-none : (check : Option Refusal) (checks : List (Option Refusal)) → first_refusal (check ∷ checks) ≡ None
     → (check ≡ None) × (first_refusal checks ≡ None)
 first_refusal-none (Some found) checks none = absurd (cc)
 first_refusal-none None checks none = (refl, none)
 
-not_found : (test : Bool) (found : Refusal) → cond test (Some found) None ≡ None → test ≡ false
+pub not_found : (test : Bool) (found : Refusal) → cond test (Some found) None ≡ None → test ≡ false
 not_found true found none = absurd (cc)
 not_found false found none = refl
 
 -- what the checks of a batch leave, where none refuses it
-pub record PassesChecks (s : State) (works : List Node) : Type 0 where
+pub record PassesChecks (s : State) (placing : Placing) (works : List Node) : Type 0 where
   pub room : length s.works + length works ≤ 100000
   pub numbers : s.next + length works ≤ 2 ^ 53
   pub new : id_in_use s works ≡ None
-  pub known : no_such_prerequisite s.works [] works ≡ None
+  pub known : no_such_prerequisite (without placing.let_go s.works) [] works ≡ None
   pub one_time : periodic_in_chain s.works works ≡ None
-  pub few : too_many_prerequisites works ≡ None
+  pub few : too_many_after placing.after works ≡ None
 
-pub passes : (s : State) (works : List Node) → refusal_of s None works ≡ None → PassesChecks s works
-passes s works none =
-    let last = too_many_prerequisites works ∷ [] in
+pub passes : (s : State) (placing : Placing) (works : List Node) → refusal_of_placing s placing works ≡ None → PassesChecks s placing works
+passes s placing works none =
+    let last = too_many_after placing.after works ∷ [] in
     let chain = periodic_in_chain s.works works ∷ last in
-    let known = no_such_prerequisite s.works [] works ∷ chain in
+    let known = no_such_prerequisite (without placing.let_go s.works) [] works ∷ chain in
     let ids = id_in_use s works ∷ known in
     let first = first_refusal-none (too_many_works s works) (numbers_spent s works ∷ ids) none in
     let second = first_refusal-none (numbers_spent s works) ids first.1 in
     let third = first_refusal-none (id_in_use s works) known second.1 in
-    let fourth = first_refusal-none (no_such_prerequisite s.works [] works) chain third.1 in
+    let fourth = first_refusal-none (no_such_prerequisite (without placing.let_go s.works) [] works) chain third.1 in
     let fifth = first_refusal-none (periodic_in_chain s.works works) last fourth.1 in
-    let sixth = first_refusal-none (too_many_prerequisites works) [] fifth.1 in
+    let sixth = first_refusal-none (too_many_after placing.after works) [] fifth.1 in
     record {
       room = ltb-false 100000 (length s.works + length works) (not_found (ltb 100000 (length s.works + length works)) (TooManyWorks (length s.works)) first.0);
       numbers = ltb-false (2 ^ 53) (s.next + length works) (not_found (ltb (2 ^ 53) (s.next + length works)) (NumbersSpent s.next) second.0);
@@ -148,7 +153,7 @@ passes s works none =
 
 -- ---- what is asked of the works that are left
 
-not_some : (period : Option Period) → is_some period ≡ false → period ≡ None
+pub not_some : (period : Option Period) → is_some period ≡ false → period ≡ None
 not_some None none = refl
 not_some (Some period) none = absurd (true≢false none)
 
@@ -175,32 +180,63 @@ NamesOneTime requests (node ∷ nodes) =
 abbrev requests_of : List Record → List RequestFields
 requests_of works = map (λ work. work.request) works
 
+-- where a record has the name under which a work is placed, both are one-time
+abbrev pub IsOfItsKind : Option (List ℕ) → Record → Node → Type 0
+IsOfItsKind name work node = (text : List ℕ) → work.name ≡ Some text → name ≡ Some text → (work.request.period ≡ None) × (node.request.period ≡ None)
+
+-- where there is a name, two works that are placed under it are one-time
+abbrev pub AreBothOneTime : Option (List ℕ) → Node → Node → Type 0
+AreBothOneTime name one other = (text : List ℕ) → name ≡ Some text → (one.request.period ≡ None) × (other.request.period ≡ None)
+
+-- works can share this name with these records and among each other
+pub record CanShare (works : List Record) (name : Option (List ℕ)) (nodes : List Node) : Type 0 where
+  pub records : AllByRecursion (λ work. AllByRecursion (IsOfItsKind name work) nodes) works
+  pub among : AllLater (AreBothOneTime name) nodes
+
+-- works can come after the works of these numbers: those are different one-time records, and there are none where a work is periodic
+pub record CanFollow (works : List Record) (after : List ℕ) (nodes : List Node) : Type 0 where
+  pub different : AllLater (λ number later. number ≢ later) after
+  pub one_time : AllByRecursion (λ number. HasOne (IsOneTime number) works) after
+  pub alone : AllByRecursion (λ node. (period : Period) → node.request.period ≡ Some period → after ≡ []) nodes
+
 -- works that can be placed after these records, one after another
-record ArePlaceable (works : List Record) (nodes : List Node) : Type 0 where
-  requests : AllByRecursion (λ node. IsRequest node.request) nodes
-  new : AllByRecursion (λ node. is_stored works node.request.id ≡ false) nodes
-  differ : AllLater (λ one later. one.request.id ≢ later.request.id) nodes
-  few : AllByRecursion (λ node. length node.after ≤ 100) nodes
-  different : AllByRecursion (λ node. AreDifferent node.after) nodes
-  alone : AllByRecursion (λ node. (period : Period) → node.request.period ≡ Some period → node.after ≡ []) nodes
-  one_time : NamesOneTime (requests_of works) nodes
+pub record ArePlaceable (works : List Record) (name : Option (List ℕ)) (after : List ℕ) (nodes : List Node) : Type 0 where
+  pub requests : AllByRecursion (λ node. IsRequest node.request) nodes
+  pub new : AllByRecursion (λ node. is_stored works node.request.id ≡ false) nodes
+  pub differ : AllLater (λ one later. one.request.id ≢ later.request.id) nodes
+  pub few : AllByRecursion (λ node. count_prior after node.after ≤ 100) nodes
+  pub different : AllByRecursion (λ node. AreDifferent node.after) nodes
+  pub alone : AllByRecursion (λ node. (period : Period) → node.request.period ≡ Some period → node.after ≡ []) nodes
+  pub one_time : NamesOneTime (requests_of works) nodes
+  pub shares : CanShare works name nodes
+  pub follows : CanFollow works after nodes
 
 -- a fact of the requests is one of the records
 of_requests : (P : RequestFields → Type 0) (works : List Record) → AllByRecursion P (requests_of works) → AllByRecursion (λ work. P work.request) works
 of_requests P [] all = tt
 of_requests P (work ∷ works) all = (all.0, of_requests P works all.1)
 
+-- and the other way round
+to_requests : (P : RequestFields → Type 0) (works : List Record) → AllByRecursion (λ work. P work.request) works → AllByRecursion P (requests_of works)
+to_requests P [] all = tt
+to_requests P (work ∷ works) all = (all.0, to_requests P works all.1)
+
 -- the first of them
-first_placeable : (works : List Record) (node : Node) (nodes : List Node) → ArePlaceable works (node ∷ nodes) → IsPlaceable works node
-first_placeable works node nodes are = record {
-  request = are.requests.0;
-  few = are.few.0;
-  different = are.different.0;
-  one_time = All-weaker (λ id. AllByRecursion (IsOtherOrOneTime id) (requests_of works))
-      (λ id. AllByRecursion (λ work. bytes_eq work.request.id id ≡ true → work.request.period ≡ None) works) node.after
-      (λ id all. of_requests (IsOtherOrOneTime id) works all) are.one_time.0;
-  alone = are.alone.0;
-}
+first_placeable : (s : State) (name : Option (List ℕ)) (after : List ℕ) (node : Node) (nodes : List Node) → Valid s
+    → ArePlaceable s.works name after (node ∷ nodes) → IsPlaceable s (prior_of s.works after node.after) node
+first_placeable s name after node nodes valid are =
+    prior-both (λ prior. IsPlaceable s prior node) s.works after node.after
+    (placeable-naming s node valid are.requests.0 (few_named after node.after are.few.0) are.different.0
+    (All-weaker (λ id. AllByRecursion (IsOtherOrOneTime id) (requests_of s.works))
+    (λ id. AllByRecursion (λ work. bytes_eq work.request.id id ≡ true → work.request.period ≡ None) s.works) node.after
+    (λ id all. of_requests (IsOtherOrOneTime id) s.works all) are.one_time.0) are.alone.0)
+    (λ none. record {
+      request = are.requests.0;
+      few = few_others after node.after are.few.0 none;
+      different = are.follows.different;
+      one_time = are.follows.one_time;
+      alone = are.follows.alone.0;
+    })
 
 -- a record more has the id of no work that is left
 is_stored-push : (works : List Record) (work : Record) (id : List ℕ) → is_stored works id ≡ false → work.request.id ≢ id
@@ -214,41 +250,61 @@ is_stored-push works work id none differs =
     ]))
 
 -- the others, once the first is placed
-others_placeable : (works : List Record) (work : Record) (node : Node) (nodes : List Node) → work.request ≡ node.request
-    → ArePlaceable works (node ∷ nodes) → ArePlaceable (works ++ work ∷ []) nodes
-others_placeable works work node nodes same are = record {
-  requests = are.requests.1;
-  new = All-weaker (λ later. (is_stored works later.request.id ≡ false) × (node.request.id ≢ later.request.id))
-      (λ later. is_stored (works ++ work ∷ []) later.request.id ≡ false) nodes
-      (λ later both. is_stored-push works work later.request.id both.0 (λ e. both.1 (sym (ap (λ (r : RequestFields). r.id) same) ∙ e)))
-      (All-both (λ later. is_stored works later.request.id ≡ false) (λ later. node.request.id ≢ later.request.id) nodes are.new.1 are.differ.0);
-  differ = are.differ.1;
-  few = are.few.1;
-  different = are.different.1;
-  alone = are.alone.1;
-  one_time = subst (λ (requests : List RequestFields). NamesOneTime requests nodes)
-      (sym (map-push (λ (w : Record). w.request) works work ∙ ap (λ r. requests_of works ++ r ∷ []) same)) are.one_time.1;
-}
+others_placeable : (works : List Record) (work : Record) (name : Option (List ℕ)) (after : List ℕ) (node : Node) (nodes : List Node)
+    → work.request ≡ node.request → ArePlaceable works name after (node ∷ nodes) → ArePlaceable (works ++ work ∷ []) name after nodes
+others_placeable works work name after node nodes same are =
+    let period = ap (λ (r : RequestFields). r.period) same in
+    record {
+      requests = are.requests.1;
+      new = All-weaker (λ later. (is_stored works later.request.id ≡ false) × (node.request.id ≢ later.request.id))
+          (λ later. is_stored (works ++ work ∷ []) later.request.id ≡ false) nodes
+          (λ later both. is_stored-push works work later.request.id both.0 (λ e. both.1 (sym (ap (λ (r : RequestFields). r.id) same) ∙ e)))
+          (All-both (λ later. is_stored works later.request.id ≡ false) (λ later. node.request.id ≢ later.request.id) nodes are.new.1 are.differ.0);
+      differ = are.differ.1;
+      few = are.few.1;
+      different = are.different.1;
+      alone = are.alone.1;
+      one_time = subst (λ (requests : List RequestFields). NamesOneTime requests nodes)
+          (sym (map-push (λ (w : Record). w.request) works work ∙ ap (λ r. requests_of works ++ r ∷ []) same)) are.one_time.1;
+      shares = record {
+        records = All-push (λ w. AllByRecursion (IsOfItsKind name w) nodes) works work
+            (All-weaker (λ w. AllByRecursion (IsOfItsKind name w) (node ∷ nodes)) (λ w. AllByRecursion (IsOfItsKind name w) nodes) works (λ w all. all.1)
+            are.shares.records)
+            (All-weaker (AreBothOneTime name node) (IsOfItsKind name work) nodes
+            (λ later both text is has. let kinds = both text has in (period ∙ kinds.0, kinds.1)) are.shares.among.0);
+        among = are.shares.among.1;
+      };
+      follows = record {
+        different = are.follows.different;
+        one_time = All-weaker (λ number. HasOne (IsOneTime number) works) (λ number. HasOne (IsOneTime number) (works ++ work ∷ [])) after
+            (λ number one. HasOne-front (IsOneTime number) works (work ∷ []) one) are.follows.one_time;
+        alone = are.follows.alone.1;
+      };
+    }
 
 -- ---- a batch is placed
 
-reached-placed : (s : State) (nodes : List Node) → IsReached s → ArePlaceable s.works nodes → length s.works + length nodes ≤ 100000
-    → s.next + length nodes ≤ 2 ^ 53 → IsReached (placed s None nodes)
-reached-placed s [] reached are room numbers = reached
-reached-placed s (node ∷ nodes) reached are room numbers =
-    let is = first_placeable s.works node nodes are in
-    let work = placed_record s None node in
+pub reached-placed : (s : State) (name : Option (List ℕ)) (after : List ℕ) (nodes : List Node) → IsReached s → IfSome name IsShortText
+    → ArePlaceable s.works name after nodes → length s.works + length nodes ≤ 100000 → s.next + length nodes ≤ 2 ^ 53
+    → IsReached (placed_after s name after nodes)
+reached-placed s name after [] reached short are room numbers = reached
+reached-placed s name after (node ∷ nodes) reached short are room numbers =
+    let prior = prior_of s.works after node.after in
+    let is = first_placeable s name after node nodes reached.valid are in
+    let work = new_record s name prior node in
     let one : s.next + 1 ≤ 2 ^ 53 = omega (arith, numbers) in
-    let fine = IsRecord-placed s node reached.valid one is in
-    let sound = sound-placed s node is in
+    let fine = IsRecord-placed s name prior node reached.valid one short is in
+    let sound = sound-placed s prior node is in
     let then = with_work s work in
     let valid =
     Valid-with_work s work reached.valid
-    (sound-front s.works work work.phase work.prior (own_names_before s work fine) sound) refl refl are.new.0 fine
-    (idle-placed s.works (numbers_of s.works node.after)) (omega (arith, room)) one in
+    (sound-front s.works work work.phase work.prior (own_names_before s work fine) sound) refl
+    (All-weaker (λ other. AllByRecursion (IsOfItsKind name other) (node ∷ nodes)) (λ other. AreOfOneKind other work) s.works
+    (λ other kinds text has is. kinds.0 text has is) are.shares.records) are.new.0 fine
+    (idle-placed s.works prior) (omega (arith, room)) one in
     let longer = length-append s.works (work ∷ []) in
-    reached-placed then nodes (record { valid = valid; narrow = record { runs = reached.narrow.runs } })
-    (others_placeable s.works work node nodes refl are) (omega (arith, room, longer)) (omega (arith, numbers))
+    reached-placed then name after nodes (record { valid = valid; narrow = record { runs = reached.narrow.runs } }) short
+    (others_placeable s.works work name after node nodes refl are) (omega (arith, room, longer)) (omega (arith, numbers))
 
 -- ---- what the checks give
 
@@ -259,15 +315,15 @@ new_each s (work ∷ works) none =
     (λ (found : Option Refusal). found ≡ None → AllByRecursion (λ node. is_stored s.works node.request.id ≡ false) (work ∷ works))
     (λ e is. absurd (cc)) (λ e is. (e, new_each s works is)) none
 
-few_each : (works : List Node) → too_many_prerequisites works ≡ None → AllByRecursion (λ node. length node.after ≤ 100) works
-few_each [] none = tt
-few_each (work ∷ works) none =
-    cond_both (ltb 100 (length work.after)) (Some (TooManyPrerequisites work.request.id)) (too_many_prerequisites works)
-    (λ (found : Option Refusal). found ≡ None → AllByRecursion (λ node. length node.after ≤ 100) (work ∷ works))
-    (λ e is. absurd (cc)) (λ e is. (ltb-false 100 (length work.after) e, few_each works is)) none
+few_each : (after : List ℕ) (works : List Node) → too_many_after after works ≡ None → AllByRecursion (λ node. count_prior after node.after ≤ 100) works
+few_each after [] none = tt
+few_each after (work ∷ works) none =
+    cond_both (ltb 100 (count_prior after work.after)) (Some (TooManyPrerequisites work.request.id)) (too_many_after after works)
+    (λ (found : Option Refusal). found ≡ None → AllByRecursion (λ node. count_prior after node.after ≤ 100) (work ∷ works))
+    (λ e is. absurd (cc)) (λ e is. (ltb-false 100 (count_prior after work.after) e, few_each after works is)) none
 
 -- nothing is found where each fails
-none_found : {T : Type 0} (test : T → Bool) (to : T → Refusal) (xs : List T) → option_map to (find test xs) ≡ None
+pub none_found : {T U : Type 0} (test : T → Bool) (to : T → U) (xs : List T) → option_map to (find test xs) ≡ None
     → AllByRecursion (λ x. test x ≡ false) xs
 none_found test to [] none = tt
 none_found {T} test to (x ∷ xs) none =
@@ -336,41 +392,85 @@ names_each all requests (work ∷ works) stored batch there = (
       (λ node. AllByRecursion (λ id. has_id (periodic_ids all) id ≡ false) node.after) works stored.1 batch.1)) batch.1 there.1,
 )
 
--- a batch that no check refuses can be placed
-placeable : (s : State) (works : List Node) → AreAsked works → PassesChecks s works → ArePlaceable s.works works
-placeable s works asked checks =
+-- what holds of the requests of all stored records holds of those of all works
+abbrev pub HaveRequestsOf : List Record → List Record → Type 1
+HaveRequestsOf works stored = (P : RequestFields → Type 0) → AllByRecursion (λ work. P work.request) stored → AllByRecursion (λ work. P work.request) works
+
+-- a batch that no check refuses can be placed beside records of which there were those, where it can share its name and come after others
+pub placeable : (s : State) (works : List Record) (name : Option (List ℕ)) (placing : Placing) (nodes : List Node) → AreAsked nodes
+    → PassesChecks s placing nodes → HaveRequestsOf works s.works → CanShare works name nodes → CanFollow works placing.after nodes
+    → ArePlaceable works name placing.after nodes
+placeable s works name placing nodes asked checks same shares follows =
     let batch = asked.batch in
     record {
       requests = asked.requests;
-      new = new_each s works checks.new;
-      differ = differ_each works batch.different;
-      few = few_each works checks.few;
-      different = All-weaker (IsChained works) (λ node. AreDifferent node.after) works (λ node is. is.different) batch.each;
-      alone = All-weaker (IsChained works) (λ node. (period : Period) → node.request.period ≡ Some period → node.after ≡ []) works
+      new = All-weaker (λ node. is_stored s.works node.request.id ≡ false) (λ node. is_stored works node.request.id ≡ false) nodes
+          (λ node new.
+          list_any-false (λ w. bytes_eq w.request.id node.request.id) works
+          (same (λ request. bytes_eq request.id node.request.id ≡ false) (none_pass (λ w. bytes_eq w.request.id node.request.id) s.works new)))
+          (new_each s nodes checks.new);
+      differ = differ_each nodes batch.different;
+      few = few_each placing.after nodes checks.few;
+      different = All-weaker (IsChained nodes) (λ node. AreDifferent node.after) nodes (λ node is. is.different) batch.each;
+      alone = All-weaker (IsChained nodes) (λ node. (period : Period) → node.request.period ≡ Some period → node.after ≡ []) nodes
           (λ node is period repeats. is.alone (ap is_some repeats)) batch.each;
-      one_time = names_each works (requests_of s.works) works (stored_one_time s.works works checks.one_time)
-          (All-weaker (IsChained works) (λ node. AllByRecursion (λ id. has_id (periodic_ids works) id ≡ false) node.after) works
-          (λ node is. is.of_one_time) batch.each) (All-stored works);
+      one_time = names_each nodes (requests_of works) nodes
+          (All-weaker (λ node. AllByRecursion (λ id. AllByRecursion (IsOtherOrOneTime id) (requests_of s.works)) node.after)
+          (λ node. AllByRecursion (λ id. AllByRecursion (IsOtherOrOneTime id) (requests_of works)) node.after) nodes
+          (λ node all.
+          All-weaker (λ id. AllByRecursion (IsOtherOrOneTime id) (requests_of s.works)) (λ id. AllByRecursion (IsOtherOrOneTime id) (requests_of works))
+          node.after
+          (λ id each.
+          to_requests (IsOtherOrOneTime id) works (same (IsOtherOrOneTime id) (of_requests (IsOtherOrOneTime id) s.works each))) all)
+          (stored_one_time s.works nodes checks.one_time))
+          (All-weaker (IsChained nodes) (λ node. AllByRecursion (λ id. has_id (periodic_ids nodes) id ≡ false) node.after) nodes
+          (λ node is. is.of_one_time) batch.each) (All-stored nodes);
+      shares = shares;
+      follows = follows;
     }
+
+-- ---- without a name
+
+no_name : (text : List ℕ) → None ≡ Some text → ⊥
+no_name text is = absurd (cc)
+
+-- works without a name share none
+CanShare-unnamed : (works : List Record) (nodes : List Node) → CanShare works None nodes
+CanShare-unnamed works nodes = record {
+  records = All-any (λ work. AllByRecursion (IsOfItsKind None work) nodes) works
+      (λ work. All-any (IsOfItsKind None work) nodes (λ node text has is. absurd (no_name text is)));
+  among = AllLater-any (AreBothOneTime None) nodes (λ one other text is. absurd (no_name text is));
+}
+
+-- and come after no other than they name
+pub CanFollow-none : (works : List Record) (nodes : List Node) → CanFollow works [] nodes
+CanFollow-none works nodes = record {
+  different = tt;
+  one_time = tt;
+  alone = All-any (λ node. (period : Period) → node.request.period ≡ Some period → [] ≡ []) nodes (λ node period is. refl);
+}
 
 reached-outcome : (s : State) (works : List Node) (found : Option Refusal) → AreAsked works → refusal_of s None works ≡ found → IsReached s
     → IsReached (outcome_by found s None works).state
 reached-outcome s works (Some found) asked is reached = reached
 reached-outcome s works None asked is reached =
-    let checks = passes s works is in
-    reached-placed s works reached (placeable s works asked checks) checks.room checks.numbers
+    let checks = passes s placed_freely works is in
+    reached-placed s None [] works reached tt
+    (placeable s s.works None placed_freely works asked checks (λ P all. all) (CanShare-unnamed s.works works) (CanFollow-none s.works works)) checks.room
+    checks.numbers
 
 -- ---- the frame
 
-frame-placed : (s : State) (commands : List Command) (name : Option (List ℕ)) (nodes : List Node)
-    → untouched (placed s name nodes) commands ≡ untouched s commands
-frame-placed s commands name [] = refl
-frame-placed s commands name (node ∷ nodes) = frame-placed (with_work s (placed_record s name node)) commands name nodes
+pub frame-placed : (s : State) (commands : List Command) (name : Option (List ℕ)) (after : List ℕ) (nodes : List Node)
+    → untouched (placed_after s name after nodes) commands ≡ untouched s commands
+frame-placed s commands name after [] = refl
+frame-placed s commands name after (node ∷ nodes) =
+    frame-placed (with_work s (new_record s name (prior_of s.works after node.after) node)) commands name after nodes
 
 frame-outcome : (s : State) (commands : List Command) (found : Option Refusal) (works : List Node)
     → untouched (outcome_by found s None works).state commands ≡ untouched s commands
 frame-outcome s commands (Some found) works = refl
-frame-outcome s commands None works = frame-placed s commands None works
+frame-outcome s commands None works = frame-placed s commands None [] works
 
 -- ---- what is owed
 

@@ -9,13 +9,19 @@ pub mod Endings
 pub mod Enqueues
 pub mod Finishes
 pub mod Firsts
+pub mod Groups
 pub mod Inputs
 pub mod Lists
 pub mod Logs
+pub mod NameLaws
+pub mod Names
+pub mod NumberPlaces
 pub mod Owed
 pub mod Placings
+pub mod Prunes
 pub mod Queries
 pub mod Records
+pub mod Removals
 pub mod Reports
 pub mod Roles
 pub mod Rows
@@ -27,4 +33,5 @@ pub mod StartedLogs
 pub mod Starts
 pub mod Steps
 pub mod Turns
+pub mod Updates
 pub mod Waitings

@@ -1,5 +1,5 @@
 -- What holds of each element of a list, or of one of them.
-use Rattle.std.proofs.Common.{◌≡◌, ◌⊎◌, ℕ, ◌+◌, ◌<◌, ◌≤◌, cond, Bool, true, false, ◌||◌, List, [], ◌∷◌, ◌++◌, map, filter, find, Option, Some, Contains, refl, sym, ◌∙◌, ap, subst, inl, inr, arith, suc}
+use Rattle.std.proofs.Common.{◌≡◌, ◌⊎◌, ℕ, ◌+◌, ◌<◌, ◌≤◌, cond, Bool, true, false, ◌||◌, List, [], ◌∷◌, ◌++◌, map, filter, find, length, Option, Some, Contains, refl, sym, ◌∙◌, ap, subst, inl, inr, arith, suc}
 use mathlib.Core.List.{reverse, reverse_aux}
 use Rattle.std.specs.List.{AllByRecursion, list_all, list_any}
 use Rattle.std.specs.Prelude.{count_by}
@@ -85,6 +85,10 @@ AllLater-filter R keep (x ∷ xs) later =
     let rest = AllLater-filter R keep xs later.1 in
     cond_both (keep x) (x ∷ filter keep xs) (filter keep xs) (AllLater R)
     (λ e. (All-filter (R x) keep xs (All-weaker (R x) (λ y. keep y ≡ true → R x y) xs (λ y r k. r) later.0), rest)) (λ e. rest)
+
+pub AllLater-any : {T : Type 0} (R : T → T → Type 0) (xs : List T) → ((x y : T) → R x y) → AllLater R xs
+AllLater-any R [] each = tt
+AllLater-any R (x ∷ xs) each = (All-any (R x) xs (each x), AllLater-any R xs each)
 
 -- ---- one
 
@@ -177,6 +181,16 @@ list_any-map {T} test then f (x ∷ xs) keeps any =
       | inr there ↦ or_right _ _ (list_any-map test then f xs keeps.1 there)
     ]
 
+-- and passed before, where each element that passes after the change did
+pub list_any-before : {T U : Type 0} (test : T → Bool) (then : U → Bool) (f : T → U) (xs : List T) → AllByRecursion (λ x. then (f x) ≡ true → test x ≡ true) xs
+    → list_any then (map f xs) ≡ true → list_any test xs ≡ true
+list_any-before test then f [] came any = absurd (false≢true any)
+list_any-before {T} test then f (x ∷ xs) came any =
+    elim (or_cases (then (f x)) (list_any then (map f xs)) any) [
+      | inl here ↦ or_left _ _ (came.0 here)
+      | inr there ↦ or_right _ _ (list_any-before test then f xs came.1 there)
+    ]
+
 -- what all pass they still pass
 pub list_all-weaker : {T : Type 0} (test then : T → Bool) (xs : List T) → ((x : T) → test x ≡ true → then x ≡ true) → list_all test xs ≡ true
     → list_all then xs ≡ true
@@ -189,6 +203,14 @@ list_all-weaker test then (x ∷ xs) weaker all =
 pub filter-all : {T : Type 0} (keep : T → Bool) (xs : List T) → ((x : T) → keep x ≡ true) → filter keep xs ≡ xs
 filter-all keep [] all = refl
 filter-all keep (x ∷ xs) all = rw (all x) (ap (λ rest. x ∷ rest) (filter-all keep xs all))
+
+-- a filter leaves no more
+pub filter-few : {T : Type 0} (keep : T → Bool) (xs : List T) → length (filter keep xs) ≤ length xs
+filter-few keep [] = omega arith
+filter-few {T} keep (x ∷ xs) =
+    let rest = filter-few keep xs in
+    cond_both (keep x) (x ∷ filter keep xs) (filter keep xs) (λ (l : List T). length l ≤ length (x ∷ xs)) (λ e. omega (arith, rest))
+    (λ e. omega (arith, rest))
 
 -- a filter that drops none that pass
 pub list_any-filter : {T : Type 0} (test keep : T → Bool) (xs : List T) → AllByRecursion (λ x. keep x ≡ false → test x ≡ false) xs

@@ -1,5 +1,5 @@
 -- A new work with prerequisites: which records they are, and that it is as every record.
-use Rattle.std.proofs.Common.{◌≡◌, ◌≢◌, ℕ, ◌+◌, ◌^◌, ◌<◌, ◌≤◌, ◌&&◌, Bool, true, false, cond, eqb, List, [], ◌∷◌, ◌++◌, map, filter, length, length-append, Option, Some, None, refl, sym, ◌∙◌, ap, subst, arith, inl, inr}
+use Rattle.std.proofs.Common.{◌≡◌, ◌≢◌, ℕ, ◌+◌, ◌^◌, ◌<◌, ◌≤◌, ◌&&◌, Bool, true, false, cond, eqb, List, [], ◌∷◌, ◌++◌, map, filter, length, length-append, Option, Some, None, IfSome, refl, sym, ◌∙◌, ap, subst, arith, inl, inr}
 use Rattle.std.specs.List.{AllByRecursion, list_any}
 use Rattle.std.specs.Str.{bytes_eq}
 use Rattle.std.proofs.lemmas.Bool.{and_from, and_parts, cond_both, eq-eqb, eqb-true, false≢true, true≢false}
@@ -9,7 +9,7 @@ use Rattle.wm_collections.specs.Lists.{AllLater}
 use Rattle.wm_machine.proofs.Lists.{All-any, All-both, All-filter, All-map, All-stored, All-weaker, HasOne-weaker, none_pass, one_gives}
 use Rattle.wm_machine.proofs.Records.{IsData-empty}
 use Rattle.wm_machine.proofs.Runnings.{all_of_number}
-use Rattle.wm_machine.specs.Enqueued.{any_in, first_phase, is_cancelled, is_failed, numbers_of, placed_record}
+use Rattle.wm_machine.specs.Enqueued.{any_in, count_prior, first_phase, is_cancelled, is_failed, new_record, numbers_of, prior_of}
 use Rattle.wm_machine.specs.Valid.{ArePrior, ArePriorSound, HasOne, IsAttemptIn, IsBefore, IsOfKind, IsOpenPhase, IsOutputIn, IsPeriodicPhase, IsPrerequisite, IsProgressIn, IsRecord, Valid}
 use Rattle.wm_machine.specs.declared.record.How.TheVariants as how
 use Rattle.wm_machine.specs.declared.record.Phase.{Phase}
@@ -17,7 +17,7 @@ use Rattle.wm_machine.specs.declared.record.Phase.TheVariants as phase
 use Rattle.wm_machine.specs.declared.record.Record.{Record}
 use Rattle.wm_machine.specs.declared.state.State.{State}
 use Rattle.wm_request.specs.Batches.{AreDifferent}
-use Rattle.wm_request.specs.Requests.{IsRequest}
+use Rattle.wm_request.specs.Requests.{IsRequest, IsShortText}
 use Rattle.wm_request.specs.declared.request.Node.{Node}
 use Rattle.wm_schedule.specs.declared.schedule.Period.{Period}
 
@@ -94,7 +94,7 @@ AllLater-append R [] ys later more between = more
 AllLater-append R (x ∷ xs) ys later more between = (All-append (R x) xs ys later.0 between.0, AllLater-append R xs ys later.1 more between.1)
 
 -- one element, or none, stands before no other
-AllLater-few : {T : Type 0} (R : T → T → Type 0) (xs : List T) → length xs ≤ 1 → AllLater R xs
+pub AllLater-few : {T : Type 0} (R : T → T → Type 0) (xs : List T) → length xs ≤ 1 → AllLater R xs
 AllLater-few R [] few = tt
 AllLater-few R (x ∷ []) few = (tt, tt)
 AllLater-few R (x ∷ y ∷ xs) few = absurd (omega (arith, few))
@@ -202,89 +202,122 @@ first_phase-both P works prior failed cancelled waiting =
 
 -- ---- a new work
 
--- what is asked of a work that is placed beside these records: few ids, which differ, none of a periodic record, and none at all where it is
--- periodic itself
-pub record IsPlaceable (works : List Record) (node : Node) : Type 0 where
-  pub request : IsRequest node.request
-  pub few : length node.after ≤ 100
-  pub different : AreDifferent node.after
-  pub one_time : AllByRecursion (λ id. AllByRecursion (λ work. bytes_eq work.request.id id ≡ true → work.request.period ≡ None) works) node.after
-  pub alone : (period : Period) → node.request.period ≡ Some period → node.after ≡ []
+-- what holds of the prerequisites that a work names, and of these numbers where it names none, holds of those that it gets
+pub prior-both : (P : List ℕ → Type 0) (works : List Record) (after : List ℕ) (ids : List (List ℕ)) → P (numbers_of works ids) → (ids ≡ [] → P after)
+    → P (prior_of works after ids)
+prior-both P works [] ids named others = named
+prior-both P works (number ∷ after) [] named others = others refl
+prior-both P works (number ∷ after) (id ∷ ids) named others = named
 
-ArePrior-placed : (s : State) (node : Node) → Valid s → IsPlaceable s.works node → ArePrior s.next (numbers_of s.works node.after)
-ArePrior-placed s node valid is = record {
-  few = let numbers = numbers_of-few s.works node.after valid.in_order in let ids = is.few in omega (arith, numbers, ids);
-  different = numbers_of-different s.works node.after valid.in_order is.different;
-  earlier = All-weaker (IsOneOf s.works node.after) (λ number. (1 ≤ number) × (number < s.next)) (numbers_of s.works node.after)
-      (λ number of.
-      one_gives (λ work. (1 ≤ work.seq) × (work.seq < s.next)) (λ work. (work.seq ≡ number) × Unit {0}) ((1 ≤ number) × (number < s.next)) s.works
-      (λ work both same. (let one = both.0 in let here = same.0 in omega (arith, one, here), let below = both.1 in let here = same.0 in omega (arith, below, here)))
-      (All-both (λ work. 1 ≤ work.seq) (λ work. work.seq < s.next) s.works
-      (All-weaker IsRecord (λ work. 1 ≤ work.seq) s.works (λ work fine. fine.number) valid.records) valid.numbers)
-      (record_of (λ work. Unit {0}) s.works node.after number
-      (All-any (λ id. AllByRecursion (λ work. bytes_eq work.request.id id ≡ true → Unit {0}) s.works) node.after
-      (λ id. All-any (λ work. bytes_eq work.request.id id ≡ true → Unit {0}) s.works (λ work e. tt))) of)) (numbers_of-each s.works node.after);
+-- it names few where it has few
+pub few_named : (after : List ℕ) (ids : List (List ℕ)) → count_prior after ids ≤ 100 → length ids ≤ 100
+few_named [] ids few = few
+few_named (number ∷ after) [] few = omega arith
+few_named (number ∷ after) (id ∷ ids) few = few
+
+-- and comes after few where it names none
+pub few_others : (after : List ℕ) (ids : List (List ℕ)) → count_prior after ids ≤ 100 → ids ≡ [] → length after ≤ 100
+few_others [] ids few none = omega arith
+few_others (number ∷ after) [] few none = few
+few_others (number ∷ after) (id ∷ ids) few none = absurd (cc)
+
+-- the record of this number is one-time
+abbrev pub IsOneTime : ℕ → Record → Type 0
+IsOneTime number work = (work.seq ≡ number) × (work.request.period ≡ None)
+
+-- what is asked of a work that is placed with these prerequisites: that they are few, different one-time records, and that there are none where it
+-- is periodic itself
+pub record IsPlaceable (s : State) (prior : List ℕ) (node : Node) : Type 0 where
+  pub request : IsRequest node.request
+  pub few : length prior ≤ 100
+  pub different : AllLater (λ number later. number ≢ later) prior
+  pub one_time : AllByRecursion (λ number. HasOne (IsOneTime number) s.works) prior
+  pub alone : (period : Period) → node.request.period ≡ Some period → prior ≡ []
+
+-- a work that names few ids, which differ, none of a periodic record, and none at all where it is periodic itself
+pub placeable-naming : (s : State) (node : Node) → Valid s → IsRequest node.request → length node.after ≤ 100 → AreDifferent node.after
+    → AllByRecursion (λ id. AllByRecursion (λ work. bytes_eq work.request.id id ≡ true → work.request.period ≡ None) s.works) node.after
+    → ((period : Period) → node.request.period ≡ Some period → node.after ≡ []) → IsPlaceable s (numbers_of s.works node.after) node
+placeable-naming s node valid request few different one_time alone = record {
+  request = request;
+  few = let numbers = numbers_of-few s.works node.after valid.in_order in omega (arith, numbers, few);
+  different = numbers_of-different s.works node.after valid.in_order different;
+  one_time = All-weaker (IsOneOf s.works node.after) (λ number. HasOne (IsOneTime number) s.works) (numbers_of s.works node.after)
+      (λ number of. record_of (λ work. work.request.period ≡ None) s.works node.after number one_time of) (numbers_of-each s.works node.after);
+  alone = λ period is. ap (numbers_of s.works) (alone period is);
 }
 
-kind-placed : (period : Option Period) (s : State) (node : Node) → node.request.period ≡ period → IsPlaceable s.works node
-    → IsOfKind period (placed_record s None node)
-kind-placed None s node kind is = refl
-kind-placed (Some period) s node kind is =
-    let none : node.after ≡ [] = is.alone period kind in
-    let prior : numbers_of s.works node.after ≡ [] = ap (numbers_of s.works) none in
+ArePrior-placed : (s : State) (prior : List ℕ) (node : Node) → Valid s → IsPlaceable s prior node → ArePrior s.next prior
+ArePrior-placed s prior node valid is = record {
+  few = is.few;
+  different = is.different;
+  earlier = All-weaker (λ number. HasOne (IsOneTime number) s.works) (λ number. (1 ≤ number) × (number < s.next)) prior
+      (λ number of.
+      one_gives (λ work. (1 ≤ work.seq) × (work.seq < s.next)) (IsOneTime number) ((1 ≤ number) × (number < s.next)) s.works
+      (λ work both same. (
+        let one = both.0 in let here = same.0 in omega (arith, one, here),
+        let below = both.1 in let here = same.0 in omega (arith, below, here),
+      ))
+      (All-both (λ work. 1 ≤ work.seq) (λ work. work.seq < s.next) s.works
+      (All-weaker IsRecord (λ work. 1 ≤ work.seq) s.works (λ work fine. fine.number) valid.records) valid.numbers) of) is.one_time;
+}
+
+kind-placed : (period : Option Period) (s : State) (name : Option (List ℕ)) (prior : List ℕ) (node : Node) → node.request.period ≡ period
+    → IsPlaceable s prior node → IsOfKind period (new_record s name prior node)
+kind-placed None s name prior node kind is = refl
+kind-placed (Some period) s name prior node kind is =
+    let none : prior ≡ [] = is.alone period kind in
     record {
-      phase_is = subst (λ (numbers : List ℕ). IsPeriodicPhase (first_phase s.works numbers)) (sym prior) tt;
+      phase_is = subst (λ (numbers : List ℕ). IsPeriodicPhase (first_phase s.works numbers)) (sym none) tt;
       no_output = refl;
-      no_prerequisite = prior;
+      no_prerequisite = none;
     }
 
-pub IsRecord-placed : (s : State) (node : Node) → Valid s → s.next + 1 ≤ 2 ^ 53 → IsPlaceable s.works node → IsRecord (placed_record s None node)
-IsRecord-placed s node valid room is =
-    let prior = ArePrior-placed s node valid is in
-    let numbers = numbers_of s.works node.after in
+pub IsRecord-placed : (s : State) (name : Option (List ℕ)) (prior : List ℕ) (node : Node) → Valid s → s.next + 1 ≤ 2 ^ 53 → IfSome name IsShortText
+    → IsPlaceable s prior node → IsRecord (new_record s name prior node)
+IsRecord-placed s name prior node valid room short is =
+    let sound = ArePrior-placed s prior node valid is in
     record {
       number = valid.first;
       fits = record {
         seq = omega (arith, room);
-        prior = All-from_recursion (λ number. number < 2 ^ 53) numbers
-            (All-weaker (λ number. (1 ≤ number) × (number < s.next)) (λ number. number < 2 ^ 53) numbers
-            (λ number both. let below = both.1 in omega (arith, below, room)) prior.earlier);
+        prior = All-from_recursion (λ number. number < 2 ^ 53) prior
+            (All-weaker (λ number. (1 ≤ number) × (number < s.next)) (λ number. number < 2 ^ 53) prior
+            (λ number both. let below = both.1 in omega (arith, below, room)) sound.earlier);
         generation = omega arith;
         enqueued_at = valid.now;
       };
-      name = tt;
+      name = short;
       request = is.request;
-      prior = prior;
+      prior = sound;
       attempt = omega arith;
-      started = first_phase-both (λ p. IsAttemptIn p 0) s.works numbers tt tt (λ e f. tt);
+      started = first_phase-both (λ p. IsAttemptIn p 0) s.works prior tt tt (λ e f. tt);
       backoff_n = omega arith;
       runs = omega arith;
-      kind = kind-placed node.request.period s node refl is;
-      output = first_phase-both (λ p. IsOutputIn p []) s.works numbers IsData-empty refl (λ e f. refl);
-      progress = first_phase-both (λ p. IsProgressIn p []) s.works numbers refl refl (λ e f. refl);
+      kind = kind-placed node.request.period s name prior node refl is;
+      output = first_phase-both (λ p. IsOutputIn p []) s.works prior IsData-empty refl (λ e f. refl);
+      progress = first_phase-both (λ p. IsProgressIn p []) s.works prior refl refl (λ e f. refl);
     }
 
 -- it is sound beside the records
-pub sound-placed : (s : State) (node : Node) → IsPlaceable s.works node
-    → ArePriorSound s.works (first_phase s.works (numbers_of s.works node.after)) (numbers_of s.works node.after)
-sound-placed s node is =
-    let numbers = numbers_of s.works node.after in
-    first_phase-both (λ p. ArePriorSound s.works p numbers) s.works numbers tt tt (λ failed cancelled.
+pub sound-placed : (s : State) (prior : List ℕ) (node : Node) → IsPlaceable s prior node → ArePriorSound s.works (first_phase s.works prior) prior
+sound-placed s prior node is =
+    first_phase-both (λ p. ArePriorSound s.works p prior) s.works prior tt tt (λ failed cancelled.
     All-weaker (λ number. (AllByRecursion (λ work. work.seq ≡ number → is_failed work.phase ≡ false) s.works
-    × AllByRecursion (λ work. work.seq ≡ number → is_cancelled work.phase ≡ false) s.works) × IsOneOf s.works node.after number)
-    (λ number. HasOne (IsPrerequisite number) s.works) numbers
+    × AllByRecursion (λ work. work.seq ≡ number → is_cancelled work.phase ≡ false) s.works) × HasOne (IsOneTime number) s.works)
+    (λ number. HasOne (IsPrerequisite number) s.works) prior
     (λ number facts.
     HasOne-weaker (λ work. (work.seq ≡ number → is_failed work.phase ≡ false) × (work.seq ≡ number → is_cancelled work.phase ≡ false))
-    (λ work. (work.seq ≡ number) × (work.request.period ≡ None)) (IsPrerequisite number) s.works
+    (IsOneTime number) (IsPrerequisite number) s.works
     (λ work opens of. record {
       seq = of.0;
       open_is = still_open work.phase (opens.0 of.0) (opens.1 of.0);
       one_time = of.1;
     })
     (All-both (λ work. work.seq ≡ number → is_failed work.phase ≡ false) (λ work. work.seq ≡ number → is_cancelled work.phase ≡ false) s.works
-    facts.0.0 facts.0.1) (record_of (λ work. work.request.period ≡ None) s.works node.after number is.one_time facts.1))
+    facts.0.0 facts.0.1) facts.1)
     (All-both (λ number. AllByRecursion (λ work. work.seq ≡ number → is_failed work.phase ≡ false) s.works
-    × AllByRecursion (λ work. work.seq ≡ number → is_cancelled work.phase ≡ false) s.works) (IsOneOf s.works node.after) numbers
+    × AllByRecursion (λ work. work.seq ≡ number → is_cancelled work.phase ≡ false) s.works) (λ number. HasOne (IsOneTime number) s.works) prior
     (All-both (λ number. AllByRecursion (λ work. work.seq ≡ number → is_failed work.phase ≡ false) s.works)
-    (λ number. AllByRecursion (λ work. work.seq ≡ number → is_cancelled work.phase ≡ false) s.works) numbers
-    (none_in is_failed s.works numbers failed) (none_in is_cancelled s.works numbers cancelled)) (numbers_of-each s.works node.after)))
+    (λ number. AllByRecursion (λ work. work.seq ≡ number → is_cancelled work.phase ≡ false) s.works) prior
+    (none_in is_failed s.works prior failed) (none_in is_cancelled s.works prior cancelled)) is.one_time))

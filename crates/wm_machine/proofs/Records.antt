@@ -9,6 +9,7 @@ use Rattle.wm_machine.specs.First.{is_waiting}
 use Rattle.wm_machine.specs.Limits.{FitsRow}
 use Rattle.wm_machine.specs.Runs.{started}
 use Rattle.wm_machine.specs.Turns.{telling}
+use Rattle.wm_machine.specs.Updated.{is_same_kind, updated}
 use Rattle.wm_machine.specs.Valid.{IsAttemptIn, IsOfKind, IsOutputIn, IsPeriodic, IsPeriodicPhase, IsProgressIn, IsRecord}
 use Rattle.wm_machine.specs.declared.event.End.{End}
 use Rattle.wm_machine.specs.declared.event.End.TheVariants.{Success, Failure, Retry}
@@ -16,6 +17,7 @@ use Rattle.wm_machine.specs.declared.record.How.TheVariants as how
 use Rattle.wm_machine.specs.declared.record.Phase.{Phase}
 use Rattle.wm_machine.specs.declared.record.Phase.TheVariants as phase
 use Rattle.wm_machine.specs.declared.record.Record.{Record}
+use Rattle.wm_request.specs.Requests.{IsRequest, RequestFields}
 use Rattle.wm_schedule.specs.declared.schedule.Period.{Period}
 use Rattle.wm_worker.specs.Answers.{GivesData}
 
@@ -215,6 +217,32 @@ IsRecord-again period now work below repeats is = record {
       (IsPeriodic-again period now work (subst (λ kind. IsOfKind kind work) repeats is.kind));
   output = refl;
   progress = refl;
+}
+
+updated-kind : (before now : Option Period) (request : RequestFields) (work : Record) → is_same_kind now before ≡ true → IsOfKind before work
+    → IsOfKind now (updated request work)
+updated-kind None None request work same kind = kind
+updated-kind None (Some period) request work same kind = absurd (false≢true same)
+updated-kind (Some before) None request work same kind = absurd (false≢true same)
+updated-kind (Some before) (Some period) request work same kind =
+    record { phase_is = kind.phase_is; no_output = kind.no_output; no_prerequisite = kind.no_prerequisite }
+
+-- a work that is updated by a request of its kind
+pub IsRecord-updated : (request : RequestFields) (work : Record) → IsRequest request → is_same_kind request.period work.request.period ≡ true
+    → IsRecord work → IsRecord (updated request work)
+IsRecord-updated request work asked same is = record {
+  number = is.number;
+  fits = record { seq = is.fits.seq; prior = is.fits.prior; generation = omega arith; enqueued_at = is.fits.enqueued_at };
+  name = is.name;
+  request = record { id = is.request.id; input = asked.input; within = asked.within };
+  prior = is.prior;
+  attempt = is.attempt;
+  started = is.started;
+  backoff_n = is.backoff_n;
+  runs = is.runs;
+  kind = updated-kind work.request.period request.period request work same is.kind;
+  output = is.output;
+  progress = is.progress;
 }
 
 -- ---- of either kind

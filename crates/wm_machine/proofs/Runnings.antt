@@ -1,7 +1,7 @@
 -- Records, runs and instances of which one is changed.
-use Rattle.std.proofs.Common.{◌≡◌, ◌⊎◌, ℕ, ◌+◌, ◌<◌, Bool, true, false, cond, eqb, List, [], ◌∷◌, find, Option, Some, refl, sym, ◌∙◌, ap, subst, inl, inr, arith}
+use Rattle.std.proofs.Common.{◌≡◌, ◌⊎◌, ℕ, ◌+◌, ◌<◌, Bool, true, false, cond, eqb, List, [], ◌∷◌, find, Option, Some, None, is_some, refl, sym, ◌∙◌, ap, subst, inl, inr, arith}
 use Rattle.std.specs.List.{AllByRecursion}
-use Rattle.std.proofs.lemmas.Bool.{cond_both, eqb-true, eqb-false, ne_eqb, true≢false}
+use Rattle.std.proofs.lemmas.Bool.{cases_Bool, cond-false, cond_both, eqb-true, eqb-false, ne_eqb, true≢false}
 use Rattle.wm_collections.specs.Lists.{AllLater}
 use Rattle.wm_machine.proofs.Lists.{All-any, All-find, All-map, All-weaker, AllLater-map, AllLater-weaker, HasOne-map, HasOne-weaker, one_gives}
 use Rattle.wm_machine.specs.First.{is_waiting}
@@ -13,6 +13,7 @@ use Rattle.wm_machine.specs.declared.record.Record.{Record}
 use Rattle.wm_machine.specs.declared.state.Instance.{Instance}
 use Rattle.wm_machine.specs.declared.state.Run.{Run}
 use Rattle.wm_machine.specs.declared.state.State.{State}
+use Rattle.wm_schedule.specs.declared.schedule.Period.{Period}
 
 -- ---- records
 
@@ -28,6 +29,15 @@ pub changed_both : (P : Record → Type 0) (change : Record → Record) (seq : �
     → ((work.seq ≡ seq → ⊥) → P work) → P (changed change seq work)
 changed_both P change seq work hit miss =
     cond_both (eqb work.seq seq) (change work) work P (λ e. hit (eqb-true work.seq seq e)) (λ e. miss (eqb-false work.seq seq e))
+
+-- two changes are one where they agree on the records of this number
+pub changed-same : (change other : Record → Record) (seq : ℕ) (work : Record) → (work.seq ≡ seq → change work ≡ other work)
+    → changed change seq work ≡ changed other seq work
+changed-same change other seq work same =
+    elim (cases_Bool (eqb work.seq seq)) [
+      | inl e ↦ ap (λ w. cond (eqb work.seq seq) w work) (same (eqb-true work.seq seq e))
+      | inr e ↦ cond-false (eqb work.seq seq) (change work) work e ∙ sym (cond-false (eqb work.seq seq) (other work) work e)
+    ]
 
 pub seq-changed : (change : Record → Record) (seq : ℕ) (work : Record) → KeepsSeq change → (changed change seq work).seq ≡ work.seq
 seq-changed change seq work keeps = changed_both (λ w. w.seq ≡ work.seq) change seq work (λ e. keeps work) (λ e. refl)
@@ -45,12 +55,21 @@ WorksAscend works = AllLater (λ one other. one.seq < other.seq) works
 pub WorksAscend-in_order : (works : List Record) → AllLater IsBefore works → WorksAscend works
 WorksAscend-in_order works in_order = AllLater-weaker IsBefore (λ one other. one.seq < other.seq) works (λ one other before. before.number) in_order
 
--- two records are of one work: number, id, name and period are the same
+-- a work has no other name than before
+abbrev pub HasNoOtherName : Option (List ℕ) → Option (List ℕ) → Type 0
+HasNoOtherName before now = (text : List ℕ) → now ≡ Some text → before ≡ Some text
+
+-- two records are of one work: number, id and name are the same, but that the name may be taken, and whether it is periodic
 pub record IsSameWork (one other : Record) : Type 0 where
   pub seq : other.seq ≡ one.seq
   pub id : other.request.id ≡ one.request.id
-  pub name : other.name ≡ one.name
-  pub period : other.request.period ≡ one.request.period
+  pub name : HasNoOtherName one.name other.name
+  pub kind : is_some other.request.period ≡ is_some one.request.period
+
+-- what is one-time still is
+pub still_one_time : (before now : Option Period) → is_some now ≡ is_some before → before ≡ None → now ≡ None
+still_one_time before None same none = refl
+still_one_time before (Some period) same none = absurd (true≢false (same ∙ ap is_some none))
 
 abbrev pub KeepsWork : (Record → Record) → Type 0
 KeepsWork change = (work : Record) → IsSameWork work (change work)
@@ -59,12 +78,16 @@ pub IsBefore-same : (one now other then : Record) → IsSameWork one now → IsS
 IsBefore-same one now other then same also before = record {
   number = let here = same.seq in let there = also.seq in let below = before.number in omega arith;
   id = λ e. before.id (sym same.id ∙ e ∙ also.id);
-  name = λ name is has. let kinds = before.name name (sym same.name ∙ is) (sym also.name ∙ has) in (same.period ∙ kinds.0, also.period ∙ kinds.1);
+  name = λ name is has.
+      let kinds = before.name name (same.name name is) (also.name name has) in (
+        still_one_time one.request.period now.request.period same.kind kinds.0,
+        still_one_time other.request.period then.request.period also.kind kinds.1,
+      );
 }
 
 same-changed : (change : Record → Record) (seq : ℕ) (work : Record) → KeepsWork change → IsSameWork work (changed change seq work)
 same-changed change seq work keeps =
-    changed_both (IsSameWork work) change seq work (λ e. keeps work) (λ e. record { seq = refl; id = refl; name = refl; period = refl })
+    changed_both (IsSameWork work) change seq work (λ e. keeps work) (λ e. record { seq = refl; id = refl; name = λ text is. is; kind = refl })
 
 pub in_order-changed : (change : Record → Record) (seq : ℕ) (works : List Record) → KeepsWork change → AllLater IsBefore works
     → AllLater IsBefore (changed_work change seq works)

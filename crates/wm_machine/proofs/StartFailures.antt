@@ -90,7 +90,7 @@ module _ (s : State) (work : Record) (valid : Valid s) (first : first_of s ≡ S
       (OfNumber work.seq (λ other. is_left s.now then (back other) ≡ false)) s.works
       (λ other is e. left-again period s.now then other (is.0 e) (no_prior period other (is.0 e) is.1) is.1) facts in
       let is =
-      IsChange-one s.works work.seq back (λ other. record { seq = refl; name = refl; request = refl; prior = refl }) valid.records valid.sound
+      IsChange-one s.works work.seq back (λ other. record { seq = refl; name = λ text is. is; request = refl; prior = refl }) valid.records valid.sound
       (All-weaker (λ other. OfNumber work.seq (λ other. other.request.period ≡ Some period) other × IsRecord other)
       (OfNumber work.seq (λ other. IsRecord (back other))) s.works (λ other is e. IsRecord-again period s.now other valid.now (is.0 e) is.1) facts)
       (All-weaker (OfNumber work.seq (λ other. is_open other.phase ≡ true))
@@ -114,7 +114,7 @@ module _ (s : State) (work : Record) (valid : Valid s) (first : first_of s ≡ S
   fails one_time =
       let then = λ (w : Record). w in
       let keeps : (w : Record) → KeepsShape w w =
-      λ w. record { same = record { seq = refl; name = refl; request = refl; prior = refl }; phase_is = refl; attempt = refl; due = refl } in
+      λ w. record { same = record { seq = refl; name = λ text is. is; request = refl; prior = refl }; phase_is = refl; attempt = refl; due = refl } in
       let change = closed_in how.Failed work.seq s.works in
       let fits =
       fits-failed s work.seq then valid one_time (λ w is kind. IsRecord-failed w.output w (IsData-output w is) kind is) (λ w differs is. is) unfinished in

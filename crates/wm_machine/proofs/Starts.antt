@@ -92,7 +92,7 @@ IsChange-started s work valid first =
     let alone = IsAlone-stored work s.works valid.in_order (first_of-stored s work first) in
     let met = met-succeeded s.works work startable.prerequisites in
     let facts = All-both (IsAlone work) IsRecord s.works alone valid.records in
-    IsChange-one s.works work.seq started (λ other. record { seq = refl; name = refl; request = refl; prior = refl }) valid.records valid.sound
+    IsChange-one s.works work.seq started (λ other. record { seq = refl; name = λ text is. is; request = refl; prior = refl }) valid.records valid.sound
     (All-weaker (λ other. IsAlone work other × IsRecord other) (OfNumber work.seq (λ other. IsRecord (started other))) s.works
     (λ other is e. IsRecord-started other (ap (λ (w : Record). is_waiting w.phase) (is.0 e) ∙ startable.waiting) is.1) facts)
     (All-weaker (IsAlone work) (OfNumber work.seq (λ other. MovesTo s.works (changed started work.seq) other.phase other.prior phase.Running)) s.works

@@ -56,9 +56,9 @@ record IsToldOnly (one other : Record) : Type 0 where
   attempt : other.attempt ≡ one.attempt
 
 telling-only : (progress : Option (List DataEntry)) (work : Record) → IsToldOnly work (telling progress work)
-telling-only None work = record { same = record { seq = refl; name = refl; request = refl; prior = refl }; phase_is = refl; attempt = refl }
+telling-only None work = record { same = record { seq = refl; name = λ text is. is; request = refl; prior = refl }; phase_is = refl; attempt = refl }
 telling-only (Some progress) work =
-    record { same = record { seq = refl; name = refl; request = refl; prior = refl }; phase_is = refl; attempt = refl }
+    record { same = record { seq = refl; name = λ text is. is; request = refl; prior = refl }; phase_is = refl; attempt = refl }
 
 -- so it is a change of the running work
 IsChange-telling : (s : State) (run : Run) (progress : Option (List DataEntry)) → IfSome progress IsData → Valid s

@@ -24,6 +24,10 @@ count_reached seq works = count_by (is_reached seq works) works
 abbrev pub reaches_run : ℕ → List Record → List Run → Bool
 reaches_run seq works runs = list_any (λ run. run.current && list_any (λ work. work.seq == run.seq && is_reached seq works work) works) runs
 
+-- whether one of these works reaches a record that a current run is of
+abbrev pub reaches_any_run : List ℕ → List Record → List Run → Bool
+reaches_any_run seqs works runs = list_any (λ seq. reaches_run seq works runs) seqs
+
 -- an unfinished work is cancelled with its unfinished descendants; none where a run would be stopped, which isn't built yet
 abbrev pub cancelled_work : State → Record → Option Outcome
 cancelled_work s work =

@@ -42,3 +42,8 @@ closed how work = record work { phase = phase.Done how; progress = [] }
 -- the records, with each unfinished descendant of a work finished in this way
 abbrev pub with_closed : How → ℕ → List Record → List Record
 with_closed how seq works = map (λ work. if is_reached seq works work then closed how work else work) works
+
+-- the records, with these works closed one after another
+abbrev pub with_each_closed : How → List ℕ → List Record → List Record
+with_each_closed how [] works = works
+with_each_closed how (seq ∷ seqs) works = with_each_closed how seqs (with_closed how seq works)

@@ -1,10 +1,17 @@
--- Enqueueing a batch of works: the reply, and the state after it. What a unique name's policy does isn't built yet.
--- After the guide's pages "Define work requests" and "Chaining work", where a definition says so; all else, as numbers, limits and
--- the order of the checks, is this project's own choice.
+-- Enqueueing a batch of works, under a unique name or none: the reply, and the state after it. What comes of the group of the name is planned
+-- first.
+-- After the guide's pages "Define work requests", "Chaining work" and "Managing work", where a definition says so; all else, as numbers,
+-- limits and the order of the checks, is this project's own choice.
 use Rattle.std.specs.Prelude.{ℕ, ◌+◌, ◌^◌, ◌==◌, ◌&&◌, ◌||◌, Bool, true, false, not, find, is_some, List, [], ◌∷◌, ◌++◌, length, map, filter, flat_map, nat_lt, if◌then◌else◌, Option, Some, None, option_map}
 use Rattle.std.specs.List.{list_any}
 use Rattle.std.specs.Str.{bytes_eq}
+use Rattle.wm_machine.specs.Cancelled.{reaches_any_run}
+use Rattle.wm_machine.specs.Closed.{is_among, with_each_closed}
+use Rattle.wm_machine.specs.Group.{members_of, with_let_go}
+use Rattle.wm_machine.specs.Plan as plan
+use Rattle.wm_machine.specs.Plan.{mismatch, placed_freely, Placing, Plan, plan_of}
 use Rattle.wm_machine.specs.Replied.{Outcome, unchanged}
+use Rattle.wm_machine.specs.Updated.{update_of}
 use Rattle.wm_machine.specs.declared.command.UniqueName.{UniqueName}
 use Rattle.wm_machine.specs.declared.record.How.TheVariants as how
 use Rattle.wm_machine.specs.declared.record.Phase.{Phase}
@@ -66,22 +73,54 @@ periodic_in_chain stored (work ∷ works) = first_refusal
     ∷ periodic_in_chain stored works
     ∷ [])
 
--- the first work that would have more than 100 prerequisites
-abbrev pub too_many_prerequisites : List Node → Option Refusal
-too_many_prerequisites [] = None
-too_many_prerequisites (work ∷ works) =
-    if nat_lt 100 (length work.after) then Some (refusal.TooManyPrerequisites work.request.id) else too_many_prerequisites works
+-- how many prerequisites a work has that names these, and that comes after works of these numbers where it names none
+abbrev pub count_prior : List ℕ → List (List ℕ) → ℕ
+count_prior [] ids = length ids
+count_prior after [] = length after
+count_prior after ids = length ids
 
--- the first check that refuses the batch
-abbrev pub refusal_of : State → Option UniqueName → List Node → Option Refusal
-refusal_of s named works = first_refusal
+-- the first work that would have more than 100 prerequisites
+abbrev pub too_many_after : List ℕ → List Node → Option Refusal
+too_many_after after [] = None
+too_many_after after (work ∷ works) =
+    if nat_lt 100 (count_prior after work.after) then Some (refusal.TooManyPrerequisites work.request.id) else too_many_after after works
+
+-- and where each comes after those alone that it names
+abbrev pub too_many_prerequisites : List Node → Option Refusal
+too_many_prerequisites works = too_many_after [] works
+
+-- the records without those of these numbers
+abbrev pub without : List ℕ → List Record → List Record
+without [] works = works
+without numbers works = filter (λ work. not (is_among numbers work.seq)) works
+
+-- the first check that refuses a batch that is placed so: no work of it can name one that is let go
+abbrev pub refusal_of_placing : State → Placing → List Node → Option Refusal
+refusal_of_placing s placing works = first_refusal
     (too_many_works s works
     ∷ numbers_spent s works
     ∷ id_in_use s works
-    ∷ no_such_prerequisite s.works [] works
+    ∷ no_such_prerequisite (without placing.let_go s.works) [] works
     ∷ periodic_in_chain s.works works
-    ∷ too_many_prerequisites works
+    ∷ too_many_after placing.after works
     ∷ [])
+
+-- The first check that refuses a batch under a unique name, by what the policy comes to and the id whose kind mismatches, if any. A batch that is
+-- kept isn't refused, and of one that updates a member only the kinds are looked at.
+abbrev pub refusal_by : Plan → Option (List ℕ) → State → List Node → Option Refusal
+refusal_by plan.Keeps mismatched s works = None
+refusal_by (plan.Updates member) mismatched s works = option_map refusal.KindMismatch mismatched
+refusal_by (plan.Places placing) mismatched s works =
+    first_refusal (option_map refusal.KindMismatch mismatched ∷ refusal_of_placing s placing works ∷ [])
+
+-- what the policy of a unique name comes to in a state
+abbrev pub plan_in : State → UniqueName → Plan
+plan_in s unique = plan_of unique.policy (members_of s.works unique.name)
+
+-- the first check that refuses a batch
+abbrev pub refusal_of : State → Option UniqueName → List Node → Option Refusal
+refusal_of s None works = refusal_of_placing s placed_freely works
+refusal_of s (Some unique) works = refusal_by (plan_in s unique) (mismatch unique.policy (members_of s.works unique.name) works) s works
 
 -- ---- the placing of a work
 
@@ -109,14 +148,21 @@ first_phase works prior =
     else if any_in is_cancelled works prior then phase.Done how.Cancelled
     else phase.Waiting
 
--- The record of a new work, which hasn't been started. After the guide's page "Work states"; its number and its moment are our own.
-abbrev pub placed_record : State → Option (List ℕ) → Node → Record
-placed_record s name node = record {
+-- the numbers of the prerequisites of a work that names these, and that comes after works of these numbers where it names none
+abbrev pub prior_of : List Record → List ℕ → List (List ℕ) → List ℕ
+prior_of works [] ids = numbers_of works ids
+prior_of works after [] = after
+prior_of works after ids = numbers_of works ids
+
+-- The record of a new work with these prerequisites, which hasn't been started. After the guide's page "Work states"; its number and its
+-- moment are our own.
+abbrev pub new_record : State → Option (List ℕ) → List ℕ → Node → Record
+new_record s name prior node = record {
   seq = s.next;
   name = name;
   request = node.request;
-  prior = numbers_of s.works node.after;
-  phase = first_phase s.works (numbers_of s.works node.after);
+  prior = prior;
+  phase = first_phase s.works prior;
   attempt = 0;
   backoff_n = 0;
   runs = 0;
@@ -126,14 +172,23 @@ placed_record s name node = record {
   progress = [];
 }
 
+-- and of one that comes after those alone that it names
+abbrev pub placed_record : State → Option (List ℕ) → Node → Record
+placed_record s name node = new_record s name (prior_of s.works [] node.after) node
+
 -- one work more, under the next number
 abbrev pub with_work : State → Record → State
 with_work s work = record s { works = s.works ++ work ∷ []; next = s.next + 1 }
 
--- the works are placed one after another
+-- the works are placed one after another, each that names no other after works of these numbers
+abbrev pub placed_after : State → Option (List ℕ) → List ℕ → List Node → State
+placed_after s name after [] = s
+placed_after s name after (node ∷ nodes) =
+    placed_after (with_work s (new_record s name (prior_of s.works after node.after) node)) name after nodes
+
+-- and after those alone that it names
 abbrev pub placed : State → Option (List ℕ) → List Node → State
-placed s name [] = s
-placed s name (node ∷ nodes) = placed (with_work s (placed_record s name node)) name nodes
+placed s name nodes = placed_after s name [] nodes
 
 -- the numbers of the new works
 abbrev pub new_numbers : ℕ → List Node → List ℕ
@@ -142,13 +197,43 @@ new_numbers next (node ∷ nodes) = next ∷ new_numbers (next + 1) nodes
 
 -- ---- the outcome
 
+-- the batch is placed in a state
+abbrev pub placing_in : State → Option (List ℕ) → List ℕ → List Node → Outcome
+placing_in s name after works = record { reply = reply.Enqueued (new_numbers s.next works); state = placed_after s name after works }
+
+-- the state once works are cancelled, one after another, and others are let go
+abbrev pub made_ready : State → Placing → State
+made_ready s placing = record s { works = with_let_go placing.let_go (with_each_closed how.Cancelled placing.cancel s.works) }
+
+-- a member is updated by the first work of a batch, which isn't empty
+abbrev pub updated_by : State → Record → List Node → Outcome
+updated_by s member [] = unchanged s (reply.Enqueued [])
+updated_by s member (work ∷ works) = update_of s work.request member
+
+-- what a plan makes of a batch that isn't refused
+abbrev pub carried_out : Plan → State → List ℕ → List Node → Outcome
+carried_out plan.Keeps s name works = unchanged s reply.Kept
+carried_out (plan.Updates member) s name works = updated_by s member works
+carried_out (plan.Places placing) s name works = placing_in (made_ready s placing) (Some name) placing.after works
+
 abbrev pub outcome_by : Option Refusal → State → Option UniqueName → List Node → Outcome
 outcome_by (Some found) s named works = unchanged s (reply.Refused found)
-outcome_by None s named works = record {
-  reply = reply.Enqueued (new_numbers s.next works);
-  state = placed s (option_map (λ unique. unique.name) named) works;
-}
+outcome_by None s None works = placing_in s None [] works
+outcome_by None s (Some unique) works = carried_out (plan_in s unique) s unique.name works
 
--- the first check that holds gives the reply; where none does the works are placed
+-- the first check that holds gives the reply; where none does the batch is placed, or a member is updated
 abbrev pub enqueued : State → Option UniqueName → List Node → Outcome
 enqueued s named works = outcome_by (refusal_of s named works) s named works
+
+-- ---- what isn't built yet
+
+-- the numbers of the works that a plan cancels
+abbrev pub cancelled_by : Plan → List ℕ
+cancelled_by (plan.Places placing) = placing.cancel
+cancelled_by _ = []
+
+-- whether an enqueue would stop a run
+abbrev pub stops_run : State → Option UniqueName → List Node → Bool
+stops_run s None works = false
+stops_run s (Some unique) works =
+    reaches_any_run (cancelled_by (plan_in s unique)) s.works s.runs && not (is_some (refusal_of s (Some unique) works))

@@ -7,12 +7,15 @@ pub mod Ends
 pub mod Enqueued
 pub mod First
 pub mod Frame
+pub mod Group
 pub mod Input
 pub mod Limits
 pub mod Log
 pub mod Narrow
 pub mod Opened
 pub mod Outcome
+pub mod Plan
+pub mod Pruned
 pub mod Queried
 pub mod Quiet
 pub mod Replay
@@ -27,6 +30,7 @@ pub mod Shown
 pub mod Started
 pub mod Step
 pub mod Turns
+pub mod Updated
 pub mod Valid
 pub mod Waiting
 pub use Rattle.wm_data.specs.DataJson

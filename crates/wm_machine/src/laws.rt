@@ -1,21 +1,27 @@
 //! Laws of the machine, over its definitions alone. Each is the contract of a function that does
 //! nothing.
-ghost use Rattle.std.specs.Prelude.{◌≡◌, ◌≤◌, ◌+◌, ℕ, List, [], ◌∷◌, ◌++◌, length};
+ghost use Rattle.std.specs.Prelude.{◌≡◌, ◌≤◌, ◌+◌, ℕ, true, List, [], ◌∷◌, ◌++◌, length, Some, None};
 ghost use Rattle.std.specs.List.{AllByRecursion};
 ghost use Rattle.wm_machine.specs.Closed.{IsDescendantWhere};
+ghost use Rattle.wm_machine.specs.Enqueued.{enqueued, plan_in, refusal_of};
+ghost use Rattle.wm_machine.specs.Group.{is_name, members_of, AreAloneOrOneTime, IsApartFrom};
 ghost use Rattle.wm_machine.specs.Outcome.{IsBuilt};
 ghost use Rattle.wm_machine.specs.Log.{commands_of};
 ghost use Rattle.wm_machine.specs.Narrow.{IsNarrow};
+ghost use Rattle.wm_machine.specs.Plan.{replacing, Places};
 ghost use Rattle.wm_machine.specs.Replay.{Replay};
 ghost use Rattle.wm_machine.specs.Reports.{IsReportedOnce};
 ghost use Rattle.wm_machine.specs.Serial.{AreInOrder, BeginsSerial};
 ghost use Rattle.wm_machine.specs.Started.{HadItsPrerequisites};
 ghost use Rattle.wm_machine.specs.Step.{Legal, after};
-ghost use Rattle.wm_machine.specs.Valid.{Valid};
+ghost use Rattle.wm_machine.specs.Valid.{HasOne, Valid};
 ghost use Rattle.wm_machine.specs.declared.command.Command.{Command};
+ghost use Rattle.wm_machine.specs.declared.command.UniqueName.{UniqueName};
 ghost use Rattle.wm_machine.specs.declared.event.Event.{Event};
 ghost use Rattle.wm_machine.specs.declared.event.Event.TheVariants as event;
 ghost use Rattle.wm_data.specs.declared.data.DataEntry.{DataEntry};
+ghost use Rattle.wm_request.specs.declared.request.Node.{Node};
+ghost use Rattle.wm_machine.specs.declared.record.Record.{Record};
 ghost use Rattle.wm_machine.specs.declared.state.State.{State};
 
 /// Every step keeps what holds of every state that the machine reaches, and what is narrower for now.
@@ -59,4 +65,27 @@ pub fn each_start_had_its_prerequisites()
 /// such a descendant.
 pub fn descendants_follow_prerequisites()
     ensures { (s : State) (seq : ℕ) → Valid s → AllByRecursion (IsDescendantWhere seq s.works) s.works }
+{}
+
+/// The works of one unique name are all one-time, or there is one alone.
+pub fn a_name_is_of_one_kind()
+    ensures { (s : State) (name : List ℕ) → Valid s → AreAloneOrOneTime (members_of s.works name) }
+{}
+
+/// Where an enqueue under a unique name replaces the works that have it, the name is that of the new
+/// works alone: no older record has it.
+pub fn a_name_passes_to_new_works()
+    ensures { (s : State) (unique : UniqueName) (works : List Node)
+        → plan_in s unique ≡ Places (replacing (members_of s.works unique.name))
+        → refusal_of s (Some unique) works ≡ None
+        → AllByRecursion (λ work. is_name unique.name work.name ≡ true → s.next ≤ work.seq)
+        (enqueued s (Some unique) works).state.works }
+{}
+
+/// An enqueue under a unique name leaves each record as it is that hasn't the name and doesn't come
+/// after an unfinished work that has it.
+pub fn a_name_touches_its_own()
+    ensures { (s : State) (unique : UniqueName) (works : List Node) (work : Record)
+        → Valid s → HasOne (λ other. other ≡ work) s.works → IsApartFrom s.works unique.name work
+        → HasOne (λ other. other ≡ work) (enqueued s (Some unique) works).state.works }
 {}

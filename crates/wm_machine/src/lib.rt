@@ -10,12 +10,14 @@
 pub mod command;
 pub mod event;
 pub mod laws;
+pub mod numbers;
 pub mod record;
 pub mod reply;
 pub mod state;
 
 pub use command::{Command, LineFault, Policy, Target, UniqueName};
 pub use event::{Cause, End, Event};
+pub use numbers::{index_numbered, work_numbered};
 pub use record::{How, Phase, Record, Shown};
 pub use reply::{Applied, Counts, Refusal, Reply, WorkInfo};
 pub use state::{Instance, Run, State, WorkQuery};

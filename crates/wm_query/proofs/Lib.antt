@@ -1,2 +1,2 @@
-pub mod NumberPlaces
+pub mod NumbersDone
 pub mod ScanLemmas

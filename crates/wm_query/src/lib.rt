@@ -8,4 +8,4 @@ mod infos;
 mod scan;
 
 pub use infos::infos_of;
-pub use scan::{all_met, due, first_index, idle_in, is_waiting, work_numbered};
+pub use scan::{all_met, due, first_index, idle_in, is_waiting};

@@ -6,12 +6,11 @@ ghost use Rattle.std.specs.Prelude.{◌≡◌, ◌<◌, length, Some, None, slic
 ghost use Rattle.wm_collections.specs.Lists.{AllLater};
 ghost use Rattle.wm_machine.specs.Due.{due_of, times_of};
 ghost use Rattle.wm_machine.specs.First.{all_met, comes_before, earlier_of, first_of, has_room, has_succeeded, idle_instance, is_idle, is_live, is_startable, is_succeeded, is_waiting};
-ghost use Rattle.wm_machine.specs.Input.{work_numbered};
 ghost use Rattle.wm_machine.specs.Valid.{Valid, IsBefore, IsRecord};
 ghost use Rattle.wm_machine.specs.declared.record.Record.{Record};
 
 use wm_conditions::met;
-use wm_machine::{How, Instance, Phase, Record, State};
+use wm_machine::{How, Instance, Phase, Record, State, work_numbered};
 use wm_schedule::Times;
 
 /// What the moment from which on a work may start depends on.
@@ -48,17 +47,6 @@ fn is_succeeded(phase: Phase) -> bool
     ensures { result ≡ is_succeeded phase }
 {
     matches!(phase, Phase::Done(How::Succeeded))
-}
-
-/// The record of this number, among records in ascending number.
-pub fn work_numbered(works: &[Record], number: u64) -> Option<&Record>
-    requires { AllLater IsBefore works.now }
-    ensures { option_copied result ≡ work_numbered number works.now }
-{
-    match works.binary_search_by(|work| work.seq.cmp(&number)) {
-        Ok(index) => Some(&works[index]),
-        Err(_) => None,
-    }
 }
 
 /// Whether the record of this number has succeeded.

@@ -56,6 +56,14 @@ impl Request {
         self.id
     }
 
+    /// The same request under another id.
+    pub fn with_id(mut self, id: Uuid) -> Request
+        ensures { result ≡ record self { id = id } }
+    {
+        self.id = id;
+        self
+    }
+
     /// The class of workers that run it, of 1 to 200 bytes.
     pub fn class(&self) -> &Text
         ensures class { result.now ≡ self.now.class }

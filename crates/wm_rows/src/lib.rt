@@ -3,4 +3,4 @@
 
 pub mod rows;
 
-pub use rows::to_row;
+pub use rows::{have_one_row, to_row};

@@ -1,4 +1,4 @@
-ghost use Rattle.std.specs.Prelude.{◌≡◌, ◌^◌, ◌<◌, All, map, pos, IfOk, IfSome};
+ghost use Rattle.std.specs.Prelude.{◌≡◌, ◌^◌, ◌<◌, All, map, pos, Decides, IfOk, IfSome};
 ghost use Rattle.wm_machine.specs.Limits.{FitsRow};
 ghost use Rattle.wm_machine.specs.Rows.{row_of, kind_code, period_code, flex_code, policy_code, merger_code, network_code, flags_code, phase_code};
 
@@ -157,4 +157,23 @@ pub fn to_row(alloc: Global, work: &Record) -> Result<Row, AllocError>
         prior: stored_numbers(alloc, work.prior.as_slice())?,
         tags: request.tags().replica(alloc)?,
     })
+}
+
+/// Whether two rows are the same.
+#[tactic(auto, using(wm_keeper::proofs::Equal::row_decides))]
+fn is_same(one: &Row, other: &Row) -> bool
+    ensures { Decides result (one.now ≡ other.now) }
+{
+    *one == *other
+}
+
+/// Whether two records, whose numbers are within their limits, have one row.
+pub fn have_one_row(alloc: Global, one: &Record, other: &Record) -> Result<bool, AllocError>
+    requires one { FitsRow one.now }
+    requires other { FitsRow other.now }
+    ensures { IfOk result (λ same. Decides same (row_of one.now ≡ row_of other.now)) }
+{
+    let one = to_row(alloc, one)?;
+    let other = to_row(alloc, other)?;
+    Ok(is_same(&one, &other))
 }

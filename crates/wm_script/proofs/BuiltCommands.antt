@@ -18,8 +18,9 @@ use Rattle.wm_data.specs.declared.data.DataEntry.{DataEntry}
 use Rattle.wm_machine.specs.Built.{AreAsked}
 use Rattle.wm_machine.specs.Outcome.{IsBuilt}
 use Rattle.wm_machine.specs.declared.command.Command.{Command}
-use Rattle.wm_machine.specs.declared.command.Command.TheVariants.{Faulty}
+use Rattle.wm_machine.specs.declared.command.Command.TheVariants.{Enqueue, Faulty, Update}
 use Rattle.wm_machine.specs.declared.command.LineFault.TheVariants.{NotBuilt}
+use Rattle.wm_machine.specs.declared.command.UniqueName.{UniqueName}
 use Rattle.wm_request.proofs.Limits.{built_of-cases}
 use Rattle.wm_request.proofs.Tags.{AreSortedTags-with_tag}
 use Rattle.wm_request.specs.Batches.{BatchFields}
@@ -28,13 +29,13 @@ use Rattle.wm_request.specs.Requests.{AreSortedTags, IsRequest, IsShortText, Req
 use Rattle.wm_request.specs.declared.request.Node.{Node}
 use Rattle.wm_schedule.proofs.Clamps.{IsBackoffDelay-clamped, IsPeriod-clamped}
 use Rattle.wm_schedule.specs.Clamped.{clamped_period, IsPeriod}
-use Rattle.wm_script.proofs.BuiltForms.{AreForms, AreForms-enqueued_form, AreShort, AreWithin, AreLayers, HasSixteen, IsWithin}
-use Rattle.wm_script.proofs.Options.{either, tested, then_any, then_of}
+use Rattle.wm_script.proofs.BuiltForms.{AreForms, AreShort, AreWithin, AreLayers, HasSixteen, IsEnqueue, IsEnqueue-enqueued_form, IsNamed, IsWithin, IsWithin-lone_in}
+use Rattle.wm_script.proofs.Options.{either, map_of, tested, then_any, then_of}
 use Rattle.wm_script.specs.Batches.{batch_in, chain_from, each_of, input_in, nodes_in, node_in, of_chain, of_data, of_request, or_fault, request_in, ◌>>=◌}
-use Rattle.wm_script.specs.Enqueues.{enqueued_form, EnqueueForm, Layers, Works}
-use Rattle.wm_script.specs.Lines.{asked_by, cancel_of, command_of, command_with, commands_in, conditions_of, cut, enqueue_of, moment_of, query_of, readers, value_of}
+use Rattle.wm_script.specs.Enqueues.{enqueued_form, Layers, Works, WorksForm}
+use Rattle.wm_script.specs.Lines.{asked_by, cancel_of, command_of, command_with, commands_in, conditions_of, cut, enqueue_of, moment_of, prune_of, query_of, readers, update_of, updated_in, value_of}
 use Rattle.wm_script.specs.Values.{whole_in}
-use Rattle.wm_script.specs.Works.{asked_for, id_at, with_tags, PeriodForm, WorkForm}
+use Rattle.wm_script.specs.Works.{asked_for, id_at, lone_in, with_tags, PeriodForm, WorkForm}
 use Rattle.wm_script.specs.declared.batches.BatchFault.{BatchFault}
 use Rattle.wm_script.specs.declared.batches.BatchFault.TheVariants as fault
 
@@ -156,7 +157,7 @@ HasNodes-layers (layer ∷ layers) are =
     (each_holds IsWithin IsRequest request_in IsRequest-request_in layer are.1.0.1)
     (λ requests is. HasNodes-chain_from (layered no_layer requests) layers (AreNodes-first layer requests are.1.0.0 is) are.1.1)
 
-AreNodes-nodes_in : (form : EnqueueForm) → AreForms form → IfOk (nodes_in form) AreNodes
+AreNodes-nodes_in : (form : WorksForm) → AreForms form → IfOk (nodes_in form) AreNodes
 unfolding AreForms AreWithin HasNodes
 AreNodes-nodes_in (Works works) are =
     let some = are.0 in
@@ -175,28 +176,44 @@ unfolding IsAsked HasRequest
 IsAsked-batched works None none are = record { batch = IsBatch-sound works are.some none; requests = are.requests }
 IsAsked-batched works (Some found) e are = tt
 
-IsAsked-batch_in : (form : EnqueueForm) → AreForms form → IfOk (batch_in form) IsAsked
+IsAsked-batch_in : (form : WorksForm) → AreForms form → IfOk (batch_in form) IsAsked
 IsAsked-batch_in form are =
     bind_holds AreNodes IsAsked _ (nodes_in form) (AreNodes-nodes_in form are) (λ nodes is. IsAsked-batched nodes (fault_in nodes) refl is)
 
 -- ---- commands
 
-IsBuilt-command_with : (r : Result BatchFields BatchFault) → IfOk r IsAsked → IsBuilt (command_with r)
-unfolding IsAsked
-IsBuilt-command_with (Ok batch) is = is
-IsBuilt-command_with (Err (fault.Line found)) is = tt
-IsBuilt-command_with (Err fault.Memory) is = tt
+-- a command that is built of what holds of what it is for; one of a fault is built
+IsBuilt-command_with : {T : Type 0} (P : T → Type 0) (command : T → Command) → ((x : T) → P x → IsBuilt (command x)) → (r : Result T BatchFault)
+    → IfOk r P → IsBuilt (command_with command r)
+IsBuilt-command_with P command built (Ok x) is = built x is
+IsBuilt-command_with P command built (Err (fault.Line found)) is = tt
+IsBuilt-command_with P command built (Err fault.Memory) is = tt
+
+IsBuilt-enqueue : (named : Option UniqueName) (batch : BatchFields) → IsNamed named → IsAsked batch → IsBuilt (Enqueue named batch)
+unfolding IsAsked IsNamed
+IsBuilt-enqueue None batch short asked = asked
+IsBuilt-enqueue (Some unique) batch short asked = record { asked = asked; name_is = short }
 
 IsBuilt-enqueue_of : (d : json.Data) → IfSome (enqueue_of d) IsBuilt
 unfolding enqueue_of
-IsBuilt-enqueue_of d = of_form (enqueued_form d) (AreForms-enqueued_form d) where
-  of_form : (o : Option EnqueueForm) → IfSome o AreForms → IfSome (option_map (λ form. command_with (batch_in form)) o) IsBuilt
-  of_form None h = tt
-  of_form (Some form) are = IsBuilt-command_with (batch_in form) (IsAsked-batch_in form are)
+IsBuilt-enqueue_of d =
+    map_of IsEnqueue IsBuilt _ (enqueued_form d) (IsEnqueue-enqueued_form d) (λ form is.
+    IsBuilt-command_with IsAsked (Enqueue form.named) (λ batch. IsBuilt-enqueue form.named batch is.named) (batch_in form.works)
+    (IsAsked-batch_in form.works is.works))
 
 IsBuilt-cancel_of : (d : json.Data) → IfSome (cancel_of d) IsBuilt
 unfolding cancel_of
 IsBuilt-cancel_of d = either IsBuilt _ _ None (then_any IsBuilt _ (id_at (get (codes "id") d)) (λ id. tt)) tt
+
+IsWithin-updated_in : (d : json.Data) → IfSome (updated_in d) IsWithin
+unfolding updated_in
+IsWithin-updated_in d = either IsWithin _ _ None (then_any IsWithin lone_in (get (codes "work") d) IsWithin-lone_in) tt
+
+IsBuilt-update_of : (d : json.Data) → IfSome (update_of d) IsBuilt
+unfolding update_of
+IsBuilt-update_of d =
+    map_of IsWithin IsBuilt _ (updated_in d) (IsWithin-updated_in d) (λ work within.
+    IsBuilt-command_with IsRequest Update (λ request is. is) (request_in work) (IsRequest-request_in work within))
 
 IsMoment : ℕ → Type 0
 IsMoment at = at < 2 ^ 53
@@ -216,6 +233,10 @@ IsBuilt-conditions_of : (d : json.Data) → IfSome (conditions_of d) IsBuilt
 unfolding conditions_of
 IsBuilt-conditions_of d = search (rules, either, then_any)
 
+IsBuilt-prune_of : (d : json.Data) → IfSome (prune_of d) IsBuilt
+unfolding prune_of
+IsBuilt-prune_of d = search (rules, either)
+
 IsBuilt-query_of : (d : json.Data) → IfSome (query_of d) IsBuilt
 unfolding query_of
 IsBuilt-query_of d = search (rules, either)
@@ -226,7 +247,8 @@ AreBuilt table = AllByRecursion (λ reader. (d : json.Data) → IfSome (reader.1
 
 AreBuilt-readers : AreBuilt readers
 unfolding AreBuilt
-AreBuilt-readers = (IsBuilt-enqueue_of, (IsBuilt-cancel_of, (IsBuilt-moment_of, (IsBuilt-conditions_of, (IsBuilt-query_of, tt)))))
+AreBuilt-readers =
+    (IsBuilt-enqueue_of, (IsBuilt-cancel_of, (IsBuilt-update_of, (IsBuilt-moment_of, (IsBuilt-conditions_of, (IsBuilt-prune_of, (IsBuilt-query_of, tt)))))))
 
 found : (b : Bool) (reader : json.Data → Option Command) (rest : Option (json.Data → Option Command)) (d : json.Data) → IfSome (reader d) IsBuilt
     → IfSome (option_and_then (λ reader. reader d) rest) IsBuilt → IfSome (option_and_then (λ reader. reader d) (cond b (Some reader) rest)) IsBuilt

@@ -1,5 +1,5 @@
 -- The works of lines are within the limits of a request, and an enqueue has at least one in each place where it is to have some.
-use Rattle.std.proofs.Common.{◌≡◌, ℕ, ◌+◌, ◌≤◌, ◌&&◌, zero, suc, true, List, [], ◌∷◌, filter_map, length, Option, Some, None, IfSome, is_some, option_and_then, option_map, refl, ap, ◌∙◌, add-one, rules, arith}
+use Rattle.std.proofs.Common.{◌≡◌, ℕ, ◌+◌, ◌≤◌, ◌&&◌, zero, suc, true, List, [], ◌∷◌, filter_map, is_none, length, Option, Some, None, IfSome, is_some, option_and_then, option_map, refl, ap, ◌∙◌, add-one, rules, arith}
 use Rattle.std.specs.Prelude.{codes, nat_le, nat_lt}
 use Rattle.std.specs.List.{AllByRecursion, cons_option, list_all}
 use Rattle.std.proofs.lemmas.Bool.{and_parts, ltb-true}
@@ -8,14 +8,16 @@ use Rattle.serde_json.specs.Data as json
 use Rattle.serde_json.specs.Find.{as_array, as_str, get}
 use Rattle.uuid.specs.Text.{by_index, parsed}
 use Rattle.wm_data.specs.DataRead.{item_list}
+use Rattle.wm_machine.specs.declared.command.UniqueName.{UniqueName}
 use Rattle.wm_request.proofs.Limits.{IsShortText-is_short}
 use Rattle.wm_request.specs.Building.{is_short}
 use Rattle.wm_request.specs.Requests.{IsShortText}
 use Rattle.wm_script.proofs.Options.{each_read, either, map_of, tested, then_any, then_of}
-use Rattle.wm_script.specs.Enqueues.{are_alone, are_read, enqueue_form, enqueued_form, HasWorks, is_count, layer_in, layers_in, one_form, some_in, total, works_in, EnqueueForm, Layers, Works}
-use Rattle.wm_script.specs.declared.enqueues.EnqueueForm.{EnqueueForm as ReadEnqueue}
+use Rattle.wm_script.specs.Enqueues.{are_alone, are_read, enqueued_form, HasWorks, is_count, layer_in, layers_in, one_form, some_in, total, works_form, works_in, EnqueueForm, Layers, Works, WorksForm}
+use Rattle.wm_script.specs.Names.{named_by, policy_in}
+use Rattle.wm_script.specs.declared.enqueues.WorksForm.{WorksForm as ReadWorks}
 use Rattle.wm_script.specs.Values.{are_short, id_in, ids_at, short_in, texts_at, texts_of, whole_at}
-use Rattle.wm_script.specs.Works.{backoff_at, class_at, constraints_at, id_at, merger_at, period_at, work_of, WorkForm}
+use Rattle.wm_script.specs.Works.{backoff_at, class_at, constraints_at, id_at, lone_in, merger_at, period_at, work_of, WorkForm}
 
 -- ---- an id
 
@@ -84,6 +86,11 @@ IsWithin-work_of d =
     then_any IsWithin _ (period_at (get (codes "period") d) (get (codes "flex") d)) (λ period.
     then_any IsWithin _ (ids_at (get (codes "after") d)) (λ after. record { id = sixteen; tags = short })))))))))) tt
 
+pub IsWithin-lone_in : (d : json.Data) → IfSome (lone_in d) IsWithin
+unfolding lone_in
+IsWithin-lone_in d =
+    then_of IsWithin IsWithin _ (work_of d) (IsWithin-work_of d) (λ work within. tested IsWithin (is_none work.after) work (λ e. within))
+
 -- ---- the works of an enqueue
 
 -- at least one work, each of which is within the limits
@@ -138,8 +145,8 @@ AreLayers-layers_in d =
     then_of AreLayers AreLayers _ (some_in layer_in d) (some_read AreWithin layer_in AreWithin-layer_in d)
     (λ layers are. then_any AreLayers _ (as_array d) (λ items. tested AreLayers (nat_le (total (item_list items)) 1000) layers (λ e. are)))
 
--- what an enqueue has
-unfoldable pub AreForms : EnqueueForm → Type 0
+-- what the works of an enqueue are
+unfoldable pub AreForms : WorksForm → Type 0
 AreForms (Works works) = AreWithin works
 AreForms (Layers layers) = AreLayers layers
 
@@ -150,30 +157,55 @@ AreForms-one_form (Some works) None = map_of AreWithin AreForms Works (works_in 
 AreForms-one_form None (Some layers) = map_of AreLayers AreForms Layers (layers_in layers) (AreLayers-layers_in layers) (λ layers within. within)
 AreForms-one_form (Some works) (Some layers) = tt
 
-pub AreForms-enqueued_form : (d : json.Data) → IfSome (enqueued_form d) AreForms
-unfolding enqueued_form
-AreForms-enqueued_form d = either AreForms _ _ None (AreForms-one_form (get (codes "works") d) (get (codes "layers") d)) tt
-
 firsts : (layers : List (List WorkForm)) → AllByRecursion AreWithin layers → AllByRecursion (λ layer. 1 ≤ length layer) layers
 unfolding AreWithin
 firsts [] all = tt
 firsts (layer ∷ layers) all = (all.0.0, firsts layers all.1)
 
-pub HasWorks-of : (form : EnqueueForm) → AreForms form → HasWorks form
+HasWorks-of : (works : WorksForm) → AreForms works → HasWorks works
 unfolding AreForms AreWithin AreLayers
 HasWorks-of (Works works) within = within.0
 HasWorks-of (Layers layers) within = (within.0, firsts layers within.1)
 
--- an enqueue that is in the form has works
-pub HasWorks-enqueued_form : (d : json.Data) → IfSome (enqueued_form d) HasWorks
-HasWorks-enqueued_form d = has_works (enqueued_form d) (AreForms-enqueued_form d) where
-  has_works : (o : Option EnqueueForm) → IfSome o AreForms → IfSome o HasWorks
+-- works that are in the form are some
+HasWorks-one_form : (works layers : Option json.Data) → IfSome (one_form works layers) HasWorks
+HasWorks-one_form works layers = has_works (one_form works layers) (AreForms-one_form works layers) where
+  has_works : (o : Option WorksForm) → IfSome o AreForms → IfSome o HasWorks
   has_works None h = tt
   has_works (Some form) h = HasWorks-of form h
 
--- so has what is read of it
-pub HasWorks-read : (o : Option ReadEnqueue) (d : json.Data) → option_map enqueue_form o ≡ enqueued_form d → IfSome o (λ form. HasWorks (enqueue_form form))
-HasWorks-read o d read = of_read o (rw (← read) at (HasWorks-enqueued_form d)) where
-  of_read : (o : Option ReadEnqueue) → IfSome (option_map enqueue_form o) HasWorks → IfSome o (λ form. HasWorks (enqueue_form form))
+-- so is what is read of them
+pub HasWorks-read : (o : Option ReadWorks) (works layers : Option json.Data) → option_map works_form o ≡ one_form works layers
+    → IfSome o (λ form. HasWorks (works_form form))
+HasWorks-read o works layers read = of_read o (rw (← read) at (HasWorks-one_form works layers)) where
+  of_read : (o : Option ReadWorks) → IfSome (option_map works_form o) HasWorks → IfSome o (λ form. HasWorks (works_form form))
   of_read None h = tt
   of_read (Some form) h = h
+
+-- ---- an enqueue
+
+-- a name, where there is one, that a record may have
+unfoldable pub IsNamed : Option UniqueName → Type 0
+IsNamed named = IfSome named (λ unique. IsShortText unique.name)
+
+IsNamed-named_by : (name policy : Option json.Data) → IfSome (named_by name policy) IsNamed
+unfolding named_by IsNamed
+IsNamed-named_by None None = tt
+IsNamed-named_by None (Some e) = tt
+IsNamed-named_by (Some d) None = tt
+IsNamed-named_by (Some d) (Some e) =
+    then_of IsShortText IsNamed _ (short_in d) (IsShortText-short_in d) (λ name short. then_any IsNamed _ (policy_in e) (λ policy. short))
+
+-- an enqueue of works within the limits, and of such a name
+pub record IsEnqueue (form : EnqueueForm) : Type 0 where
+  pub named : IsNamed form.named
+  pub works : AreForms form.works
+
+pub IsEnqueue-enqueued_form : (d : json.Data) → IfSome (enqueued_form d) IsEnqueue
+unfolding enqueued_form
+IsEnqueue-enqueued_form d =
+    either IsEnqueue _ _ None
+    (then_of IsNamed IsEnqueue _ (named_by (get (codes "name") d) (get (codes "policy") d))
+    (IsNamed-named_by (get (codes "name") d) (get (codes "policy") d)) (λ named short.
+    then_of AreForms IsEnqueue _ (one_form (get (codes "works") d) (get (codes "layers") d))
+    (AreForms-one_form (get (codes "works") d) (get (codes "layers") d)) (λ works are. record { named = short; works = are }))) tt

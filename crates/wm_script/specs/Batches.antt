@@ -16,7 +16,7 @@ use Rattle.wm_request.specs.Requests.{RequestFields}
 use Rattle.wm_request.specs.declared.fault.RequestFault.{RequestFault}
 use Rattle.wm_request.specs.declared.fault.RequestFault.TheVariants as request_fault
 use Rattle.wm_request.specs.declared.request.Node.{Node}
-use Rattle.wm_script.specs.Enqueues.{EnqueueForm, Works, Layers}
+use Rattle.wm_script.specs.Enqueues.{WorksForm, Works, Layers}
 use Rattle.wm_script.specs.Works.{asked_for, WorkForm}
 use Rattle.wm_script.specs.declared.batches.BatchFault.{BatchFault}
 use Rattle.wm_script.specs.declared.batches.BatchFault.TheVariants as fault
@@ -91,14 +91,14 @@ chain_from chain (layer ∷ layers) = do
   chain_from (layered chain requests) layers
 
 -- the works of an enqueue, or the first fault of one of them
-abbrev pub nodes_in : EnqueueForm → Result (List Node) BatchFault
+abbrev pub nodes_in : WorksForm → Result (List Node) BatchFault
 nodes_in (Works works) = each_of node_in works
 nodes_in (Layers layers) = do
   chain ← chain_from no_layer layers
   Ok chain.works
 
 -- the batch of an enqueue, or the first fault: that of its works, and then that of the batch
-abbrev pub batch_in : EnqueueForm → Result BatchFields BatchFault
-batch_in form = do
-  nodes ← nodes_in form
+abbrev pub batch_in : WorksForm → Result BatchFields BatchFault
+batch_in works = do
+  nodes ← nodes_in works
   or_fault of_chain (batched nodes)

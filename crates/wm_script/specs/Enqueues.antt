@@ -1,15 +1,18 @@
--- The works of an enqueue as they stand in a line. The grammar is this project's own choice.
+-- An enqueue as it stands in a line: its works and its unique name. The grammar is this project's own choice.
 use Rattle.std.specs.Prelude.{ℕ, ◌+◌, ◌≤◌, ◌&&◌, Bool, List, [], ◌∷◌, codes, filter_map, is_none, is_some, length, map, nat_le, nat_lt, if◌then◌else◌, Option, Some, None, option_map, unwrap_or}
 use Rattle.std.specs.List.{AllByRecursion, list_all}
 use Rattle.serde_json.specs.Data as json
 use Rattle.serde_json.specs.Find.{as_array, get}
 use Rattle.serde_json.specs.View.{items_view}
 use Rattle.wm_data.specs.DataRead.{item_list}
+use Rattle.wm_machine.specs.declared.command.UniqueName.{UniqueName}
+use Rattle.wm_script.specs.Names.{named_by, named_of}
 use Rattle.wm_script.specs.Objects.{has_only}
 use Rattle.wm_script.specs.Values.{◌>>=◌}
 use Rattle.wm_script.specs.Works.{work_of, WorkForm}
 use Rattle.wm_script.specs.declared.enqueues.EnqueueForm.{EnqueueForm as ReadEnqueue}
-use Rattle.wm_script.specs.declared.enqueues.EnqueueForm.TheVariants as read
+use Rattle.wm_script.specs.declared.enqueues.WorksForm.{WorksForm as ReadWorks}
+use Rattle.wm_script.specs.declared.enqueues.WorksForm.TheVariants as read
 
 -- ---- lists
 
@@ -62,20 +65,30 @@ layers_in d = do
 -- ---- an enqueue
 
 -- works, each after those that it names; or layers, each after the one before
-pub data EnqueueForm : Type 0 where
-  Works : List WorkForm → EnqueueForm
-  Layers : List (List WorkForm) → EnqueueForm
+pub data WorksForm : Type 0 where
+  Works : List WorkForm → WorksForm
+  Layers : List (List WorkForm) → WorksForm
 
 -- exactly one of the two
-abbrev pub one_form : Option json.Data → Option json.Data → Option EnqueueForm
+abbrev pub one_form : Option json.Data → Option json.Data → Option WorksForm
 one_form (Some works) None = option_map Works (works_in works)
 one_form None (Some layers) = option_map Layers (layers_in layers)
 one_form _ _ = None
 
+-- an enqueue: its works, and its unique name where it has one
+pub record EnqueueForm : Type 0 where
+  pub named : Option UniqueName
+  pub works : WorksForm
+
+abbrev pub enqueue_keys : List (List ℕ)
+enqueue_keys = codes "cmd" ∷ codes "layers" ∷ codes "name" ∷ codes "policy" ∷ codes "works" ∷ []
+
 -- the form of an enqueue
 unfoldable pub enqueued_form : json.Data → Option EnqueueForm
-enqueued_form d =
-    if has_only (codes "cmd" ∷ codes "layers" ∷ codes "works" ∷ []) d then one_form (get (codes "works") d) (get (codes "layers") d) else None
+enqueued_form d = if has_only enqueue_keys d then (do
+  named ← named_by (get (codes "name") d) (get (codes "policy") d)
+  works ← one_form (get (codes "works") d) (get (codes "layers") d)
+  Some (record { named = named; works = works })) else None
 
 -- ---- the same, as the value of the line holds them
 
@@ -88,11 +101,14 @@ layer_of d = unwrap_or (layer_in d) []
 abbrev pub layers_of : json.Items → List (List WorkForm)
 layers_of items = map layer_of (item_list items)
 
+abbrev pub works_form : ReadWorks → WorksForm
+works_form (read.Works items) = Works (works_of (items_view items.now))
+works_form (read.Layers items) = Layers (layers_of (items_view items.now))
+
 abbrev pub enqueue_form : ReadEnqueue → EnqueueForm
-enqueue_form (read.Works items) = Works (works_of (items_view items.now))
-enqueue_form (read.Layers items) = Layers (layers_of (items_view items.now))
+enqueue_form form = record { named = named_of form.named; works = works_form form.works }
 
 -- there is at least one work, and in each layer one
-abbrev pub HasWorks : EnqueueForm → Type 0
+abbrev pub HasWorks : WorksForm → Type 0
 HasWorks (Works works) = 1 ≤ length works
 HasWorks (Layers layers) = (1 ≤ length layers) × AllByRecursion (λ layer. 1 ≤ length layer) layers

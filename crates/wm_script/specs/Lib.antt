@@ -2,6 +2,7 @@ pub mod Batches
 pub mod Enqueues
 pub mod Limits
 pub mod Lines
+pub mod Names
 pub mod Objects
 pub mod Texts
 pub mod Values

@@ -7,16 +7,15 @@ use Rattle.serde_json.specs.Data as json
 use Rattle.serde_json.specs.Find.{as_str, get}
 use Rattle.serde_json.specs.Read.{read}
 use Rattle.wm_machine.specs.declared.command.Command.{Command}
-use Rattle.wm_machine.specs.declared.command.Command.TheVariants.{Cancel, Conditions, Enqueue, Faulty, Moment, Query}
+use Rattle.wm_machine.specs.declared.command.Command.TheVariants.{Cancel, Conditions, Enqueue, Faulty, Moment, Prune, Query, Update}
 use Rattle.wm_machine.specs.declared.command.LineFault.TheVariants as fault
 use Rattle.wm_machine.specs.declared.command.Target.TheVariants.{Id}
 use Rattle.wm_machine.specs.declared.state.WorkQuery.{WorkQuery}
-use Rattle.wm_request.specs.Batches.{BatchFields}
-use Rattle.wm_script.specs.Batches.{batch_in}
+use Rattle.wm_script.specs.Batches.{batch_in, request_in}
 use Rattle.wm_script.specs.Enqueues.{enqueued_form}
 use Rattle.wm_script.specs.Objects.{has_only}
 use Rattle.wm_script.specs.Values.{◌>>=◌, flag_at, whole_in}
-use Rattle.wm_script.specs.Works.{id_at}
+use Rattle.wm_script.specs.Works.{id_at, lone_in, WorkForm}
 use Rattle.wm_script.specs.declared.batches.BatchFault.{BatchFault}
 use Rattle.wm_script.specs.declared.batches.BatchFault.TheVariants as batch_fault
 
@@ -33,22 +32,35 @@ abbrev pub cut : List ℕ → List (List ℕ)
 cut [] = []
 cut (byte ∷ bytes) = if byte == 10 then [] ∷ cut bytes else onto_first byte (cut bytes)
 
--- ---- an enqueue and a cancel
+-- ---- an enqueue, a cancel, an update and a prune
 
--- the command of a batch, or of its fault: no reading answers want of memory
-abbrev pub command_with : Result BatchFields BatchFault → Command
-command_with (Ok batch) = Enqueue None batch
-command_with (Err (batch_fault.Line found)) = Faulty found
-command_with (Err batch_fault.Memory) = Faulty fault.NotBuilt
+-- the command for what is read, or that of its fault: no reading answers want of memory
+abbrev pub command_with : {T : Type 0} → (T → Command) → Result T BatchFault → Command
+command_with command (Ok x) = command x
+command_with command (Err (batch_fault.Line found)) = Faulty found
+command_with command (Err batch_fault.Memory) = Faulty fault.NotBuilt
 
 unfoldable pub enqueue_of : json.Data → Option Command
-enqueue_of d = option_map (λ form. command_with (batch_in form)) (enqueued_form d)
+enqueue_of d = option_map (λ form. command_with (Enqueue form.named) (batch_in form.works)) (enqueued_form d)
 
 -- a cancel by an id
 unfoldable pub cancel_of : json.Data → Option Command
 cancel_of d = if has_only (codes "cmd" ∷ codes "id" ∷ []) d then (do
   id ← id_at (get (codes "id") d)
   Some (Cancel (Id id))) else None
+
+-- the work of an update, which names none that it is after
+unfoldable pub updated_in : json.Data → Option WorkForm
+updated_in d = if has_only (codes "cmd" ∷ codes "work" ∷ []) d then (do
+  value ← get (codes "work") d
+  lone_in value) else None
+
+unfoldable pub update_of : json.Data → Option Command
+update_of d = option_map (λ work. command_with Update (request_in work)) (updated_in d)
+
+-- a prune without further keys
+unfoldable pub prune_of : json.Data → Option Command
+prune_of d = if has_only (codes "cmd" ∷ []) d then Some Prune else None
 
 -- ---- the moment and the conditions
 
@@ -104,8 +116,10 @@ abbrev pub readers : List (List ℕ × (json.Data → Option Command))
 readers =
     (codes "enqueue", enqueue_of) ∷
     (codes "cancel", cancel_of) ∷
+    (codes "update", update_of) ∷
     (codes "moment", moment_of) ∷
     (codes "conditions", conditions_of) ∷
+    (codes "prune", prune_of) ∷
     (codes "query", query_of) ∷ []
 
 -- what a value asks for

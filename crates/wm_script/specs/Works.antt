@@ -1,5 +1,5 @@
 -- What a line says of a work. The grammar is this project's own choice.
-use Rattle.std.specs.Prelude.{ℕ, List, [], ◌∷◌, codes, if◌then◌else◌, Option, Some, None, option_map}
+use Rattle.std.specs.Prelude.{ℕ, List, [], ◌∷◌, codes, is_none, if◌then◌else◌, Option, Some, None, option_map}
 use Rattle.serde_json.specs.Data as json
 use Rattle.serde_json.specs.Find.{as_str, get}
 use Rattle.serde_json.specs.View.{items_view, view}
@@ -172,6 +172,12 @@ work_of d = if has_only work_keys d then (do
     period = period;
     after = after;
   })) else None
+
+-- a work without the key `after`
+unfoldable pub lone_in : json.Data → Option WorkForm
+lone_in d = do
+  work ← work_of d
+  if is_none work.after then Some work else None
 
 -- ---- its request
 

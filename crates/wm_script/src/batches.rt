@@ -5,11 +5,11 @@ ghost use Rattle.serde_json.specs.View.{items_view, view};
 ghost use Rattle.wm_chain.specs.Layers.{no_layer};
 ghost use Rattle.wm_data.specs.Entries.{IsFaultOf as IsDataFaultOf};
 ghost use Rattle.wm_script.specs.Batches.{batch_in, chain_from, each_of, input_in, IsFaultOf, node_in, request_in};
-ghost use Rattle.wm_script.specs.Enqueues.{enqueue_form, HasWorks, layer_of, layers_of, Layers, Works, works_of};
+ghost use Rattle.wm_script.specs.Enqueues.{HasWorks, layer_of, layers_of, Layers, Works, works_form, works_of};
 ghost use Rattle.wm_script.specs.Values.{ids_of};
 ghost use Rattle.wm_script.specs.Works.{form_of};
 
-use crate::enqueues::{EnqueueForm, layer_in};
+use crate::enqueues::{WorksForm, layer_in};
 use crate::requests::request_of;
 use crate::values::id_in;
 use crate::works::{WorkForm, work_of};
@@ -98,14 +98,14 @@ impl From<ChainFault> for BatchFault {
 }
 
 /// The batch of an enqueue, or its first fault: that of its works, and then that of the batch.
-pub fn batch_in(alloc: Global, form: &EnqueueForm<'_>) -> Result<Batch, BatchFault>
-    requires { HasWorks (enqueue_form form.now) }
-    ensures ok { IfOk result (λ batch. batch_in (enqueue_form form.entry.now) ≡ Ok batch) }
-    ensures err { IfErr result (IsFaultOf (batch_in (enqueue_form form.entry.now))) }
+pub fn batch_in(alloc: Global, form: &WorksForm<'_>) -> Result<Batch, BatchFault>
+    requires { HasWorks (works_form form.now) }
+    ensures ok { IfOk result (λ batch. batch_in (works_form form.entry.now) ≡ Ok batch) }
+    ensures err { IfErr result (IsFaultOf (batch_in (works_form form.entry.now))) }
 {
     match form {
-        EnqueueForm::Works(works) => batch_of_works(alloc, works),
-        EnqueueForm::Layers(layers) => batch_of_layers(alloc, layers),
+        WorksForm::Works(works) => batch_of_works(alloc, works),
+        WorksForm::Layers(layers) => batch_of_layers(alloc, layers),
     }
 }
 
@@ -171,7 +171,7 @@ fn ids_of(alloc: Global, items: &[Value]) -> Result<Items<Uuid>, AllocError>
 }
 
 /// The request of a work, or its first fault: that of its input, and then its own.
-fn request_in(alloc: Global, work: &WorkForm<'_>) -> Result<Request, BatchFault>
+pub fn request_in(alloc: Global, work: &WorkForm<'_>) -> Result<Request, BatchFault>
     ensures ok { IfOk result (λ request. request_in (form_of work.entry.now) ≡ Ok request) }
     ensures err { IfErr result (IsFaultOf (request_in (form_of work.entry.now))) }
 {

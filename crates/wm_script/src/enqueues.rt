@@ -1,47 +1,59 @@
-//! The works of an enqueue as they stand in a line.
-ghost use Rattle.std.specs.Prelude.{◌≡◌, is_some, nat_le, not, option_map, option_to_list, IfSome};
+//! An enqueue as it stands in a line.
+ghost use Rattle.std.specs.Prelude.{◌≡◌, is_some, nat_le, option_map, IfSome};
 ghost use Rattle.serde_json.specs.View.{items_view, view};
 ghost use Rattle.wm_data.specs.DataRead.{item_list};
-ghost use Rattle.wm_script.specs.Enqueues.{are_alone, are_read, count_in, enqueue_form, enqueued_form, HasWorks, is_count, layer_in, layers_in, layers_of, one_form, total, works_in, works_of};
+ghost use Rattle.wm_script.specs.Enqueues.{are_alone, are_read, count_in, enqueue_form, enqueued_form, HasWorks, is_count, layer_in, layers_in, layers_of, one_form, total, works_form, works_in, works_of};
 ghost use Rattle.wm_script.specs.Works.{work_of};
 
+use crate::names::{NameForm, named_by};
 use crate::objects::has_only;
-use crate::works::work_of;
+use crate::works::{names_works, work_of};
 use serde_json::Value;
 
 /// The most works of an enqueue.
 const MAX_WORKS: usize = 1_000;
 
-/// The works of an enqueue, each of which can be read.
+/// An enqueue, whose works can each be read.
 #[derive(Clone, Copy)]
-pub enum EnqueueForm<'v> {
+pub struct EnqueueForm<'v> {
+    /// Its unique name, where it has one.
+    pub named: Option<NameForm<'v>>,
+    pub works: WorksForm<'v>,
+}
+
+/// The works of an enqueue.
+#[derive(Clone, Copy)]
+pub enum WorksForm<'v> {
     /// Works, each after those that it names.
     Works(&'v [Value]),
     /// Layers of works that name none, each after the layer before.
     Layers(&'v [Value]),
 }
 
-/// The works of an enqueue, which has exactly one of `works` and `layers`.
+/// The enqueue that an object is, which has exactly one of `works` and `layers`, and `name` and
+/// `policy` both or neither.
 #[tactic(auto, unfolding(crate::specs::Enqueues::enqueued_form))]
 pub fn enqueued_form(value: &Value) -> Option<EnqueueForm<'_>>
     ensures form { option_map enqueue_form result ≡ enqueued_form (view value.now) }
-    ensures works { IfSome result (λ form. HasWorks (enqueue_form form)) }
+    ensures works { IfSome result (λ form. HasWorks (enqueue_form form).works) }
 {
-    if has_only(value, &["cmd", "layers", "works"]) {
-        one_form(value.get("works"), value.get("layers"))
-    } else {
-        None
+    if !has_only(value, &["cmd", "layers", "name", "policy", "works"]) {
+        return None;
     }
+    Some(EnqueueForm {
+        named: named_by(value.get("name"), value.get("policy"))?,
+        works: one_form(value.get("works"), value.get("layers"))?,
+    })
 }
 
 /// Works or layers, where one of the two stands there alone.
-fn one_form<'v>(works: Option<&'v Value>, layers: Option<&'v Value>) -> Option<EnqueueForm<'v>>
-    ensures { option_map enqueue_form result ≡ one_form (option_map (λ found. view found.now) works.entry)
+fn one_form<'v>(works: Option<&'v Value>, layers: Option<&'v Value>) -> Option<WorksForm<'v>>
+    ensures { option_map works_form result ≡ one_form (option_map (λ found. view found.now) works.entry)
         (option_map (λ found. view found.now) layers.entry) }
 {
     match (works, layers) {
-        (Some(works), None) => Some(EnqueueForm::Works(works_in(works)?)),
-        (None, Some(layers)) => Some(EnqueueForm::Layers(layers_in(layers)?)),
+        (Some(works), None) => Some(WorksForm::Works(works_in(works)?)),
+        (None, Some(layers)) => Some(WorksForm::Layers(layers_in(layers)?)),
         _ => None,
     }
 }
@@ -98,16 +110,6 @@ fn are_alone(items: &[Value]) -> bool
         }
     }
     true
-}
-
-/// Whether it is a work with the key `after`.
-fn names_works(value: &Value) -> bool
-    ensures { not result ≡ are_alone (option_to_list (work_of (view value.now))) }
-{
-    match work_of(value) {
-        Some(work) => work.after.is_some(),
-        None => false,
-    }
 }
 
 /// A list of 1 to 1,000 layers, of at most 1,000 works together.

@@ -5,17 +5,20 @@ ghost use Rattle.std.specs.Map.{lookup};
 ghost use Rattle.std.specs.Str.{bytes_eq};
 ghost use Rattle.serde_json.specs.View.{view};
 ghost use Rattle.wm_machine.specs.Outcome.{IsBuilt};
-ghost use Rattle.wm_script.specs.Batches.{batch_in};
+ghost use Rattle.wm_machine.specs.declared.command.Command.TheVariants.{Enqueue, Update};
+ghost use Rattle.wm_script.specs.Batches.{batch_in, request_in};
 ghost use Rattle.wm_script.specs.Enqueues.{enqueue_form, HasWorks};
 ghost use Rattle.wm_script.specs.Limits.{first_limit, IsFaultOf};
-ghost use Rattle.wm_script.specs.Lines.{asked_by, cancel_of, command_of, command_with, commands_in, conditions_of, cut, enqueue_of, moment_of, query_of, query_of_all, readers, value_of};
+ghost use Rattle.wm_script.specs.Lines.{asked_by, cancel_of, command_of, command_with, commands_in, conditions_of, cut, enqueue_of, moment_of, prune_of, query_of, query_of_all, readers, update_of, updated_in, value_of};
+ghost use Rattle.wm_script.specs.Works.{form_of};
 
-use crate::batches::{BatchFault, batch_in};
+use crate::batches::{BatchFault, batch_in, request_in};
 use crate::enqueues::{EnqueueForm, enqueued_form};
 use crate::limits::{Limit, ScriptFault, first_limit};
+use crate::names::named_of;
 use crate::objects::has_only;
 use crate::values::{flag_at, whole_in};
-use crate::works::id_at;
+use crate::works::{WorkForm, id_at, lone_in};
 use serde_json::Value;
 use std::alloc::{AllocError, Global};
 use wm_collections::Items;
@@ -124,8 +127,10 @@ fn command_named(alloc: Global, name: &str, value: &Value) -> Result<Option<Comm
     match name {
         "enqueue" => enqueue_of(alloc, value),
         "cancel" => Ok(cancel_of(value)),
+        "update" => update_of(alloc, value),
         "moment" => Ok(moment_of(value)),
         "conditions" => Ok(conditions_of(value)),
+        "prune" => Ok(prune_of(value)),
         "query" => Ok(query_of(alloc, value)),
         _ => Ok(None),
     }
@@ -144,11 +149,13 @@ fn enqueue_of(alloc: Global, value: &Value) -> Result<Option<Command>, AllocErro
 
 /// The command of an enqueue's batch, or of its fault.
 fn enqueue_with(alloc: Global, form: &EnqueueForm<'_>) -> Result<Command, AllocError>
-    requires { HasWorks (enqueue_form form.now) }
-    ensures { IfOk result (λ command. command ≡ command_with (batch_in (enqueue_form form.entry.now))) }
+    requires { HasWorks (enqueue_form form.now).works }
+    ensures { IfOk result (λ command. command
+        ≡ command_with (Enqueue (enqueue_form form.entry.now).named) (batch_in (enqueue_form form.entry.now).works)) }
 {
-    match batch_in(alloc, form) {
-        Ok(batch) => Ok(Command::Enqueue { named: None, batch }),
+    let named = named_of(alloc, &form.named)?;
+    match batch_in(alloc, &form.works) {
+        Ok(batch) => Ok(Command::Enqueue { named, batch }),
         Err(BatchFault::Line(fault)) => Ok(Command::Faulty(fault)),
         Err(BatchFault::Memory) => Err(AllocError),
     }
@@ -163,6 +170,51 @@ fn cancel_of(value: &Value) -> Option<Command>
         return None;
     }
     Some(Command::Cancel(Target::Id(id_at(value.get("id"))?)))
+}
+
+/// The command that updates a work. Its Data is read once the whole line is in the form.
+#[tactic(auto, unfolding(crate::specs::Lines::update_of))]
+fn update_of(alloc: Global, value: &Value) -> Result<Option<Command>, AllocError>
+    ensures { IfOk result (λ command. command ≡ update_of (view value.now)) }
+{
+    match updated_in(value) {
+        Some(work) => Ok(Some(update_with(alloc, &work)?)),
+        None => Ok(None),
+    }
+}
+
+/// The work of an update, which names none that it is after.
+#[tactic(auto, unfolding(crate::specs::Lines::updated_in))]
+fn updated_in(value: &Value) -> Option<WorkForm<'_>>
+    ensures { option_map form_of result ≡ updated_in (view value.now) }
+{
+    if !has_only(value, &["cmd", "work"]) {
+        return None;
+    }
+    lone_in(value.get("work")?)
+}
+
+/// The command of an update's request, or of its fault.
+fn update_with(alloc: Global, work: &WorkForm<'_>) -> Result<Command, AllocError>
+    ensures { IfOk result (λ command. command ≡ command_with Update (request_in (form_of work.entry.now))) }
+{
+    match request_in(alloc, work) {
+        Ok(request) => Ok(Command::Update(request)),
+        Err(BatchFault::Line(fault)) => Ok(Command::Faulty(fault)),
+        Err(BatchFault::Memory) => Err(AllocError),
+    }
+}
+
+/// The command that prunes.
+#[tactic(auto, unfolding(crate::specs::Lines::prune_of))]
+fn prune_of(value: &Value) -> Option<Command>
+    ensures { result ≡ prune_of (view value.now) }
+{
+    if has_only(value, &["cmd"]) {
+        Some(Command::Prune)
+    } else {
+        None
+    }
 }
 
 /// The command that sets the moment.

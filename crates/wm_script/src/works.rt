@@ -1,7 +1,8 @@
 //! A work as it stands in a line.
-ghost use Rattle.std.specs.Prelude.{◌≡◌, option_map};
+ghost use Rattle.std.specs.Prelude.{◌≡◌, not, option_map, option_to_list};
 ghost use Rattle.serde_json.specs.View.{view};
-ghost use Rattle.wm_script.specs.Works.{backoff_at, backoff_policy_at, class_at, constraints_at, form_of, id_at, merger_at, network_at, period_at, period_of, work_of};
+ghost use Rattle.wm_script.specs.Enqueues.{are_alone};
+ghost use Rattle.wm_script.specs.Works.{backoff_at, backoff_policy_at, class_at, constraints_at, form_of, id_at, lone_in, merger_at, network_at, period_at, period_of, work_of};
 
 use crate::objects::has_only;
 use crate::values::{flag_at, id_in, ids_at, texts_at, whole_at, whole_in};
@@ -75,6 +76,28 @@ pub fn work_of(value: &Value) -> Option<WorkForm<'_>>
         period: period_at(value.get("period"), value.get("flex"))?,
         after: ids_at(value.get("after"))?,
     })
+}
+
+/// A work that names none that it is after: it hasn't the key `after`.
+#[tactic(auto, unfolding(crate::specs::Works::lone_in))]
+pub fn lone_in(value: &Value) -> Option<WorkForm<'_>>
+    ensures { option_map form_of result ≡ lone_in (view value.now) }
+{
+    if names_works(value) {
+        None
+    } else {
+        work_of(value)
+    }
+}
+
+/// Whether it is a work with the key `after`.
+pub fn names_works(value: &Value) -> bool
+    ensures { not result ≡ are_alone (option_to_list (work_of (view value.now))) }
+{
+    match work_of(value) {
+        Some(work) => work.after.is_some(),
+        None => false,
+    }
 }
 
 /// A period with its flex interval; no flex interval stands without a period.

@@ -12,7 +12,7 @@ use Rattle.wm_machine.specs.declared.event.Event.TheVariants as event
 use Rattle.wm_machine.specs.declared.reply.Reply.{Reply}
 use Rattle.wm_machine.specs.declared.state.State.{State}
 use Rattle.wm_session.specs.BookState.{BookState}
-use Rattle.wm_steps.specs.Reports.{CountsIn}
+use Rattle.wm_runs.specs.Reports.{CountsIn}
 use Rattle.wm_table.specs.Table.{HasGoneOn, IsClaimAnswer, IsFinished, IsOneStep, IsUntouched, IsTicketIn, Stands}
 use Rattle.wm_table.specs.TableState.{TicketState}
 use Rattle.wm_table.specs.declared.table.Claim.{Claim}

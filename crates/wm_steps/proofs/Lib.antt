@@ -1,9 +1,4 @@
-pub mod Cancelling
-pub mod Executions
 pub mod Lookups
 pub mod ManyRows
 pub mod Nodes
-pub mod Placings
-pub mod Reaching
-pub mod Reporting
 pub mod StepFits

@@ -17,7 +17,7 @@ use Rattle.wm_machine.specs.declared.record.Record.{Record}
 use Rattle.wm_machine.specs.declared.state.State.{State}
 use Rattle.wm_steps.proofs.StepFits.{unplaced}
 use Rattle.wm_steps.specs.Nodes.{KeepsNode}
-use Rattle.wm_steps.specs.Reached.{at_index, or_same, replacements}
+use Rattle.wm_steps.specs.Replacements.{at_index, or_same, replacements}
 use Rattle.wm_steps.specs.StepChanges.{changed_state, put_replaced, replacing_all, with_replaced, IsStepOf, KeepsPlace}
 use Rattle.wm_steps.specs.declared.change.Replacement.{Replacement}
 use Rattle.wm_steps.specs.declared.change.RunChange.{RunChange}
@@ -103,7 +103,7 @@ keeps-first : (change : Record → Option Record) (found : Option Record) (work 
 keeps-first change None work works same keep = keep
 keeps-first change (Some new) work works same keep = (same, keep)
 
-replaced-keep : (change : Record → Option Record) (works : List Record) → KeepNodes change works
+pub replaced-keep : (change : Record → Option Record) (works : List Record) → KeepNodes change works
     → AllByRecursion (KeepsPlace works) (replacements change 0 works)
 replaced-keep change [] keeps = tt
 replaced-keep change (work ∷ works) keeps =
@@ -147,7 +147,7 @@ replaced-apart-by change (Some new) i work works keeps same ascend later = (
   later,
 )
 
-replaced-apart : (change : Record → Option Record) (i : ℕ) (works : List Record) → KeepNodes change works → WorksAscend works
+pub replaced-apart : (change : Record → Option Record) (i : ℕ) (works : List Record) → KeepNodes change works → WorksAscend works
     → AreOfDifferentNumbers (map put_replaced (replacements change i works))
 replaced-apart change i [] keeps ascend = tt
 replaced-apart change i (work ∷ works) keeps ascend =
@@ -155,7 +155,7 @@ replaced-apart change i (work ∷ works) keeps ascend =
 
 -- ---- the step
 
-All-unmap : {T U : Type 0} (P : U → Type 0) (f : T → U) (xs : List T) → AllByRecursion P (map f xs) → AllByRecursion (λ x. P (f x)) xs
+pub All-unmap : {T U : Type 0} (P : U → Type 0) (f : T → U) (xs : List T) → AllByRecursion P (map f xs) → AllByRecursion (λ x. P (f x)) xs
 All-unmap P f [] all = tt
 All-unmap P f (x ∷ xs) all = (all.0, All-unmap P f xs all.1)
 

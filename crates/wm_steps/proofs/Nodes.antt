@@ -2,17 +2,19 @@
 use Rattle.std.proofs.Common.{◌≡◌, ℕ, ◌<◌, ◌&&◌, ◌||◌, Bool, true, false, cond, eqb, List, [], ◌∷◌, ◌++◌, filter, map, refl, sym, ◌∙◌, ap, subst, arith, inl, inr}
 use Rattle.std.specs.List.{AllByRecursion, list_all, list_any}
 use Rattle.std.specs.Prelude.{reverse}
-use Rattle.std.proofs.lemmas.Bool.{cases_Bool, cond_both, eq-eqb, eqb-true, false≢true, ne_eqb, or_cases}
+use Rattle.std.proofs.lemmas.Bool.{and_from, cases_Bool, cond_both, eq-eqb, eqb-true, false≢true, ne_eqb, or_cases}
 use Rattle.std.proofs.lemmas.List.{map-append, reverse-append}
+use Rattle.std.proofs.lemmas.List.Folds.{list_any-append}
 use Rattle.std.proofs.lemmas.Map.Views.{any-filter_same}
 use Rattle.wm_collections.specs.Lists.{AllLater}
 use Rattle.wm_data.specs.declared.data.DataEntry.{DataEntry}
 use Rattle.wm_graph.specs.Descendants as graph
 use Rattle.wm_graph.specs.Marks.{freed_by, is_met, with_marked}
 use Rattle.wm_graph.specs.Nodes.{HasNode, NodeFields}
-use Rattle.wm_machine.proofs.Lists.{All-both, All-reverse, All-stored, All-weaker, list_any-false, list_any-stored}
+use Rattle.wm_machine.proofs.Descendants.{descendant_self}
+use Rattle.wm_machine.proofs.Lists.{All-any, All-both, All-reverse, All-stored, All-weaker, HasOne-weaker, list_any-false, list_any-stored, one_gives}
 use Rattle.wm_machine.proofs.Runnings.{IsAlone, IsAlone-stored, WorksAscend, WorksAscend-in_order}
-use Rattle.wm_machine.specs.Closed.{descendants, is_among, is_open}
+use Rattle.wm_machine.specs.Closed.{descendants, is_among, is_open, is_reached}
 use Rattle.wm_machine.specs.Ends.{is_freed, succeeded}
 use Rattle.wm_machine.specs.First.{all_met, has_succeeded, is_succeeded, is_waiting}
 use Rattle.wm_machine.specs.Runs.{changed_work}
@@ -20,8 +22,7 @@ use Rattle.wm_machine.specs.Valid.{ArePriorSound, HasOne, IsBefore, IsPrerequisi
 use Rattle.wm_machine.specs.declared.record.Phase.{Phase}
 use Rattle.wm_machine.specs.declared.record.Phase.TheVariants as phase
 use Rattle.wm_machine.specs.declared.record.Record.{Record}
-use Rattle.wm_steps.specs.Nodes.{is_there, node_of, nodes_of, IsUnmarked}
-use Rattle.wm_steps.specs.Reached.{reached_from}
+use Rattle.wm_steps.specs.Nodes.{is_there, node_of, nodes_of, IsUnmarked, reached_from}
 
 -- ---- what is there
 
@@ -76,6 +77,48 @@ pub reached-nodes : (seq : ℕ) (works : List Record) → reached_from seq (node
 reached-nodes seq works =
     ap (λ (list : List NodeFields). reverse (graph.descendants seq list)) (sym (map-reverse (node_of works) works))
     ∙ ap reverse (descendants-nodes works seq (reverse works) (All-reverse (λ work. is_there works work.seq ≡ true) works (there-each works)))
+
+or_swap : (a b : Bool) → (a || (b || false)) ≡ (b || a)
+or_swap true true = refl
+or_swap true false = refl
+or_swap false true = refl
+or_swap false false = refl
+
+-- numbers are the same in the other order
+pub among-reverse : (numbers : List ℕ) (number : ℕ) → is_among (reverse numbers) number ≡ is_among numbers number
+among-reverse [] number = refl
+among-reverse (one ∷ numbers) number =
+    ap (λ all. is_among all number) (reverse-append (one ∷ []) numbers)
+    ∙ list_any-append (λ n. eqb n number) (reverse numbers) (one ∷ [])
+    ∙ ap (λ b. b || (eqb one number || false)) (among-reverse numbers number)
+    ∙ or_swap (is_among numbers number) (eqb one number)
+
+-- those that are reached are the unfinished descendants
+pub reached-test : (seq : ℕ) (works : List Record) (work : Record)
+    → (is_open work.phase && is_among (reached_from seq (nodes_of works)) work.seq) ≡ is_reached seq works work
+unfolding is_reached
+reached-test seq works work =
+    ap (λ numbers. is_open work.phase && is_among numbers work.seq) (reached-nodes seq works)
+    ∙ ap (λ b. is_open work.phase && b) (among-reverse (descendants seq (reverse works)) work.seq)
+
+-- what holds of each record holds of one that is there
+pub of_stored : (P : Record → Type 0) (work : Record) (works : List Record) → AllByRecursion P works → HasOne (λ other. other ≡ work) works → P work
+of_stored P work works all stored = one_gives P (λ other. other ≡ work) (P work) works (λ other p same. subst P same p) all stored
+
+-- a record that is there has its number
+pub HasOne-number : (work : Record) (works : List Record) → HasOne (λ other. other ≡ work) works → HasOne (λ other. other.seq ≡ work.seq) works
+HasOne-number work works stored =
+    HasOne-weaker (λ other. Unit {0}) (λ other. other ≡ work) (λ other. other.seq ≡ work.seq) works (λ other u is. ap (λ (w : Record). w.seq) is)
+    (All-any (λ other. Unit {0}) works (λ other. tt)) stored
+
+-- an unfinished work reaches itself
+pub itself_reached : (work : Record) (works : List Record) → HasOne (λ other. other ≡ work) works → is_open work.phase ≡ true
+    → is_reached work.seq works work ≡ true
+unfolding is_reached
+itself_reached work works stored unfinished =
+    and_from _ _ unfinished
+    (of_stored (λ other. other.seq ≡ work.seq → is_among (descendants work.seq (reverse works)) other.seq ≡ true) work works
+    (descendant_self work.seq works) stored refl)
 
 -- ---- those that are freed
 

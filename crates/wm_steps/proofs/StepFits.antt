@@ -14,7 +14,7 @@ use Rattle.wm_machine.specs.declared.record.Record.{Record}
 use Rattle.wm_machine.specs.declared.state.State.{State}
 use Rattle.wm_steps.proofs.Lookups.{changed_work-at}
 use Rattle.wm_steps.specs.Nodes.{KeepsNode}
-use Rattle.wm_steps.specs.StepChanges.{changed_state, replacing, turning, Fits, IsStepOf}
+use Rattle.wm_steps.specs.StepChanges.{changed_state, keeping_row, replacing, Fits, IsStepOf}
 use Rattle.wm_steps.specs.declared.change.RunChange.{RunChange}
 
 -- one record that is replaced by one that keeps its node
@@ -32,10 +32,10 @@ Fits-replacing s i work new run e valid at keeps is = record {
   apart = (tt, tt);
 }
 
--- one record that tells something, with the same row
-Fits-turning : (s : State) (i : ℕ) (work new : Record) (run : ℕ) (e : Event) → Valid s → slice_get s.works i ≡ Some work → row_of new ≡ row_of work
-    → Fits s (turning i new run e)
-Fits-turning s i work new run e valid at keeps = record {
+-- one record that is replaced by one of its row
+Fits-keeping_row : (s : State) (i : ℕ) (work new : Record) (run : RunChange) (e : Event) → Valid s → slice_get s.works i ≡ Some work
+    → row_of new ≡ row_of work → Fits s (keeping_row i new run e)
+Fits-keeping_row s i work new run e valid at keeps = record {
   told = (slice_get-map row_of s.works i ∙ ap (option_map row_of) at ∙ ap (λ (row : Row). Some row) (sym keeps), tt);
   replaced = tt;
   removed = tt;
@@ -72,13 +72,13 @@ replacing-step s t i work change run e valid at keeps fine legal made then = rec
   state = made ∙ state-replacing s t i work change valid at ∙ sym then;
 }
 
--- a legal event by which one record tells something and its run goes on is made by the change that says so
-pub turning-step : (s t : State) (i : ℕ) (work : Record) (change : Record → Record) (run : ℕ) (e : Event) → Valid s → slice_get s.works i ≡ Some work
-    → row_of (change work) ≡ row_of work → Legal s e
-    → changed_state (turning i (change work) run e) s ≡ record t { works = set s.works i (change work) ++ []; next = t.next + 0 }
-    → after s e ≡ record t { works = changed_work change work.seq s.works } → IsStepOf s (turning i (change work) run e)
-turning-step s t i work change run e valid at keeps legal made then = record {
-  fits = Fits-turning s i work (change work) run e valid at keeps;
+-- and one that leaves the record's row, by the change that keeps it
+pub keeping_row-step : (s t : State) (i : ℕ) (work : Record) (change : Record → Record) (run : RunChange) (e : Event) → Valid s
+    → slice_get s.works i ≡ Some work → row_of (change work) ≡ row_of work → Legal s e
+    → changed_state (keeping_row i (change work) run e) s ≡ record t { works = set s.works i (change work) ++ []; next = t.next + 0 }
+    → after s e ≡ record t { works = changed_work change work.seq s.works } → IsStepOf s (keeping_row i (change work) run e)
+keeping_row-step s t i work change run e valid at keeps legal made then = record {
+  fits = Fits-keeping_row s i work (change work) run e valid at keeps;
   legal = legal;
   state = made ∙ state-replacing s t i work change valid at ∙ sym then;
 }

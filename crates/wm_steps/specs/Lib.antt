@@ -1,6 +1,3 @@
-pub mod Builds
 pub mod Nodes
-pub mod Placed
-pub mod Reached
-pub mod Reports
+pub mod Replacements
 pub mod StepChanges

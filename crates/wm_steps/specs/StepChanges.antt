@@ -153,14 +153,18 @@ setting to event = record (telling event) { setting = to }
 abbrev pub replacing : ℕ → Record → RunChange → Event → StepChange
 replacing index work run event = record (telling event) { replaced = record { index = index; work = work } ∷ []; run = run }
 
--- one record tells something, and its run goes on
-abbrev pub turning : ℕ → Record → ℕ → Event → StepChange
-turning index work run event = record (telling event) { told = record { index = index; work = work } ∷ []; run = Turn run }
+-- one record is replaced by one of its row, which is kept
+abbrev pub keeping_row : ℕ → Record → RunChange → Event → StepChange
+keeping_row index work run event = record (telling event) { told = record { index = index; work = work } ∷ []; run = run }
 
 -- several records are replaced
 abbrev pub replacing_all : List Replacement → RunChange → Event → StepChange
 replacing_all replaced run event = record (telling event) { replaced = replaced; run = run }
 
--- records are placed
-abbrev pub placing_all : List Record → Event → StepChange
-placing_all placed event = record (telling event) { placed = placed }
+-- records are removed
+abbrev pub removing : List ℕ → Event → StepChange
+removing removed event = record (telling event) { removed = removed }
+
+-- records are replaced, removed and placed
+abbrev pub placing : List Replacement → List ℕ → List Record → Event → StepChange
+placing replaced removed placed event = record (telling event) { replaced = replaced; removed = removed; placed = placed }

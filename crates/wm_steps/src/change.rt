@@ -1,6 +1,6 @@
 //! What a step is about to do.
 ghost use Rattle.std.specs.Prelude.{◌≡◌, IfOk};
-ghost use Rattle.wm_steps.specs.StepChanges.{placing_all, replacing, replacing_all, setting, telling, turning};
+ghost use Rattle.wm_steps.specs.StepChanges.{keeping_row, placing, removing, replacing, replacing_all, setting, telling};
 
 use crate::joins::{one, with};
 use std::alloc::{AllocError, Global};
@@ -112,24 +112,24 @@ impl StepChange {
         })
     }
 
-    /// The change of the record at an index to this one, which has the same row, where the run of
-    /// this number is at its next turn.
-    pub fn turning(
+    /// The change of the record at an index to this one, which has the same row, and of the runs.
+    pub fn keeping_row(
         alloc: Global,
         index: usize,
         work: Record,
-        run: u64,
+        run: RunChange,
         event: Event,
     ) -> Result<StepChange, AllocError>
-        ensures { IfOk result (λ change. change ≡ turning index work run event) }
+        ensures { IfOk result (λ change. change ≡ keeping_row index work run event) }
     {
-        let (event, told) = with(event, one(alloc, Replacement { index, work }))?;
+        let told = one(alloc, Replacement { index, work });
+        let ((run, event), told) = with((run, event), told)?;
         Ok(StepChange {
             told,
             replaced: Items::new(alloc),
             removed: Items::new(alloc),
             placed: Items::new(alloc),
-            run: RunChange::Turn(run),
+            run,
             setting: SettingChange::Unchanged,
             event,
         })
@@ -155,14 +155,36 @@ impl StepChange {
         }
     }
 
-    /// The change by these records more. It takes no memory.
-    pub fn placing_all(alloc: Global, placed: Items<Record>, event: Event) -> StepChange
-        ensures { result ≡ placing_all placed event }
+    /// The change by which the records of these numbers are removed. It takes no memory.
+    pub fn removing(alloc: Global, removed: Items<u64>, event: Event) -> StepChange
+        ensures { result ≡ removing removed event }
     {
         StepChange {
             told: Items::new(alloc),
             replaced: Items::new(alloc),
-            removed: Items::new(alloc),
+            removed,
+            placed: Items::new(alloc),
+            run: RunChange::Unchanged,
+            setting: SettingChange::Unchanged,
+            event,
+        }
+    }
+
+    /// The change to these records in the places of others, without those of these numbers, and by
+    /// these records more. It takes no memory.
+    pub fn placing(
+        alloc: Global,
+        replaced: Items<Replacement>,
+        removed: Items<u64>,
+        placed: Items<Record>,
+        event: Event,
+    ) -> StepChange
+        ensures { result ≡ placing replaced removed placed event }
+    {
+        StepChange {
+            told: Items::new(alloc),
+            replaced,
+            removed,
             placed,
             run: RunChange::Unchanged,
             setting: SettingChange::Unchanged,

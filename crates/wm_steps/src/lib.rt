@@ -1,23 +1,14 @@
-//! What each event of the machine comes to: the change of its step, built from the state and the
-//! graph of its records alone, with all of it in memory.
+//! What a step of the machine is about to do: the change of its records, its runs and its moment, and
+//! its event, with all of it in memory.
 //!
-//! [`execute`] builds that of a command, [`claim_first`] that of the start of the work that is
-//! first, [`next_turn`] that of a run that goes on, and [`finish`] that of a run's end. Nothing here
-//! changes a state.
+//! A [`StepChange`] is made by the crates that say what each event comes to, and carried out by the
+//! table. Nothing here changes a state.
 #![tactic(auto)]
 
 pub mod change;
-pub mod commands;
-pub mod finishing;
-mod joins;
-mod reach;
-mod reports;
-pub mod starting;
-mod turning;
+pub mod joins;
+pub mod records;
 
 pub use change::{Replacement, RunChange, SettingChange, StepChange};
-pub use commands::{Executed, execute};
-pub use finishing::{Ending, finish};
-pub use reports::{counts_in, goes_on, run_numbered};
-pub use starting::{Claimed, Claiming, claim_first};
-pub use turning::next_turn;
+pub use joins::{at, copied, one, with};
+pub use records::{has_any, is_among, is_open, put_at};

@@ -67,7 +67,8 @@ followed-other : (work : Record) (node : NodeFields) (nodes : List NodeFields) �
     → followed work (node ∷ nodes) ≡ node ∷ followed work nodes
 followed-other work node nodes differs =
     let miss = ne_eqb node.seq work.seq (λ e. absurd (differs e)) in
-    ap (λ b. cond (is_succeeded work.phase && not ((b && node.done) || is_met nodes work.seq)) (marked work.seq node ∷ with_marked work.seq nodes) (node ∷ nodes))
+    ap
+    (λ b. cond (is_succeeded work.phase && not ((b && node.done) || is_met nodes work.seq)) (marked work.seq node ∷ with_marked work.seq nodes) (node ∷ nodes))
     miss
     ∙ ap (λ (n : NodeFields). cond (is_succeeded work.phase && not (is_met nodes work.seq)) (n ∷ with_marked work.seq nodes) (node ∷ nodes))
     (marked-other work.seq node differs)
@@ -579,7 +580,8 @@ module _ (s : State) (change : StepChange) (valid : Valid s) (fits : Fits s chan
       (All-weaker (λ number. HasOne (λ work. work.seq ≡ number) s.works) (λ number. AllByRecursion (λ work. number < work.seq) change.placed) change.removed
       (λ number one.
       let below : number < s.next =
-      one_gives (λ work. work.seq < s.next) (λ work. work.seq ≡ number) (number < s.next) s.works (λ work below is. omega (arith, below, is)) valid.numbers one in
+      one_gives (λ work. work.seq < s.next) (λ work. work.seq ≡ number) (number < s.next) s.works (λ work below is. omega (arith, below, is)) valid.numbers
+      one in
       All-weaker (λ work. s.next ≤ work.seq) (λ work. number < work.seq) change.placed (λ work above. omega (arith, below, above))
       (next-above s.next change.placed fits.placed)) fits.removed)
 

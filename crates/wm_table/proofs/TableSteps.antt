@@ -72,8 +72,8 @@ holds_none None none = refl
 holds_none (Some rows) none = ap (λ (rs : List Row). Some rs) (sym none)
 
 -- what a table keeps when it begins
-pub kept-opening : (instances : List Instance) (rows : List Row) (held : Option (List Row)) (first s : State) (graph : List NodeFields) (log : List Event) → AreFresh instances
-    → IfSome held (λ stored. rows ≡ stored) → rows ≡ [] → first ≡ opening_state [] instances → s ≡ opening_state [] instances → graph ≡ []
+pub kept-opening : (instances : List Instance) (rows : List Row) (held : Option (List Row)) (first s : State) (graph : List NodeFields) (log : List Event)
+    → AreFresh instances → IfSome held (λ stored. rows ≡ stored) → rows ≡ [] → first ≡ opening_state [] instances → s ≡ opening_state [] instances → graph ≡ []
     → log ≡ [] → TableInvariant first s graph log held
 kept-opening instances rows held first s graph log fresh told none first_is s_is graph_is log_is =
     let stored : IfSome held (λ stored. [] ≡ stored) = subst (λ (rs : List Row). IfSome held (λ stored. rs ≡ stored)) none told in

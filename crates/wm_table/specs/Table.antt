@@ -19,9 +19,9 @@ use Rattle.wm_machine.specs.declared.event.Event.TheVariants as event
 use Rattle.wm_machine.specs.declared.state.Instance.{Instance}
 use Rattle.wm_machine.specs.declared.state.State.{State}
 use Rattle.wm_steps.specs.Nodes.{nodes_of}
-use Rattle.wm_steps.specs.Reports.{is_timeout, CountsIn}
-use Rattle.wm_steps.specs.declared.starting.Claimed.{Claimed}
-use Rattle.wm_steps.specs.declared.starting.Claimed.TheVariants as claimed
+use Rattle.wm_runs.specs.Reports.{is_timeout, CountsIn}
+use Rattle.wm_runs.specs.declared.starting.Claimed.{Claimed}
+use Rattle.wm_runs.specs.declared.starting.Claimed.TheVariants as claimed
 use Rattle.wm_table.specs.TableState.{TableState, TicketState, ticket_of}
 use Rattle.wm_table.specs.declared.table.BeginFault.{BeginFault}
 use Rattle.wm_table.specs.declared.table.BeginFault.TheVariants as begin

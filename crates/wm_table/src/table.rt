@@ -9,8 +9,8 @@ ghost use Rattle.wm_machine.specs.Replay.{Replay};
 ghost use Rattle.wm_machine.specs.Valid.{Valid};
 ghost use Rattle.wm_machine.specs.declared.event.Event.TheVariants as event;
 ghost use Rattle.wm_steps.specs.StepChanges.{row_changes, IsStepOf};
-ghost use Rattle.wm_steps.specs.Builds.{ChangesNoRow, ChangesRows};
-ghost use Rattle.wm_steps.specs.Reports.{goes_on, CountsIn};
+ghost use Rattle.wm_commands.specs.Builds.{ChangesNoRow, ChangesRows};
+ghost use Rattle.wm_runs.specs.Reports.{goes_on, CountsIn};
 ghost use Rattle.wm_table.specs.Table.{last_of, AreFresh, BeginCause, HasClaimed, HoldsRowsOf, IsClaim, IsClaimAnswer, IsFinished, IsOneStep, IsTurnAnswer, IsTurned, IsUntouched, Stands, TroubleCause, TurnCause};
 
 mod carry;
@@ -24,14 +24,13 @@ use std::alloc::{AllocError, Global};
 use std::marker::Model;
 use ticket::{Ticket, ticket_for};
 use wm_collections::{Items, Replica};
+use wm_commands::{Executed, execute};
 use wm_graph::Graph;
 use wm_keeper::{KeepFault, Keeper, Row};
 use wm_machine::{Cause, Command, Event, Instance, Reply, State};
 use wm_query::first_index;
-use wm_steps::{
-    Claimed, Claiming, Ending, Executed, StepChange, claim_first, counts_in, execute, finish,
-    goes_on, next_turn,
-};
+use wm_runs::{Claimed, Claiming, Ending, claim_first, counts_in, finish, goes_on, next_turn};
+use wm_steps::StepChange;
 use wm_worker::Told;
 
 /// Why a call of the table changed nothing.

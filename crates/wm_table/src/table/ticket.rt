@@ -6,7 +6,7 @@ ghost use Rattle.wm_table.specs.TableState.{ticket_of};
 use std::marker::Model;
 use wm_data::Data;
 use wm_machine::{Run, State};
-use wm_steps::run_numbered;
+use wm_runs::run_numbered;
 use wm_worker::{Kind, Task};
 
 /// The right to report on one run of a work: it names the work, and holds what the run took and

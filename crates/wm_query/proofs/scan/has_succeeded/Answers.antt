@@ -1,6 +1,6 @@
 use Rattle.std.proofs.Common.{◌≡◌, Some, None, rules, ◌∙◌}
 use Rattle.wm_machine.specs.Input.{work_numbered}
-use Rattle.wm_query.proofs.NumberPlaces.{succeeded-found}
+use Rattle.wm_query.proofs.NumbersDone.{succeeded-found}
 use Rattle.wm_query.proofs.scan.has_succeeded.Goals as goal
 
 pub returns-in-Some : goal.returns-in-Some

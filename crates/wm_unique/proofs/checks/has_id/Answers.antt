@@ -10,4 +10,4 @@ list_any-map test f [] = refl
 list_any-map test f (x ∷ xs) = rw (list_any-map test f xs) refl
 
 pub returns : goal.returns
-returns c = c.has_work.ensures ∙ sym (list_any-map (λ id. bytes_eq id c.args.id) (λ (work : Node). work.request.id) c.args.works.now)
+returns c = c.has_work.ensures ∙ sym (list_any-map (λ id. bytes_eq id c.args.id) (λ (work : Node). work.request.id) c.args.batch.now)

@@ -3,7 +3,7 @@ use Rattle.std.specs.Prelude.{IsSomeAnd}
 use Rattle.wm_machine.specs.Runs.{run_numbered}
 use Rattle.wm_machine.specs.declared.state.Run.{Run}
 use Rattle.wm_machine.specs.declared.state.State.{State}
-use Rattle.wm_steps.proofs.Lookups.{found-numbered}
+use Rattle.wm_runs.proofs.RunLookups.{found-numbered}
 use Rattle.wm_table.specs.Table.{IsTicketIn}
 use Rattle.wm_table.specs.TableState.{ticket_of, TicketState}
 use Rattle.wm_table.proofs.table.ticket.ticket_for.Goals as goal

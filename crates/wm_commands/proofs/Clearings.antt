@@ -1,0 +1,356 @@
+-- Works that are cancelled one after another, and others that are let go then: what becomes of each record, and the change that makes it so.
+use Rattle.std.proofs.Common.{◌≡◌, ◌&&◌, ◌||◌, ℕ, ◌<◌, Bool, true, false, not, cond, eqb, List, [], ◌∷◌, map, filter, Option, Some, None, refl, sym, ◌∙◌, ap, subst, arith, inl, inr}
+use Rattle.std.specs.List.{AllByRecursion, list_any}
+use Rattle.std.specs.Prelude.{reverse}
+use Rattle.std.proofs.lemmas.Bool.{and_parts, cases_Bool, cond_both, eq-eqb, eqb-false, eqb-true, ne_eqb, or_parts}
+use Rattle.std.proofs.lemmas.Simd.{map-map}
+use Rattle.wm_collections.specs.Lists.{AllLater}
+use Rattle.wm_commands.specs.Cleared.{becomes_cancelled, cancelled_in, cleared, cleared_by, clearing_of, descendants_of_any, is_needed_then, is_removed, is_touched, phase_then, reached_from_any, removed_by, replaced_by_clearing, stays, with_cleared}
+use Rattle.wm_commands.specs.declared.clearing.Clearing.{Clearing}
+use Rattle.wm_machine.proofs.Groups.{closed_by, each_closed-at_once}
+use Rattle.wm_machine.proofs.Lists.{All-any, All-stored, All-weaker, filter-all, map-same, one_gives}
+use Rattle.wm_machine.specs.Closed.{closed, descendants, is_among, is_open, is_reached, with_each_closed}
+use Rattle.wm_machine.specs.Group.{is_dropped, numbers_in, unnamed, with_let_go}
+use Rattle.wm_machine.specs.Pruned.{is_needed, removable}
+use Rattle.wm_machine.specs.Valid.{HasOne, IsBefore}
+use Rattle.wm_machine.specs.declared.record.How.TheVariants as how
+use Rattle.wm_machine.specs.declared.record.Phase.TheVariants as phase
+use Rattle.wm_machine.specs.declared.record.Record.{Record}
+use Rattle.wm_steps.proofs.ManyRows.{after_change, replaced-all, KeepNodes}
+use Rattle.wm_steps.proofs.Nodes.{open_not_succeeded, among-reverse}
+use Rattle.wm_steps.specs.Nodes.{KeepsNode}
+use Rattle.wm_steps.specs.Replacements.{or_same}
+use Rattle.wm_steps.specs.StepChanges.{other_works, with_replaced, without}
+
+-- ---- tests
+
+pub eqb-swap : (m n : ℕ) → eqb m n ≡ eqb n m
+eqb-swap m n = elim (cases_Bool (eqb m n)) [
+  | inl e ↦ e ∙ sym (eq-eqb n m (sym (eqb-true m n e)))
+  | inr e ↦ e ∙ sym (ne_eqb n m (λ same. absurd (eqb-false m n e (sym same))))
+]
+
+pub any-ext : {T : Type 0} (test other : T → Bool) (xs : List T) → ((x : T) → test x ≡ other x) → list_any test xs ≡ list_any other xs
+any-ext test other [] same = refl
+any-ext test other (x ∷ xs) same = rw (same x, any-ext test other xs same) refl
+
+or-swap : (a b c d : Bool) → ((a || b) || (c || d)) ≡ ((a || c) || (b || d))
+or-swap true b c d = refl
+or-swap false true true d = refl
+or-swap false true false d = refl
+or-swap false false true d = refl
+or-swap false false false d = refl
+
+and-over : (a b c : Bool) → ((a && c) || (b && c)) ≡ ((a || b) && c)
+and-over true true true = refl
+and-over true true false = refl
+and-over true false true = refl
+and-over true false false = refl
+and-over false b c = refl
+
+and-out : (a b c : Bool) → ((a && b) || (a && c)) ≡ (a && (b || c))
+and-out true b c = refl
+and-out false b c = refl
+
+and-false : (b : Bool) → (b && false) ≡ false
+and-false true = refl
+and-false false = refl
+
+-- one of two tests
+any-or : {T : Type 0} (test other : T → Bool) (xs : List T) → list_any (λ x. test x || other x) xs ≡ (list_any test xs || list_any other xs)
+any-or test other [] = refl
+any-or test other (x ∷ xs) =
+    ap (λ b. (test x || other x) || b) (any-or test other xs) ∙ or-swap (test x) (other x) (list_any test xs) (list_any other xs)
+
+-- a test beside one that is the same for all
+any-and : {T : Type 0} (test : T → Bool) (b : Bool) (xs : List T) → list_any (λ x. test x && b) xs ≡ (list_any test xs && b)
+any-and test b [] = refl
+any-and test b (x ∷ xs) = ap (λ rest. (test x && b) || rest) (any-and test b xs) ∙ and-over (test x) (list_any test xs) b
+
+any-under : {T : Type 0} (test : T → Bool) (b : Bool) (xs : List T) → list_any (λ x. b && test x) xs ≡ (b && list_any test xs)
+any-under test b [] = sym (and-false b)
+any-under test b (x ∷ xs) = ap (λ rest. (b && test x) || rest) (any-under test b xs) ∙ and-out b (test x) (list_any test xs)
+
+none-any : {T : Type 0} (xs : List T) → list_any (λ x. false) xs ≡ false
+none-any [] = refl
+none-any (x ∷ xs) = none-any xs
+
+-- a test of two elements, either way round
+any-swap : {T U : Type 0} (test : T → U → Bool) (xs : List T) (ys : List U)
+    → list_any (λ x. list_any (test x) ys) xs ≡ list_any (λ y. list_any (λ x. test x y) xs) ys
+any-swap test [] ys = sym (none-any ys)
+any-swap test (x ∷ xs) ys =
+    ap (λ rest. list_any (test x) ys || rest) (any-swap test xs ys) ∙ sym (any-or (test x) (λ y. list_any (λ x. test x y) xs) ys)
+
+-- ---- what any of several works reaches
+
+among-cond : (b : Bool) (one : ℕ) (numbers : List ℕ) (number : ℕ)
+    → is_among (cond b (one ∷ numbers) numbers) number ≡ ((b && eqb one number) || is_among numbers number)
+among-cond true one numbers number = refl
+among-cond false one numbers number = refl
+
+-- the descendants of any of them are those of each
+any_descendant : (seqs : List ℕ) (works : List Record) (number : ℕ)
+    → is_among (descendants_of_any seqs works) number ≡ list_any (λ seq. is_among (descendants seq works) number) seqs
+any_descendant seqs [] number = sym (none-any seqs)
+any_descendant seqs (work ∷ earlier) number =
+    let all = descendants_of_any seqs earlier in
+    let each = λ (seq : ℕ). descendants seq earlier in
+    let joins = λ (seq : ℕ). eqb work.seq seq || list_any (is_among (each seq)) work.prior in
+    let itself : list_any (λ seq. eqb work.seq seq) seqs ≡ is_among seqs work.seq =
+    any-ext (λ seq. eqb work.seq seq) (λ seq. eqb seq work.seq) seqs (λ seq. eqb-swap work.seq seq) in
+    let prior : list_any (λ seq. list_any (is_among (each seq)) work.prior) seqs ≡ list_any (is_among all) work.prior =
+    any-swap (λ seq. is_among (each seq)) seqs work.prior
+    ∙ any-ext (λ prior. list_any (λ seq. is_among (each seq) prior) seqs) (is_among all) work.prior (λ prior. sym (any_descendant seqs earlier prior)) in
+    let joined : list_any joins seqs ≡ (is_among seqs work.seq || list_any (is_among all) work.prior) =
+    any-or (λ seq. eqb work.seq seq) (λ seq. list_any (is_among (each seq)) work.prior) seqs
+    ∙ ap (λ b. b || list_any (λ seq. list_any (is_among (each seq)) work.prior) seqs) itself
+    ∙ ap (λ b. is_among seqs work.seq || b) prior in
+    among-cond (is_among seqs work.seq || list_any (is_among all) work.prior) work.seq all number
+    ∙ ap (λ b. (b && eqb work.seq number) || is_among all number) (sym joined)
+    ∙ ap (λ b. (list_any joins seqs && eqb work.seq number) || b) (any_descendant seqs earlier number)
+    ∙ ap (λ b. b || list_any (λ seq. is_among (each seq) number) seqs) (sym (any-and joins (eqb work.seq number) seqs))
+    ∙ sym (any-or (λ seq. joins seq && eqb work.seq number) (λ seq. is_among (each seq) number) seqs)
+    ∙ any-ext (λ seq. (joins seq && eqb work.seq number) || is_among (each seq) number) (λ seq. is_among (descendants seq (work ∷ earlier)) number) seqs
+    (λ seq. sym (among-cond (joins seq) work.seq (each seq) number))
+
+-- a record is reached by one of them where it is unfinished, and one of those that are found
+any_reached : (seqs : List ℕ) (works : List Record) (work : Record)
+    → list_any (λ seq. is_reached seq works work) seqs ≡ becomes_cancelled (reached_from_any seqs works) work
+unfolding is_reached
+any_reached seqs works work =
+    any-under (λ seq. is_among (descendants seq (reverse works)) work.seq) (is_open work.phase) seqs
+    ∙ ap (λ b. is_open work.phase && b)
+    (sym (any_descendant seqs (reverse works) work.seq) ∙ sym (among-reverse (descendants_of_any seqs (reverse works)) work.seq))
+
+-- so each is cancelled at once
+pub cancelled-each : (seqs : List ℕ) (works : List Record)
+    → with_each_closed how.Cancelled seqs works ≡ map (cancelled_in (reached_from_any seqs works)) works
+cancelled-each seqs works =
+    each_closed-at_once how.Cancelled seqs works
+    ∙ map-same (closed_by how.Cancelled seqs works) (cancelled_in (reached_from_any seqs works)) works
+    (All-any (λ work. closed_by how.Cancelled seqs works work ≡ cancelled_in (reached_from_any seqs works) work) works
+    (λ work. ap (λ b. cond b (closed how.Cancelled work) work) (any_reached seqs works work)))
+
+-- ---- what a cancelling leaves of a record
+
+cancelled_both : (P : Record → Type 0) (cancelled : List ℕ) (work : Record) → P (closed how.Cancelled work) → P work → P (cancelled_in cancelled work)
+cancelled_both P cancelled work hit miss =
+    cond_both (becomes_cancelled cancelled work) (closed how.Cancelled work) work P (λ e. hit) (λ e. miss)
+
+cancelled-number : (cancelled : List ℕ) (work : Record) → (cancelled_in cancelled work).seq ≡ work.seq
+cancelled-number cancelled work = cancelled_both (λ w. w.seq ≡ work.seq) cancelled work refl refl
+
+cancelled-prior : (cancelled : List ℕ) (work : Record) → (cancelled_in cancelled work).prior ≡ work.prior
+cancelled-prior cancelled work = cancelled_both (λ w. w.prior ≡ work.prior) cancelled work refl refl
+
+cond-phase : (b : Bool) (work : Record) → (cond b (closed how.Cancelled work) work).phase ≡ cond b (phase.Done how.Cancelled) work.phase
+cond-phase true work = refl
+cond-phase false work = refl
+
+pub cancelled-phase : (cancelled : List ℕ) (work : Record) → (cancelled_in cancelled work).phase ≡ phase_then cancelled work
+cancelled-phase cancelled work = cond-phase (becomes_cancelled cancelled work) work
+
+-- ---- which are removed
+
+pub any-map : {T U : Type 0} (test : U → Bool) (f : T → U) (xs : List T) → list_any test (map f xs) ≡ list_any (λ x. test (f x)) xs
+any-map test f [] = refl
+any-map test f (x ∷ xs) = ap (λ rest. test (f x) || rest) (any-map test f xs)
+
+needed-then : (cancelled : List ℕ) (works : List Record) (number : ℕ)
+    → is_needed (map (cancelled_in cancelled) works) number ≡ is_needed_then cancelled works number
+unfolding is_needed
+needed-then cancelled works number =
+    any-map (λ work. is_open work.phase && is_among work.prior number) (cancelled_in cancelled) works
+    ∙ any-ext (λ work. is_open (cancelled_in cancelled work).phase && is_among (cancelled_in cancelled work).prior number)
+    (λ work. is_open (phase_then cancelled work) && is_among work.prior number) works
+    (λ work. rw (cancelled-phase cancelled work, cancelled-prior cancelled work) refl)
+
+-- once others are cancelled, a record is dropped where it is removed
+dropped-then : (cancelled let_go : List ℕ) (works : List Record) (work : Record)
+    → is_dropped let_go (map (cancelled_in cancelled) works) (cancelled_in cancelled work) ≡ is_removed cancelled let_go works work
+unfolding removable
+dropped-then cancelled let_go works work =
+    rw (cancelled-number cancelled work, cancelled-phase cancelled work, needed-then cancelled works work.seq) refl
+
+-- ---- lists
+
+pub filter-map : {T U : Type 0} (keep : U → Bool) (f : T → U) (xs : List T) → filter keep (map f xs) ≡ map f (filter (λ x. keep (f x)) xs)
+filter-map keep f [] = refl
+filter-map {T} {U} keep f (x ∷ xs) =
+    cond_both (keep (f x)) (x ∷ filter (λ x. keep (f x)) xs) (filter (λ x. keep (f x)) xs) (λ (l : List T). filter keep (map f (x ∷ xs)) ≡ map f l)
+    (λ e. ap (λ b. cond b (f x ∷ filter keep (map f xs)) (filter keep (map f xs))) e ∙ ap (λ rest. f x ∷ rest) (filter-map keep f xs))
+    (λ e. ap (λ b. cond b (f x ∷ filter keep (map f xs)) (filter keep (map f xs))) e ∙ filter-map keep f xs)
+
+pub filter-same : {T : Type 0} (keep other : T → Bool) (xs : List T) → AllByRecursion (λ x. keep x ≡ other x) xs → filter keep xs ≡ filter other xs
+filter-same keep other [] same = refl
+filter-same keep other (x ∷ xs) same = rw (same.0, filter-same keep other xs same.1) refl
+
+pub filter-filter : {T : Type 0} (first second : T → Bool) (xs : List T) → filter second (filter first xs) ≡ filter (λ x. first x && second x) xs
+filter-filter first second [] = refl
+filter-filter {T} first second (x ∷ xs) =
+    cond_both (first x) (x ∷ filter first xs) (filter first xs) (λ (l : List T). filter second l ≡ filter (λ x. first x && second x) (x ∷ xs))
+    (λ e. ap (λ rest. cond (second x) (x ∷ rest) rest) (filter-filter first second xs)
+    ∙ sym (ap (λ b. cond (b && second x) (x ∷ filter (λ x. first x && second x) xs) (filter (λ x. first x && second x) xs)) e))
+    (λ e. filter-filter first second xs
+    ∙ sym (ap (λ b. cond (b && second x) (x ∷ filter (λ x. first x && second x) xs) (filter (λ x. first x && second x) xs)) e))
+
+-- two changes that are the same of what is kept
+map-kept : {T U : Type 0} (f g : T → U) (keep : T → Bool) (xs : List T) → ((x : T) → keep x ≡ true → f x ≡ g x)
+    → map f (filter keep xs) ≡ map g (filter keep xs)
+map-kept f g keep [] same = refl
+map-kept {T} f g keep (x ∷ xs) same =
+    cond_both (keep x) (x ∷ filter keep xs) (filter keep xs) (λ (l : List T). map f l ≡ map g l)
+    (λ e. rw (same x e, map-kept f g keep xs same) refl) (λ e. map-kept f g keep xs same)
+
+-- ---- their numbers
+
+-- a smaller number isn't among those of later records
+not_later : (test : Record → Bool) (number : ℕ) (works : List Record) → AllByRecursion (λ later. number < later.seq) works
+    → is_among (numbers_in (filter test works)) number ≡ false
+not_later test number [] above = refl
+not_later test number (work ∷ works) above =
+    cond_both (test work) (work ∷ filter test works) (filter test works) (λ (l : List Record). is_among (numbers_in l) number ≡ false)
+    (λ e. ap (λ b. b || is_among (numbers_in (filter test works)) number)
+    (ne_eqb work.seq number (λ same. let less = above.0 in absurd (omega (arith, less, same))))
+    ∙ not_later test number works above.1) (λ e. not_later test number works above.1)
+
+above_stored : (number : ℕ) (works : List Record) (work : Record) → AllByRecursion (λ later. number < later.seq) works → HasOne (λ other. other ≡ work) works
+    → number < work.seq
+above_stored number works work above stored =
+    one_gives (λ later. number < later.seq) (λ other. other ≡ work) (number < work.seq) works
+    (λ other less is. subst (λ (w : Record). number < w.seq) is less) above stored
+
+-- a record has one of the numbers of those that pass a test exactly where it passes
+pub number-passes : (test : Record → Bool) (works : List Record) (work : Record) → AllLater IsBefore works → HasOne (λ other. other ≡ work) works
+    → is_among (numbers_in (filter test works)) work.seq ≡ test work
+number-passes test [] work order stored = absurd stored
+number-passes test (first ∷ works) work order (inl is) =
+    let later = not_later test first.seq works (All-weaker (IsBefore first) (λ later. first.seq < later.seq) works (λ later before. before.number) order.0) in
+    let here : is_among (numbers_in (filter test (first ∷ works))) first.seq ≡ test first =
+    cond_both (test first) (first ∷ filter test works) (filter test works) (λ (l : List Record). is_among (numbers_in l) first.seq ≡ test first)
+    (λ e. ap (λ b. b || is_among (numbers_in (filter test works)) first.seq) (eq-eqb first.seq first.seq refl) ∙ sym e)
+    (λ e. later ∙ sym e) in
+    ap (λ (w : Record). is_among (numbers_in (filter test (first ∷ works))) w.seq) (sym is) ∙ here ∙ ap test is
+number-passes test (first ∷ works) work order (inr stored) =
+    let rest = number-passes test works work order.1 stored in
+    let differs : eqb first.seq work.seq ≡ false = ne_eqb first.seq work.seq (λ same.
+    let above = All-weaker (IsBefore first) (λ later. first.seq < later.seq) works (λ later before. before.number) order.0 in
+    let less = above_stored first.seq works work above stored in absurd (omega (arith, less, same))) in
+    cond_both (test first) (first ∷ filter test works) (filter test works) (λ (l : List Record). is_among (numbers_in l) work.seq ≡ test work)
+    (λ e. ap (λ b. b || is_among (numbers_in (filter test works)) work.seq) differs ∙ rest) (λ e. rest)
+
+-- so the numbers of those that are removed say of each record whether it is
+pub removed-numbers : (cancelled let_go : List ℕ) (works : List Record) → AllLater IsBefore works
+    → AllByRecursion (λ work. is_among (removed_by cancelled let_go works) work.seq ≡ is_removed cancelled let_go works work) works
+removed-numbers cancelled let_go works order =
+    All-weaker (λ work. HasOne (λ other. other ≡ work) works)
+    (λ work. is_among (removed_by cancelled let_go works) work.seq ≡ is_removed cancelled let_go works work) works
+    (λ work stored. number-passes (is_removed cancelled let_go works) works work order stored) (All-stored works)
+
+-- ---- the records made ready
+
+-- cancelling these works one after another and letting go others is what becomes of each record by itself
+pub made_ready-cleared : (works : List Record) (cancel let_go : List ℕ) → AllLater IsBefore works
+    → with_let_go let_go (with_each_closed how.Cancelled cancel works) ≡ with_cleared (clearing_of works cancel let_go) works
+made_ready-cleared works cancel let_go order =
+    let cancelled = reached_from_any cancel works in
+    let change = cancelled_in cancelled in
+    let gone = is_dropped let_go (map change works) in
+    let removed = removed_by cancelled let_go works in
+    ap (with_let_go let_go) (cancelled-each cancel works)
+    ∙ ap (map (unnamed let_go)) (filter-map (λ work. not (gone work)) change works)
+    ∙ map-map (unnamed let_go) change (filter (λ work. not (gone (change work))) works)
+    ∙ ap (map (λ work. unnamed let_go (change work)))
+    (filter-same (λ work. not (gone (change work))) (stays removed) works
+    (All-weaker (λ work. is_among removed work.seq ≡ is_removed cancelled let_go works work) (λ work. not (gone (change work)) ≡ stays removed work) works
+    (λ work is. ap not (dropped-then cancelled let_go works work ∙ sym is)) (removed-numbers cancelled let_go works order)))
+
+-- ---- the change
+
+-- a record, without its name where it loses that
+unnamed_each : (P : Record → Type 0) (numbers : List ℕ) (work : Record) → P (record work { name = None }) → P work → P (unnamed numbers work)
+unnamed_each P numbers work hit miss = cond_both (is_among numbers work.seq) (record work { name = None }) work P (λ e. hit) (λ e. miss)
+
+pub cleared-number : (clearing : Clearing) (work : Record) → (cleared clearing work).seq ≡ work.seq
+cleared-number clearing work =
+    unnamed_each (λ w. w.seq ≡ work.seq) clearing.unnamed (cancelled_in clearing.cancelled work) (cancelled-number clearing.cancelled work)
+    (cancelled-number clearing.cancelled work)
+
+pub cleared-id : (clearing : Clearing) (work : Record) → (cleared clearing work).request.id ≡ work.request.id
+cleared-id clearing work =
+    let kept = cancelled_both (λ w. w.request.id ≡ work.request.id) clearing.cancelled work refl refl in
+    unnamed_each (λ w. w.request.id ≡ work.request.id) clearing.unnamed (cancelled_in clearing.cancelled work) kept kept
+
+pub cleared-phase : (clearing : Clearing) (work : Record) → (cleared clearing work).phase ≡ phase_then clearing.cancelled work
+cleared-phase clearing work =
+    let then = cancelled-phase clearing.cancelled work in
+    unnamed_each (λ w. w.phase ≡ phase_then clearing.cancelled work) clearing.unnamed (cancelled_in clearing.cancelled work) then then
+
+same-node : (work : Record) → KeepsNode work work
+same-node work = record { seq = refl; prior = refl; succeeded = λ is. is }
+
+-- what is cancelled hadn't succeeded
+cancelled-node : (cancelled : List ℕ) (work : Record) → KeepsNode work (cancelled_in cancelled work)
+cancelled-node cancelled work =
+    cond_both (becomes_cancelled cancelled work) (closed how.Cancelled work) work (KeepsNode work)
+    (λ e. record { seq = refl; prior = refl; succeeded = λ is. absurd (open_not_succeeded work.phase (and_parts _ _ e).0 is) })
+    (λ e. same-node work)
+
+cleared-node : (clearing : Clearing) (work : Record) → KeepsNode work (cleared clearing work)
+cleared-node clearing work =
+    let kept = cancelled-node clearing.cancelled work in
+    unnamed_each (KeepsNode work) clearing.unnamed (cancelled_in clearing.cancelled work)
+    (record { seq = kept.seq; prior = kept.prior; succeeded = kept.succeeded }) kept
+
+-- a record keeps its node
+clearing-node : (clearing : Clearing) (work : Record) → KeepsNode work (after_change (cleared_by clearing) work)
+clearing-node clearing work =
+    cond_both (is_touched clearing work) (Some (cleared clearing work)) None (λ (o : Option Record). KeepsNode work (or_same work o))
+    (λ e. cleared-node clearing work) (λ e. same-node work)
+
+pub clearing-nodes : (clearing : Clearing) (works : List Record) → KeepNodes (cleared_by clearing) works
+clearing-nodes clearing works = All-any (λ work. KeepsNode work (after_change (cleared_by clearing) work)) works (clearing-node clearing)
+
+-- a record that stays and isn't touched is as before
+untouched-same : (clearing : Clearing) (work : Record) → (is_among clearing.unnamed work.seq || becomes_cancelled clearing.cancelled work) ≡ false
+    → work ≡ cleared clearing work
+untouched-same clearing work none =
+    let parts = or_parts (is_among clearing.unnamed work.seq) (becomes_cancelled clearing.cancelled work) none in
+    let open_same : cancelled_in clearing.cancelled work ≡ work = ap (λ b. cond b (closed how.Cancelled work) work) parts.1 in
+    sym (ap (unnamed clearing.unnamed) open_same ∙ ap (λ b. cond b (record work { name = None }) work) parts.0)
+
+-- what takes the place of a record that stays is what becomes of it
+pub kept-cleared : (clearing : Clearing) (work : Record) → stays clearing.removed work ≡ true → after_change (cleared_by clearing) work ≡ cleared clearing work
+kept-cleared clearing work kept =
+    let changes = is_among clearing.unnamed work.seq || becomes_cancelled clearing.cancelled work in
+    ap (λ b. or_same work (cond (b && changes) (Some (cleared clearing work)) None)) kept
+    ∙ cond_both changes (Some (cleared clearing work)) None (λ (o : Option Record). or_same work o ≡ cleared clearing work)
+    (λ e. refl) (λ e. untouched-same clearing work e)
+
+not-or : (a b : Bool) → (not a && not b) ≡ not (a || b)
+not-or true b = refl
+not-or false b = refl
+
+-- records without those of these numbers, one number after another
+pub without-stays : (numbers : List ℕ) (works : List Record) → without numbers works ≡ filter (stays numbers) works
+without-stays [] works = sym (filter-all (stays []) works (λ work. refl))
+without-stays (number ∷ numbers) works =
+    without-stays numbers (other_works number works) ∙ filter-filter (λ work. not (eqb work.seq number)) (stays numbers) works
+    ∙ filter-same (λ work. not (eqb work.seq number) && stays numbers work) (stays (number ∷ numbers)) works
+    (All-any (λ work. (not (eqb work.seq number) && stays numbers work) ≡ stays (number ∷ numbers) work) works
+    (λ work. ap (λ b. not b && stays numbers work) (eqb-swap work.seq number) ∙ not-or (eqb number work.seq) (is_among numbers work.seq)))
+
+-- the records that take the place of others and the numbers of those that are removed make it so
+pub cleared-in_place : (clearing : Clearing) (works : List Record)
+    → without clearing.removed (with_replaced (replaced_by_clearing clearing works) works) ≡ with_cleared clearing works
+cleared-in_place clearing works =
+    let change = after_change (cleared_by clearing) in
+    ap (without clearing.removed) (replaced-all (cleared_by clearing) works)
+    ∙ without-stays clearing.removed (map change works)
+    ∙ filter-map (stays clearing.removed) change works
+    ∙ ap (map change)
+    (filter-same (λ work. stays clearing.removed (change work)) (stays clearing.removed) works
+    (All-any (λ work. stays clearing.removed (change work) ≡ stays clearing.removed work) works
+    (λ work. ap (λ number. not (is_among clearing.removed number)) (clearing-node clearing work).seq)))
+    ∙ map-kept change (cleared clearing) (stays clearing.removed) works (λ work kept. kept-cleared clearing work kept)

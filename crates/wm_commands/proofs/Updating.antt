@@ -1,0 +1,84 @@
+-- The step of an update: the record that has the request's id is replaced.
+use Rattle.std.proofs.Common.{◌≡◌, ◌≢◌, ℕ, true, cond, eqb, slice_get, Some, refl, sym, ◌∙◌, ap, subst, inl, inr}
+use Rattle.std.proofs.lemmas.Bool.{cond-true, eq-eqb}
+use Rattle.wm_commands.proofs.Executions.{Answers-outcome, rows-change}
+use Rattle.wm_commands.specs.Builds.{ChangesRows, IsExecuted, IsUpdating}
+use Rattle.wm_commands.specs.declared.executed.Executed.{Executed}
+use Rattle.wm_machine.proofs.Records.{IsRecord-updated}
+use Rattle.wm_machine.proofs.Runnings.{changed}
+use Rattle.wm_machine.specs.Cancelled.{work_with_id}
+use Rattle.wm_machine.specs.Closed.{is_open}
+use Rattle.wm_machine.specs.Outcome.{IsBuilt, outcome}
+use Rattle.wm_machine.specs.Replied.{unchanged}
+use Rattle.wm_machine.specs.Rows.{row_of, rows_of}
+use Rattle.wm_machine.specs.Runs.{changed_work}
+use Rattle.wm_machine.specs.Step.{Legal, after_command, state_by}
+use Rattle.wm_machine.specs.Updated.{is_same_kind, update_by, update_of, updated}
+use Rattle.wm_machine.specs.Valid.{IsRecord, Valid}
+use Rattle.wm_machine.specs.declared.command.Command.{Command}
+use Rattle.wm_machine.specs.declared.command.Command.TheVariants as command
+use Rattle.wm_machine.specs.declared.event.Event.TheVariants as event
+use Rattle.wm_machine.specs.declared.record.Record.{Record}
+use Rattle.wm_machine.specs.declared.reply.Applied.TheVariants.{NotApplied}
+use Rattle.wm_machine.specs.declared.reply.Refusal.TheVariants.{KindMismatch}
+use Rattle.wm_machine.specs.declared.reply.Reply.TheVariants as reply
+use Rattle.wm_machine.specs.declared.state.State.{State}
+use Rattle.wm_request.specs.Requests.{IsRequest, RequestFields}
+use Rattle.wm_steps.proofs.Lookups.{All-at, stored-at}
+use Rattle.wm_steps.proofs.StepFits.{keeping_row-step, replacing-step}
+use Rattle.wm_steps.specs.Nodes.{KeepsNode}
+use Rattle.wm_steps.specs.StepChanges.{row_changes, IsStepOf}
+use Rattle.wm_steps.specs.declared.change.RunChange.TheVariants.{Unchanged}
+use Rattle.wm_steps.specs.declared.change.StepChange.{StepChange}
+
+-- ---- a command that updates the record at an index
+
+module _ (s : State) (line : ℕ) (asked : Command) (i : ℕ) (work : Record) (request : RequestFields) (executed : Executed) (valid : Valid s)
+    (at : slice_get s.works i ≡ Some work) (within : IsRequest request) (kind : is_same_kind request.period work.request.period ≡ true)
+    (built : IsBuilt asked) (outcome-is : outcome s asked ≡ Some (update_of s request work)) (is : IsUpdating line asked i work request executed) where
+  after-is : after_command s asked ≡ record s { works = changed_work (updated request) work.seq s.works }
+  after-is = ap (state_by s) outcome-is
+
+  legal : Legal s (event.Command line asked executed.reply)
+  legal = (built, Answers-outcome s asked executed.reply (update_of s request work) outcome-is is.answer)
+
+  fine : IsRecord (updated request work)
+  fine = IsRecord-updated request work within kind (All-at IsRecord s.works i work valid.records at)
+
+  keeps : KeepsNode work (updated request work)
+  keeps = record { seq = refl; prior = refl; succeeded = λ is. is }
+
+  -- where the record's row changes, the rows do
+  rows_change : row_of (updated request work) ≢ row_of work → ChangesRows s asked
+  rows_change differs same =
+      rows-change (changed (updated request) work.seq) work s.works (stored-at s.works i work at) (λ kept.
+      differs (ap row_of (sym (cond-true (eqb work.seq work.seq) (updated request work) work (eq-eqb work.seq work.seq refl))) ∙ kept))
+      (ap rows_of (sym after-is) ∙ same)
+
+  pub updating-executed : IsExecuted s line asked executed
+  updating-executed = elim is.change [
+    | inl kept ↦ record {
+      event = ap (λ (change : StepChange). change.event) kept.1;
+      step = subst (IsStepOf s) (sym kept.1)
+          (keeping_row-step s s i work (updated request) Unchanged (event.Command line asked executed.reply) valid at kept.0 legal refl after-is);
+      rows = inr (ap row_changes kept.1);
+    }
+    | inr put ↦ record {
+      event = ap (λ (change : StepChange). change.event) put.1;
+      step = subst (IsStepOf s) (sym put.1)
+          (replacing-step s s i work (updated request) Unchanged (event.Command line asked executed.reply) valid at keeps fine legal refl after-is);
+      rows = inl (rows_change put.0);
+    }
+  ]
+
+-- ---- the command that updates
+
+-- an unfinished work is updated by a request of its kind
+pub updated-is : (s : State) (request : RequestFields) (work : Record) → work_with_id s.works request.id ≡ Some work → is_open work.phase ≡ true
+    → is_same_kind request.period work.request.period ≡ true → outcome s (command.Update request) ≡ Some (update_of s request work)
+updated-is s request work found unfinished kind =
+    let refused = unchanged s (reply.Refused (KindMismatch request.id)) in
+    let finished = unchanged s (reply.Updated NotApplied work.generation) in
+    ap (λ o. Some (update_by s request o)) found
+    ∙ ap (λ b. Some (cond b (cond (is_same_kind request.period work.request.period) (update_of s request work) refused) finished)) unfinished
+    ∙ ap (λ b. Some (cond b (update_of s request work) refused)) kind

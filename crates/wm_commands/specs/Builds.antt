@@ -1,0 +1,56 @@
+-- What is built for a command: the change of its step, and its reply. This project's own choice.
+use Rattle.std.specs.Prelude.{◌≡◌, ◌≢◌, ◌⊎◌, ℕ, List, [], filter}
+use Rattle.wm_commands.specs.declared.executed.Executed.{Executed}
+use Rattle.wm_machine.specs.Pruned.{removable}
+use Rattle.wm_machine.specs.Rows.{row_of, rows_of}
+use Rattle.wm_machine.specs.Step.{after_command}
+use Rattle.wm_machine.specs.Updated.{applied, one_update_more, updated}
+use Rattle.wm_machine.specs.declared.command.Command.{Command}
+use Rattle.wm_machine.specs.declared.event.Event.{Event}
+use Rattle.wm_machine.specs.declared.event.Event.TheVariants as event
+use Rattle.wm_machine.specs.declared.record.Record.{Record}
+use Rattle.wm_machine.specs.declared.reply.Reply.{Reply}
+use Rattle.wm_machine.specs.declared.reply.Reply.TheVariants as reply
+use Rattle.wm_machine.specs.declared.state.State.{State}
+use Rattle.wm_request.specs.Requests.{RequestFields}
+use Rattle.wm_steps.specs.StepChanges.{keeping_row, replacing, row_changes, seqs_of, setting, telling, IsStepOf}
+use Rattle.wm_steps.specs.declared.change.RunChange.TheVariants as runs
+use Rattle.wm_steps.specs.declared.change.SettingChange.{SettingChange}
+use Rattle.wm_steps.specs.declared.change.StepChange.{StepChange}
+
+-- the rows after the command are those before it, as with a query, a faulty line or an enqueue that is refused
+abbrev pub ChangesNoRow : State → Command → Type 0
+ChangesNoRow s asked = rows_of (after_command s asked) ≡ rows_of s
+
+-- and where they are others, as with an enqueue that isn't
+abbrev pub ChangesRows : State → Command → Type 0
+ChangesRows s asked = ChangesNoRow s asked → ⊥
+
+-- the step of a command and its reply
+pub record IsExecuted (s : State) (line : ℕ) (asked : Command) (executed : Executed) : Type 0 where
+  pub event : executed.change.event ≡ event.Command line asked executed.reply
+  pub step : IsStepOf s executed.change
+  pub rows : ChangesRows s asked ⊎ (row_changes executed.change ≡ [])
+
+-- a command that only has a reply
+abbrev pub answering : ℕ → Command → Reply → Executed
+answering line asked answer = record { change = telling (event.Command line asked answer); reply = answer }
+
+-- a command that sets the moment or the conditions
+abbrev pub setting_by : ℕ → Command → Reply → SettingChange → Executed
+setting_by line asked answer to = record { change = setting to (event.Command line asked answer); reply = answer }
+
+-- one record is replaced by another: its row is put, or kept where it is the same
+abbrev pub IsReplacing : ℕ → Record → Record → Event → StepChange → Type 0
+IsReplacing index work new e change =
+    ((row_of new ≡ row_of work) × (change ≡ keeping_row index new runs.Unchanged e))
+    ⊎ ((row_of new ≢ row_of work) × (change ≡ replacing index new runs.Unchanged e))
+
+-- an update of the record at an index, by a command: the reply tells when it counts, and how often the work was updated
+pub record IsUpdating (line : ℕ) (asked : Command) (index : ℕ) (work : Record) (request : RequestFields) (executed : Executed) : Type 0 where
+  pub answer : executed.reply ≡ reply.Updated (applied work.phase) (one_update_more work.generation)
+  pub change : IsReplacing index work (updated request work) (event.Command line asked executed.reply) executed.change
+
+-- the numbers of the records that may be removed, ascending
+abbrev pub removable_numbers : List Record → List ℕ
+removable_numbers works = seqs_of (filter (removable works) works)

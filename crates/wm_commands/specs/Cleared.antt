@@ -1,0 +1,98 @@
+-- What becomes of the records where works are cancelled and others are let go: by a cancel, and before a batch is placed. This project's own choice.
+use Rattle.std.specs.Prelude.{ℕ, ◌&&◌, ◌||◌, Bool, not, List, [], ◌∷◌, map, filter, reverse, if◌then◌else◌, Option, Some, None}
+use Rattle.std.specs.List.{list_any}
+use Rattle.wm_commands.specs.declared.clearing.Clearing.{Clearing}
+use Rattle.wm_machine.specs.Closed.{closed, is_among, is_open}
+use Rattle.wm_machine.specs.Group.{numbers_in, unnamed}
+use Rattle.wm_machine.specs.declared.record.How.TheVariants as how
+use Rattle.wm_machine.specs.declared.record.Phase.{Phase}
+use Rattle.wm_machine.specs.declared.record.Phase.TheVariants as phase
+use Rattle.wm_machine.specs.declared.record.Record.{Record}
+use Rattle.wm_machine.specs.declared.state.State.{State}
+use Rattle.wm_steps.specs.Nodes.{nodes_of, reached_from}
+use Rattle.wm_steps.specs.Replacements.{replacements}
+use Rattle.wm_steps.specs.declared.change.Replacement.{Replacement}
+
+-- ---- what is cancelled
+
+-- the numbers of the descendants of any of these works, among records in descending number
+abbrev pub descendants_of_any : List ℕ → List Record → List ℕ
+descendants_of_any seqs [] = []
+descendants_of_any seqs (work ∷ earlier) =
+    if is_among seqs work.seq || list_any (is_among (descendants_of_any seqs earlier)) work.prior then work.seq ∷ descendants_of_any seqs earlier
+    else descendants_of_any seqs earlier
+
+-- and ascending
+abbrev pub reached_from_any : List ℕ → List Record → List ℕ
+reached_from_any seqs works = reverse (descendants_of_any seqs (reverse works))
+
+-- whether a record becomes cancelled, where those of these numbers do that are unfinished
+abbrev pub becomes_cancelled : List ℕ → Record → Bool
+becomes_cancelled cancelled work = is_open work.phase && is_among cancelled work.seq
+
+-- its phase then
+abbrev pub phase_then : List ℕ → Record → Phase
+phase_then cancelled work = if becomes_cancelled cancelled work then phase.Done how.Cancelled else work.phase
+
+-- ---- what is removed
+
+-- whether a record that is unfinished then has the work of this number as a prerequisite
+abbrev pub is_needed_then : List ℕ → List Record → ℕ → Bool
+is_needed_then cancelled works number = list_any (λ work. is_open (phase_then cancelled work) && is_among work.prior number) works
+
+-- whether a record is removed, where those of the latter numbers are let go then
+abbrev pub is_removed : List ℕ → List ℕ → List Record → Record → Bool
+is_removed cancelled let_go works work =
+    is_among let_go work.seq && (not (is_open (phase_then cancelled work)) && not (is_needed_then cancelled works work.seq))
+
+-- the numbers of those that are
+abbrev pub removed_by : List ℕ → List ℕ → List Record → List ℕ
+removed_by cancelled let_go works = numbers_in (filter (is_removed cancelled let_go works) works)
+
+-- ---- the records then
+
+-- what becomes of the records where these works are cancelled, and then others let go
+abbrev pub clearing_of : List Record → List ℕ → List ℕ → Clearing
+clearing_of works cancel let_go = record {
+  cancelled = reached_from_any cancel works;
+  unnamed = let_go;
+  removed = removed_by (reached_from_any cancel works) let_go works;
+}
+
+-- what becomes of them where these are cancelled
+abbrev pub cancelling : List ℕ → Clearing
+cancelling cancelled = record { cancelled = cancelled; unnamed = []; removed = [] }
+
+-- a record, cancelled where it becomes so
+abbrev pub cancelled_in : List ℕ → Record → Record
+cancelled_in cancelled work = if becomes_cancelled cancelled work then closed how.Cancelled work else work
+
+-- a record that isn't removed
+abbrev pub cleared : Clearing → Record → Record
+cleared clearing work = unnamed clearing.unnamed (cancelled_in clearing.cancelled work)
+
+-- whether a record isn't removed
+abbrev pub stays : List ℕ → Record → Bool
+stays removed work = not (is_among removed work.seq)
+
+abbrev pub with_cleared : Clearing → List Record → List Record
+with_cleared clearing works = map (cleared clearing) (filter (stays clearing.removed) works)
+
+abbrev pub cleared_state : Clearing → State → State
+cleared_state clearing s = record s { works = with_cleared clearing s.works }
+
+-- whether a record is another one then
+abbrev pub is_touched : Clearing → Record → Bool
+is_touched clearing work =
+    stays clearing.removed work && (is_among clearing.unnamed work.seq || becomes_cancelled clearing.cancelled work)
+
+-- what takes the place of a record; nothing where it is removed or stays as it is
+abbrev pub cleared_by : Clearing → Record → Option Record
+cleared_by clearing work = if is_touched clearing work then Some (cleared clearing work) else None
+
+abbrev pub replaced_by_clearing : Clearing → List Record → List Replacement
+replaced_by_clearing clearing works = replacements (cleared_by clearing) 0 works
+
+-- the records that take the place of others where a work is cancelled, by the nodes of the records
+abbrev pub replaced_by_cancel : State → Record → List Replacement
+replaced_by_cancel s work = replaced_by_clearing (cancelling (reached_from work.seq (nodes_of s.works))) s.works

@@ -1,0 +1,4 @@
+pub mod Builds
+pub mod Cleared
+pub mod Placed
+pub mod Planned

@@ -1,0 +1,218 @@
+//! What becomes of the records where works are cancelled, each with its descendants, and then others
+//! are let go: by a cancel, and before a batch is placed under a unique name.
+//!
+//! After the guide's page "Managing work" (unique work). Nothing but the records that change is
+//! made: the others are seen through a [`Clearing`].
+ghost use Rattle.std.specs.Prelude.{◌≡◌, ◌&&◌, ◌||◌, IfOk};
+ghost use Rattle.std.specs.List.{list_any};
+ghost use Rattle.wm_commands.specs.Cleared.{becomes_cancelled, cancelled_in, cancelling, cleared, cleared_by, clearing_of, is_needed_then, is_removed, is_touched, phase_then, reached_from_any, removed_by, replaced_by_clearing, stays};
+ghost use Rattle.wm_machine.specs.Closed.{is_among, is_open};
+ghost use Rattle.wm_machine.specs.Group.{unnamed};
+
+use std::alloc::{AllocError, Global};
+use wm_collections::{Items, Replica};
+use wm_lifecycle::closed;
+use wm_machine::{How, Phase, Record};
+use wm_steps::{Replacement, has_any, is_among, is_open, put_at};
+
+/// Which records change where works are cancelled and others are let go, by their numbers.
+#[derive(Drop)]
+pub struct Clearing {
+    /// Those that are cancelled where they are unfinished.
+    pub cancelled: Items<u64>,
+    /// Those from which their names are taken.
+    pub unnamed: Items<u64>,
+    /// Those that are removed.
+    pub removed: Items<u64>,
+}
+
+/// Those of these numbers are cancelled where they are unfinished.
+pub fn cancelling(alloc: Global, cancelled: Items<u64>) -> Clearing
+    ensures { result ≡ cancelling cancelled }
+{
+    Clearing {
+        cancelled,
+        unnamed: Items::new(alloc),
+        removed: Items::new(alloc),
+    }
+}
+
+/// Which records change where the works of the first numbers are cancelled, and those of the second
+/// are let go then: who is finished and whom no unfinished work needs is removed, and the others
+/// lose their names.
+pub fn clearing_of(
+    alloc: Global,
+    works: &[Record],
+    cancel: &[u64],
+    let_go: Items<u64>,
+) -> Result<Clearing, AllocError>
+    ensures { IfOk result (λ clearing. clearing ≡ clearing_of works.entry.now cancel.entry.now let_go) }
+{
+    let cancelled = reached_from_any(alloc, works, cancel)?;
+    let removed = removed_by(alloc, works, cancelled.as_slice(), let_go.as_slice())?;
+    Ok(Clearing {
+        cancelled,
+        unnamed: let_go,
+        removed,
+    })
+}
+
+/// The numbers of the descendants of any of these works, ascending.
+fn reached_from_any(alloc: Global, works: &[Record], seqs: &[u64]) -> Result<Items<u64>, AllocError>
+    ensures { IfOk result (λ numbers. numbers ≡ reached_from_any seqs.now works.now) }
+{
+    let mut numbers = Items::new(alloc);
+    for work in works {
+        if follows_any(work, seqs, numbers.as_slice()) {
+            numbers.push(work.seq)?;
+        }
+    }
+    Ok(numbers)
+}
+
+/// Whether it is one of these works, or has one of those found as a prerequisite.
+fn follows_any(work: &Record, seqs: &[u64], found: &[u64]) -> bool
+    ensures { result
+        ≡ (is_among seqs.now work.now.seq || list_any (is_among found.now) work.now.prior) }
+{
+    is_among(seqs, work.seq) || has_any(work.prior.as_slice(), found)
+}
+
+/// Whether a record becomes cancelled.
+fn becomes_cancelled(cancelled: &[u64], work: &Record) -> bool
+    ensures { result ≡ becomes_cancelled cancelled.now work.now }
+{
+    is_open(work.phase) && is_among(cancelled, work.seq)
+}
+
+/// The phase of a record once works are cancelled.
+pub fn phase_then(cancelled: &[u64], work: &Record) -> Phase
+    ensures { result ≡ phase_then cancelled.now work.now }
+{
+    if becomes_cancelled(cancelled, work) {
+        Phase::Done(How::Cancelled)
+    } else {
+        work.phase
+    }
+}
+
+/// The numbers of the records that are removed.
+fn removed_by(
+    alloc: Global,
+    works: &[Record],
+    cancelled: &[u64],
+    let_go: &[u64],
+) -> Result<Items<u64>, AllocError>
+    ensures { IfOk result (λ numbers. numbers ≡ removed_by cancelled.now let_go.now works.now) }
+{
+    let mut numbers = Items::new(alloc);
+    for work in works {
+        if is_removed(works, cancelled, let_go, work) {
+            numbers.push(work.seq)?;
+        }
+    }
+    Ok(numbers)
+}
+
+/// Whether a record is removed: it is let go, finished then, and not needed.
+fn is_removed(works: &[Record], cancelled: &[u64], let_go: &[u64], work: &Record) -> bool
+    ensures { result ≡ is_removed cancelled.now let_go.now works.now work.now }
+{
+    is_among(let_go, work.seq)
+        && !is_open(phase_then(cancelled, work))
+        && !is_needed_then(works, cancelled, work.seq)
+}
+
+/// Whether a record that is unfinished then has the work of this number as a prerequisite.
+fn is_needed_then(works: &[Record], cancelled: &[u64], number: u64) -> bool
+    ensures { result ≡ is_needed_then cancelled.now works.now number }
+{
+    works.iter().any(|work| needs(cancelled, work, number))
+}
+
+/// Whether it is unfinished then, and has the work of this number as a prerequisite.
+fn needs(cancelled: &[u64], work: &Record, number: u64) -> bool
+    ensures { result
+        ≡ (is_open (phase_then cancelled.now work.now) && is_among work.now.prior number) }
+{
+    is_open(phase_then(cancelled, work)) && is_among(work.prior.as_slice(), number)
+}
+
+/// Whether a record isn't removed.
+pub fn stays(removed: &[u64], work: &Record) -> bool
+    ensures { result ≡ stays removed.now work.now }
+{
+    !is_among(removed, work.seq)
+}
+
+/// The records that take the place of others.
+pub fn replaced_by_clearing(
+    alloc: Global,
+    works: &[Record],
+    clearing: &Clearing,
+) -> Result<Items<Replacement>, AllocError>
+    ensures { IfOk result (λ replaced. replaced
+        ≡ replaced_by_clearing clearing.entry.now works.entry.now) }
+{
+    let mut replaced = Items::new(alloc);
+    for (index, work) in works.iter().enumerate() {
+        let changed = cleared_by(alloc, clearing, work)?;
+        put_at(&mut replaced, index, changed)?;
+    }
+    Ok(replaced)
+}
+
+/// What takes the place of a record; nothing where it is removed or stays as it is.
+fn cleared_by(
+    alloc: Global,
+    clearing: &Clearing,
+    work: &Record,
+) -> Result<Option<Record>, AllocError>
+    ensures { IfOk result (λ changed. changed ≡ cleared_by clearing.entry.now work.entry.now) }
+{
+    if is_touched(clearing, work) {
+        Ok(Some(cleared(alloc, clearing, work)?))
+    } else {
+        Ok(None)
+    }
+}
+
+/// Whether a record becomes another one.
+fn is_touched(clearing: &Clearing, work: &Record) -> bool
+    ensures { result ≡ is_touched clearing.now work.now }
+{
+    stays(clearing.removed.as_slice(), work)
+        && (is_among(clearing.unnamed.as_slice(), work.seq)
+            || becomes_cancelled(clearing.cancelled.as_slice(), work))
+}
+
+/// A record that isn't removed.
+fn cleared(alloc: Global, clearing: &Clearing, work: &Record) -> Result<Record, AllocError>
+    ensures { IfOk result (λ changed. changed ≡ cleared clearing.entry.now work.entry.now) }
+{
+    let changed = cancelled_in(alloc, clearing, work)?;
+    Ok(unnamed(clearing, changed))
+}
+
+/// A record, cancelled where it becomes so.
+fn cancelled_in(alloc: Global, clearing: &Clearing, work: &Record) -> Result<Record, AllocError>
+    ensures { IfOk result (λ changed. changed
+        ≡ cancelled_in clearing.entry.now.cancelled work.entry.now) }
+{
+    if becomes_cancelled(clearing.cancelled.as_slice(), work) {
+        closed(alloc, work, How::Cancelled)
+    } else {
+        work.replica(alloc)
+    }
+}
+
+/// A record, without its name where it loses that.
+fn unnamed(clearing: &Clearing, work: Record) -> Record
+    ensures { result ≡ unnamed clearing.now.unnamed work }
+{
+    let mut work = work;
+    if is_among(clearing.unnamed.as_slice(), work.seq) {
+        work.name = None;
+    }
+    work
+}

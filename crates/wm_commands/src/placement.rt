@@ -1,0 +1,109 @@
+//! A batch is placed, and other records make way for it.
+ghost use Rattle.std.specs.Prelude.{◌≡◌, ◌^◌, ◌≤◌, ◌+◌, [], true, length, IfOk};
+ghost use Rattle.std.specs.List.{AllByRecursion};
+ghost use Rattle.wm_commands.specs.Builds.{IsExecuted};
+ghost use Rattle.wm_commands.specs.Placed.{name_in, placement_of};
+ghost use Rattle.wm_machine.specs.Enqueued.{enqueued, made_ready, placing_in};
+ghost use Rattle.wm_machine.specs.Outcome.{IsBuilt};
+ghost use Rattle.wm_machine.specs.Valid.{Valid};
+ghost use Rattle.wm_steps.specs.Nodes.{is_there};
+ghost use Rattle.wm_unique.specs.Plans.{placing_by};
+
+use crate::clearing::{clearing_of, replaced_by_clearing};
+use crate::executed::Executed;
+use crate::placing::{placed_records, seqs_twice};
+use std::alloc::{AllocError, Global};
+use wm_collections::{Items, Replica, Text};
+use wm_machine::{Command, Event, Record, Reply, State, UniqueName};
+use wm_request::{Batch, Node};
+use wm_steps::{Replacement, StepChange, with};
+use wm_unique::GroupPlan;
+
+/// How a batch is placed, with its memory taken.
+#[derive(Drop)]
+pub struct Placement {
+    /// The records that take the place of others.
+    pub replaced: Items<Replacement>,
+    /// The numbers of the records that are removed.
+    pub removed: Items<u64>,
+    /// The new records.
+    pub placed: Items<Record>,
+}
+
+/// The unique name that works are placed under.
+fn name_in(alloc: Global, named: &Option<UniqueName>) -> Result<Option<Text>, AllocError>
+    ensures { IfOk result (λ name. name ≡ name_in named.now) }
+{
+    match named {
+        Some(unique) => Ok(Some(unique.name.replica(alloc)?)),
+        None => Ok(None),
+    }
+}
+
+/// How works are placed by a plan.
+fn placement_of(
+    alloc: Global,
+    state: &State,
+    named: &Option<UniqueName>,
+    plan: GroupPlan,
+    works: &[Node],
+) -> Result<Placement, AllocError>
+    requires { state.now.next + length works.now ≤ 2 ^ 53 }
+    ensures { IfOk result (λ placement. placement
+        ≡ placement_of state.entry.now (name_in named.entry.now) (placing_by plan) works.entry.now) }
+{
+    let GroupPlan {
+        cancel,
+        let_go,
+        after,
+        ..
+    } = plan;
+    let stored = state.works.as_slice();
+    let name = name_in(alloc, named)?;
+    let clearing = clearing_of(alloc, stored, cancel.as_slice(), let_go)?;
+    let placed = placed_records(alloc, state, &clearing, &name, after.as_slice(), works)?;
+    let replaced = replaced_by_clearing(alloc, stored, &clearing)?;
+    Ok(Placement {
+        replaced,
+        removed: clearing.removed,
+        placed,
+    })
+}
+
+/// Places the works of a batch that isn't refused, by a plan.
+pub fn place(
+    alloc: Global,
+    state: &State,
+    line: u32,
+    named: Option<UniqueName>,
+    batch: Batch,
+    plan: GroupPlan,
+) -> Result<Executed, AllocError>
+    requires valid { Valid state.now }
+    requires no_run { state.now.runs ≡ [] }
+    requires built { IsBuilt (Command.Enqueue named batch) }
+    requires room { state.now.next + length batch.works ≤ 2 ^ 53 }
+    requires places { enqueued state.now named batch.works
+        ≡ placing_in (made_ready state.now (placing_by plan)) (name_in named) plan.after batch.works }
+    requires after { AllByRecursion (λ number. is_there state.now.works number ≡ true) plan.after }
+    ensures { IfOk result (IsExecuted state.entry.now line (Command.Enqueue named batch)) }
+{
+    let placement = placement_of(alloc, state, &named, plan, batch.works().as_slice());
+    let ((named, batch), placement) = with((named, batch), placement)?;
+    let numbers = seqs_twice(alloc, placement.placed.as_slice());
+    let ((named, batch, placement), (logged, told)) = with((named, batch, placement), numbers)?;
+    let event = Event::Command {
+        line,
+        command: Command::Enqueue { named, batch },
+        reply: Reply::Enqueued(logged),
+    };
+    let Placement {
+        replaced,
+        removed,
+        placed,
+    } = placement;
+    Ok(Executed {
+        change: StepChange::placing(alloc, replaced, removed, placed, event),
+        reply: Reply::Enqueued(told),
+    })
+}

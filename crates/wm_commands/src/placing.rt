@@ -1,0 +1,255 @@
+//! The records of new works, each placed after those before it.
+ghost use Rattle.std.specs.Prelude.{◌≡◌, ◌^◌, ◌==◌, ◌≤◌, ◌+◌, ◌&&◌, ◌++◌, filter, length, map, IfOk, OnOk};
+ghost use Rattle.std.specs.List.{list_any};
+ghost use Rattle.std.specs.Str.{bytes_eq};
+ghost use Rattle.wm_commands.specs.Cleared.{cleared_state, stays, with_cleared};
+ghost use Rattle.wm_commands.specs.Placed.{is_done, is_then, placed_record, placed_records, with_placed};
+ghost use Rattle.wm_machine.specs.Enqueued.{any_in, first_phase, numbers_of, prior_of};
+ghost use Rattle.wm_steps.specs.StepChanges.{seqs_of};
+
+use crate::clearing::{Clearing, phase_then, stays};
+use std::alloc::{AllocError, Global};
+use uuid::Uuid;
+use wm_collections::{Items, Replica, Text};
+use wm_data::Data;
+use wm_machine::{How, Phase, Record, State};
+use wm_request::Node;
+
+/// The records of new works, for which there are numbers, once the records are cleared. Under a name
+/// each that names no other comes after the works of these numbers.
+pub fn placed_records(
+    alloc: Global,
+    state: &State,
+    clearing: &Clearing,
+    name: &Option<Text>,
+    after: &[u64],
+    works: &[Node],
+) -> Result<Items<Record>, AllocError>
+    requires { state.now.next + length works.now ≤ 2 ^ 53 }
+    ensures { IfOk result (λ placed. placed
+        ≡ placed_records (cleared_state clearing.entry.now state.entry.now) name.entry.now after.entry.now works.now) }
+{
+    let mut placed = Items::new(alloc);
+    for work in works {
+        let new = placed_record(alloc, state, clearing, name, after, placed.as_slice(), work)?;
+        placed.push(new)?;
+    }
+    Ok(placed)
+}
+
+/// The record of a new work, after those that are placed.
+fn placed_record(
+    alloc: Global,
+    state: &State,
+    clearing: &Clearing,
+    name: &Option<Text>,
+    after: &[u64],
+    placed: &[Record],
+    work: &Node,
+) -> Result<Record, AllocError>
+    requires { state.now.next + length placed.now ≤ 2 ^ 53 }
+    ensures { IfOk result (λ new. new
+        ≡ placed_record (with_placed (cleared_state clearing.entry.now state.entry.now) placed.entry.now)
+        name.entry.now after.entry.now work.entry.now) }
+{
+    let works = state.works.as_slice();
+    let prior = prior_of(alloc, works, clearing, placed, after, work.after.as_slice())?;
+    let phase = first_phase(works, clearing, placed, prior.as_slice());
+    Ok(Record {
+        seq: state.next + placed.len() as u64,
+        name: name.replica(alloc)?,
+        request: work.request.replica(alloc)?,
+        prior,
+        phase,
+        attempt: 0,
+        backoff_n: 0,
+        runs: 0,
+        generation: 0,
+        enqueued_at: state.now,
+        output: Data::empty(alloc),
+        progress: Data::empty(alloc),
+    })
+}
+
+/// The numbers of the prerequisites of a work that names these.
+fn prior_of(
+    alloc: Global,
+    works: &[Record],
+    clearing: &Clearing,
+    placed: &[Record],
+    after: &[u64],
+    ids: &[Uuid],
+) -> Result<Items<u64>, AllocError>
+    ensures { IfOk result (λ numbers. numbers
+        ≡ prior_of (with_cleared clearing.entry.now works.entry.now ++ placed.entry.now) after.entry.now ids.now) }
+{
+    if ids.is_empty() {
+        copy_of(alloc, after)
+    } else {
+        numbers_of(alloc, works, clearing, placed, ids)
+    }
+}
+
+/// These numbers.
+fn copy_of(alloc: Global, numbers: &[u64]) -> Result<Items<u64>, AllocError>
+    ensures { IfOk result (λ copy. copy ≡ numbers.now) }
+{
+    let mut copy = Items::new(alloc);
+    for number in numbers {
+        copy.push(*number)?;
+    }
+    Ok(copy)
+}
+
+/// The numbers of the records with these ids, in the order of the ids: of those that are stored, and
+/// of those that are placed.
+fn numbers_of(
+    alloc: Global,
+    works: &[Record],
+    clearing: &Clearing,
+    placed: &[Record],
+    ids: &[Uuid],
+) -> Result<Items<u64>, AllocError>
+    ensures { IfOk result (λ numbers. numbers
+        ≡ numbers_of (with_cleared clearing.entry.now works.now ++ placed.now) ids.now) }
+{
+    let mut numbers = Items::new(alloc);
+    for id in ids {
+        add_stored(&mut numbers, works, clearing, *id)?;
+        add_placed(&mut numbers, placed, *id)?;
+    }
+    Ok(numbers)
+}
+
+/// Adds the numbers of the stored records with this id that stay.
+fn add_stored(
+    numbers: &mut Items<u64>,
+    works: &[Record],
+    clearing: &Clearing,
+    id: Uuid,
+) -> Result<(), AllocError>
+    ensures { OnOk result (numbers.new
+        ≡ numbers.old ++ map (λ work. work.seq)
+        (filter (λ work. bytes_eq work.request.id id && stays clearing.now.removed work) works.now)) }
+{
+    for work in works {
+        if work.request.id() == id && stays(clearing.removed.as_slice(), work) {
+            numbers.push(work.seq)?;
+        }
+    }
+    Ok(())
+}
+
+/// Adds the numbers of the placed records with this id.
+fn add_placed(numbers: &mut Items<u64>, placed: &[Record], id: Uuid) -> Result<(), AllocError>
+    ensures { OnOk result (numbers.new
+        ≡ numbers.old ++ map (λ work. work.seq) (filter (λ work. bytes_eq work.request.id id) placed.now)) }
+{
+    for work in placed {
+        if work.request.id() == id {
+            numbers.push(work.seq)?;
+        }
+    }
+    Ok(())
+}
+
+/// The phase of new work with these prerequisites.
+fn first_phase(works: &[Record], clearing: &Clearing, placed: &[Record], prior: &[u64]) -> Phase
+    ensures { result ≡ first_phase (with_cleared clearing.now works.now ++ placed.now) prior.now }
+{
+    if any_in(works, clearing, placed, prior, How::Failed) {
+        Phase::Done(How::Failed)
+    } else if any_in(works, clearing, placed, prior, How::Cancelled) {
+        Phase::Done(How::Cancelled)
+    } else {
+        Phase::Waiting
+    }
+}
+
+/// Whether a record of one of these numbers is finished in this way.
+fn any_in(
+    works: &[Record],
+    clearing: &Clearing,
+    placed: &[Record],
+    numbers: &[u64],
+    how: How,
+) -> bool
+    ensures { result
+        ≡ any_in (is_done how) (with_cleared clearing.now works.now ++ placed.now) numbers.now }
+{
+    numbers
+        .iter()
+        .any(|number| has_either(works, clearing, placed, *number, how))
+}
+
+/// Whether the record of this number, which is stored or placed, is finished in this way.
+fn has_either(
+    works: &[Record],
+    clearing: &Clearing,
+    placed: &[Record],
+    number: u64,
+    how: How,
+) -> bool
+    ensures { result
+        ≡ list_any (λ work. work.seq == number && is_done how work.phase)
+        (with_cleared clearing.now works.now ++ placed.now) }
+{
+    has_stored(works, clearing, number, how) || has_placed(placed, number, how)
+}
+
+/// Whether the stored record of this number stays, and is finished in this way then.
+fn has_stored(works: &[Record], clearing: &Clearing, number: u64, how: How) -> bool
+    ensures { result
+        ≡ list_any (λ work. work.seq == number && is_then clearing.now how work) works.now }
+{
+    works
+        .iter()
+        .any(|work| work.seq == number && is_then(clearing, how, work))
+}
+
+/// Whether a stored record stays, and is finished in this way then.
+fn is_then(clearing: &Clearing, how: How, work: &Record) -> bool
+    ensures { result ≡ is_then clearing.now how work.now }
+{
+    stays(clearing.removed.as_slice(), work)
+        && is_done(phase_then(clearing.cancelled.as_slice(), work), how)
+}
+
+/// Whether the placed record of this number is finished in this way.
+fn has_placed(placed: &[Record], number: u64, how: How) -> bool
+    ensures { result
+        ≡ list_any (λ work. work.seq == number && is_done how work.phase) placed.now }
+{
+    placed
+        .iter()
+        .any(|work| work.seq == number && is_done(work.phase, how))
+}
+
+/// Whether a phase is that of work that is finished in this way.
+fn is_done(phase: Phase, how: How) -> bool
+    ensures { result ≡ is_done how phase }
+{
+    match how {
+        How::Succeeded => matches!(phase, Phase::Done(How::Succeeded)),
+        How::Failed => matches!(phase, Phase::Done(How::Failed)),
+        How::Cancelled => matches!(phase, Phase::Done(How::Cancelled)),
+    }
+}
+
+/// The numbers of these records, twice.
+pub fn seqs_twice(alloc: Global, works: &[Record]) -> Result<(Items<u64>, Items<u64>), AllocError>
+    ensures { IfOk result (λ both. both ≡ (seqs_of works.now, seqs_of works.now)) }
+{
+    Ok((seqs_of(alloc, works)?, seqs_of(alloc, works)?))
+}
+
+/// The numbers of these records.
+fn seqs_of(alloc: Global, works: &[Record]) -> Result<Items<u64>, AllocError>
+    ensures { IfOk result (λ numbers. numbers ≡ seqs_of works.now) }
+{
+    let mut numbers = Items::new(alloc);
+    for work in works {
+        numbers.push(work.seq)?;
+    }
+    Ok(numbers)
+}

@@ -1,0 +1,58 @@
+//! The finished works that no unfinished one needs are removed.
+ghost use Rattle.std.specs.Prelude.{◌≡◌, IfOk};
+ghost use Rattle.wm_commands.specs.Builds.{removable_numbers, IsExecuted};
+ghost use Rattle.wm_machine.specs.Pruned.{is_needed, removable};
+ghost use Rattle.wm_machine.specs.Valid.{Valid};
+
+use crate::executed::Executed;
+use std::alloc::{AllocError, Global};
+use wm_collections::Items;
+use wm_machine::{Command, Event, Record, Reply, State};
+use wm_steps::{StepChange, is_among, is_open};
+
+/// What a prune comes to.
+pub fn execute(alloc: Global, state: &State, line: u32) -> Result<Executed, AllocError>
+    requires valid { Valid state.now }
+    ensures { IfOk result (IsExecuted state.entry.now line Command.Prune) }
+{
+    let removed = removable_numbers(alloc, state.works.as_slice())?;
+    let count = removed.len() as u64;
+    let event = Event::Command {
+        line,
+        command: Command::Prune,
+        reply: Reply::Pruned(count),
+    };
+    Ok(Executed {
+        change: StepChange::removing(alloc, removed, event),
+        reply: Reply::Pruned(count),
+    })
+}
+
+/// The numbers of the records that may be removed, ascending.
+fn removable_numbers(alloc: Global, works: &[Record]) -> Result<Items<u64>, AllocError>
+    ensures { IfOk result (λ numbers. numbers ≡ removable_numbers works.now) }
+{
+    let mut numbers = Items::new(alloc);
+    for work in works {
+        if is_removable(works, work) {
+            numbers.push(work.seq)?;
+        }
+    }
+    Ok(numbers)
+}
+
+/// Whether a record may be removed: it is finished, and no unfinished one needs it.
+#[tactic(auto, unfolding(wm_machine::specs::Pruned::removable))]
+fn is_removable(works: &[Record], work: &Record) -> bool
+    ensures { result ≡ removable works.now work.now }
+{
+    !is_open(work.phase) && !is_needed(works, work.seq)
+}
+
+/// Whether an unfinished record has the work of this number as a prerequisite.
+#[tactic(auto, unfolding(wm_machine::specs::Pruned::is_needed))]
+fn is_needed(works: &[Record], number: u64) -> bool
+    ensures { result ≡ is_needed works.now number }
+{
+    works.iter().any(|work| is_open(work.phase) && is_among(work.prior.as_slice(), number))
+}

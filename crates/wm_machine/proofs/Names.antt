@@ -1,0 +1,375 @@
+-- What is owed for an enqueue under a unique name.
+use Rattle.std.proofs.Common.{◌≡◌, ◌≢◌, ◌⊎◌, ◌&&◌, ◌||◌, ℕ, ◌≤◌, Bool, true, false, not, ltb, List, [], ◌∷◌, filter, find, is_some, length, Option, Some, None, option_map, IsSomeAnd, refl, sym, ◌∙◌, ap, subst, arith, inl, inr}
+use Rattle.std.specs.List.{AllByRecursion, list_any}
+use Rattle.std.proofs.Math.Bool.{and-true}
+use Rattle.std.proofs.lemmas.Bool.{cond_both, eq-eqb, false≢true, ltb-false, or_left, or_parts, or_right, true≢false}
+use Rattle.wm_collections.specs.Lists.{AllLater}
+use Rattle.wm_machine.proofs.Cancels.{not_yet_unfinished}
+use Rattle.wm_machine.proofs.Enqueues.{AreBothOneTime, CanFollow, CanFollow-none, CanShare, first_refusal-none, frame-placed, IsOfItsKind, none_found, not_some, passes, PassesChecks, placeable, reached-placed}
+use Rattle.wm_machine.proofs.Groups.{All-made_ready, HasNotSucceeded, length-made_ready, reached-made_ready, with_let_go-none}
+use Rattle.wm_machine.proofs.Lists.{All-any, All-both, All-filter, All-map, All-stored, All-weaker, AllLater-filter, AllLater-map, find-stored, HasOne-weaker, list_any-false, one_gives}
+use Rattle.wm_machine.proofs.Owed.{IsAnswered}
+use Rattle.wm_machine.proofs.Placings.{AllLater-few, bytes_eq-refl, IsOneTime}
+use Rattle.wm_machine.proofs.Updates.{update-reached}
+use Rattle.wm_machine.specs.Built.{AreAsked, AreAskedUnder}
+use Rattle.wm_machine.specs.Cancelled.{reaches_any_run, reaches_run}
+use Rattle.wm_machine.specs.Closed.{is_among}
+use Rattle.wm_machine.specs.Enqueued.{cancelled_by, carried_out, enqueued, made_ready, outcome_by, placed_after, plan_in, refusal_by, refusal_of, refusal_of_placing, stops_run, updated_by}
+use Rattle.wm_machine.specs.Frame.{untouched}
+use Rattle.wm_machine.specs.Group.{is_name, is_prior_of, leaves_of, members_of, numbers_in}
+use Rattle.wm_machine.specs.Narrow.{IsReached}
+use Rattle.wm_machine.specs.Plan as plan
+use Rattle.wm_machine.specs.Plan.{appending, first_of_batch, id_mismatched, is_appending, is_for_periodic, is_lost, is_unfinished, is_unfit, mismatch, Placing, Plan, plan_of, replacing, unfit_work, updating}
+use Rattle.wm_machine.specs.Replied.{Outcome}
+use Rattle.wm_machine.specs.Step.{state_by}
+use Rattle.wm_machine.specs.Updated.{is_same_kind}
+use Rattle.wm_machine.specs.Valid.{HasOne, IsBefore, Valid}
+use Rattle.wm_machine.specs.declared.command.Command.{Command}
+use Rattle.wm_machine.specs.declared.command.Command.TheVariants as command
+use Rattle.wm_machine.specs.declared.command.Policy.{Policy}
+use Rattle.wm_machine.specs.declared.command.Policy.TheVariants as policy
+use Rattle.wm_machine.specs.declared.command.UniqueName.{UniqueName}
+use Rattle.wm_machine.specs.declared.record.Record.{Record}
+use Rattle.wm_machine.specs.declared.reply.Refusal.{Refusal}
+use Rattle.wm_machine.specs.declared.reply.Refusal.TheVariants.{KindMismatch}
+use Rattle.wm_machine.specs.declared.reply.Reply.{Reply}
+use Rattle.wm_machine.specs.declared.state.Run.{Run}
+use Rattle.wm_machine.specs.declared.state.State.{State}
+use Rattle.wm_request.specs.Batches.{BatchFields, is_periodic}
+use Rattle.wm_request.specs.declared.request.Node.{Node}
+use Rattle.wm_schedule.specs.declared.schedule.Period.{Period}
+
+-- ---- what holds where no kind mismatches
+
+pub id_mismatched-none : (found : Option Node) (policy : Policy) (members : List Record) → id_mismatched found policy members ≡ None
+    → (found ≡ None) × AllByRecursion (λ member. is_unfit policy member ≡ false) members
+id_mismatched-none (Some work) policy members none = absurd (cc)
+id_mismatched-none None policy members none = (refl, none_found (is_unfit policy) (λ (member : Record). member.request.id) members none)
+
+-- a batch is of one work alone, or of one-time work
+abbrev IsAloneOrOneTime : List Node → Type 0
+IsAloneOrOneTime works = (length works ≤ 1) ⊎ AllByRecursion (λ work. work.request.period ≡ None) works
+
+none_periodic : (works : List Node) → find is_periodic works ≡ None → AllByRecursion (λ work. work.request.period ≡ None) works
+none_periodic works none =
+    All-weaker (λ work. is_periodic work ≡ false) (λ work. work.request.period ≡ None) works (λ work fails. not_some work.request.period fails)
+    (none_found is_periodic (λ work. work) works (ap (option_map (λ work. work)) none))
+
+kinds_of_batch : (found : Option Node) (policy : Policy) (works : List Node) → find is_periodic works ≡ found → unfit_work found policy works ≡ None
+    → IsAloneOrOneTime works
+kinds_of_batch None policy works is fits = inr (none_periodic works is)
+kinds_of_batch (Some periodic) policy works is fits =
+    cond_both (ltb 1 (length works) || is_appending policy) (Some periodic) None (λ (o : Option Node). o ≡ None → IsAloneOrOneTime works)
+    (λ e some. absurd (cc)) (λ e none. inl (ltb-false 1 (length works) (or_parts (ltb 1 (length works)) (is_appending policy) e).0)) fits
+
+-- what is appended is of one-time work
+appended_one_time : (found : Option Node) (policy : Policy) (works : List Node) → find is_periodic works ≡ found → is_appending policy ≡ true
+    → unfit_work found policy works ≡ None → AllByRecursion (λ work. work.request.period ≡ None) works
+appended_one_time None policy works is appends fits = none_periodic works is
+appended_one_time (Some periodic) policy works is appends fits =
+    cond_both (ltb 1 (length works) || is_appending policy) (Some periodic) None
+    (λ (o : Option Node). o ≡ None → AllByRecursion (λ work. work.request.period ≡ None) works)
+    (λ e some. absurd (cc))
+    (λ e none. absurd (true≢false (sym appends ∙ (or_parts (ltb 1 (length works)) (is_appending policy) e).1))) fits
+
+-- two works of a batch are one-time
+AllLater-each : {T : Type 0} (P : T → Type 0) (R : T → T → Type 0) (xs : List T) → ((x y : T) → P x → P y → R x y) → AllByRecursion P xs → AllLater R xs
+AllLater-each P R [] both all = tt
+AllLater-each P R (x ∷ xs) both all = (All-weaker P (R x) xs (λ y p. both x y all.0 p) all.1, AllLater-each P R xs both all.1)
+
+both_one_time : (name : Option (List ℕ)) (works : List Node) → IsAloneOrOneTime works → AllLater (AreBothOneTime name) works
+both_one_time name works (inl few) = AllLater-few (AreBothOneTime name) works few
+both_one_time name works (inr all) =
+    AllLater-each (λ work. work.request.period ≡ None) (AreBothOneTime name) works (λ one other is too text has. (is, too)) all
+
+-- ---- members
+
+-- a record that has the name is a member
+named_member : (name text : List ℕ) (work : Record) → work.name ≡ Some text → Some name ≡ Some text → is_name name work.name ≡ true
+named_member name text work has is =
+    let same : text ≡ name = cc in
+    ap (is_name name) (has ∙ ap Some same) ∙ bytes_eq-refl name
+
+-- what holds of each that passes a test holds of each of a filter, the other way round
+All-passing : {T : Type 0} (P : T → Type 0) (test : T → Bool) (xs : List T) → AllByRecursion P (filter test xs)
+    → AllByRecursion (λ x. test x ≡ true → P x) xs
+All-passing P test [] all = tt
+All-passing {T} P test (x ∷ xs) all =
+    cond_both (test x) (x ∷ filter test xs) (filter test xs) (λ (l : List T). AllByRecursion P l → AllByRecursion (λ x. test x ≡ true → P x) (x ∷ xs))
+    (λ e both. (λ passes. both.0, All-passing P test xs both.1)) (λ e rest. (λ passes. absurd (true≢false (sym passes ∙ e)), All-passing P test xs rest)) all
+
+pub All-of_filter : {T : Type 0} (P : T → Type 0) (test : T → Bool) (xs : List T) → AllByRecursion P xs → AllByRecursion P (filter test xs)
+All-of_filter P test xs all = All-filter P test xs (All-weaker P (λ x. test x ≡ true → P x) xs (λ x p e. p) all)
+
+number_among : (members : List Record) (work : Record) → HasOne (λ other. other ≡ work) members → is_among (numbers_in members) work.seq ≡ true
+number_among [] work one = absurd one
+number_among (member ∷ members) work (inl is) = or_left _ _ (eq-eqb member.seq work.seq (ap (λ (w : Record). w.seq) is))
+number_among (member ∷ members) work (inr one) = or_right _ _ (number_among members work one)
+
+-- its number is one of the members'
+member_among : (works : List Record) (name : List ℕ)
+    → AllByRecursion (λ work. is_name name work.name ≡ true → is_among (numbers_in (members_of works name)) work.seq ≡ true) works
+member_among works name =
+    let members = members_of works name in
+    All-passing (λ work. is_among (numbers_in members) work.seq ≡ true) (λ work. is_name name work.name) works
+    (All-weaker (λ work. HasOne (λ other. other ≡ work) members) (λ work. is_among (numbers_in members) work.seq ≡ true) members
+    (λ work there. number_among members work there) (All-stored members))
+
+-- ---- the batch is placed in place of the members, or after them
+
+-- what the checks leave of the works of a batch under a unique name
+record AreAccepted (s : State) (name : List ℕ) (works : List Node) (placing : Placing) : Type 0 where
+  asked : AreAskedUnder name works
+  checks : PassesChecks s placing works
+  kinds : IsAloneOrOneTime works
+
+-- unfinished members haven't succeeded
+not_yet_members : (s : State) (name : List ℕ) → Valid s
+    → AllByRecursion (HasNotSucceeded s.works) (numbers_in (filter is_unfinished (members_of s.works name)))
+not_yet_members s name valid =
+    All-map (λ work. HasOne (λ other. other ≡ work) s.works × (is_unfinished work ≡ true)) (HasNotSucceeded s.works) (λ (work : Record). work.seq)
+    (filter is_unfinished (members_of s.works name)) (λ work both. not_yet_unfinished s work valid both.0 both.1)
+    (All-filter (λ work. HasOne (λ other. other ≡ work) s.works × (is_unfinished work ≡ true)) is_unfinished (members_of s.works name)
+    (All-weaker (λ work. HasOne (λ other. other ≡ work) s.works)
+    (λ work. is_unfinished work ≡ true → HasOne (λ other. other ≡ work) s.works × (is_unfinished work ≡ true)) (members_of s.works name)
+    (λ work stored unfinished. (stored, unfinished))
+    (All-of_filter (λ work. HasOne (λ other. other ≡ work) s.works) (λ work. is_name name work.name) s.works (All-stored s.works))))
+
+-- once the members are let go, no record has the name
+abbrev pub HasAnotherName : List ℕ → Record → Type 0
+HasAnotherName name work = (text : List ℕ) → work.name ≡ Some text → Some name ≡ Some text → ⊥
+
+pub name_is_free : (s : State) (name : List ℕ) → AllByRecursion (HasAnotherName name) (made_ready s (replacing (members_of s.works name))).works
+name_is_free s name =
+    let placing = replacing (members_of s.works name) in
+    All-made_ready (λ work. is_name name work.name ≡ true → is_among placing.let_go work.seq ≡ true) (HasAnotherName name) s placing
+    (λ work among named. among named) (λ work e among text has is. absurd (cc))
+    (λ work e among text has is. true≢false (sym (among (named_member name text work has is)) ∙ e)) (member_among s.works name)
+
+reached-replaced : (s : State) (name : List ℕ) (works : List Node) → IsReached s → AreAccepted s name works (replacing (members_of s.works name))
+    → reaches_any_run (replacing (members_of s.works name)).cancel s.works s.runs ≡ false
+    → IsReached (carried_out (plan.Places (replacing (members_of s.works name))) s name works).state
+reached-replaced s name works reached accepted none =
+    let placing = replacing (members_of s.works name) in
+    let t = made_ready s placing in
+    let checks = accepted.checks in
+    let few = length-made_ready s placing in
+    let room = checks.room in
+    reached-placed t (Some name) [] works (reached-made_ready s placing reached (not_yet_members s name reached.valid) none) accepted.asked.name_is
+    (placeable s t.works (Some name) placing works accepted.asked.asked checks
+    (λ P all.
+    All-made_ready (λ work. P work.request) (λ work. P work.request) s placing (λ work p. p) (λ work e p. p) (λ work e p. p) all)
+    (record {
+      records = All-weaker (HasAnotherName name) (λ work. AllByRecursion (IsOfItsKind (Some name) work) works) t.works
+          (λ work other. All-any (IsOfItsKind (Some name) work) works (λ node text has is. absurd (other text has is))) (name_is_free s name);
+      among = both_one_time (Some name) works accepted.kinds;
+    }) (CanFollow-none t.works works)) (omega (arith, few, room)) checks.numbers
+
+-- works can be appended where they and the members are one-time
+record CanAppend (s : State) (name : List ℕ) (works : List Node) : Type 0 where
+  members : AllByRecursion (λ work. is_some work.request.period ≡ false) (members_of s.works name)
+  batch : AllByRecursion (λ work. work.request.period ≡ None) works
+
+shares-appended : (s : State) (name : List ℕ) (works : List Node) → CanAppend s name works → CanShare s.works (Some name) works
+shares-appended s name works can = record {
+  records = All-weaker (λ work. is_name name work.name ≡ true → is_some work.request.period ≡ false)
+      (λ work. AllByRecursion (IsOfItsKind (Some name) work) works) s.works
+      (λ work member.
+      All-weaker (λ node. node.request.period ≡ None) (IsOfItsKind (Some name) work) works
+      (λ node one_time text has is. (not_some work.request.period (member (named_member name text work has is)), one_time)) can.batch)
+      (All-passing (λ work. is_some work.request.period ≡ false) (λ work. is_name name work.name) s.works can.members);
+  among = both_one_time (Some name) works (inr can.batch);
+}
+
+-- the leaves are different one-time records
+follows-appended : (s : State) (name : List ℕ) (works : List Node) → Valid s → CanAppend s name works
+    → CanFollow s.works (numbers_in (leaves_of (members_of s.works name))) works
+follows-appended s name works valid can =
+    let members = members_of s.works name in
+    let is_leaf = λ (work : Record). not (is_prior_of members work) in
+    record {
+      different = AllLater-map IsBefore (λ number later. number ≢ later) (λ (work : Record). work.seq) (leaves_of members)
+          (λ one other before same. let less = before.number in absurd (omega (arith, less, same)))
+          (AllLater-filter IsBefore is_leaf members (AllLater-filter IsBefore (λ work. is_name name work.name) s.works valid.in_order));
+      one_time = All-map (λ work. HasOne (λ other. other ≡ work) s.works × (is_some work.request.period ≡ false))
+          (λ number. HasOne (IsOneTime number) s.works) (λ (work : Record). work.seq) (leaves_of members)
+          (λ work both.
+          HasOne-weaker (λ other. Unit {0}) (λ other. other ≡ work) (IsOneTime work.seq) s.works
+          (λ other u same. (
+            ap (λ (w : Record). w.seq) same,
+            not_some other.request.period (ap (λ (w : Record). is_some w.request.period) same ∙ both.1),
+          )) (All-any (λ other. Unit {0}) s.works (λ other. tt)) both.0)
+          (All-of_filter (λ work. HasOne (λ other. other ≡ work) s.works × (is_some work.request.period ≡ false)) is_leaf members
+          (All-both (λ work. HasOne (λ other. other ≡ work) s.works) (λ work. is_some work.request.period ≡ false) members
+          (All-of_filter (λ work. HasOne (λ other. other ≡ work) s.works) (λ work. is_name name work.name) s.works (All-stored s.works)) can.members));
+      alone = All-weaker (λ node. node.request.period ≡ None)
+          (λ node. (period : Period) → node.request.period ≡ Some period → numbers_in (leaves_of members) ≡ []) works
+          (λ node none period is. absurd (true≢false (sym (ap is_some is) ∙ ap is_some none))) can.batch;
+    }
+
+reached-appended : (s : State) (name : List ℕ) (works : List Node) → IsReached s → AreAccepted s name works (appending (members_of s.works name))
+    → CanAppend s name works → IsReached (carried_out (plan.Places (appending (members_of s.works name))) s name works).state
+reached-appended s name works reached accepted can =
+    let placing = appending (members_of s.works name) in
+    let checks = accepted.checks in
+    let ready : made_ready s placing ≡ s = ap (λ (works : List Record). record s { works = works }) (with_let_go-none s.works) in
+    subst (λ (t : State). IsReached (placed_after t (Some name) placing.after works)) (sym ready)
+    (reached-placed s (Some name) placing.after works reached accepted.asked.name_is
+    (placeable s s.works (Some name) placing works accepted.asked.asked checks (λ P all. all) (shares-appended s name works can)
+    (follows-appended s name works reached.valid can)) checks.room checks.numbers)
+
+-- ---- a member is updated
+
+-- a work that is alone is the periodic one
+pub alone_periodic : (work : Node) (later : List Node) (periodic : Node) → find is_periodic (work ∷ later) ≡ Some periodic → length (work ∷ later) ≤ 1
+    → is_periodic work ≡ true
+alone_periodic work [] periodic found few =
+    cond_both (is_periodic work) (Some work) None (λ (o : Option Node). o ≡ Some periodic → is_periodic work ≡ true) (λ e is. e) (λ e is. absurd (cc)) found
+alone_periodic work (next ∷ later) periodic found few = absurd (omega (arith, few))
+
+pub both_periodic : (one other : Option Period) → is_some one ≡ true → not (is_some other) ≡ false → is_same_kind one other ≡ true
+both_periodic None other is too = absurd (false≢true is)
+both_periodic (Some period) None is too = absurd (true≢false too)
+both_periodic (Some period) (Some another) is too = refl
+
+reached-updated : (s : State) (member : Record) (works : List Node) (found : Option Node) → find is_periodic works ≡ found
+    → unfit_work found policy.Update works ≡ None → is_unfit policy.Update member ≡ false → AreAsked works → IsReached s
+    → HasOne (λ other. other ≡ member) s.works → IsReached (updated_by s member works).state
+reached-updated s member [] found is fits unfit asked reached stored = reached
+reached-updated s member (work ∷ later) None is fits unfit asked reached stored = absurd (cc)
+reached-updated s member (work ∷ later) (Some periodic) is fits unfit asked reached stored =
+    let few =
+    cond_both (ltb 1 (length (work ∷ later)) || false) (Some periodic) None (λ (o : Option Node). o ≡ None → length (work ∷ later) ≤ 1)
+    (λ e some. absurd (cc)) (λ e none. ltb-false 1 (length (work ∷ later)) (or_parts (ltb 1 (length (work ∷ later))) false e).0) fits in
+    update-reached s work.request member asked.requests.0
+    (both_periodic work.request.period member.request.period (alone_periodic work later periodic is few) unfit) reached stored
+
+-- ---- each policy
+
+-- what is owed for a plan: it keeps what holds of the states, where no check refuses the batch and no run would be stopped
+abbrev IsCarriedOut : State → List ℕ → List Node → Option (List ℕ) → Plan → Type 0
+IsCarriedOut s name works mismatched plan =
+    refusal_by plan mismatched s works ≡ None → reaches_any_run (cancelled_by plan) s.works s.runs ≡ false → IsReached (carried_out plan s name works).state
+
+none_mismatched : (id : Option (List ℕ)) → option_map KindMismatch id ≡ None → id ≡ None
+none_mismatched None none = refl
+none_mismatched (Some id) none = absurd (cc)
+
+module _ (s : State) (name : List ℕ) (works : List Node) (asked : AreAskedUnder name works) (reached : IsReached s) where
+  -- the works that have the name
+  abbrev members : List Record
+  members = members_of s.works name
+
+  accepted : (placing : Placing) (by : Policy) → refusal_by (plan.Places placing) (mismatch by members works) s works ≡ None
+      → AreAccepted s name works placing × (mismatch by members works ≡ None)
+  accepted placing by none =
+      let id = mismatch by members works in
+      let first = first_refusal-none (option_map KindMismatch id) (refusal_of_placing s placing works ∷ []) none in
+      let second = first_refusal-none (refusal_of_placing s placing works) [] first.1 in
+      let fits = none_mismatched id first.0 in (
+        record {
+          asked = asked;
+          checks = passes s placing works second.0;
+          kinds = kinds_of_batch (find is_periodic works) by works refl
+              (id_mismatched-none (unfit_work (find is_periodic works) by works) by members fits).0;
+        },
+        fits,
+      )
+
+  replaced : (by : Policy)
+      → IsCarriedOut s name works (mismatch by members works) (plan.Places (replacing members))
+  replaced by none no_run = reached-replaced s name works reached (accepted (replacing members) by none).0 no_run
+
+  appended : (by : Policy) → is_appending by ≡ true → ((work : Record) → is_unfit by work ≡ false → is_some work.request.period ≡ false)
+      → IsCarriedOut s name works (mismatch by members works) (plan.Places (appending members))
+  appended by appends unfit none no_run =
+      let both = accepted (appending members) by none in
+      let fits = id_mismatched-none (unfit_work (find is_periodic works) by works) by members both.1 in
+      reached-appended s name works reached both.0 (record {
+        members = All-weaker (λ work. is_unfit by work ≡ false) (λ work. is_some work.request.period ≡ false) members unfit fits.1;
+        batch = appended_one_time (find is_periodic works) by works refl appends fits.0;
+      })
+
+  updated : (found : Option Record) → find is_unfinished members ≡ found
+      → IsCarriedOut s name works (mismatch policy.Update members works) (updating found members)
+  updated None is none no_run = replaced policy.Update none no_run
+  updated (Some member) is none no_run =
+      let fits = id_mismatched-none (unfit_work (find is_periodic works) policy.Update works) policy.Update members
+      (none_mismatched (mismatch policy.Update members works) none) in
+      let stored = find-stored is_unfinished members member is in
+      reached-updated s member works (find is_periodic works) refl fits.0
+      (one_gives (λ work. is_unfit policy.Update work ≡ false) (λ work. work ≡ member) (is_unfit policy.Update member ≡ false) members
+      (λ work fit same. subst (λ w. is_unfit policy.Update w ≡ false) same fit) fits.1 stored) asked.asked reached
+      (one_gives (λ work. HasOne (λ other. other ≡ work) s.works) (λ work. work ≡ member) (HasOne (λ other. other ≡ member) s.works)
+      members (λ work there same. subst (λ w. HasOne (λ other. other ≡ w) s.works) same there)
+      (All-of_filter (λ work. HasOne (λ other. other ≡ work) s.works) (λ work. is_name name work.name) s.works (All-stored s.works)) stored)
+
+  pub each_policy : (by : Policy) → IsCarriedOut s name works (mismatch by members works) (plan_of by members)
+  each_policy policy.Keep =
+      cond_both (list_any is_unfinished members) plan.Keeps (plan.Places (replacing members))
+      (IsCarriedOut s name works (mismatch policy.Keep members works)) (λ e none no_run. reached) (λ e. replaced policy.Keep)
+  each_policy policy.Replace = replaced policy.Replace
+  each_policy policy.CancelAndReenqueue = replaced policy.CancelAndReenqueue
+  each_policy policy.Append = appended policy.Append refl (λ work fit. fit)
+  each_policy policy.AppendOrReplace =
+      cond_both (list_any (λ work. is_lost work.phase) (leaves_of members)) (replacing members)
+      (appending members)
+      (λ (placing : Placing). IsCarriedOut s name works (mismatch policy.AppendOrReplace members works) (plan.Places placing))
+      (λ e. replaced policy.AppendOrReplace) (λ e. appended policy.AppendOrReplace refl (λ work fit. fit))
+  each_policy policy.Update = updated (find is_unfinished members) refl
+
+-- ---- what is owed
+
+-- no run is stopped where there is none
+pub no_run_stopped : (s : State) (named : Option UniqueName) (works : List Node) → s.runs ≡ [] → stops_run s named works ≡ false
+no_run_stopped s None works no_run = refl
+no_run_stopped s (Some unique) works no_run =
+    let seqs = cancelled_by (plan_in s unique) in
+    let none : reaches_any_run seqs s.works s.runs ≡ false =
+    ap (λ (runs : List Run). reaches_any_run seqs s.works runs) no_run
+    ∙ list_any-false (λ seq. reaches_run seq s.works []) seqs (All-any (λ seq. reaches_run seq s.works [] ≡ false) seqs (λ seq. refl)) in
+    ap (λ b. b && not (is_some (refusal_of s (Some unique) works))) none
+
+not_stopped : (reaches : Bool) (found : Option Refusal) → (reaches && not (is_some found)) ≡ false → found ≡ None → reaches ≡ false
+not_stopped reaches found stops none = sym (and-true reaches) ∙ ap (λ o. reaches && not (is_some o)) (sym none) ∙ stops
+
+reached-named : (s : State) (unique : UniqueName) (works : List Node) (found : Option Refusal) → AreAskedUnder unique.name works → IsReached s
+    → refusal_of s (Some unique) works ≡ found → stops_run s (Some unique) works ≡ false → IsReached (outcome_by found s (Some unique) works).state
+reached-named s unique works (Some found) asked reached is stops = reached
+reached-named s unique works None asked reached is stops =
+    each_policy s unique.name works asked reached unique.policy is
+    (not_stopped (reaches_any_run (cancelled_by (plan_in s unique)) s.works s.runs) (refusal_of s (Some unique) works) stops is)
+
+frame-updated : (s : State) (commands : List Command) (member : Record) (works : List Node)
+    → untouched (updated_by s member works).state commands ≡ untouched s commands
+frame-updated s commands member [] = refl
+frame-updated s commands member (work ∷ works) = refl
+
+frame-carried_out : (s : State) (commands : List Command) (name : List ℕ) (works : List Node) (plan : Plan)
+    → untouched (carried_out plan s name works).state commands ≡ untouched s commands
+frame-carried_out s commands name works plan.Keeps = refl
+frame-carried_out s commands name works (plan.Updates member) = frame-updated s commands member works
+frame-carried_out s commands name works (plan.Places placing) = frame-placed (made_ready s placing) commands (Some name) placing.after works
+
+frame-named : (s : State) (commands : List Command) (unique : UniqueName) (found : Option Refusal) (works : List Node)
+    → untouched (outcome_by found s (Some unique) works).state commands ≡ untouched s commands
+frame-named s commands unique (Some found) works = refl
+frame-named s commands unique None works = frame-carried_out s commands unique.name works (plan_in s unique)
+
+pub enqueue-named-answered : (s : State) (unique : UniqueName) (batch : BatchFields) → AreAskedUnder unique.name batch.works
+    → IsAnswered s (command.Enqueue (Some unique) batch)
+enqueue-named-answered s unique batch asked =
+    let asked_for = command.Enqueue (Some unique) batch in
+    let stops = stops_run s (Some unique) batch.works in
+    let done = enqueued s (Some unique) batch.works in
+    let refused = refusal_of s (Some unique) batch.works in
+    record {
+      answered = λ no_run.
+          cond_both stops None (Some done) (λ (o : Option Outcome). (answer : Reply) × IsSomeAnd o (λ outcome. answer ≡ outcome.reply))
+          (λ e. absurd (true≢false (sym e ∙ no_run_stopped s (Some unique) batch.works no_run))) (λ e. (done.reply, refl));
+      reached = λ reached.
+          cond_both stops None (Some done) (λ (o : Option Outcome). IsReached (state_by s o)) (λ e. reached)
+          (λ e. reached-named s unique batch.works refused asked reached refl e);
+      frame = cond_both stops None (Some done) (λ (o : Option Outcome). untouched (state_by s o) (asked_for ∷ []) ≡ untouched s (asked_for ∷ []))
+          (λ e. refl) (λ e. frame-named s (asked_for ∷ []) unique refused batch.works);
+    }

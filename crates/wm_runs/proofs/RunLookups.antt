@@ -1,0 +1,74 @@
+-- The work of a run, and the run of a number.
+use Rattle.std.proofs.Common.{◌≡◌, ℕ, ◌<◌, true, eqb, List, [], ◌∷◌, ◌++◌, length, find, slice_get, Option, Some, None, MatchOption, refl, sym, ap, subst, arith, inl, inr}
+use Rattle.std.specs.Prelude.{IfSome, IsSomeAnd}
+use Rattle.std.specs.List.{AllByRecursion, position}
+use Rattle.std.proofs.lemmas.Bool.{cases_Bool, eq-eqb, eqb-true, ne_eqb}
+use Rattle.std.proofs.lemmas.Option.{none-some, same_Some}
+use Rattle.wm_machine.proofs.Lists.{find-passes, one_gives}
+use Rattle.wm_machine.proofs.Runnings.{found_narrow, found_valid, WorksAscend, WorksAscend-in_order}
+use Rattle.wm_machine.specs.Narrow.{IsNarrow}
+use Rattle.wm_machine.specs.Runs.{run_numbered}
+use Rattle.wm_machine.specs.Turns.{turned, with_turned}
+use Rattle.wm_machine.specs.Valid.{HasOne, IsValidRun, IsWorkOf, Valid}
+use Rattle.wm_machine.specs.declared.record.Record.{Record}
+use Rattle.wm_machine.specs.declared.state.Run.{Run}
+use Rattle.wm_machine.specs.declared.state.State.{State}
+use Rattle.wm_steps.proofs.Lookups.{searched}
+
+-- the first record of a run's work number is the run's work
+pub find-work : (run : Run) (works : List Record) → WorksAscend works → HasOne (IsWorkOf run) works
+    → IsSomeAnd (find (λ work. eqb work.seq run.seq) works) (IsWorkOf run)
+find-work run [] ascend one = absurd one
+find-work run (first ∷ works) ascend (inl is) =
+    let hit = eq-eqb first.seq run.seq is.seq in
+    rw hit is
+find-work run (first ∷ works) ascend (inr one) =
+    let above : first.seq < run.seq =
+    one_gives (λ later. first.seq < later.seq) (IsWorkOf run) (first.seq < run.seq) works
+    (λ later above is. subst (λ n. first.seq < n) is.seq above) ascend.0 one in
+    let miss = ne_eqb first.seq run.seq (λ e. absurd (omega arith)) in
+    rw miss (find-work run works ascend.1 one)
+
+-- a search by a run's work number gives the run's work
+pub work-searched : (s : State) (run : Run) (found : Option ℕ) → Valid s → IsValidRun s run → run.current ≡ true
+    → found ≡ position (λ w. eqb w.seq run.seq) s.works → MatchOption found ⊥ (λ i. (i < length s.works) × IsSomeAnd (slice_get s.works i) (IsWorkOf run))
+work-searched s run None valid is current at =
+    subst (λ (o : Option Record). IsSomeAnd o (IsWorkOf run)) (searched (λ w. eqb w.seq run.seq) s.works None at)
+    (find-work run s.works (WorksAscend-in_order s.works valid.in_order) (is.work current))
+work-searched s run (Some i) valid is current at =
+    let there = searched (λ (w : Record). eqb w.seq run.seq) s.works (Some i) at in (
+      there.0,
+      subst (λ (o : Option Record). IsSomeAnd o (IsWorkOf run)) there.1
+          (find-work run s.works (WorksAscend-in_order s.works valid.in_order) (is.work current)),
+    )
+
+-- ---- runs
+
+-- the run of a new number is found where it was added
+pub run_numbered-push : (number : ℕ) (runs : List Run) (run : Run) → AllByRecursion (λ other. other.run < number) runs → run.run ≡ number
+    → run_numbered number (runs ++ run ∷ []) ≡ Some run
+run_numbered-push number [] run below is = let hit = eq-eqb run.run number is in rw hit refl
+run_numbered-push number (first ∷ runs) run below is =
+    let miss = ne_eqb first.run number (λ e. absurd (omega (arith, below.0))) in
+    rw miss (run_numbered-push number runs run below.1 is)
+
+-- a run that is found has the number
+pub found-numbered : (number : ℕ) (runs : List Run) (run : Run) → run_numbered number runs ≡ Some run → run.run ≡ number
+found-numbered number runs run found = eqb-true run.run number (find-passes (λ r. eqb r.run number) runs run found)
+
+-- the run of a number is found at its next turn
+pub run_numbered-turned : (number : ℕ) (runs : List Run) (run : Run) → run_numbered number runs ≡ Some run
+    → run_numbered number (with_turned number runs) ≡ Some (turned run)
+run_numbered-turned number [] run found = absurd (none-some run found)
+run_numbered-turned number (first ∷ runs) run found = elim (cases_Bool (eqb first.run number)) [
+  | inl hit ↦
+      let same : first ≡ run = same_Some first run (rw hit at found) in
+      rw (hit, hit) (ap (λ (r : Run). Some (turned r)) same)
+  | inr miss ↦ rw (miss, miss) (run_numbered-turned number runs run (rw miss at found))
+]
+
+-- a run that is found is as all are
+pub found-fine : (s : State) (number : ℕ) (found : Option Run) → Valid s → IsNarrow s → found ≡ run_numbered number s.runs
+    → IfSome found (λ run. IsValidRun s run × (run.current ≡ true))
+found-fine s number None valid narrow is = tt
+found-fine s number (Some run) valid narrow is = (found_valid s number run valid (sym is), found_narrow s number run narrow (sym is))

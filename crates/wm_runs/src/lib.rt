@@ -1,0 +1,17 @@
+//! What each event of a run comes to: the change of its step, built from the state and the graph of
+//! its records alone, with all of it in memory.
+//!
+//! [`claim_first`] builds that of the start of the work that is first, [`next_turn`] that of a run
+//! that goes on, and [`finish`] that of a run's end. Nothing here changes a state.
+#![tactic(auto)]
+
+pub mod finishing;
+mod reach;
+mod reports;
+pub mod starting;
+mod turning;
+
+pub use finishing::{Ending, finish};
+pub use reports::{counts_in, goes_on, run_numbered};
+pub use starting::{Claimed, Claiming, claim_first};
+pub use turning::next_turn;

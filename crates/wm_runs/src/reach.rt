@@ -1,0 +1,137 @@
+//! What the end of a work makes of the records: of the work itself, and of those that it reaches.
+//!
+//! After the guide's page "Chaining work". Which those are is asked of the graph of the records.
+ghost use Rattle.std.specs.Prelude.{◌≡◌, IfOk};
+ghost use Rattle.wm_graph.specs.Marks.{freed_by};
+ghost use Rattle.wm_graph.specs.Nodes.{HasNode};
+ghost use Rattle.wm_runs.specs.Reached.{change_by, end_reach, not_started_reach, reached_by, replaced_by};
+ghost use Rattle.wm_steps.specs.Nodes.{IsUnmarked, reached_from};
+
+use std::alloc::{AllocError, Global};
+use wm_collections::{Items, Replica};
+use wm_graph::Graph;
+use wm_lifecycle::{closed, freed};
+use wm_machine::{End, How, Record, State};
+use wm_query::is_waiting;
+use wm_steps::{Replacement, is_among, is_open, put_at};
+
+/// What the end of a work makes of the other records.
+#[derive(Drop)]
+pub enum Reach {
+    /// They stay as they are.
+    Stays,
+    /// Those of these numbers that are unfinished are finished in this way.
+    Closes { how: How, numbers: Items<u64> },
+    /// Those of these numbers that wait are free from this moment on.
+    Frees { numbers: Items<u64>, now: u64 },
+}
+
+/// What the end of a run of a work reaches.
+pub fn end_reach(
+    graph: &Graph,
+    state: &State,
+    work: &Record,
+    end: &End,
+) -> Result<Reach, AllocError>
+    requires { IsUnmarked graph.now work.now.seq }
+    ensures { IfOk result (λ reach. reach
+        ≡ end_reach work.entry.now.request.period state.entry.now.now work.entry.now.seq end.now graph.entry.now) }
+{
+    match end {
+        End::Retry => Ok(Reach::Stays),
+        End::Success(_) | End::Failure(_) if work.request.period().is_some() => Ok(Reach::Stays),
+        End::Success(_) => freeing(graph, work.seq, state.now),
+        End::Failure(_) => closing(graph, work.seq, How::Failed),
+    }
+}
+
+/// What a failed start of a work reaches.
+pub fn not_started_reach(graph: &Graph, work: &Record) -> Result<Reach, AllocError>
+    requires { HasNode graph.now work.now.seq }
+    ensures { IfOk result (λ reach. reach
+        ≡ not_started_reach work.entry.now.request.period work.entry.now.seq graph.entry.now) }
+{
+    if work.request.period().is_some() {
+        Ok(Reach::Stays)
+    } else {
+        closing(graph, work.seq, How::Failed)
+    }
+}
+
+/// The closing of the descendants of a work.
+pub fn closing(graph: &Graph, seq: u64, how: How) -> Result<Reach, AllocError>
+    requires { HasNode graph.now seq }
+    ensures { IfOk result (λ reach. reach
+        ≡ Reach.Closes how (reached_from seq graph.entry.now)) }
+{
+    let numbers = Items::from_vec(graph.descendants(seq)?);
+    Ok(Reach::Closes { how, numbers })
+}
+
+/// The freeing of those that have a work, which hasn't succeeded, as their last missing
+/// prerequisite.
+fn freeing(graph: &Graph, seq: u64, now: u64) -> Result<Reach, AllocError>
+    requires { IsUnmarked graph.now seq }
+    ensures { IfOk result (λ reach. reach ≡ Reach.Frees (freed_by graph.entry.now seq) now) }
+{
+    let numbers = Items::from_vec(graph.frees(seq)?);
+    Ok(Reach::Frees { numbers, now })
+}
+
+/// The records that take the place of others where a work comes to an end: the work itself, and
+/// those that it reaches.
+pub fn replaced_by(
+    alloc: Global,
+    itself: &Record,
+    reach: &Reach,
+    works: &[Record],
+) -> Result<Items<Replacement>, AllocError>
+    ensures { IfOk result (λ replaced. replaced
+        ≡ replaced_by itself.entry.now reach.entry.now works.entry.now) }
+{
+    let mut replaced = Items::new(alloc);
+    for (index, work) in works.iter().enumerate() {
+        let changed = change_by(alloc, itself, reach, work)?;
+        put_at(&mut replaced, index, changed)?;
+    }
+    Ok(replaced)
+}
+
+/// What becomes of one of the records.
+fn change_by(
+    alloc: Global,
+    itself: &Record,
+    reach: &Reach,
+    work: &Record,
+) -> Result<Option<Record>, AllocError>
+    ensures { IfOk result (λ changed. changed
+        ≡ change_by itself.entry.now reach.entry.now work.entry.now) }
+{
+    if work.seq == itself.seq {
+        return Ok(Some(itself.replica(alloc)?));
+    }
+    reached_by(alloc, reach, work)
+}
+
+/// What becomes of another record; nothing where it stays.
+fn reached_by(alloc: Global, reach: &Reach, work: &Record) -> Result<Option<Record>, AllocError>
+    ensures { IfOk result (λ changed. changed ≡ reached_by reach.entry.now work.entry.now) }
+{
+    match reach {
+        Reach::Stays => Ok(None),
+        Reach::Closes { how, numbers } => {
+            if is_open(work.phase) && is_among(numbers.as_slice(), work.seq) {
+                Ok(Some(closed(alloc, work, *how)?))
+            } else {
+                Ok(None)
+            }
+        }
+        Reach::Frees { numbers, now } => {
+            if is_waiting(work.phase) && is_among(numbers.as_slice(), work.seq) {
+                Ok(Some(freed(alloc, work, *now)?))
+            } else {
+                Ok(None)
+            }
+        }
+    }
+}

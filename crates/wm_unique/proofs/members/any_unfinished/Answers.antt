@@ -1,0 +1,7 @@
+use Rattle.std.proofs.Common.{◌∙◌}
+use Rattle.wm_machine.specs.Plan.{is_unfinished}
+use Rattle.wm_unique.proofs.Numbered.{any_numbered}
+use Rattle.wm_unique.proofs.members.any_unfinished.Goals as goal
+
+pub returns : goal.returns
+returns c = c.any_number_unfinished.ensures ∙ any_numbered is_unfinished c.args.works.now c.args.group.now c.requires.in_order c.requires.group
