@@ -1,11 +1,7 @@
 //! The checks of an enqueue, of `wm_unique`, where several of them refuse a batch.
-ghost use Rattle.std.specs.Prelude.{◌≡◌, ◌^◌, ◌≤◌, ◌||◌, filter, length, IfOk};
-ghost use Rattle.std.specs.Str.{bytes_eq};
+ghost use Rattle.std.specs.Prelude.{◌≡◌, ◌^◌, ◌≤◌, length, IfOk};
 ghost use Rattle.wm_collections.specs.Lists.{AllLater};
-ghost use Rattle.wm_machine.specs.Group.{numbers_in};
 ghost use Rattle.wm_machine.specs.Valid.{IsBefore};
-ghost use Rattle.wm_request.specs.Batches.{has_id};
-ghost use Rattle.wm_unique.specs.Plans.{is_named_by, names_id};
 
 use crate::unique::{group, record, request};
 use std::alloc::Global;
@@ -15,7 +11,7 @@ use uuid::Uuid;
 use wm_collections::Items;
 use wm_machine::{Phase, Record, Refusal};
 use wm_request::{Batch, Node};
-use wm_unique::{GroupPlan, check};
+use wm_unique::{GroupPlan, check, named_by};
 
 /// The number after the greatest that a work has.
 const NUMBERS_END: u64 = 1 << 53;
@@ -46,40 +42,6 @@ fn records(alloc: Global, count: u64) -> Result<Items<Record>, Fail>
         works.push(record(alloc, index + 1, Phase::Waiting, &[])?)?;
     }
     Ok(works)
-}
-
-/// Whether an id is one of these.
-fn has_id(ids: &[Uuid], id: Uuid) -> bool
-    ensures { result ≡ has_id ids.now id }
-{
-    ids.iter().any(|one| *one == id)
-}
-
-/// Whether a work has this id or comes after it.
-fn has_or_follows(node: &Node, id: Uuid) -> bool
-    ensures { result ≡ (bytes_eq node.now.request.id id || has_id node.now.after id) }
-{
-    node.request.id() == id || has_id(node.after.as_slice(), id)
-}
-
-/// Whether a work of a batch has this id or comes after it.
-fn names_id(nodes: &[Node], id: Uuid) -> bool
-    ensures { result ≡ names_id nodes.now id }
-{
-    nodes.iter().any(|node| has_or_follows(node, id))
-}
-
-/// The numbers of the records that a batch names.
-fn named_by(alloc: Global, works: &[Record], nodes: &[Node]) -> Result<Items<u64>, Fail>
-    ensures { IfOk result (λ numbers. numbers ≡ numbers_in (filter (is_named_by nodes.now) works.now)) }
-{
-    let mut numbers = Items::new(alloc);
-    for work in works {
-        if names_id(nodes, work.request.id()) {
-            numbers.push(work.seq)?;
-        }
-    }
-    Ok(numbers)
 }
 
 /// The name of a refusal, and the number or the id that it tells.

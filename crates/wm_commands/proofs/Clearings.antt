@@ -1,18 +1,19 @@
 -- Works that are cancelled one after another, and others that are let go then: what becomes of each record, and the change that makes it so.
-use Rattle.std.proofs.Common.{◌≡◌, ◌&&◌, ◌||◌, ℕ, ◌<◌, Bool, true, false, not, cond, eqb, List, [], ◌∷◌, map, filter, Option, Some, None, refl, sym, ◌∙◌, ap, subst, arith, inl, inr}
+use Rattle.std.proofs.Common.{◌≡◌, ◌&&◌, ◌||◌, ℕ, ◌<◌, Bool, true, false, not, cond, eqb, List, [], ◌∷◌, map, filter, Option, Some, None, refl, sym, ◌∙◌, ap, arith, inl, inr}
 use Rattle.std.specs.List.{AllByRecursion, list_any}
 use Rattle.std.specs.Prelude.{reverse}
-use Rattle.std.proofs.lemmas.Bool.{and_parts, cases_Bool, cond_both, eq-eqb, eqb-false, eqb-true, ne_eqb, or_parts}
+use Rattle.std.proofs.lemmas.Bool.{and_parts, and_right, cases_Bool, cond_both, eq-eqb, eqb-false, eqb-true, ne_eqb, or_left, or_parts}
 use Rattle.std.proofs.lemmas.Simd.{map-map}
 use Rattle.wm_collections.specs.Lists.{AllLater}
-use Rattle.wm_commands.specs.Cleared.{becomes_cancelled, cancelled_in, cleared, cleared_by, clearing_of, descendants_of_any, is_needed_then, is_removed, is_touched, phase_then, reached_from_any, removed_by, replaced_by_clearing, stays, with_cleared}
+use Rattle.wm_commands.specs.Cleared.{becomes_cancelled, cancelled_in, cleared, cleared_by, clearing_of, descendants_of_any, is_needed_then, is_removed, is_touched, phase_then, reached_from_any, replaced_by_clearing, stays, with_cleared}
 use Rattle.wm_commands.specs.declared.clearing.Clearing.{Clearing}
 use Rattle.wm_machine.proofs.Groups.{closed_by, each_closed-at_once}
-use Rattle.wm_machine.proofs.Lists.{All-any, All-stored, All-weaker, filter-all, map-same, one_gives}
+use Rattle.wm_machine.proofs.Lists.{All-any, All-both, All-weaker, filter-all, map-same}
+use Rattle.wm_machine.proofs.Runnings.{WorksAscend, WorksAscend-in_order}
 use Rattle.wm_machine.specs.Closed.{closed, descendants, is_among, is_open, is_reached, with_each_closed}
 use Rattle.wm_machine.specs.Group.{is_dropped, numbers_in, unnamed, with_let_go}
 use Rattle.wm_machine.specs.Pruned.{is_needed, removable}
-use Rattle.wm_machine.specs.Valid.{HasOne, IsBefore}
+use Rattle.wm_machine.specs.Valid.{IsBefore}
 use Rattle.wm_machine.specs.declared.record.How.TheVariants as how
 use Rattle.wm_machine.specs.declared.record.Phase.TheVariants as phase
 use Rattle.wm_machine.specs.declared.record.Record.{Record}
@@ -21,6 +22,7 @@ use Rattle.wm_steps.proofs.Nodes.{open_not_succeeded, among-reverse}
 use Rattle.wm_steps.specs.Nodes.{KeepsNode}
 use Rattle.wm_steps.specs.Replacements.{or_same}
 use Rattle.wm_steps.specs.StepChanges.{other_works, with_replaced, without}
+use Rattle.wm_unique.proofs.Numbered.{filter_same}
 
 -- ---- tests
 
@@ -52,10 +54,6 @@ and-out : (a b c : Bool) → ((a && b) || (a && c)) ≡ (a && (b || c))
 and-out true b c = refl
 and-out false b c = refl
 
-and-false : (b : Bool) → (b && false) ≡ false
-and-false true = refl
-and-false false = refl
-
 -- one of two tests
 any-or : {T : Type 0} (test other : T → Bool) (xs : List T) → list_any (λ x. test x || other x) xs ≡ (list_any test xs || list_any other xs)
 any-or test other [] = refl
@@ -68,7 +66,7 @@ any-and test b [] = refl
 any-and test b (x ∷ xs) = ap (λ rest. (test x && b) || rest) (any-and test b xs) ∙ and-over (test x) (list_any test xs) b
 
 any-under : {T : Type 0} (test : T → Bool) (b : Bool) (xs : List T) → list_any (λ x. b && test x) xs ≡ (b && list_any test xs)
-any-under test b [] = sym (and-false b)
+any-under test b [] = sym (and_right b false refl)
 any-under test b (x ∷ xs) = ap (λ rest. (b && test x) || rest) (any-under test b xs) ∙ and-out b (test x) (list_any test xs)
 
 none-any : {T : Type 0} (xs : List T) → list_any (λ x. false) xs ≡ false
@@ -182,10 +180,6 @@ filter-map {T} {U} keep f (x ∷ xs) =
     (λ e. ap (λ b. cond b (f x ∷ filter keep (map f xs)) (filter keep (map f xs))) e ∙ ap (λ rest. f x ∷ rest) (filter-map keep f xs))
     (λ e. ap (λ b. cond b (f x ∷ filter keep (map f xs)) (filter keep (map f xs))) e ∙ filter-map keep f xs)
 
-pub filter-same : {T : Type 0} (keep other : T → Bool) (xs : List T) → AllByRecursion (λ x. keep x ≡ other x) xs → filter keep xs ≡ filter other xs
-filter-same keep other [] same = refl
-filter-same keep other (x ∷ xs) same = rw (same.0, filter-same keep other xs same.1) refl
-
 pub filter-filter : {T : Type 0} (first second : T → Bool) (xs : List T) → filter second (filter first xs) ≡ filter (λ x. first x && second x) xs
 filter-filter first second [] = refl
 filter-filter {T} first second (x ∷ xs) =
@@ -215,38 +209,38 @@ not_later test number (work ∷ works) above =
     (ne_eqb work.seq number (λ same. let less = above.0 in absurd (omega (arith, less, same))))
     ∙ not_later test number works above.1) (λ e. not_later test number works above.1)
 
-above_stored : (number : ℕ) (works : List Record) (work : Record) → AllByRecursion (λ later. number < later.seq) works → HasOne (λ other. other ≡ work) works
-    → number < work.seq
-above_stored number works work above stored =
-    one_gives (λ later. number < later.seq) (λ other. other ≡ work) (number < work.seq) works
-    (λ other less is. subst (λ (w : Record). number < w.seq) is less) above stored
+-- whether a record passes is told by the numbers of some of those that do
+abbrev AreTold : (Record → Bool) → List Record → List Record → Type 0
+AreTold test passing works = AllByRecursion (λ work. is_among (numbers_in passing) work.seq ≡ test work) works
 
--- a record has one of the numbers of those that pass a test exactly where it passes
-pub number-passes : (test : Record → Bool) (works : List Record) (work : Record) → AllLater IsBefore works → HasOne (λ other. other ≡ work) works
-    → is_among (numbers_in (filter test works)) work.seq ≡ test work
-number-passes test [] work order stored = absurd stored
-number-passes test (first ∷ works) work order (inl is) =
-    let later = not_later test first.seq works (All-weaker (IsBefore first) (λ later. first.seq < later.seq) works (λ later before. before.number) order.0) in
-    let here : is_among (numbers_in (filter test (first ∷ works))) first.seq ≡ test first =
-    cond_both (test first) (first ∷ filter test works) (filter test works) (λ (l : List Record). is_among (numbers_in l) first.seq ≡ test first)
-    (λ e. ap (λ b. b || is_among (numbers_in (filter test works)) first.seq) (eq-eqb first.seq first.seq refl) ∙ sym e)
-    (λ e. later ∙ sym e) in
-    ap (λ (w : Record). is_among (numbers_in (filter test (first ∷ works))) w.seq) (sym is) ∙ here ∙ ap test is
-number-passes test (first ∷ works) work order (inr stored) =
-    let rest = number-passes test works work order.1 stored in
-    let differs : eqb first.seq work.seq ≡ false = ne_eqb first.seq work.seq (λ same.
-    let above = All-weaker (IsBefore first) (λ later. first.seq < later.seq) works (λ later before. before.number) order.0 in
-    let less = above_stored first.seq works work above stored in absurd (omega (arith, less, same))) in
-    cond_both (test first) (first ∷ filter test works) (filter test works) (λ (l : List Record). is_among (numbers_in l) work.seq ≡ test work)
-    (λ e. ap (λ b. b || is_among (numbers_in (filter test works)) work.seq) differs ∙ rest) (λ e. rest)
+-- by one more where that is an earlier one
+told-later : (test : Record → Bool) (work : Record) (passing works : List Record) → AllByRecursion (λ later. work.seq < later.seq) works
+    → AreTold test passing works → AreTold test (work ∷ passing) works
+told-later test work passing works above told =
+    All-weaker (λ later. (work.seq < later.seq) × (is_among (numbers_in passing) later.seq ≡ test later))
+    (λ later. is_among (numbers_in (work ∷ passing)) later.seq ≡ test later) works
+    (λ later both.
+    ap (λ b. b || is_among (numbers_in passing) later.seq) (ne_eqb work.seq later.seq (λ same. let less = both.0 in absurd (omega (arith, less, same))))
+    ∙ both.1) (All-both (λ later. work.seq < later.seq) (λ later. is_among (numbers_in passing) later.seq ≡ test later) works above told)
 
--- so the numbers of those that are removed say of each record whether it is
-pub removed-numbers : (cancelled let_go : List ℕ) (works : List Record) → AllLater IsBefore works
-    → AllByRecursion (λ work. is_among (removed_by cancelled let_go works) work.seq ≡ is_removed cancelled let_go works work) works
-removed-numbers cancelled let_go works order =
-    All-weaker (λ work. HasOne (λ other. other ≡ work) works)
-    (λ work. is_among (removed_by cancelled let_go works) work.seq ≡ is_removed cancelled let_go works work) works
-    (λ work stored. number-passes (is_removed cancelled let_go works) works work order stored) (All-stored works)
+-- and by those of all
+passing-told : (test : Record → Bool) (works : List Record) → WorksAscend works → AreTold test (filter test works) works
+passing-told test [] ascend = tt
+passing-told test (work ∷ works) ascend =
+    let passing = filter test works in
+    let told = passing-told test works ascend.1 in
+    cond_both (test work) (work ∷ passing) passing (λ (l : List Record). AreTold test l (work ∷ works))
+    (λ e. (or_left _ _ (eq-eqb work.seq work.seq refl) ∙ sym e, told-later test work passing works ascend.0 told))
+    (λ e. (not_later test work.seq works ascend.0 ∙ sym e, told))
+
+-- so the records of other numbers are those that don't pass
+pub stays-passing : (test : Record → Bool) (works : List Record) → AllLater IsBefore works
+    → filter (stays (numbers_in (filter test works))) works ≡ filter (λ work. not (test work)) works
+stays-passing test works order =
+    filter_same (stays (numbers_in (filter test works))) (λ work. not (test work)) works
+    (All-weaker (λ work. is_among (numbers_in (filter test works)) work.seq ≡ test work)
+    (λ work. stays (numbers_in (filter test works)) work ≡ not (test work)) works (λ work same. ap not same)
+    (passing-told test works (WorksAscend-in_order works order)))
 
 -- ---- the records made ready
 
@@ -257,14 +251,14 @@ made_ready-cleared works cancel let_go order =
     let cancelled = reached_from_any cancel works in
     let change = cancelled_in cancelled in
     let gone = is_dropped let_go (map change works) in
-    let removed = removed_by cancelled let_go works in
     ap (with_let_go let_go) (cancelled-each cancel works)
     ∙ ap (map (unnamed let_go)) (filter-map (λ work. not (gone work)) change works)
     ∙ map-map (unnamed let_go) change (filter (λ work. not (gone (change work))) works)
     ∙ ap (map (λ work. unnamed let_go (change work)))
-    (filter-same (λ work. not (gone (change work))) (stays removed) works
-    (All-weaker (λ work. is_among removed work.seq ≡ is_removed cancelled let_go works work) (λ work. not (gone (change work)) ≡ stays removed work) works
-    (λ work is. ap not (dropped-then cancelled let_go works work ∙ sym is)) (removed-numbers cancelled let_go works order)))
+    (filter_same (λ work. not (gone (change work))) (λ work. not (is_removed cancelled let_go works work)) works
+    (All-any (λ work. not (gone (change work)) ≡ not (is_removed cancelled let_go works work)) works
+    (λ work. ap not (dropped-then cancelled let_go works work)))
+    ∙ sym (stays-passing (is_removed cancelled let_go works) works order))
 
 -- ---- the change
 
@@ -321,7 +315,7 @@ untouched-same clearing work none =
     sym (ap (unnamed clearing.unnamed) open_same ∙ ap (λ b. cond b (record work { name = None }) work) parts.0)
 
 -- what takes the place of a record that stays is what becomes of it
-pub kept-cleared : (clearing : Clearing) (work : Record) → stays clearing.removed work ≡ true → after_change (cleared_by clearing) work ≡ cleared clearing work
+kept-cleared : (clearing : Clearing) (work : Record) → stays clearing.removed work ≡ true → after_change (cleared_by clearing) work ≡ cleared clearing work
 kept-cleared clearing work kept =
     let changes = is_among clearing.unnamed work.seq || becomes_cancelled clearing.cancelled work in
     ap (λ b. or_same work (cond (b && changes) (Some (cleared clearing work)) None)) kept
@@ -337,7 +331,7 @@ pub without-stays : (numbers : List ℕ) (works : List Record) → without numbe
 without-stays [] works = sym (filter-all (stays []) works (λ work. refl))
 without-stays (number ∷ numbers) works =
     without-stays numbers (other_works number works) ∙ filter-filter (λ work. not (eqb work.seq number)) (stays numbers) works
-    ∙ filter-same (λ work. not (eqb work.seq number) && stays numbers work) (stays (number ∷ numbers)) works
+    ∙ filter_same (λ work. not (eqb work.seq number) && stays numbers work) (stays (number ∷ numbers)) works
     (All-any (λ work. (not (eqb work.seq number) && stays numbers work) ≡ stays (number ∷ numbers) work) works
     (λ work. ap (λ b. not b && stays numbers work) (eqb-swap work.seq number) ∙ not-or (eqb number work.seq) (is_among numbers work.seq)))
 
@@ -350,7 +344,7 @@ cleared-in_place clearing works =
     ∙ without-stays clearing.removed (map change works)
     ∙ filter-map (stays clearing.removed) change works
     ∙ ap (map change)
-    (filter-same (λ work. stays clearing.removed (change work)) (stays clearing.removed) works
+    (filter_same (λ work. stays clearing.removed (change work)) (stays clearing.removed) works
     (All-any (λ work. stays clearing.removed (change work) ≡ stays clearing.removed work) works
     (λ work. ap (λ number. not (is_among clearing.removed number)) (clearing-node clearing work).seq)))
     ∙ map-kept change (cleared clearing) (stays clearing.removed) works (λ work kept. kept-cleared clearing work kept)

@@ -1,11 +1,10 @@
-pub mod Cancelling
 pub mod CheckedBatches
 pub mod Clearings
+pub mod ClearingSteps
 pub mod DescendantScans
 pub mod Enqueueing
 pub mod Executions
 pub mod MemberUpdates
 pub mod NamedPlans
 pub mod Placings
-pub mod Pruning
 pub mod Updating

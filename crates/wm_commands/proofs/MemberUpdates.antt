@@ -1,26 +1,26 @@
 -- The work of a unique name that is updated: it is there, and the first work of the batch is of its kind.
-use Rattle.std.proofs.Common.{◌≡◌, ◌||◌, ℕ, ◌≤◌, true, false, find, ltb, List, [], ◌∷◌, length, slice_get, Option, Some, None, refl, sym, ◌∙◌, ap, subst, arith, ◌<◌, inl, inr}
+use Rattle.std.proofs.Common.{◌≡◌, ◌||◌, ℕ, ◌≤◌, true, false, find, ltb, List, [], ◌∷◌, length, slice_get, Option, Some, None, refl, sym, ◌∙◌, ap, subst}
 use Rattle.std.specs.List.{AllByRecursion, list_any}
-use Rattle.std.specs.Prelude.{IsSomeAnd}
-use Rattle.std.proofs.lemmas.Bool.{cond_both, eq-eqb, ltb-false, ne_eqb, or_parts}
+use Rattle.std.specs.Prelude.{option_map, IsSomeAnd}
+use Rattle.std.proofs.lemmas.Bool.{cond_both, ltb-false, or_parts}
+use Rattle.wm_collections.specs.Lists.{AllLater}
 use Rattle.wm_commands.proofs.CheckedBatches.{outcome-enqueued}
-use Rattle.wm_commands.proofs.NamedPlans.{updated-outcome}
+use Rattle.wm_commands.proofs.NamedPlans.{group-members, updated-outcome}
 use Rattle.wm_commands.proofs.Updating.{updating-executed}
 use Rattle.wm_commands.specs.Builds.{IsExecuted, IsUpdating}
 use Rattle.wm_commands.specs.Planned.{kind_refused_in}
 use Rattle.wm_commands.specs.declared.executed.Executed.{Executed}
-use Rattle.wm_machine.proofs.Lists.{All-stored, find-stored, one_gives}
-use Rattle.wm_machine.proofs.Names.{alone_periodic, both_periodic, id_mismatched-none, All-of_filter}
-use Rattle.wm_machine.proofs.Runnings.{WorksAscend, WorksAscend-in_order}
+use Rattle.wm_machine.proofs.Lists.{find-stored, one_gives}
+use Rattle.wm_machine.proofs.Names.{alone_periodic, both_periodic, id_mismatched-none}
 use Rattle.wm_machine.specs.Built.{AreAskedUnder}
 use Rattle.wm_machine.specs.Enqueued.{plan_in}
-use Rattle.wm_machine.specs.Group.{is_name, members_of}
+use Rattle.wm_machine.specs.Group.{members_of, numbers_in}
 use Rattle.wm_machine.specs.Input.{work_numbered}
 use Rattle.wm_machine.specs.Plan.{first_of_batch, is_unfinished, is_unfit, mismatch, plan_of, replacing, unfit_work, updating, Plan}
 use Rattle.wm_machine.specs.Plan as plan
 use Rattle.wm_machine.specs.Replied.{Outcome}
 use Rattle.wm_machine.specs.Updated.{is_same_kind}
-use Rattle.wm_machine.specs.Valid.{HasOne, Valid}
+use Rattle.wm_machine.specs.Valid.{HasOne, IsBefore, Valid}
 use Rattle.wm_machine.specs.declared.command.Command.TheVariants as command
 use Rattle.wm_machine.specs.declared.command.Policy.{Policy}
 use Rattle.wm_machine.specs.declared.command.Policy.TheVariants as policy
@@ -31,6 +31,7 @@ use Rattle.wm_request.specs.Batches.{is_periodic}
 use Rattle.wm_request.specs.Requests.{IsRequest, RequestFields}
 use Rattle.wm_request.specs.declared.request.Batch.{Batch}
 use Rattle.wm_request.specs.declared.request.Node.{Node}
+use Rattle.wm_unique.proofs.Numbered.{numbered_found}
 use Rattle.wm_unique.specs.Plans.{plan_fields, refused_kind}
 
 -- ---- what is planned
@@ -64,27 +65,13 @@ updates-is (plan.Places placing) number is = absurd (cc)
 
 -- ---- where it is
 
-numbered-first : (work : Record) (works : List Record) → work_numbered work.seq (work ∷ works) ≡ Some work
-numbered-first work works = let hit = eq-eqb work.seq work.seq refl in rw hit refl
-
--- each record is found by its number
-numbered-stored : (works : List Record) (work : Record) → WorksAscend works → HasOne (λ other. other ≡ work) works → work_numbered work.seq works ≡ Some work
-numbered-stored [] work ascend stored = absurd stored
-numbered-stored (first ∷ works) work ascend (inl is) = subst (λ w. work_numbered w.seq (first ∷ works) ≡ Some w) is (numbered-first first works)
-numbered-stored (first ∷ works) work ascend (inr stored) =
-    let above =
-    one_gives (λ later. first.seq < later.seq) (λ other. other ≡ work) (first.seq < work.seq) works
-    (λ other less is. subst (λ (w : Record). first.seq < w.seq) is less) ascend.0 stored in
-    let miss = ne_eqb first.seq work.seq (λ e. absurd (omega (arith, above, e))) in
-    rw miss (numbered-stored works work ascend.1 stored)
-
--- a member is one of the records
-member-stored : (works : List Record) (name : List ℕ) (member : Record) → HasOne (λ other. other ≡ member) (members_of works name)
-    → HasOne (λ other. other ≡ member) works
-member-stored works name member stored =
-    one_gives (λ work. HasOne (λ other. other ≡ work) works) (λ other. other ≡ member) (HasOne (λ other. other ≡ member) works) (members_of works name)
-    (λ work there is. subst (λ w. HasOne (λ other. other ≡ w) works) is there)
-    (All-of_filter (λ work. HasOne (λ other. other ≡ work) works) (λ work. is_name name work.name) works (All-stored works)) stored
+-- the first unfinished work of a name is found by its number
+first_member-found : (works : List Record) (name : List ℕ) (member : Record) → AllLater IsBefore works
+    → find is_unfinished (members_of works name) ≡ Some member → work_numbered member.seq works ≡ Some member
+first_member-found works name member order is =
+    let group = numbers_in (members_of works name) in
+    let found = ap (find is_unfinished) (group-members works name group order refl) ∙ is in
+    numbered_found is_unfinished works group member.seq order (sym (ap (option_map (λ (work : Record). work.seq)) found)) ∙ found
 
 -- ---- of which kind
 
@@ -131,7 +118,7 @@ member-updated s unique works number valid is fits =
       member = member;
       planned = planned.planned_is;
       found = ap (λ n. work_numbered n s.works) planned.number_is
-          ∙ numbered-stored s.works member (WorksAscend-in_order s.works valid.in_order) (member-stored s.works unique.name member stored);
+          ∙ first_member-found s.works unique.name member valid.in_order by.1;
       kind = λ work later same.
           both_periodic work.request.period member.request.period
           (first-periodic (find is_periodic (work ∷ later)) work later refl
@@ -145,10 +132,8 @@ pub member-there : (s : State) (unique : UniqueName) (number : ℕ) → (plan_fi
 member-there s unique number is valid none =
     let planned = updates-is (plan_in s unique) number is in
     let by = updates-policy unique.policy (members_of s.works unique.name) planned.member planned.planned_is in
-    let stored = find-stored is_unfinished (members_of s.works unique.name) planned.member by.1 in
     let found =
-    ap (λ n. work_numbered n s.works) planned.number_is
-    ∙ numbered-stored s.works planned.member (WorksAscend-in_order s.works valid.in_order) (member-stored s.works unique.name planned.member stored) in
+    ap (λ n. work_numbered n s.works) planned.number_is ∙ first_member-found s.works unique.name planned.member valid.in_order by.1 in
     absurd (cc)
 
 some-same : (one other : Record) → Some one ≡ Some other → one ≡ other

@@ -1,13 +1,14 @@
 -- The records of a batch that are placed one after another, and those that they are placed after.
-use Rattle.std.proofs.Common.{◌≡◌, ◌≢◌, ℕ, ◌+◌, ◌<◌, pos, Bool, true, false, cond, eqb, List, [], ◌∷◌, ◌++◌, append_assoc, drop, filter, get_or, length, length-append, map, take, ◌&&◌, ◌||◌, Option, refl, sym, ◌∙◌, ap, arith, inl, inr}
+use Rattle.std.proofs.Common.{◌≡◌, ◌≢◌, ℕ, ◌+◌, ◌<◌, pos, Bool, true, false, eqb, List, [], ◌∷◌, ◌++◌, append_assoc, drop, filter, get_or, length, length-append, map, take, ◌&&◌, ◌||◌, Option, refl, sym, ◌∙◌, ap, arith, inl, inr}
 use Rattle.std.specs.List.{AllByRecursion, list_any}
 use Rattle.std.proofs.lemmas.Bool.{and_parts, cond_both, false≢true, or_cases, or_left, or_right}
 use Rattle.std.proofs.lemmas.Int.{ints}
 use Rattle.std.proofs.lemmas.List.{drop_more, flat_map_more, map-append, take_more}
+use Rattle.std.proofs.lemmas.List.Elements.{filter-append}
 use Rattle.std.proofs.lemmas.List.Folds.{list_any-append}
 use Rattle.std.proofs.lemmas.Simd.{map-map}
 use Rattle.std.specs.Str.{bytes_eq}
-use Rattle.wm_commands.proofs.Clearings.{any-ext, any-map, cleared-id, cleared-number, cleared-phase, filter-filter, filter-map, filter-same}
+use Rattle.wm_commands.proofs.Clearings.{any-ext, any-map, cleared-id, cleared-number, cleared-phase, filter-filter, filter-map}
 use Rattle.wm_commands.specs.Cleared.{cleared, phase_then, stays, with_cleared}
 use Rattle.wm_commands.specs.Placed.{is_done, is_then, placed_record, placed_records, with_placed}
 use Rattle.wm_commands.specs.declared.clearing.Clearing.{Clearing}
@@ -25,6 +26,7 @@ use Rattle.wm_steps.proofs.Nodes.{there-each}
 use Rattle.wm_steps.proofs.StepFits.{unplaced}
 use Rattle.wm_steps.specs.Nodes.{is_there}
 use Rattle.wm_steps.specs.StepChanges.{put_work, seqs_of, HaveNextNumbers, NameEarlier}
+use Rattle.wm_unique.proofs.Numbered.{filter_same}
 
 and-swap : (a b : Bool) → (a && b) ≡ (b && a)
 and-swap true true = refl
@@ -48,7 +50,7 @@ any-filter {T} test keep (x ∷ xs) =
 -- ---- the records placed
 
 -- with none placed it is the state itself
-with_none : (s : State) → with_placed s [] ≡ s
+pub with_none : (s : State) → with_placed s [] ≡ s
 with_none s = unplaced s s.works s.works refl
 
 -- one more is placed after those that are
@@ -91,13 +93,6 @@ placed-on s name after before work nodes i node within is made =
 abbrev pub numbers_with : List Record → List ℕ → List ℕ
 numbers_with works id = map (λ (work : Record). work.seq) (filter (λ (work : Record). bytes_eq work.request.id id) works)
 
-filter-append : {T : Type 0} (keep : T → Bool) (xs ys : List T) → filter keep (xs ++ ys) ≡ filter keep xs ++ filter keep ys
-filter-append keep [] ys = refl
-filter-append {T} keep (x ∷ xs) ys =
-    cond_both (keep x) (x ∷ filter keep xs) (filter keep xs) (λ (l : List T). filter keep (x ∷ (xs ++ ys)) ≡ l ++ filter keep ys)
-    (λ e. ap (λ b. cond b (x ∷ filter keep (xs ++ ys)) (filter keep (xs ++ ys))) e ∙ ap (λ rest. x ∷ rest) (filter-append keep xs ys))
-    (λ e. ap (λ b. cond b (x ∷ filter keep (xs ++ ys)) (filter keep (xs ++ ys))) e ∙ filter-append keep xs ys)
-
 -- one id more
 pub numbers-more : (works placed : List Record) (ids : List (List ℕ)) (i : ℕ) (id : List ℕ) → i < length ids → id ≡ get_or ids i id
     → (numbers_of (works ++ placed) (take i ids) ++ numbers_with works id) ++ numbers_with placed id ≡ numbers_of (works ++ placed) (take (i + 1) ids)
@@ -119,7 +114,7 @@ filter-cleared : (test : Record → Bool) (clearing : Clearing) (works : List Re
 filter-cleared test clearing works same =
     filter-map test (cleared clearing) (filter (stays clearing.removed) works)
     ∙ ap (map (cleared clearing)) (filter-filter (stays clearing.removed) (λ work. test (cleared clearing work)) works
-    ∙ filter-same (λ work. stays clearing.removed work && test (cleared clearing work)) (λ work. test work && stays clearing.removed work) works
+    ∙ filter_same (λ work. stays clearing.removed work && test (cleared clearing work)) (λ work. test work && stays clearing.removed work) works
     (All-any (λ work. (stays clearing.removed work && test (cleared clearing work)) ≡ (test work && stays clearing.removed work)) works
     (λ work. ap (λ b. stays clearing.removed work && b) (same work) ∙ and-swap (stays clearing.removed work) (test work))))
 

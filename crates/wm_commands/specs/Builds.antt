@@ -1,7 +1,6 @@
 -- What is built for a command: the change of its step, and its reply. This project's own choice.
-use Rattle.std.specs.Prelude.{◌≡◌, ◌≢◌, ◌⊎◌, ℕ, List, [], filter}
+use Rattle.std.specs.Prelude.{◌≡◌, ◌≢◌, ◌⊎◌, ℕ, []}
 use Rattle.wm_commands.specs.declared.executed.Executed.{Executed}
-use Rattle.wm_machine.specs.Pruned.{removable}
 use Rattle.wm_machine.specs.Rows.{row_of, rows_of}
 use Rattle.wm_machine.specs.Step.{after_command}
 use Rattle.wm_machine.specs.Updated.{applied, one_update_more, updated}
@@ -13,7 +12,7 @@ use Rattle.wm_machine.specs.declared.reply.Reply.{Reply}
 use Rattle.wm_machine.specs.declared.reply.Reply.TheVariants as reply
 use Rattle.wm_machine.specs.declared.state.State.{State}
 use Rattle.wm_request.specs.Requests.{RequestFields}
-use Rattle.wm_steps.specs.StepChanges.{keeping_row, replacing, row_changes, seqs_of, setting, telling, IsStepOf}
+use Rattle.wm_steps.specs.StepChanges.{keeping_row, replacing, row_changes, setting, telling, IsStepOf}
 use Rattle.wm_steps.specs.declared.change.RunChange.TheVariants as runs
 use Rattle.wm_steps.specs.declared.change.SettingChange.{SettingChange}
 use Rattle.wm_steps.specs.declared.change.StepChange.{StepChange}
@@ -50,7 +49,3 @@ IsReplacing index work new e change =
 pub record IsUpdating (line : ℕ) (asked : Command) (index : ℕ) (work : Record) (request : RequestFields) (executed : Executed) : Type 0 where
   pub answer : executed.reply ≡ reply.Updated (applied work.phase) (one_update_more work.generation)
   pub change : IsReplacing index work (updated request work) (event.Command line asked executed.reply) executed.change
-
--- the numbers of the records that may be removed, ascending
-abbrev pub removable_numbers : List Record → List ℕ
-removable_numbers works = seqs_of (filter (removable works) works)

@@ -1,4 +1,4 @@
--- What becomes of the records where works are cancelled and others are let go: by a cancel, and before a batch is placed. This project's own choice.
+-- What becomes of the records where works are cancelled, let go or removed: by a cancel, by a prune, and before a batch is placed. This project's own choice.
 use Rattle.std.specs.Prelude.{ℕ, ◌&&◌, ◌||◌, Bool, not, List, [], ◌∷◌, map, filter, reverse, if◌then◌else◌, Option, Some, None}
 use Rattle.std.specs.List.{list_any}
 use Rattle.wm_commands.specs.declared.clearing.Clearing.{Clearing}
@@ -9,7 +9,6 @@ use Rattle.wm_machine.specs.declared.record.Phase.{Phase}
 use Rattle.wm_machine.specs.declared.record.Phase.TheVariants as phase
 use Rattle.wm_machine.specs.declared.record.Record.{Record}
 use Rattle.wm_machine.specs.declared.state.State.{State}
-use Rattle.wm_steps.specs.Nodes.{nodes_of, reached_from}
 use Rattle.wm_steps.specs.Replacements.{replacements}
 use Rattle.wm_steps.specs.declared.change.Replacement.{Replacement}
 
@@ -63,6 +62,10 @@ clearing_of works cancel let_go = record {
 abbrev pub cancelling : List ℕ → Clearing
 cancelling cancelled = record { cancelled = cancelled; unnamed = []; removed = [] }
 
+-- and where these are removed
+abbrev pub pruning : List ℕ → Clearing
+pruning removed = record { cancelled = []; unnamed = []; removed = removed }
+
 -- a record, cancelled where it becomes so
 abbrev pub cancelled_in : List ℕ → Record → Record
 cancelled_in cancelled work = if becomes_cancelled cancelled work then closed how.Cancelled work else work
@@ -92,7 +95,3 @@ cleared_by clearing work = if is_touched clearing work then Some (cleared cleari
 
 abbrev pub replaced_by_clearing : Clearing → List Record → List Replacement
 replaced_by_clearing clearing works = replacements (cleared_by clearing) 0 works
-
--- the records that take the place of others where a work is cancelled, by the nodes of the records
-abbrev pub replaced_by_cancel : State → Record → List Replacement
-replaced_by_cancel s work = replaced_by_clearing (cancelling (reached_from work.seq (nodes_of s.works))) s.works

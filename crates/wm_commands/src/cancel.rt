@@ -2,13 +2,13 @@
 ghost use Rattle.std.specs.Prelude.{◌≡◌, [], true, Some, IfOk};
 ghost use Rattle.std.specs.Option.{option_copied};
 ghost use Rattle.wm_commands.specs.Builds.{IsExecuted};
-ghost use Rattle.wm_commands.specs.Cleared.{replaced_by_cancel};
+ghost use Rattle.wm_commands.specs.Cleared.{cancelling, replaced_by_clearing};
 ghost use Rattle.wm_graph.specs.Nodes.{HasNode};
 ghost use Rattle.wm_machine.specs.Cancelled.{work_with_id};
 ghost use Rattle.wm_machine.specs.Closed.{is_open};
 ghost use Rattle.wm_machine.specs.Outcome.{IsBuilt};
 ghost use Rattle.wm_machine.specs.Valid.{Valid};
-ghost use Rattle.wm_steps.specs.Nodes.{nodes_of};
+ghost use Rattle.wm_steps.specs.Nodes.{nodes_of, reached_from};
 
 use crate::clearing::{cancelling, replaced_by_clearing};
 use crate::executed::Executed;
@@ -36,7 +36,9 @@ fn replaced_by_cancel(
     requires nodes { graph.now ≡ nodes_of state.now.works }
     requires there { HasNode graph.now work.now.seq }
     ensures { IfOk result (λ replaced. replaced
-        ≡ replaced_by_cancel state.entry.now work.entry.now) }
+        ≡ replaced_by_clearing
+        (cancelling (reached_from work.entry.now.seq (nodes_of state.entry.now.works)))
+        state.entry.now.works) }
 {
     let reached = Items::from_vec(graph.descendants(work.seq)?);
     replaced_by_clearing(alloc, state.works.as_slice(), &cancelling(alloc, reached))

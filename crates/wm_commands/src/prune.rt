@@ -1,6 +1,7 @@
 //! The finished works that no unfinished one needs are removed.
-ghost use Rattle.std.specs.Prelude.{◌≡◌, IfOk};
-ghost use Rattle.wm_commands.specs.Builds.{removable_numbers, IsExecuted};
+ghost use Rattle.std.specs.Prelude.{◌≡◌, filter, IfOk};
+ghost use Rattle.wm_commands.specs.Builds.{IsExecuted};
+ghost use Rattle.wm_machine.specs.Group.{numbers_in};
 ghost use Rattle.wm_machine.specs.Pruned.{is_needed, removable};
 ghost use Rattle.wm_machine.specs.Valid.{Valid};
 
@@ -30,7 +31,8 @@ pub fn execute(alloc: Global, state: &State, line: u32) -> Result<Executed, Allo
 
 /// The numbers of the records that may be removed, ascending.
 fn removable_numbers(alloc: Global, works: &[Record]) -> Result<Items<u64>, AllocError>
-    ensures { IfOk result (λ numbers. numbers ≡ removable_numbers works.now) }
+    ensures { IfOk result (λ numbers. numbers
+        ≡ numbers_in (filter (removable works.now) works.now)) }
 {
     let mut numbers = Items::new(alloc);
     for work in works {

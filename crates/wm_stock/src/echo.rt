@@ -1,55 +1,27 @@
-ghost use Rattle.std.specs.Prelude.{◌≡◌, IfOk, IsOk};
-
+use crate::stock::{Answering, Stock};
 use std::alloc::{AllocError, Global};
 use wm_collections::Replica;
-use wm_worker::{Answer, Entry, Kind, Signal, Task, Told, Worker};
+use wm_worker::{Answer, Kind, Task};
 
 /// Succeeds in its first turn, with its input as its output. It doesn't look at the signal.
+pub type Echo = Stock<Echoing>;
+
+/// What [`Echo`] answers.
 #[derive(Debug, Drop)]
-pub struct Echo;
+pub struct Echoing;
 
-impl Echo {
-    /// A worker of kind Echo.
-    pub fn new() -> Echo {
-        Echo
-    }
-}
-
-impl Worker for Echo {
-    ghost use Rattle.std.specs.Prelude.{None};
-    ghost use Rattle.wm_worker.specs.Told.{report};
+impl Answering for Echoing {
     ghost use Rattle.wm_worker.specs.declared.kind.Kind.TheVariants as kind;
 
-    ghost kind_of = { λ _. kind.Echo };
+    ghost KIND = { kind.Echo };
 
-    ghost diary_of = { λ _. None };
+    ghost POLLS = { 0 };
 
-    fn kind(&self) -> Kind {
-        Kind::Echo
-    }
+    const KIND: Kind = Kind::Echo;
 
-    fn diary(&self) -> Option<&[Entry]> {
-        None
-    }
+    const POLLS: u32 = 0;
 
-    /// There is nothing to make ready.
-    fn begin(&mut self, _alloc: Global, _task: &Task) -> Result<(), AllocError>
-        ensures { IsOk result }
-    {
-        Ok(())
-    }
-
-    /// Succeeds with the input.
-    fn turn(
-        &mut self,
-        alloc: Global,
-        task: &Task,
-        k: u32,
-        _signal: &Signal,
-    ) -> Result<Told, AllocError>
-        ensures { IfOk result (λ told. told ≡ report kind.Echo task.now k (Answer.Success task.now.input)) }
-    {
-        let output = task.input.replica(alloc)?;
-        Told::new(alloc, Kind::Echo, task, k, Answer::Success(output))
+    fn answer(alloc: Global, task: &Task, _k: u32) -> Result<Answer, AllocError> {
+        Ok(Answer::Success(task.input.replica(alloc)?))
     }
 }

@@ -1,65 +1,35 @@
-ghost use Rattle.std.specs.Prelude.{◌≡◌, [], IfOk, IsOk};
-
 use crate::input::has_reached;
+use crate::stock::{Answering, Stock};
 use std::alloc::{AllocError, Global};
 use wm_collections::Replica;
 use wm_data::Data;
-use wm_worker::{Answer, Entry, Kind, Signal, Task, Told, Worker};
+use wm_worker::{Answer, Kind, Task};
 
 /// Fails, without output, before the attempt that an Int in its input names under `until`, or before
 /// the second where none does. From that attempt on it succeeds with its input as its output. It
 /// doesn't look at the signal.
+pub type FailUntil = Stock<FailingUntil>;
+
+/// What [`FailUntil`] answers.
 #[derive(Debug, Drop)]
-pub struct FailUntil;
+pub struct FailingUntil;
 
-impl FailUntil {
-    /// A worker of kind FailUntil.
-    pub fn new() -> FailUntil {
-        FailUntil
-    }
-}
-
-impl Worker for FailUntil {
-    ghost use Rattle.std.specs.Prelude.{if◌then◌else◌, None};
-    ghost use Rattle.wm_worker.specs.Answers.{has_reached};
-    ghost use Rattle.wm_worker.specs.Told.{report};
+impl Answering for FailingUntil {
     ghost use Rattle.wm_worker.specs.declared.kind.Kind.TheVariants as kind;
 
-    ghost kind_of = { λ _. kind.FailUntil };
+    ghost KIND = { kind.FailUntil };
 
-    ghost diary_of = { λ _. None };
+    ghost POLLS = { 0 };
 
-    fn kind(&self) -> Kind {
-        Kind::FailUntil
-    }
+    const KIND: Kind = Kind::FailUntil;
 
-    fn diary(&self) -> Option<&[Entry]> {
-        None
-    }
+    const POLLS: u32 = 0;
 
-    /// There is nothing to make ready.
-    fn begin(&mut self, _alloc: Global, _task: &Task) -> Result<(), AllocError>
-        ensures { IsOk result }
-    {
-        Ok(())
-    }
-
-    /// Fails before the attempt is reached, and then succeeds with the input.
-    fn turn(
-        &mut self,
-        alloc: Global,
-        task: &Task,
-        k: u32,
-        _signal: &Signal,
-    ) -> Result<Told, AllocError>
-        ensures { IfOk result (λ told. told ≡ report kind.FailUntil task.now k
-            (if has_reached task.now.input task.now.attempt then Answer.Success task.now.input else Answer.Failure [])) }
-    {
-        let answer = if has_reached(&task.input, task.attempt) {
-            Answer::Success(task.input.replica(alloc)?)
+    fn answer(alloc: Global, task: &Task, _k: u32) -> Result<Answer, AllocError> {
+        if has_reached(&task.input, task.attempt) {
+            Ok(Answer::Success(task.input.replica(alloc)?))
         } else {
-            Answer::Failure(Data::empty(alloc))
-        };
-        Told::new(alloc, Kind::FailUntil, task, k, answer)
+            Ok(Answer::Failure(Data::empty(alloc)))
+        }
     }
 }

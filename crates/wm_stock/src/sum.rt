@@ -1,63 +1,35 @@
-ghost use Rattle.std.specs.Prelude.{◌≡◌, ◌≤◌, ◌*◌, codes, length, nat_abs, IfOk, IsOk};
+ghost use Rattle.std.specs.Prelude.{◌≡◌, ◌≤◌, ◌*◌, length, nat_abs};
 ghost use Rattle.wm_data.specs.Size.{payload};
 ghost use Rattle.wm_worker.specs.Answers.{summand, sum_of, total};
 
 use crate::input::entry_alone;
+use crate::stock::{Answering, Stock};
 use std::alloc::{AllocError, Global};
 use wm_data::{Data, Value};
-use wm_worker::{Answer, Entry, Kind, Signal, Task, Told, Worker};
+use wm_worker::{Answer, Kind, Task};
 
 /// Succeeds in its first turn, with `sum`, a Long: the sum of all Int values of its input and of
 /// all elements of its Ints values. It doesn't look at the signal.
+pub type Sum = Stock<Summing>;
+
+/// What [`Sum`] answers.
 #[derive(Debug, Drop)]
-pub struct Sum;
+pub struct Summing;
 
-impl Sum {
-    /// A worker of kind Sum.
-    pub fn new() -> Sum {
-        Sum
-    }
-}
-
-impl Worker for Sum {
-    ghost use Rattle.std.specs.Prelude.{None};
-    ghost use Rattle.wm_data.specs.declared.value.Value.TheVariants as value;
-    ghost use Rattle.wm_worker.specs.Answers.{entry_alone};
-    ghost use Rattle.wm_worker.specs.Told.{report};
+impl Answering for Summing {
     ghost use Rattle.wm_worker.specs.declared.kind.Kind.TheVariants as kind;
 
-    ghost kind_of = { λ _. kind.Sum };
+    ghost KIND = { kind.Sum };
 
-    ghost diary_of = { λ _. None };
+    ghost POLLS = { 0 };
 
-    fn kind(&self) -> Kind {
-        Kind::Sum
-    }
+    const KIND: Kind = Kind::Sum;
 
-    fn diary(&self) -> Option<&[Entry]> {
-        None
-    }
+    const POLLS: u32 = 0;
 
-    /// There is nothing to make ready.
-    fn begin(&mut self, _alloc: Global, _task: &Task) -> Result<(), AllocError>
-        ensures { IsOk result }
-    {
-        Ok(())
-    }
-
-    /// Succeeds with the sum.
-    fn turn(
-        &mut self,
-        alloc: Global,
-        task: &Task,
-        k: u32,
-        _signal: &Signal,
-    ) -> Result<Told, AllocError>
-        ensures { IfOk result (λ told. told ≡ report kind.Sum task.now k
-            (Answer.Success (entry_alone (codes "sum") (value.Long (sum_of task.now.input))))) }
-    {
+    fn answer(alloc: Global, task: &Task, _k: u32) -> Result<Answer, AllocError> {
         let output = entry_alone(alloc, "sum", Value::Long(sum_of(&task.input)))?;
-        Told::new(alloc, Kind::Sum, task, k, Answer::Success(output))
+        Ok(Answer::Success(output))
     }
 }
 

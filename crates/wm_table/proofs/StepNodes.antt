@@ -29,7 +29,7 @@ use Rattle.wm_steps.specs.Nodes.{is_there, node_of, nodes_of, AreThere, KeepsNod
 use Rattle.wm_steps.specs.StepChanges.{changed_state, other_works, put_replaced, put_work, remove_numbered, with_replaced, without, HaveNextNumbers, Fits, KeepsPlace, KeepsRow, NameEarlier}
 use Rattle.wm_steps.specs.declared.change.Replacement.{Replacement}
 use Rattle.wm_steps.specs.declared.change.StepChange.{StepChange}
-use Rattle.wm_table.proofs.StepRows.{keeps_number, other_works-above, replaced_within, told_within, WorksAscend-set}
+use Rattle.wm_table.proofs.StepRows.{keeps_number, other_works-above, replaced_within, rows-set, told_within, WorksAscend-set}
 use Rattle.wm_table.specs.Following.{followed, nodes_by, placed_node, with_followed, without_all, AreAddable, IsAddable}
 
 -- ---- the same prerequisites are there
@@ -241,12 +241,6 @@ told-nodes all (work ∷ works) zero new is =
     ap (λ (node : NodeFields). node ∷ map (node_of all) works) (node-same all work new (same_Some (row_of work) (row_of new) is))
 told-nodes all (work ∷ works) (suc i) new is = ap (λ rest. node_of all work ∷ rest) (told-nodes all works i new is)
 
-told-row : (works : List Record) (i : ℕ) (new : Record) → slice_get (map row_of works) i ≡ Some (row_of new)
-    → map row_of (set works i new) ≡ map row_of works
-told-row [] i new is = refl
-told-row (work ∷ works) zero new is = ap (λ (row : Row). row ∷ map row_of works) (sym (same_Some (row_of work) (row_of new) is))
-told-row (work ∷ works) (suc i) new is = ap (λ rest. row_of work ∷ rest) (told-row works i new is)
-
 -- a record that keeps a place keeps it where one of the same row has come to stand
 told-keeps : (works : List Record) (i j : ℕ) (one other : Record) → slice_get (map row_of works) i ≡ Some (row_of one)
     → KeepsPlace works (record { index = j; work = other }) → KeepsPlace (set works i one) (record { index = j; work = other })
@@ -276,7 +270,7 @@ nodes-told (told ∷ later) works keep ascend =
     let place = told-place works told.index told.work keep.0 in
     let still =
     subst (λ (rows : List Row). AllByRecursion (λ r. slice_get rows r.index ≡ Some (row_of r.work)) later)
-    (sym (told-row works told.index told.work keep.0)) keep.1 in
+    (sym (rows-set works told.index told.work keep.0)) keep.1 in
     let rest =
     nodes-told later then still
     (WorksAscend-set works told.index told.work (keeps_number works told place) ascend) in

@@ -111,7 +111,7 @@ number-kept (work ∷ works) zero new is =
     ap (λ (n : ℕ). Some n) same
 number-kept (work ∷ works) (suc i) new is = number-kept works i new is
 
-rows-set : (works : List Record) (i : ℕ) (new : Record) → slice_get (map row_of works) i ≡ Some (row_of new)
+pub rows-set : (works : List Record) (i : ℕ) (new : Record) → slice_get (map row_of works) i ≡ Some (row_of new)
     → map row_of (set works i new) ≡ map row_of works
 rows-set [] i new is = refl
 rows-set (work ∷ works) zero new is = ap (λ (row : Row). row ∷ map row_of works) (sym (same_Some (row_of work) (row_of new) is))

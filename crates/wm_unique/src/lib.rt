@@ -11,7 +11,9 @@
 mod checks;
 mod kinds;
 mod members;
+mod named;
 mod plans;
 
 pub use checks::check;
+pub use named::named_by;
 pub use plans::{GroupPlan, PlanFault, plan};

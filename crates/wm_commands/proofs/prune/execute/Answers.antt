@@ -1,11 +1,100 @@
-use Rattle.std.proofs.Common.{◌≡◌, length, rules}
-use Rattle.wm_commands.proofs.Pruning.{pruning-executed}
-use Rattle.wm_commands.specs.Builds.{removable_numbers}
+-- The step of a prune: the removable records are removed.
+use Rattle.std.proofs.Common.{◌≡◌, ◌≢◌, ℕ, ◌+◌, Bool, false, not, cond, List, [], ◌∷◌, filter, length, map, rules, Some, None, refl, sym, ◌∙◌, ap, subst, arith, inl, inr}
+use Rattle.std.specs.Prelude.{◌⊎◌, count_by}
+use Rattle.std.proofs.lemmas.Bool.{and_right}
+use Rattle.std.proofs.lemmas.List.{length-map}
+use Rattle.std.proofs.lemmas.List.Filters.{length-filter_both}
+use Rattle.std.proofs.lemmas.List.Sums.{length-filter}
+use Rattle.wm_collections.specs.Lists.{AllLater}
+use Rattle.wm_commands.proofs.ClearingSteps.{clearing_alone-step, passing-stored}
+use Rattle.wm_commands.proofs.Clearings.{cleared-in_place, stays-passing, without-stays}
+use Rattle.wm_commands.specs.Builds.{ChangesRows, IsExecuted}
+use Rattle.wm_commands.specs.Cleared.{cleared, cleared_by, is_touched, pruning, stays, with_cleared}
+use Rattle.wm_machine.specs.Closed.{is_open}
+use Rattle.wm_machine.specs.Group.{numbers_in}
+use Rattle.wm_machine.specs.Pruned.{removable}
+use Rattle.wm_machine.specs.Rows.{row_of}
+use Rattle.wm_machine.specs.Valid.{IsBefore, Valid}
 use Rattle.wm_machine.specs.declared.command.Command.TheVariants as command
+use Rattle.wm_machine.specs.declared.event.Event.{Event}
 use Rattle.wm_machine.specs.declared.event.Event.TheVariants as event
+use Rattle.wm_machine.specs.declared.record.Record.{Record}
 use Rattle.wm_machine.specs.declared.reply.Reply.TheVariants as reply
-use Rattle.wm_steps.specs.StepChanges.{removing}
+use Rattle.wm_machine.specs.declared.state.State.{State}
+use Rattle.wm_steps.specs.Replacements.{at_index, replacements}
+use Rattle.wm_steps.specs.StepChanges.{placing, removing, row_changes, with_replaced, without, IsStepOf}
+use Rattle.wm_steps.specs.declared.change.Replacement.{Replacement}
 use Rattle.wm_commands.proofs.prune.execute.Goals as goal
+
+-- ---- the records that stay
+
+-- none takes the place of another
+none-replaced : (removed : List ℕ) (i : ℕ) (works : List Record) → replacements (cleared_by (pruning removed)) i works ≡ []
+none-replaced removed i [] = refl
+none-replaced removed i (work ∷ works) =
+    let change = cleared_by (pruning removed) in
+    let untouched : is_touched (pruning removed) work ≡ false = and_right (stays removed work) _ (and_right (is_open work.phase) false refl) in
+    ap (λ b. at_index i (cond b (Some (cleared (pruning removed) work)) None) (replacements change (i + 1) works)) untouched
+    ∙ none-replaced removed (i + 1) works
+
+-- and those stay that don't pass the test by which others are removed
+staying : (test : Record → Bool) (works : List Record) → AllLater IsBefore works
+    → with_cleared (pruning (numbers_in (filter test works))) works ≡ filter (λ work. not (test work)) works
+staying test works order =
+    let removed = numbers_in (filter test works) in
+    sym (cleared-in_place (pruning removed) works)
+    ∙ ap (λ (replaced : List Replacement). without removed (with_replaced replaced works)) (none-replaced removed 0 works)
+    ∙ without-stays removed works
+    ∙ stays-passing test works order
+
+-- ---- the rows
+
+-- where one passes, fewer rows are left
+fewer_rows : (test : Record → Bool) (works found : List Record) (first : Record) → filter test works ≡ first ∷ found
+    → map row_of (filter (λ work. not (test work)) works) ≢ map row_of works
+fewer_rows test works found first is same =
+    let left = filter (λ work. not (test work)) works in
+    let both = length-filter_both test (λ work. not (test work)) (λ work. refl) works in
+    let passing : length (filter test works) ≡ length (first ∷ found) = ap length is in
+    let lengths : length left ≡ length works = sym (length-map left row_of) ∙ ap length same ∙ length-map works row_of in
+    absurd (omega (arith, both, passing, lengths))
+
+-- rows are removed, or there is none to remove
+rows-removed : (s : State) (e : Event) (found : List Record) → filter (removable s.works) s.works ≡ found
+    → ChangesRows s command.Prune ⊎ (row_changes (removing (numbers_in found) e) ≡ [])
+rows-removed s e [] is = inr refl
+rows-removed s e (first ∷ found) is = inl (fewer_rows (removable s.works) s.works found first is)
+
+-- ---- the step
+
+-- as many are removed as pass
+count-removed : (test : Record → Bool) (works : List Record) → length (numbers_in (filter test works)) ≡ count_by test works
+count-removed test works = length-map (filter test works) (λ (work : Record). work.seq) ∙ length-filter test works
+
+-- the numbers of the records that may be removed
+abbrev removable_numbers : List Record → List ℕ
+removable_numbers works = numbers_in (filter (removable works) works)
+
+abbrev prune_event : ℕ → List Record → Event
+prune_event line works = event.Command line command.Prune (reply.Pruned (length (removable_numbers works)))
+
+pruning-executed : (s : State) (line : ℕ) → Valid s → IsExecuted s line command.Prune (record {
+  change = removing (removable_numbers s.works) (prune_event line s.works);
+  reply = reply.Pruned (length (removable_numbers s.works));
+})
+pruning-executed s line valid =
+    let test = removable s.works in
+    let removed = removable_numbers s.works in
+    let e = prune_event line s.works in
+    record {
+      event = refl;
+      step =
+          subst (λ (replaced : List Replacement). IsStepOf s (placing replaced removed [] e)) (none-replaced removed 0 s.works)
+          (clearing_alone-step s (pruning removed) e valid (passing-stored test s.works valid.in_order)
+          (tt, ap reply.Pruned (count-removed test s.works))
+          (ap (λ (works : List Record). record s { works = works }) (sym (staying test s.works valid.in_order))));
+      rows = rows-removed s e (filter test s.works) refl;
+    }
 
 pub returns : goal.returns
 returns c =
@@ -13,5 +102,5 @@ returns c =
     let line = c.args.line in
     let numbers = removable_numbers s.works in
     let count : c.len-count.result ≡ length numbers = search rules in
-    let change : c.removing.result ≡ removing numbers (event.Command line command.Prune (reply.Pruned (length numbers))) = search rules in
+    let change : c.removing.result ≡ removing numbers (prune_event line s.works) = search rules in
     rw (change, count) (pruning-executed s line c.requires.valid)

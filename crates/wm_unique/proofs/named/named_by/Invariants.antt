@@ -1,7 +1,7 @@
 use Rattle.std.proofs.Common.{◌≡◌, filter, take}
 use Rattle.wm_machine.specs.Group.{numbers_in}
 use Rattle.wm_unique.specs.Plans.{is_named_by}
-use Rattle.calls.proofs.checks.named_by.Given as goal
+use Rattle.wm_unique.proofs.named.named_by.Given as goal
 
 -- the numbers of those so far that are named are there
 abbrev pub invariant-loop-work : goal.invariant-loop-work
