@@ -1,4 +1,4 @@
-//! The table of `wm_session`, over a keeper that fails at the commits that it is told to.
+//! The table of `wm_table`, over a keeper that fails at the commits that it is told to.
 ghost use Rattle.std.specs.Prelude.{◌≡◌, [], IfOk, None};
 ghost use Rattle.wm_machine.specs.Outcome.{IsBuilt};
 ghost use Rattle.wm_request.specs.Requests.{IsRequest};

@@ -8,7 +8,7 @@ use Rattle.wm_session.specs.Writing.{IsAppended, IsPartAppended}
 use Rattle.wm_session.specs.declared.status.Status.{Status}
 use Rattle.wm_session.specs.declared.status.Status.TheVariants as status
 use Rattle.wm_machine.specs.Log.{commands_of, AreNumberedFrom}
-use Rattle.wm_script.specs.Texts.{log_text}
+use Rattle.wm_texts.specs.Texts.{log_text}
 use Rattle.wm_machine.specs.declared.command.Command.{Command}
 use Rattle.wm_machine.specs.declared.event.Event.{Event}
 use Rattle.wm_machine.specs.declared.state.State.{State}

@@ -1,15 +1,15 @@
 -- Works that are cancelled one after another, and others that are let go then: what becomes of each record, and the change that makes it so.
-use Rattle.std.proofs.Common.{◌≡◌, ◌&&◌, ◌||◌, ℕ, ◌<◌, Bool, true, false, not, cond, eqb, List, [], ◌∷◌, map, filter, Option, Some, None, refl, sym, ◌∙◌, ap, arith, inl, inr}
-use Rattle.std.specs.List.{AllByRecursion, list_any}
+use Rattle.std.proofs.Common.{◌≡◌, ◌&&◌, ◌||◌, ℕ, Bool, true, false, not, cond, eqb, List, [], ◌∷◌, map, filter, Option, Some, None, refl, sym, ◌∙◌, ap, inl, inr}
+use Rattle.std.specs.List.{list_any}
 use Rattle.std.specs.Prelude.{reverse}
-use Rattle.std.proofs.lemmas.Bool.{and_parts, and_right, cases_Bool, cond_both, eq-eqb, eqb-false, eqb-true, ne_eqb, or_left, or_parts}
+use Rattle.std.proofs.lemmas.Bool.{and_parts, and_right, cases_Bool, cond_both, eq-eqb, eqb-false, eqb-true, ne_eqb, or_parts}
 use Rattle.std.proofs.lemmas.Simd.{map-map}
 use Rattle.wm_collections.specs.Lists.{AllLater}
 use Rattle.wm_commands.specs.Cleared.{becomes_cancelled, cancelled_in, cleared, cleared_by, clearing_of, descendants_of_any, is_needed_then, is_removed, is_touched, phase_then, reached_from_any, replaced_by_clearing, stays, with_cleared}
 use Rattle.wm_commands.specs.declared.clearing.Clearing.{Clearing}
 use Rattle.wm_machine.proofs.Groups.{closed_by, each_closed-at_once}
-use Rattle.wm_machine.proofs.Lists.{All-any, All-both, All-weaker, filter-all, map-same}
-use Rattle.wm_machine.proofs.Runnings.{WorksAscend, WorksAscend-in_order}
+use Rattle.wm_machine.proofs.Lists.{All-any, All-weaker, filter-all, map-same}
+use Rattle.wm_machine.proofs.Runnings.{WorksAscend-in_order}
 use Rattle.wm_machine.specs.Closed.{closed, descendants, is_among, is_open, is_reached, with_each_closed}
 use Rattle.wm_machine.specs.Group.{is_dropped, numbers_in, unnamed, with_let_go}
 use Rattle.wm_machine.specs.Pruned.{is_needed, removable}
@@ -22,7 +22,7 @@ use Rattle.wm_steps.proofs.Nodes.{open_not_succeeded, among-reverse}
 use Rattle.wm_steps.specs.Nodes.{KeepsNode}
 use Rattle.wm_steps.specs.Replacements.{or_same}
 use Rattle.wm_steps.specs.StepChanges.{other_works, with_replaced, without}
-use Rattle.wm_unique.proofs.Numbered.{filter_same}
+use Rattle.wm_unique.proofs.Numbered.{among_filter, filter_both, filter_same}
 
 -- ---- tests
 
@@ -180,15 +180,6 @@ filter-map {T} {U} keep f (x ∷ xs) =
     (λ e. ap (λ b. cond b (f x ∷ filter keep (map f xs)) (filter keep (map f xs))) e ∙ ap (λ rest. f x ∷ rest) (filter-map keep f xs))
     (λ e. ap (λ b. cond b (f x ∷ filter keep (map f xs)) (filter keep (map f xs))) e ∙ filter-map keep f xs)
 
-pub filter-filter : {T : Type 0} (first second : T → Bool) (xs : List T) → filter second (filter first xs) ≡ filter (λ x. first x && second x) xs
-filter-filter first second [] = refl
-filter-filter {T} first second (x ∷ xs) =
-    cond_both (first x) (x ∷ filter first xs) (filter first xs) (λ (l : List T). filter second l ≡ filter (λ x. first x && second x) (x ∷ xs))
-    (λ e. ap (λ rest. cond (second x) (x ∷ rest) rest) (filter-filter first second xs)
-    ∙ sym (ap (λ b. cond (b && second x) (x ∷ filter (λ x. first x && second x) xs) (filter (λ x. first x && second x) xs)) e))
-    (λ e. filter-filter first second xs
-    ∙ sym (ap (λ b. cond (b && second x) (x ∷ filter (λ x. first x && second x) xs) (filter (λ x. first x && second x) xs)) e))
-
 -- two changes that are the same of what is kept
 map-kept : {T U : Type 0} (f g : T → U) (keep : T → Bool) (xs : List T) → ((x : T) → keep x ≡ true → f x ≡ g x)
     → map f (filter keep xs) ≡ map g (filter keep xs)
@@ -199,48 +190,14 @@ map-kept {T} f g keep (x ∷ xs) same =
 
 -- ---- their numbers
 
--- a smaller number isn't among those of later records
-not_later : (test : Record → Bool) (number : ℕ) (works : List Record) → AllByRecursion (λ later. number < later.seq) works
-    → is_among (numbers_in (filter test works)) number ≡ false
-not_later test number [] above = refl
-not_later test number (work ∷ works) above =
-    cond_both (test work) (work ∷ filter test works) (filter test works) (λ (l : List Record). is_among (numbers_in l) number ≡ false)
-    (λ e. ap (λ b. b || is_among (numbers_in (filter test works)) number)
-    (ne_eqb work.seq number (λ same. let less = above.0 in absurd (omega (arith, less, same))))
-    ∙ not_later test number works above.1) (λ e. not_later test number works above.1)
-
--- whether a record passes is told by the numbers of some of those that do
-abbrev AreTold : (Record → Bool) → List Record → List Record → Type 0
-AreTold test passing works = AllByRecursion (λ work. is_among (numbers_in passing) work.seq ≡ test work) works
-
--- by one more where that is an earlier one
-told-later : (test : Record → Bool) (work : Record) (passing works : List Record) → AllByRecursion (λ later. work.seq < later.seq) works
-    → AreTold test passing works → AreTold test (work ∷ passing) works
-told-later test work passing works above told =
-    All-weaker (λ later. (work.seq < later.seq) × (is_among (numbers_in passing) later.seq ≡ test later))
-    (λ later. is_among (numbers_in (work ∷ passing)) later.seq ≡ test later) works
-    (λ later both.
-    ap (λ b. b || is_among (numbers_in passing) later.seq) (ne_eqb work.seq later.seq (λ same. let less = both.0 in absurd (omega (arith, less, same))))
-    ∙ both.1) (All-both (λ later. work.seq < later.seq) (λ later. is_among (numbers_in passing) later.seq ≡ test later) works above told)
-
--- and by those of all
-passing-told : (test : Record → Bool) (works : List Record) → WorksAscend works → AreTold test (filter test works) works
-passing-told test [] ascend = tt
-passing-told test (work ∷ works) ascend =
-    let passing = filter test works in
-    let told = passing-told test works ascend.1 in
-    cond_both (test work) (work ∷ passing) passing (λ (l : List Record). AreTold test l (work ∷ works))
-    (λ e. (or_left _ _ (eq-eqb work.seq work.seq refl) ∙ sym e, told-later test work passing works ascend.0 told))
-    (λ e. (not_later test work.seq works ascend.0 ∙ sym e, told))
-
--- so the records of other numbers are those that don't pass
+-- the records of other numbers than those that pass are those that don't
 pub stays-passing : (test : Record → Bool) (works : List Record) → AllLater IsBefore works
     → filter (stays (numbers_in (filter test works))) works ≡ filter (λ work. not (test work)) works
 stays-passing test works order =
     filter_same (stays (numbers_in (filter test works))) (λ work. not (test work)) works
     (All-weaker (λ work. is_among (numbers_in (filter test works)) work.seq ≡ test work)
     (λ work. stays (numbers_in (filter test works)) work ≡ not (test work)) works (λ work same. ap not same)
-    (passing-told test works (WorksAscend-in_order works order)))
+    (among_filter test works (WorksAscend-in_order works order)))
 
 -- ---- the records made ready
 
@@ -330,7 +287,7 @@ not-or false b = refl
 pub without-stays : (numbers : List ℕ) (works : List Record) → without numbers works ≡ filter (stays numbers) works
 without-stays [] works = sym (filter-all (stays []) works (λ work. refl))
 without-stays (number ∷ numbers) works =
-    without-stays numbers (other_works number works) ∙ filter-filter (λ work. not (eqb work.seq number)) (stays numbers) works
+    without-stays numbers (other_works number works) ∙ filter_both (λ work. not (eqb work.seq number)) (stays numbers) works
     ∙ filter_same (λ work. not (eqb work.seq number) && stays numbers work) (stays (number ∷ numbers)) works
     (All-any (λ work. (not (eqb work.seq number) && stays numbers work) ≡ stays (number ∷ numbers) work) works
     (λ work. ap (λ b. not b && stays numbers work) (eqb-swap work.seq number) ∙ not-or (eqb number work.seq) (is_among numbers work.seq)))

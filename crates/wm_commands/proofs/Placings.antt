@@ -8,7 +8,7 @@ use Rattle.std.proofs.lemmas.List.Elements.{filter-append}
 use Rattle.std.proofs.lemmas.List.Folds.{list_any-append}
 use Rattle.std.proofs.lemmas.Simd.{map-map}
 use Rattle.std.specs.Str.{bytes_eq}
-use Rattle.wm_commands.proofs.Clearings.{any-ext, any-map, cleared-id, cleared-number, cleared-phase, filter-filter, filter-map}
+use Rattle.wm_commands.proofs.Clearings.{any-ext, any-map, cleared-id, cleared-number, cleared-phase, filter-map}
 use Rattle.wm_commands.specs.Cleared.{cleared, phase_then, stays, with_cleared}
 use Rattle.wm_commands.specs.Placed.{is_done, is_then, placed_record, placed_records, with_placed}
 use Rattle.wm_commands.specs.declared.clearing.Clearing.{Clearing}
@@ -26,7 +26,7 @@ use Rattle.wm_steps.proofs.Nodes.{there-each}
 use Rattle.wm_steps.proofs.StepFits.{unplaced}
 use Rattle.wm_steps.specs.Nodes.{is_there}
 use Rattle.wm_steps.specs.StepChanges.{put_work, seqs_of, HaveNextNumbers, NameEarlier}
-use Rattle.wm_unique.proofs.Numbered.{filter_same}
+use Rattle.wm_unique.proofs.Numbered.{filter_both, filter_same}
 
 and-swap : (a b : Bool) → (a && b) ≡ (b && a)
 and-swap true true = refl
@@ -113,7 +113,7 @@ filter-cleared : (test : Record → Bool) (clearing : Clearing) (works : List Re
     ≡ map (cleared clearing) (filter (λ work. test work && stays clearing.removed work) works)
 filter-cleared test clearing works same =
     filter-map test (cleared clearing) (filter (stays clearing.removed) works)
-    ∙ ap (map (cleared clearing)) (filter-filter (stays clearing.removed) (λ work. test (cleared clearing work)) works
+    ∙ ap (map (cleared clearing)) (filter_both (stays clearing.removed) (λ work. test (cleared clearing work)) works
     ∙ filter_same (λ work. stays clearing.removed work && test (cleared clearing work)) (λ work. test work && stays clearing.removed work) works
     (All-any (λ work. (stays clearing.removed work && test (cleared clearing work)) ≡ (test work && stays clearing.removed work)) works
     (λ work. ap (λ b. stays clearing.removed work && b) (same work) ∙ and-swap (stays clearing.removed work) (test work))))

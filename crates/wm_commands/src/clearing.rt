@@ -135,7 +135,7 @@ fn needs(cancelled: &[u64], work: &Record, number: u64) -> bool
     ensures { result
         ≡ (is_open (phase_then cancelled.now work.now) && is_among work.now.prior number) }
 {
-    is_open(phase_then(cancelled, work)) && is_among(work.prior.as_slice(), number)
+    is_among(work.prior.as_slice(), number) && is_open(phase_then(cancelled, work))
 }
 
 /// Whether a record isn't removed.

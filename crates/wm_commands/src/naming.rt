@@ -9,8 +9,9 @@ ghost use Rattle.wm_commands.specs.Planned.{kind_refused_in};
 ghost use Rattle.wm_machine.specs.Built.{AreAskedUnder};
 ghost use Rattle.wm_machine.specs.Enqueued.{plan_in};
 ghost use Rattle.wm_machine.specs.Group.{is_name, members_of, numbers_in};
-ghost use Rattle.wm_machine.specs.Valid.{Valid};
-ghost use Rattle.wm_unique.specs.Plans.{plan_fields, IsPlanFault};
+ghost use Rattle.wm_collections.specs.Lists.{AllLater};
+ghost use Rattle.wm_machine.specs.Valid.{IsBefore, Valid};
+ghost use Rattle.wm_unique.specs.Plans.{grouped, plan_fields, AreNumbersOf, IsPlanFault};
 
 use crate::checking::{answered, check_and_place};
 use crate::executed::Executed;
@@ -78,8 +79,17 @@ fn planned(
     ensures err { IfErr result (IsPlanFault (kind_refused_in state.entry.now unique.entry.now batch.entry.now.works)) }
 {
     let works = state.works.as_slice();
-    let members = members_of(alloc, works, &unique.name)?;
-    plan(alloc, works, members.as_slice(), unique.policy, batch)
+    let group = group_of(alloc, works, &unique.name)?;
+    plan(alloc, works, group.as_slice(), unique.policy, batch)
+}
+
+/// The group of a name, by the numbers of its works.
+fn group_of(alloc: Global, works: &[Record], name: &Text) -> Result<Items<u64>, AllocError>
+    requires { AllLater IsBefore works.now }
+    ensures numbers { IfOk result (AreNumbersOf works.now) }
+    ensures members { IfOk result (λ group. grouped works.now group ≡ members_of works.now name.now) }
+{
+    members_of(alloc, works, name)
 }
 
 /// The numbers of the works that have a name.

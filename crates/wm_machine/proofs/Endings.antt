@@ -237,7 +237,8 @@ abbrev pub freed_in : ℕ → ℕ → List Record → Record → Record
 freed_in now seq works work = cond (is_freed seq works work) (record work { enqueued_at = now }) work
 
 -- what holds in both cases
-freed_both : (P : Record → Type 0) (now seq : ℕ) (works : List Record) (work : Record) → (is_freed seq works work ≡ true → P (record work { enqueued_at = now }))
+freed_both : (P : Record → Type 0) (now seq : ℕ) (works : List Record) (work : Record)
+    → (is_freed seq works work ≡ true → P (record work { enqueued_at = now }))
     → (is_freed seq works work ≡ false → P work) → P (freed_in now seq works work)
 freed_both P now seq works work hit miss = cond_both (is_freed seq works work) (record work { enqueued_at = now }) work P hit miss
 

@@ -361,7 +361,8 @@ periodic_there (first ∷ all) id node (inr one) periodic named =
     (λ e. or_right _ _ rest) (λ e. rest)
 
 -- a work of a batch that another one names is one-time
-batch_one_time : (all works : List Node) (id : List ℕ) → has_id (periodic_ids all) id ≡ false → AllByRecursion (λ node. HasOne (λ other. other ≡ node) all) works
+batch_one_time : (all works : List Node) (id : List ℕ) → has_id (periodic_ids all) id ≡ false
+    → AllByRecursion (λ node. HasOne (λ other. other ≡ node) all) works
     → AllByRecursion (λ node. IsOtherOrOneTime id node.request) works
 batch_one_time all works id none stored =
     All-weaker (λ node. HasOne (λ other. other ≡ node) all) (λ node. IsOtherOrOneTime id node.request) works

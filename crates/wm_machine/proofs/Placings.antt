@@ -132,7 +132,8 @@ one_id works number one other order has also =
     one_gives (λ work. work.seq ≡ number → work.request.id ≡ one) (HasNumberAndId number other) (one ≡ other) works
     (λ work is of. sym (is of.seq) ∙ of.id_is)
     (all_of_number (λ work. work.request.id ≡ one) number works order
-    (HasOne-weaker (λ work. Unit {0}) (HasNumberAndId number one) (λ work. (work.seq ≡ number) × (work.request.id ≡ one)) works (λ work u of. (of.seq, of.id_is))
+    (HasOne-weaker (λ work. Unit {0}) (HasNumberAndId number one) (λ work. (work.seq ≡ number) × (work.request.id ≡ one)) works
+    (λ work u of. (of.seq, of.id_is))
     (All-any (λ work. Unit {0}) works (λ work. tt)) has)) also
 
 -- different ids have different numbers

@@ -64,7 +64,8 @@ none-has_succeeded number works none =
     ]) none)
 
 -- every prerequisite of a work has succeeded
-met-each : (works : List Record) (prior : List ℕ) → list_all (has_succeeded works) prior ≡ true → AllByRecursion (λ number. HasOne (HasSucceeded number) works) prior
+met-each : (works : List Record) (prior : List ℕ) → list_all (has_succeeded works) prior ≡ true
+    → AllByRecursion (λ number. HasOne (HasSucceeded number) works) prior
 met-each works [] met = tt
 met-each works (number ∷ prior) met =
     let parts = and_parts (has_succeeded works number) (list_all (has_succeeded works) prior) met in
@@ -74,7 +75,8 @@ pub met-succeeded : (works : List Record) (work : Record) → all_met works work
 unfolding all_met
 met-succeeded works work met = met-each works work.prior met
 
-each-met : (works : List Record) (prior : List ℕ) → AllByRecursion (λ number. HasOne (HasSucceeded number) works) prior → list_all (has_succeeded works) prior ≡ true
+each-met : (works : List Record) (prior : List ℕ) → AllByRecursion (λ number. HasOne (HasSucceeded number) works) prior
+    → list_all (has_succeeded works) prior ≡ true
 each-met works [] all = refl
 each-met works (number ∷ prior) all = and_from _ _ (one-has_succeeded number works all.0) (each-met works prior all.1)
 

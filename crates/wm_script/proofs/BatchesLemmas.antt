@@ -32,7 +32,8 @@ pub fault_later : {A B : Type 0} (r : Result A BatchFault) (f : A → Result B B
     → IsFaultOf (r >>= f) found
 fault_later r f x found e is = rw e is
 
-pub fault_of_data : {T : Type 0} (answer : Result T DataFault) (found : DataFault) → IsDataFaultOf answer found → IsFaultOf (or_fault of_data answer) (of_data found)
+pub fault_of_data : {T : Type 0} (answer : Result T DataFault) (found : DataFault) → IsDataFaultOf answer found
+    → IsFaultOf (or_fault of_data answer) (of_data found)
 fault_of_data answer data_fault.EmptyKey is = rw is refl
 fault_of_data answer (data_fault.BadData key) is = rw is refl
 fault_of_data answer (data_fault.TooLarge size) is = rw is refl

@@ -33,9 +33,9 @@ use Rattle.wm_script.proofs.BuiltForms.{AreForms, AreShort, AreWithin, AreLayers
 use Rattle.wm_script.proofs.Options.{either, map_of, tested, then_any, then_of}
 use Rattle.wm_script.specs.Batches.{batch_in, chain_from, each_of, input_in, nodes_in, node_in, of_chain, of_data, of_request, or_fault, request_in, ◌>>=◌}
 use Rattle.wm_script.specs.Enqueues.{enqueued_form, Layers, Works, WorksForm}
-use Rattle.wm_script.specs.Lines.{asked_by, cancel_of, command_of, command_with, commands_in, conditions_of, cut, enqueue_of, moment_of, prune_of, query_of, readers, update_of, updated_in, value_of}
+use Rattle.wm_script.specs.Lines.{asked_by, command_of, command_with, commands_in, conditions_of, cut, enqueue_of, moment_of, readers, update_of, updated_in, value_of}
 use Rattle.wm_script.specs.Values.{whole_in}
-use Rattle.wm_script.specs.Works.{asked_for, id_at, lone_in, with_tags, PeriodForm, WorkForm}
+use Rattle.wm_script.specs.Works.{asked_for, lone_in, with_tags, PeriodForm, WorkForm}
 use Rattle.wm_script.specs.declared.batches.BatchFault.{BatchFault}
 use Rattle.wm_script.specs.declared.batches.BatchFault.TheVariants as fault
 
@@ -201,10 +201,6 @@ IsBuilt-enqueue_of d =
     IsBuilt-command_with IsAsked (Enqueue form.named) (λ batch. IsBuilt-enqueue form.named batch is.named) (batch_in form.works)
     (IsAsked-batch_in form.works is.works))
 
-IsBuilt-cancel_of : (d : json.Data) → IfSome (cancel_of d) IsBuilt
-unfolding cancel_of
-IsBuilt-cancel_of d = either IsBuilt _ _ None (then_any IsBuilt _ (id_at (get (codes "id") d)) (λ id. tt)) tt
-
 IsWithin-updated_in : (d : json.Data) → IfSome (updated_in d) IsWithin
 unfolding updated_in
 IsWithin-updated_in d = either IsWithin _ _ None (then_any IsWithin lone_in (get (codes "work") d) IsWithin-lone_in) tt
@@ -229,26 +225,13 @@ IsBuilt-moment_of d =
     either IsBuilt _ _ None
     (then_any IsBuilt _ (get (codes "at") d) (λ value. then_of IsMoment IsBuilt _ (whole_in value) (IsMoment-whole_in value) (λ at below. below))) tt
 
-IsBuilt-conditions_of : (d : json.Data) → IfSome (conditions_of d) IsBuilt
-unfolding conditions_of
-IsBuilt-conditions_of d = search (rules, either, then_any)
-
-IsBuilt-prune_of : (d : json.Data) → IfSome (prune_of d) IsBuilt
-unfolding prune_of
-IsBuilt-prune_of d = search (rules, either)
-
-IsBuilt-query_of : (d : json.Data) → IfSome (query_of d) IsBuilt
-unfolding query_of
-IsBuilt-query_of d = search (rules, either)
-
 -- what each reader answers is built
 AreBuilt : List (List ℕ × (json.Data → Option Command)) → Type 0
 AreBuilt table = AllByRecursion (λ reader. (d : json.Data) → IfSome (reader.1 d) IsBuilt) table
 
 AreBuilt-readers : AreBuilt readers
-unfolding AreBuilt
-AreBuilt-readers =
-    (IsBuilt-enqueue_of, (IsBuilt-cancel_of, (IsBuilt-update_of, (IsBuilt-moment_of, (IsBuilt-conditions_of, (IsBuilt-prune_of, (IsBuilt-query_of, tt)))))))
+unfolding AreBuilt conditions_of
+AreBuilt-readers = search (rules, either, then_any, IsBuilt-enqueue_of, IsBuilt-update_of, IsBuilt-moment_of)
 
 found : (b : Bool) (reader : json.Data → Option Command) (rest : Option (json.Data → Option Command)) (d : json.Data) → IfSome (reader d) IsBuilt
     → IfSome (option_and_then (λ reader. reader d) rest) IsBuilt → IfSome (option_and_then (λ reader. reader d) (cond b (Some reader) rest)) IsBuilt

@@ -3,8 +3,6 @@ pub mod BuiltCommands
 pub mod BuiltForms
 pub mod EnqueuesLemmas
 pub mod LinesLemmas
-pub mod LogTexts
 pub mod ObjectsLemmas
 pub mod Options
-pub mod TextsLemmas
 pub mod ValuesLemmas

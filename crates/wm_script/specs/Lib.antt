@@ -4,6 +4,5 @@ pub mod Limits
 pub mod Lines
 pub mod Names
 pub mod Objects
-pub mod Texts
 pub mod Values
 pub mod Works

@@ -44,7 +44,7 @@ unfoldable pub enqueue_of : json.Data → Option Command
 enqueue_of d = option_map (λ form. command_with (Enqueue form.named) (batch_in form.works)) (enqueued_form d)
 
 -- a cancel by an id
-unfoldable pub cancel_of : json.Data → Option Command
+abbrev pub cancel_of : json.Data → Option Command
 cancel_of d = if has_only (codes "cmd" ∷ codes "id" ∷ []) d then (do
   id ← id_at (get (codes "id") d)
   Some (Cancel (Id id))) else None
@@ -59,7 +59,7 @@ unfoldable pub update_of : json.Data → Option Command
 update_of d = option_map (λ work. command_with Update (request_in work)) (updated_in d)
 
 -- a prune without further keys
-unfoldable pub prune_of : json.Data → Option Command
+abbrev pub prune_of : json.Data → Option Command
 prune_of d = if has_only (codes "cmd" ∷ []) d then Some Prune else None
 
 -- ---- the moment and the conditions
@@ -102,7 +102,7 @@ abbrev pub query_of_all : WorkQuery
 query_of_all = record { ids = []; names = []; states = []; tags = [] }
 
 -- a query without further keys
-unfoldable pub query_of : json.Data → Option Command
+abbrev pub query_of : json.Data → Option Command
 query_of d = if has_only (codes "cmd" ∷ []) d then Some (Query query_of_all) else None
 
 -- ---- a line

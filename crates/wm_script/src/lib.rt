@@ -1,8 +1,7 @@
-//! The lines of a script and the texts of a log.
+//! The lines of a script.
 //!
-//! [`read_lines`] reads the commands of a script's bytes, and [`event_text`] is what is written for
-//! an event. Their definitions are `specs/Lines.antt`, with `Limits`, `Enqueues`, `Names`, `Batches`, `Works`,
-//! `Objects` and `Values`, and `specs/Texts.antt`.
+//! [`read_lines`] reads the commands of a script's bytes. Their definition is `specs/Lines.antt`, with
+//! `Limits`, `Enqueues`, `Names`, `Batches`, `Works`, `Objects` and `Values`.
 #![tactic(auto)]
 
 mod batches;
@@ -12,10 +11,8 @@ pub mod lines;
 mod names;
 mod objects;
 mod requests;
-pub mod texts;
 mod values;
 mod works;
 
 pub use limits::{Limit, MAX_LINE_BYTES, MAX_LINES, MAX_SCRIPT_BYTES, ScriptFault, first_limit};
 pub use lines::read_lines;
-pub use texts::event_text;

@@ -162,7 +162,6 @@ fn enqueue_with(alloc: Global, form: &EnqueueForm<'_>) -> Result<Command, AllocE
 }
 
 /// The command that cancels a work by its id.
-#[tactic(auto, unfolding(crate::specs::Lines::cancel_of))]
 fn cancel_of(value: &Value) -> Option<Command>
     ensures { result ≡ cancel_of (view value.now) }
 {
@@ -206,7 +205,6 @@ fn update_with(alloc: Global, work: &WorkForm<'_>) -> Result<Command, AllocError
 }
 
 /// The command that prunes.
-#[tactic(auto, unfolding(crate::specs::Lines::prune_of))]
 fn prune_of(value: &Value) -> Option<Command>
     ensures { result ≡ prune_of (view value.now) }
 {
@@ -260,7 +258,6 @@ fn conditions_of(value: &Value) -> Option<Command>
 }
 
 /// The query without further keys, which names nothing.
-#[tactic(auto, unfolding(crate::specs::Lines::query_of))]
 fn query_of(alloc: Global, value: &Value) -> Option<Command>
     ensures { result ≡ query_of (view value.now) }
 {

@@ -3,12 +3,12 @@ use Rattle.std.proofs.Common.{◌≡◌, ℕ, ◌+◌, ◌^◌, ◌<◌, ◌≤�
 use Rattle.std.specs.List.{AllByRecursion}
 use Rattle.wm_bench.specs.declared.place.Place.{Place}
 use Rattle.wm_machine.proofs.Logs.{commands_of-push}
-use Rattle.wm_script.proofs.LogTexts.{log_text-push}
+use Rattle.wm_texts.proofs.LogTexts.{log_text-push}
 use Rattle.wm_machine.proofs.Steps.{IsReached-after}
 use Rattle.wm_machine.specs.Outcome.{IsBuilt}
 use Rattle.wm_machine.specs.Log.{command_in, commands_of, AreNumberedFrom}
 use Rattle.wm_machine.specs.Narrow.{IsReached}
-use Rattle.wm_script.specs.Texts.{event_text, log_text}
+use Rattle.wm_texts.specs.Texts.{event_text, log_text}
 use Rattle.wm_machine.specs.declared.command.Command.{Command}
 use Rattle.wm_machine.specs.declared.event.Event.{Event}
 use Rattle.wm_session.proofs.BookEvents.{AreNumberedFrom-silent}

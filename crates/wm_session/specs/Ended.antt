@@ -13,7 +13,7 @@ use Rattle.wm_machine.specs.Replay.{Replay}
 use Rattle.wm_machine.specs.Rows.{rows_of}
 use Rattle.wm_machine.specs.Serial.{IsSerial, BeginsSerial}
 use Rattle.wm_machine.specs.Valid.{Valid}
-use Rattle.wm_script.specs.Texts.{log_text}
+use Rattle.wm_texts.specs.Texts.{log_text}
 use Rattle.wm_machine.specs.declared.command.Command.{Command}
 use Rattle.wm_machine.specs.declared.event.Event.{Event}
 use Rattle.wm_machine.specs.declared.state.State.{State}

@@ -3,7 +3,7 @@
 ghost use Rattle.std.specs.Prelude.{◌≡◌, ◌++◌, [], None, Some, IsNone, IfErr, IfSome, OnOk, OnErr};
 ghost use Rattle.wm_bench.specs.Places.{changed_at, made_idle, IsAwayAt};
 ghost use Rattle.wm_machine.specs.Outcome.{IsBuilt};
-ghost use Rattle.wm_script.specs.Texts.{text_of};
+ghost use Rattle.wm_texts.specs.Texts.{text_of};
 ghost use Rattle.wm_machine.specs.declared.event.Event.TheVariants as event;
 ghost use Rattle.wm_machine.specs.declared.reply.Reply.{Reply};
 ghost use Rattle.wm_session.specs.Book.{IsClaimIn};
@@ -20,8 +20,8 @@ use wm_bench::{Bench, Seated};
 use wm_io::Sink;
 use wm_keeper::Keeper;
 use wm_machine::{Command, Event};
-use wm_script::event_text;
 use wm_table::{Claim, Table, Ticket, Trouble};
+use wm_texts::event_text;
 use wm_worker::Worker;
 
 /// Executes the command of a line. Its reply stands in the table's last event.

@@ -3,7 +3,8 @@ use Rattle.std.proofs.Common.{◌≡◌, ◌||◌, ◌&&◌, ℕ, ◌<◌, Bool,
 use Rattle.std.specs.List.{AllByRecursion, list_any}
 use Rattle.std.proofs.lemmas.Bool.{eq-eqb, ne_eqb, or_left}
 use Rattle.wm_collections.specs.Lists.{AllLater}
-use Rattle.wm_machine.proofs.Lists.{All-both, All-filter, All-find, All-weaker}
+use Rattle.wm_machine.proofs.Lists.{All-both, All-find, All-weaker}
+use Rattle.wm_machine.proofs.Names.{All-of_filter}
 use Rattle.wm_machine.proofs.Runnings.{WorksAscend, WorksAscend-in_order}
 use Rattle.wm_machine.specs.Closed.{is_among}
 use Rattle.wm_machine.specs.Group.{numbers_in}
@@ -33,9 +34,6 @@ found_each (work ∷ works) ascend = (
       (λ later both. found-later work later works both.0 both.1)
       (All-both (λ later. work.seq < later.seq) (λ later. work_numbered later.seq works ≡ Some later) works ascend.0 (found_each works ascend.1)),
 )
-
-All-of_filter : {T : Type 0} (P : T → Type 0) (test : T → Bool) (xs : List T) → AllByRecursion P xs → AllByRecursion P (filter test xs)
-All-of_filter P test xs all = All-filter P test xs (All-weaker P (λ x. test x ≡ true → P x) xs (λ x p e. p) all)
 
 found_grouped : (works : List Record) (numbers : List ℕ) → AllLater IsBefore works → AreFound works (grouped works numbers)
 found_grouped works numbers in_order =
@@ -126,7 +124,8 @@ among-later true work later members below =
     ap (λ b. b || is_among (numbers_in members) later.seq) (ne_eqb work.seq later.seq (λ e. absurd (omega arith)))
 among-later false work later members below = refl
 
-among_filter : (test : Record → Bool) (works : List Record) → WorksAscend works
+-- a number is among those of the works that pass where its work does
+pub among_filter : (test : Record → Bool) (works : List Record) → WorksAscend works
     → AllByRecursion (λ work. is_among (numbers_in (filter test works)) work.seq ≡ test work) works
 among_filter test [] ascend = tt
 among_filter test (work ∷ works) ascend =
@@ -160,7 +159,8 @@ filter-twice : {T : Type 0} (test : T → Bool) (b : Bool) (x : T) (xs ys : List
 filter-twice test true x xs ys e = ap (λ list. cond (test x) (x ∷ list) list) e
 filter-twice test false x xs ys e = e
 
-filter_both : {T : Type 0} (one other : T → Bool) (xs : List T) → filter other (filter one xs) ≡ filter (λ x. one x && other x) xs
+-- what passes two tests, one after the other
+pub filter_both : {T : Type 0} (one other : T → Bool) (xs : List T) → filter other (filter one xs) ≡ filter (λ x. one x && other x) xs
 filter_both one other [] = refl
 filter_both one other (x ∷ xs) = filter-twice other (one x) x (filter one xs) (filter (λ x. one x && other x) xs) (filter_both one other xs)
 

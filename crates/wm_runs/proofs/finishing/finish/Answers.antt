@@ -106,7 +106,8 @@ finish-step s number i told run work end is told_is =
       how = refl;
       step =
           replacing_all-step s gone (change_by itself to) (end_in s run end) (over run) (event.Finish run.run end) valid is.reached.narrow legal
-          (run-keeps s i run work itself to is.reached is.at is.of same.0 same.1) (ends-agree s i run work end is.reached is.at is.of) refl (after_finish s run.run end legal);
+          (run-keeps s i run work itself to is.reached is.at is.of same.0 same.1) (ends-agree s i run work end is.reached is.at is.of) refl
+          (after_finish s run.run end legal);
     }
 
 -- a report that asks for one more turn where the run doesn't go on is in the last one

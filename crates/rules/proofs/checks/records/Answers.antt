@@ -1,10 +1,10 @@
 use Rattle.std.proofs.Common.{◌≡◌, [], ◌∷◌, ◌++◌, arith, rules}
-use Rattle.calls.proofs.Numbered.{one_more}
-use Rattle.calls.proofs.checks.records.Goals as goal
+use Rattle.rules.proofs.Numbered.{one_more}
+use Rattle.rules.proofs.checks.records.Goals as goal
 
 pub loop-index-preserved : goal.loop-index-preserved
 loop-index-preserved c =
     let before = c.loop-index in
-    let work = c.in_ok-record.field-0 in
+    let work = c.in_ok-numbered.field-0 in
     let pushed : c.push.new.self ≡ before.works ++ work ∷ [] = search rules in
-    rw pushed (one_more before.index before.works work (omega arith) (search rules) (search rules) (search rules) before.invariant)
+    rw pushed (one_more before.index before.works work (omega arith) (search rules) before.invariant)

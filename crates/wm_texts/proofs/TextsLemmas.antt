@@ -3,7 +3,7 @@ use Rattle.std.proofs.Common.{◌≡◌, ℕ, List, Option, Some, None, false, r
 use Rattle.serde_json.specs.Data as json
 use Rattle.serde_json.specs.Written.{has_float, members_have_float}
 use Rattle.wm_data.proofs.NoFloats.{entries_have_no_float, list_has_no_float}
-use Rattle.wm_script.specs.Texts.{count, info_json, info_members, reply_json, with_due, with_name}
+use Rattle.wm_texts.specs.Texts.{count, info_json, info_members, reply_json, with_due, with_name}
 use Rattle.wm_machine.specs.declared.command.LineFault.{LineFault}
 use Rattle.wm_machine.specs.declared.command.LineFault.TheVariants as fault
 use Rattle.wm_machine.specs.declared.reply.Refusal.{Refusal}

@@ -1,8 +1,10 @@
 //! What the policy of a unique name comes to, by the numbers of works, of `wm_unique`.
 ghost use Rattle.std.specs.Int.{to_be_bytes, w128};
 ghost use Rattle.std.specs.Prelude.{◌≡◌, [], ◌∷◌, length, IfOk, None};
+ghost use Rattle.rules.specs.Waiting.{IsPlain};
 ghost use Rattle.wm_collections.specs.Lists.{AllLater};
 ghost use Rattle.wm_machine.specs.Valid.{IsBefore};
+ghost use Rattle.wm_request.specs.Requests.{IsRequest};
 ghost use Rattle.wm_unique.specs.Plans.{AreNumbersOf};
 
 use std::alloc::Global;
@@ -15,23 +17,31 @@ use wm_machine::{How, Phase, Policy, Record};
 use wm_request::{Batch, Builder, Node, Request};
 use wm_unique::{GroupPlan, plan};
 
+/// Reads a request, which its types keep within its limits.
+pub fn look_at(request: &Request)
+    ensures { IsRequest request.now }
+{
+    let id = request.id();
+    let _bytes = id.as_bytes();
+    let _size = request.input().size();
+    let _class = request.class();
+    let _tags = request.tags();
+    let _backoff = request.backoff();
+    let _delay = request.initial_delay();
+    let _period = request.period();
+}
+
 /// A request of one-time work with this number as its id.
 pub fn request(alloc: Global, number: u64) -> Result<Request, Fail>
+    ensures within { IfOk result IsRequest }
     ensures id { IfOk result (λ request. request.id ≡ to_be_bytes w128 number) }
     ensures one_time { IfOk result (λ request. request.period ≡ None) }
 {
     let id = Uuid::from_u128(number as u128);
     let class = String::from_str(alloc, "Echo")?;
-    Ok(Builder::one_time(alloc, id, class).build()?)
-}
-
-/// The numbers of a list.
-fn numbers(alloc: Global, numbers: &[u64]) -> Result<Items<u64>, Fail> {
-    let mut items = Items::new(alloc);
-    for number in numbers {
-        items.push(*number)?;
-    }
-    Ok(items)
+    let request = Builder::one_time(alloc, id, class).build()?;
+    look_at(&request);
+    Ok(request)
 }
 
 /// The record of a work of this number, without a name, in this phase, that comes after these.
@@ -39,12 +49,14 @@ pub fn record(alloc: Global, seq: u64, phase: Phase, prior: &[u64]) -> Result<Re
     ensures number { IfOk result (λ work. work.seq ≡ seq) }
     ensures unnamed { IfOk result (λ work. work.name ≡ None) }
     ensures id { IfOk result (λ work. work.request.id ≡ to_be_bytes w128 seq) }
+    ensures request { IfOk result (λ work. IsRequest work.request) }
+    ensures plain { IfOk result (IsPlain phase prior.now) }
 {
     Ok(Record {
         seq,
         name: None,
         request: request(alloc, seq)?,
-        prior: numbers(alloc, prior)?,
+        prior: Items::from_vec(Vec::from_slice(alloc, prior)?),
         phase,
         attempt: 1,
         backoff_n: 0,

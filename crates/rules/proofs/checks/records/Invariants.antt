@@ -1,5 +1,5 @@
-use Rattle.calls.proofs.Numbered.{AreNumberedTo}
-use Rattle.calls.proofs.checks.records.Given as goal
+use Rattle.rules.proofs.Numbered.{AreNumberedTo}
+use Rattle.rules.proofs.checks.records.Given as goal
 
 -- the works so far are numbered from 1 on
 abbrev pub invariant-loop-index : goal.invariant-loop-index

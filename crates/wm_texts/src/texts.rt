@@ -1,7 +1,7 @@
 ghost use Rattle.std.specs.Prelude.{◌≡◌, IfOk, OnOk, OnErr};
 ghost use Rattle.serde_json.specs.View.{view, members_view};
 ghost use Rattle.wm_data.specs.DataJson.{data_json};
-ghost use Rattle.wm_script.specs.Texts as texts;
+ghost use Rattle.wm_texts.specs.Texts as texts;
 
 use serde_json::{Map, Value, json, push, put};
 use std::alloc::{AllocError, Global};

@@ -5,7 +5,7 @@ use Rattle.wm_machine.specs.Replay.{Replay}
 use Rattle.wm_machine.specs.Step.{after}
 use Rattle.wm_machine.specs.declared.event.Event.{Event}
 use Rattle.wm_machine.specs.declared.state.State.{State}
-use Rattle.wm_script.specs.Texts.{event_text, log_text}
+use Rattle.wm_texts.specs.Texts.{event_text, log_text}
 
 pub log_text-push : (first : State) (log : List Event) (last : State) (e : Event) → Replay first log last
     → log_text first (log ++ e ∷ []) ≡ log_text first log ++ event_text last e (after last e)

@@ -15,7 +15,7 @@ use wm_machine::{
 };
 use wm_request::{Builder, Request};
 use wm_rows::to_row;
-use wm_script::event_text;
+use wm_texts::event_text;
 
 /// The text of a reply to a line.
 fn text_of(alloc: Global, line: u32, reply: Reply) -> Result<Vec<u8>, AllocError> {

@@ -1,0 +1,221 @@
+//! An enqueue under a unique name, of `wm_commands`, where there are as many works as there may be or
+//! no number is left: the works are kept, one is updated or a kind is refused before either is told.
+ghost use Rattle.std.specs.Prelude.{◌≡◌, ◌^◌, ◌<◌, ◌≤◌, [], length, IfOk};
+ghost use Rattle.rules.specs.Waiting.{waiting_state, AreWaiting};
+ghost use Rattle.wm_machine.specs.Built.{AreAsked};
+ghost use Rattle.wm_machine.specs.Outcome.{IsBuilt};
+ghost use Rattle.wm_machine.specs.Valid.{Valid};
+ghost use Rattle.wm_request.specs.Requests.{IsRequest, IsShortText};
+ghost use Rattle.wm_steps.specs.Nodes.{nodes_of};
+
+use crate::checks::{
+    MAX_WORKS, NEW, NUMBERS_END, SPENT, TOO_MANY, Told, name, periodic, records, told,
+};
+use crate::unique::request;
+use std::alloc::{AllocError, Global};
+use std::process::Abort;
+use std::test::Fail;
+use wm_collections::Items;
+use wm_commands::execute;
+use wm_conditions::Conditions;
+use wm_graph::Graph;
+use wm_machine::{Command, Policy, Record, Reply, State, UniqueName};
+use wm_request::{Batch, Node, Request};
+
+/// A state of these works, where the next new work gets this number: it has no run, instance or
+/// observer, and its moment is 0.
+fn state_of(alloc: Global, works: Items<Record>, next: u64) -> State
+    ensures { result ≡ waiting_state works next }
+{
+    State {
+        works,
+        conditions: Conditions::OPENING,
+        now: 0,
+        runs: Items::new(alloc),
+        instances: Items::new(alloc),
+        next,
+        next_run: 1,
+        observers: Items::new(alloc),
+        hushed: false,
+    }
+}
+
+/// Such a state of works that wait.
+fn state(alloc: Global, works: Items<Record>, next: u64) -> State
+    requires waiting { AreWaiting works }
+    requires few_works { length works ≤ 100000 }
+    requires above { length works < next }
+    requires next { next ≤ 2 ^ 53 }
+    ensures valid { Valid result }
+    ensures no_run { result.runs ≡ [] }
+    ensures works { result.works ≡ works }
+{
+    state_of(alloc, works, next)
+}
+
+/// The graph of works that wait, and come after none.
+fn graph(alloc: Global, works: &[Record]) -> Result<Graph, AllocError>
+    requires { AreWaiting works.now }
+    ensures { IfOk result (λ graph. graph ≡ nodes_of works.now) }
+{
+    let mut graph = Graph::new(alloc);
+    for work in works {
+        graph.add(work.seq, &[], false)?;
+    }
+    Ok(graph)
+}
+
+/// The request of the new work.
+fn asked(alloc: Global, is_periodic: bool) -> Result<Request, Fail>
+    ensures { IfOk result IsRequest }
+{
+    if is_periodic {
+        periodic(alloc, NEW)
+    } else {
+        request(alloc, NEW)
+    }
+}
+
+/// A batch of one work, which names none.
+fn batch(alloc: Global, is_periodic: bool) -> Result<Batch, Fail>
+    ensures { IfOk result (λ batch. AreAsked batch.works) }
+{
+    let request = asked(alloc, is_periodic)?;
+    let mut works = Items::new(alloc);
+    works.push(Node {
+        request,
+        after: Items::new(alloc),
+    })?;
+    Ok(Batch::new(works))
+}
+
+/// The unique name of the first record, with this policy.
+fn unique(alloc: Global, policy: Policy) -> Result<UniqueName, AllocError>
+    ensures { IfOk result (λ unique. IsShortText unique.name) }
+{
+    Ok(UniqueName {
+        name: name(alloc)?,
+        policy,
+    })
+}
+
+/// An enqueue of one work, under the name of the first record where there is a policy.
+fn enqueue(alloc: Global, policy: Option<Policy>, is_periodic: bool) -> Result<Command, Fail>
+    ensures { IfOk result IsBuilt }
+{
+    let batch = batch(alloc, is_periodic)?;
+    match policy {
+        Some(policy) => Ok(Command::Enqueue {
+            named: Some(unique(alloc, policy)?),
+            batch,
+        }),
+        None => Ok(Command::Enqueue { named: None, batch }),
+    }
+}
+
+/// What a reply tells: its name, or that of the refusal, and its number as wide as an id.
+fn replied(reply: &Reply) -> (&'static str, u128) {
+    match reply {
+        Reply::Kept => ("Kept", 0),
+        Reply::Updated {
+            result: _,
+            generation,
+        } => ("Updated", *generation as u128),
+        Reply::Refused(refusal) => told(refusal),
+        _ => ("another", 0),
+    }
+}
+
+/// What an enqueue is replied in a state, of whose records this is the graph.
+fn reply_to(
+    alloc: Global,
+    state: &State,
+    graph: &Graph,
+    policy: Option<Policy>,
+    is_periodic: bool,
+) -> Result<(&'static str, u128), Fail>
+    requires valid { Valid state.now }
+    requires no_run { state.now.runs ≡ [] }
+    requires nodes { graph.now ≡ nodes_of state.now.works }
+{
+    let command = enqueue(alloc, policy, is_periodic)?;
+    let executed = execute(alloc, state, graph, 1, command)?;
+    let found = replied(&executed.reply);
+    drop(executed);
+    Ok(found)
+}
+
+/// An enqueue is replied so.
+fn expect_replied(
+    rt: &impl Abort,
+    alloc: Global,
+    state: &State,
+    graph: &Graph,
+    asked: (Option<Policy>, bool),
+    expected: Told,
+) -> Result<(), Fail>
+    requires valid { Valid state.now }
+    requires no_run { state.now.runs ≡ [] }
+    requires nodes { graph.now ≡ nodes_of state.now.works }
+{
+    let found = reply_to(alloc, state, graph, asked.0, asked.1)?;
+    assert_eq!(rt; found.0, expected.0);
+    assert_eq!(rt; found.1, expected.1 as u128);
+    Ok(())
+}
+
+/// A policy of the name with a batch of one work, which is periodic or not, and what it is replied,
+/// whether works and numbers are spent or not.
+type Named = (Policy, bool, Told);
+
+/// The first three checks of an enqueue under a name: one that keeps, one of a kind that the policy
+/// can't take, and one that updates.
+const NAMED: [Named; 3] = [
+    (Policy::Keep, false, ("Kept", 0)),
+    (Policy::CancelAndReenqueue, false, ("KindMismatch", NEW)),
+    (Policy::Update, true, ("Updated", 1)),
+];
+
+/// Under the name each is replied as it tells, and so the same batch without a name.
+fn expect_each(
+    rt: &impl Abort,
+    alloc: Global,
+    state: &State,
+    graph: &Graph,
+    unnamed: Told,
+) -> Result<(), Fail>
+    requires valid { Valid state.now }
+    requires no_run { state.now.runs ≡ [] }
+    requires nodes { graph.now ≡ nodes_of state.now.works }
+{
+    for named in &NAMED {
+        expect_replied(rt, alloc, state, graph, (Some(named.0), named.1), named.2)?;
+        expect_replied(rt, alloc, state, graph, (None, named.1), unnamed)?;
+    }
+    Ok(())
+}
+
+/// Each is replied so, where there are so many records and the next new work gets this number.
+fn expect_where(
+    rt: &impl Abort,
+    alloc: Global,
+    count: u64,
+    next: u64,
+    unnamed: Told,
+) -> Result<(), Fail>
+    requires few_works { count ≤ 100000 }
+    requires above { count < next }
+    requires next { next ≤ 2 ^ 53 }
+{
+    let works = records(alloc, count)?;
+    let graph = graph(alloc, works.as_slice())?;
+    let state = state(alloc, works, next);
+    expect_each(rt, alloc, &state, &graph, unnamed)
+}
+
+#[test]
+fn a_name_comes_before_works_and_numbers(rt: HostRuntime) -> Result<(), Fail> {
+    let alloc = rt.alloc();
+    expect_where(&rt, alloc, 2, NUMBERS_END, SPENT)?;
+    expect_where(&rt, alloc, MAX_WORKS, MAX_WORKS + 1, TOO_MANY)
+}

@@ -1,0 +1,16 @@
+//! Tests of single calls of the crates that the table stands on: how a record changes, what the policy
+//! of a name comes to, the checks of an enqueue and their order, and the texts, a table a subject.
+//!
+//! It is otherwise empty.
+#![tactic(auto)]
+
+#[cfg(test)]
+mod checks;
+#[cfg(test)]
+mod commands;
+#[cfg(test)]
+mod lifecycle;
+#[cfg(test)]
+mod texts;
+#[cfg(test)]
+mod unique;
