@@ -1,13 +1,15 @@
 -- What holds of every command, with a row for each.
-use Rattle.std.proofs.Common.{Some, None, refl}
+use Rattle.std.proofs.Common.{◌≡◌, true, Some, None, refl}
 use Rattle.wm_machine.proofs.Cancels.{cancel-answered}
 use Rattle.wm_machine.proofs.Enqueues.{enqueue-answered}
+use Rattle.wm_machine.proofs.Lists.{All-any}
 use Rattle.wm_machine.proofs.Names.{enqueue-named-answered}
 use Rattle.wm_machine.proofs.Owed.{IsAnswered}
-use Rattle.wm_machine.proofs.Prunes.{prune-answered}
+use Rattle.wm_machine.proofs.Removals.{reached-removed}
 use Rattle.wm_machine.proofs.Settings.{conditions-answered, moment-answered}
 use Rattle.wm_machine.proofs.Updates.{update-answered}
 use Rattle.wm_machine.specs.Outcome.{IsBuilt}
+use Rattle.wm_machine.specs.Pruned.{pruned, removable}
 use Rattle.wm_machine.specs.Queried.{answer_to}
 use Rattle.wm_machine.specs.declared.command.Command.{Command}
 use Rattle.wm_machine.specs.declared.command.Command.TheVariants as command
@@ -24,7 +26,12 @@ answered s (command.Cancel (target.Id id)) built = cancel-answered s id
 answered s (command.Update request) built = update-answered s request built
 answered s (command.Moment at) built = moment-answered s at built
 answered s (command.Conditions conditions) built = conditions-answered s conditions
-answered s command.Prune built = prune-answered s
+answered s command.Prune built = record {
+  answered = λ no_run. ((pruned s).reply, refl);
+  reached = λ reached. reached-removed s (removable s.works) reached
+      (All-any (λ work. removable s.works work ≡ true → removable s.works work ≡ true) s.works (λ work is. is));
+  frame = refl;
+}
 answered s (command.Query query) built =
     record { answered = λ no_run. (reply.Query (answer_to s query), refl); reached = λ reached. reached; frame = refl }
 answered s (command.Faulty fault) built =

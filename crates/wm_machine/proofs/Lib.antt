@@ -18,7 +18,6 @@ pub mod Names
 pub mod NumberPlaces
 pub mod Owed
 pub mod Placings
-pub mod Prunes
 pub mod Queries
 pub mod Records
 pub mod Removals

@@ -135,7 +135,8 @@ module _ (s : State) (work : Record) (valid : Valid s) (first : first_of s ≡ S
             (λ other. OfNumber work.seq (λ other. (change other).phase ≡ phase.Done how.Failed) other × (other.seq ≢ work.seq → KeepsRun other (change other)))
             s.works waits
             (All-both (OfNumber work.seq (λ other. (change other).phase ≡ phase.Done how.Failed))
-            (λ other. other.seq ≢ work.seq → KeepsRun other (change other)) s.works done (closing-others s work.seq how.Failed then keeps valid not_yet (λ change p prior. tt))));
+            (λ other. other.seq ≢ work.seq → KeepsRun other (change other)) s.works done
+            (closing-others s work.seq how.Failed then keeps valid not_yet (λ change p prior. tt))));
         old = closing-left s work.seq how.Failed then keeps valid not_yet (λ change p prior. tt) is;
         gone = left-idle s.now (map change s.works) (change work)
             (ap is_waiting
