@@ -2,10 +2,12 @@
 
 use std::alloc::{AllocError, Global};
 use uuid::Uuid;
+use wm_collections::Text;
 use wm_conditions::{Conditions, Constraints, Network};
 use wm_data::{Data, Merger};
 use wm_machine::{
-    Applied, Cause, Command, End, Event, LineFault, Policy, Refusal, Reply, Target, UniqueName,
+    Applied, Cause, Command, Counts, End, Event, LineFault, Policy, Refusal, Reply, Shown, Target,
+    UniqueName, WorkQuery,
 };
 use wm_request::{Batch, Request};
 use wm_schedule::{Backoff, BackoffPolicy, Period};
@@ -51,7 +53,7 @@ pub fn event_words(alloc: Global, event: &Event) -> Result<String, AllocError> {
 fn command_words(alloc: Global, command: &Command) -> Result<String, AllocError> {
     match command {
         Command::Enqueue { named, batch } => enqueue_words(alloc, named, batch),
-        Command::Cancel(Target::Id(id)) => format!(in alloc; "cancel {id}"),
+        Command::Cancel(target) => cancel_words(alloc, target),
         Command::Update(request) => {
             let work = work_words(alloc, request)?;
             format!(in alloc; "update {work}")
@@ -59,12 +61,84 @@ fn command_words(alloc: Global, command: &Command) -> Result<String, AllocError>
         Command::Moment(at) => format!(in alloc; "moment {at}"),
         Command::Conditions(conditions) => conditions_words(alloc, conditions),
         Command::Prune => String::from_str(alloc, "prune"),
-        Command::Query(_) => String::from_str(alloc, "query"),
+        Command::Query(query) => query_words(alloc, query),
+        Command::Summary => String::from_str(alloc, "summary"),
         Command::Faulty(fault) => {
             let fault = fault_words(alloc, fault)?;
             format!(in alloc; "faulty {fault}")
         }
         _ => String::from_str(alloc, "a command that isn't built"),
+    }
+}
+
+/// A cancel, with what it is for.
+fn cancel_words(alloc: Global, target: &Target) -> Result<String, AllocError> {
+    match target {
+        Target::Id(id) => format!(in alloc; "cancel {id}"),
+        Target::Tag(tag) => {
+            let tag = tag.as_str();
+            format!(in alloc; "cancel tag {tag:?}")
+        }
+        Target::Name(name) => {
+            let name = name.as_str();
+            format!(in alloc; "cancel name {name:?}")
+        }
+        Target::All => String::from_str(alloc, "cancel all"),
+    }
+}
+
+/// A query, with each group that it names.
+fn query_words(alloc: Global, query: &WorkQuery) -> Result<String, AllocError> {
+    let mut words = String::from_str(alloc, "query")?;
+    if !query.ids.is_empty() {
+        words.push_str(" ids")?;
+    }
+    for id in query.ids.as_slice() {
+        words.push_str(format!(in alloc; " {id}")?.as_str())?;
+    }
+    add_texts(alloc, &mut words, "names", query.names.as_slice())?;
+    add_states(&mut words, query.states.as_slice())?;
+    add_texts(alloc, &mut words, "tags", query.tags.as_slice())?;
+    Ok(words)
+}
+
+/// Adds texts under the name of their group, where there are any.
+fn add_texts(
+    alloc: Global,
+    words: &mut String,
+    group: &str,
+    texts: &[Text],
+) -> Result<(), AllocError> {
+    let mut all = Vec::new(alloc);
+    for text in texts {
+        all.push(text.as_str())?;
+    }
+    if !all.is_empty() {
+        words.push_str(format!(in alloc; " {group} {all:?}")?.as_str())?;
+    }
+    Ok(())
+}
+
+/// Adds the states of a query, where it names any.
+fn add_states(words: &mut String, states: &[Shown]) -> Result<(), AllocError> {
+    if !states.is_empty() {
+        words.push_str(" states")?;
+    }
+    for state in states {
+        words.push(' ')?;
+        words.push_str(state_name(*state))?;
+    }
+    Ok(())
+}
+
+fn state_name(state: Shown) -> &'static str {
+    match state {
+        Shown::Enqueued => "ENQUEUED",
+        Shown::Running => "RUNNING",
+        Shown::Succeeded => "SUCCEEDED",
+        Shown::Failed => "FAILED",
+        Shown::Blocked => "BLOCKED",
+        Shown::Cancelled => "CANCELLED",
     }
 }
 
@@ -134,23 +208,11 @@ fn work_words(alloc: Global, request: &Request) -> Result<String, AllocError> {
     if request.merger() == Merger::ArrayCreating {
         words.push_str(" ARRAY")?;
     }
-    add_tags(alloc, &mut words, request)?;
+    add_texts(alloc, &mut words, "tags", request.tags().as_slice())?;
     add_constraints(&mut words, request.constraints())?;
     add_delays(alloc, &mut words, request)?;
     add_period(alloc, &mut words, request)?;
     Ok(words)
-}
-
-/// Adds the tags of a work where it has any.
-fn add_tags(alloc: Global, words: &mut String, request: &Request) -> Result<(), AllocError> {
-    let mut tags = Vec::new(alloc);
-    for tag in request.tags().as_slice() {
-        tags.push(tag.as_str())?;
-    }
-    if !tags.is_empty() {
-        words.push_str(format!(in alloc; " tags {tags:?}")?.as_str())?;
-    }
-    Ok(())
 }
 
 /// Adds the constraints of a work where it has any.
@@ -270,6 +332,7 @@ fn reply_words(alloc: Global, reply: &Reply) -> Result<String, AllocError> {
             }
             format!(in alloc; "works {works:?}")
         }
+        Reply::Summary(counts) => summary_words(alloc, counts),
         Reply::Moment => String::from_str(alloc, "moment"),
         Reply::Conditions { stopped } => format!(in alloc; "conditions stopped {stopped}"),
         Reply::Cancelled(count) => format!(in alloc; "cancelled {count}"),
@@ -285,6 +348,27 @@ fn reply_words(alloc: Global, reply: &Reply) -> Result<String, AllocError> {
         }
         _ => String::from_str(alloc, "a reply that isn't built"),
     }
+}
+
+/// How many works are in each state that has any, and the sum of their attempts.
+fn summary_words(alloc: Global, counts: &Counts) -> Result<String, AllocError> {
+    let mut words = String::from_str(alloc, "summary")?;
+    let states = [
+        ("ENQUEUED", counts.enqueued),
+        ("RUNNING", counts.running),
+        ("SUCCEEDED", counts.succeeded),
+        ("FAILED", counts.failed),
+        ("BLOCKED", counts.blocked),
+        ("CANCELLED", counts.cancelled),
+    ];
+    for (state, count) in &states {
+        if *count > 0 {
+            words.push_str(format!(in alloc; " {state} {count}")?.as_str())?;
+        }
+    }
+    let attempts = counts.attempts;
+    words.push_str(format!(in alloc; " attempts {attempts}")?.as_str())?;
+    Ok(words)
 }
 
 fn applied_name(applied: Applied) -> &'static str {

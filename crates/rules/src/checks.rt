@@ -83,8 +83,7 @@ fn numbered(alloc: Global, seq: u64) -> Result<Record, Fail>
     if seq == 1 {
         return first(alloc);
     }
-    let work = record(alloc, seq, Phase::Waiting, &[])?;
-    Ok(work)
+    record(alloc, seq, Phase::Waiting, &[])
 }
 
 /// Records of so many works that wait, numbered from 1 on.

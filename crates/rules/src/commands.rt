@@ -6,7 +6,6 @@ ghost use Rattle.wm_machine.specs.Built.{AreAsked};
 ghost use Rattle.wm_machine.specs.Outcome.{IsBuilt};
 ghost use Rattle.wm_machine.specs.Valid.{Valid};
 ghost use Rattle.wm_request.specs.Requests.{IsRequest, IsShortText};
-ghost use Rattle.wm_steps.specs.Nodes.{nodes_of};
 
 use crate::checks::{
     MAX_WORKS, NEW, NUMBERS_END, SPENT, TOO_MANY, Told, name, periodic, records, told,
@@ -18,7 +17,6 @@ use std::test::Fail;
 use wm_collections::Items;
 use wm_commands::execute;
 use wm_conditions::Conditions;
-use wm_graph::Graph;
 use wm_machine::{Command, Policy, Record, Reply, State, UniqueName};
 use wm_request::{Batch, Node, Request};
 
@@ -51,18 +49,6 @@ fn state(alloc: Global, works: Items<Record>, next: u64) -> State
     ensures works { result.works ≡ works }
 {
     state_of(alloc, works, next)
-}
-
-/// The graph of works that wait, and come after none.
-fn graph(alloc: Global, works: &[Record]) -> Result<Graph, AllocError>
-    requires { AreWaiting works.now }
-    ensures { IfOk result (λ graph. graph ≡ nodes_of works.now) }
-{
-    let mut graph = Graph::new(alloc);
-    for work in works {
-        graph.add(work.seq, &[], false)?;
-    }
-    Ok(graph)
 }
 
 /// The request of the new work.
@@ -126,20 +112,18 @@ fn replied(reply: &Reply) -> (&'static str, u128) {
     }
 }
 
-/// What an enqueue is replied in a state, of whose records this is the graph.
+/// What an enqueue is replied in a state.
 fn reply_to(
     alloc: Global,
     state: &State,
-    graph: &Graph,
     policy: Option<Policy>,
     is_periodic: bool,
 ) -> Result<(&'static str, u128), Fail>
     requires valid { Valid state.now }
     requires no_run { state.now.runs ≡ [] }
-    requires nodes { graph.now ≡ nodes_of state.now.works }
 {
     let command = enqueue(alloc, policy, is_periodic)?;
-    let executed = execute(alloc, state, graph, 1, command)?;
+    let executed = execute(alloc, state, 1, command)?;
     let found = replied(&executed.reply);
     drop(executed);
     Ok(found)
@@ -150,15 +134,13 @@ fn expect_replied(
     rt: &impl Abort,
     alloc: Global,
     state: &State,
-    graph: &Graph,
     asked: (Option<Policy>, bool),
     expected: Told,
 ) -> Result<(), Fail>
     requires valid { Valid state.now }
     requires no_run { state.now.runs ≡ [] }
-    requires nodes { graph.now ≡ nodes_of state.now.works }
 {
-    let found = reply_to(alloc, state, graph, asked.0, asked.1)?;
+    let found = reply_to(alloc, state, asked.0, asked.1)?;
     assert_eq!(rt; found.0, expected.0);
     assert_eq!(rt; found.1, expected.1 as u128);
     Ok(())
@@ -177,20 +159,13 @@ const NAMED: [Named; 3] = [
 ];
 
 /// Under the name each is replied as it tells, and so the same batch without a name.
-fn expect_each(
-    rt: &impl Abort,
-    alloc: Global,
-    state: &State,
-    graph: &Graph,
-    unnamed: Told,
-) -> Result<(), Fail>
+fn expect_each(rt: &impl Abort, alloc: Global, state: &State, unnamed: Told) -> Result<(), Fail>
     requires valid { Valid state.now }
     requires no_run { state.now.runs ≡ [] }
-    requires nodes { graph.now ≡ nodes_of state.now.works }
 {
     for named in &NAMED {
-        expect_replied(rt, alloc, state, graph, (Some(named.0), named.1), named.2)?;
-        expect_replied(rt, alloc, state, graph, (None, named.1), unnamed)?;
+        expect_replied(rt, alloc, state, (Some(named.0), named.1), named.2)?;
+        expect_replied(rt, alloc, state, (None, named.1), unnamed)?;
     }
     Ok(())
 }
@@ -208,9 +183,8 @@ fn expect_where(
     requires next { next ≤ 2 ^ 53 }
 {
     let works = records(alloc, count)?;
-    let graph = graph(alloc, works.as_slice())?;
     let state = state(alloc, works, next);
-    expect_each(rt, alloc, &state, &graph, unnamed)
+    expect_each(rt, alloc, &state, unnamed)
 }
 
 #[test]

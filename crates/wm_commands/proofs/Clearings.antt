@@ -113,7 +113,7 @@ any_descendant seqs (work ∷ earlier) number =
     (λ seq. sym (among-cond (joins seq) work.seq (each seq) number))
 
 -- a record is reached by one of them where it is unfinished, and one of those that are found
-any_reached : (seqs : List ℕ) (works : List Record) (work : Record)
+pub any_reached : (seqs : List ℕ) (works : List Record) (work : Record)
     → list_any (λ seq. is_reached seq works work) seqs ≡ becomes_cancelled (reached_from_any seqs works) work
 unfolding is_reached
 any_reached seqs works work =

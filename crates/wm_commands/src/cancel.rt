@@ -1,70 +1,77 @@
-//! A work is cancelled by its id, with its unfinished descendants.
-ghost use Rattle.std.specs.Prelude.{◌≡◌, [], true, Some, IfOk};
-ghost use Rattle.std.specs.Option.{option_copied};
+//! Works are cancelled, each with its unfinished descendants: the one with an id, those with a tag
+//! or of a unique name, or all.
+ghost use Rattle.std.specs.Prelude.{◌≡◌, [], IfOk};
+ghost use Rattle.std.specs.List.{list_any};
+ghost use Rattle.std.specs.Str.{bytes_eq};
 ghost use Rattle.wm_commands.specs.Builds.{IsExecuted};
-ghost use Rattle.wm_commands.specs.Cleared.{cancelling, replaced_by_clearing};
-ghost use Rattle.wm_graph.specs.Nodes.{HasNode};
-ghost use Rattle.wm_machine.specs.Cancelled.{work_with_id};
-ghost use Rattle.wm_machine.specs.Closed.{is_open};
-ghost use Rattle.wm_machine.specs.Outcome.{IsBuilt};
+ghost use Rattle.wm_machine.specs.Cancelled.{cancelled_each, is_cancellable, is_for, is_stored, targeted};
+ghost use Rattle.wm_machine.specs.Outcome.{outcome};
 ghost use Rattle.wm_machine.specs.Valid.{Valid};
-ghost use Rattle.wm_steps.specs.Nodes.{nodes_of, reached_from};
 
-use crate::clearing::{cancelling, replaced_by_clearing};
+use crate::clearing::{cancelling, reached_from_any, replaced_by_clearing};
 use crate::executed::Executed;
+use crate::naming::is_name;
 use std::alloc::{AllocError, Global};
 use uuid::Uuid;
-use wm_collections::Items;
-use wm_graph::Graph;
+use wm_collections::{Items, Text};
 use wm_machine::{Command, Event, Record, Refusal, Reply, State, Target};
-use wm_steps::{Replacement, RunChange, StepChange, is_open, with};
+use wm_steps::{RunChange, StepChange, is_open};
 
-/// The record with this id.
-fn work_with_id(works: &[Record], id: Uuid) -> Option<&Record>
-    ensures { option_copied result ≡ work_with_id works.now id }
-{
-    works.iter().find(|work| work.request.id() == id)
-}
-
-/// The records that take the place of others where a work is cancelled.
-fn replaced_by_cancel(
+/// What a cancel comes to.
+pub fn execute(
     alloc: Global,
     state: &State,
-    graph: &Graph,
-    work: &Record,
-) -> Result<Items<Replacement>, AllocError>
-    requires nodes { graph.now ≡ nodes_of state.now.works }
-    requires there { HasNode graph.now work.now.seq }
-    ensures { IfOk result (λ replaced. replaced
-        ≡ replaced_by_clearing
-        (cancelling (reached_from work.entry.now.seq (nodes_of state.entry.now.works)))
-        state.entry.now.works) }
-{
-    let reached = Items::from_vec(graph.descendants(work.seq)?);
-    replaced_by_clearing(alloc, state.works.as_slice(), &cancelling(alloc, reached))
-}
-
-/// Cancels an unfinished work. No run is unreturned, so none is stopped.
-fn cancel(
-    alloc: Global,
-    state: &State,
-    graph: &Graph,
     line: u32,
-    id: Uuid,
-    work: &Record,
+    target: Target,
 ) -> Result<Executed, AllocError>
     requires valid { Valid state.now }
     requires no_run { state.now.runs ≡ [] }
-    requires nodes { graph.now ≡ nodes_of state.now.works }
-    requires found { work_with_id state.now.works id ≡ Some work.now }
-    requires unfinished { is_open work.now.phase ≡ true }
+    ensures { IfOk result (IsExecuted state.entry.now line (Command.Cancel target)) }
+{
+    match target {
+        Target::Id(id) => cancel_id(alloc, state, line, id),
+        Target::Tag(tag) => cancel_each(alloc, state, line, Target::Tag(tag)),
+        Target::Name(name) => cancel_each(alloc, state, line, Target::Name(name)),
+        Target::All => cancel_each(alloc, state, line, Target::All),
+    }
+}
+
+/// What the cancelling of the work with this id comes to.
+fn cancel_id(alloc: Global, state: &State, line: u32, id: Uuid) -> Result<Executed, AllocError>
+    requires valid { Valid state.now }
+    requires no_run { state.now.runs ≡ [] }
     ensures { IfOk result (IsExecuted state.entry.now line (Command.Cancel (Target.Id id))) }
 {
-    let replaced = replaced_by_cancel(alloc, state, graph, work)?;
+    if is_stored(state.works.as_slice(), id) {
+        cancel_each(alloc, state, line, Target::Id(id))
+    } else {
+        let command = Command::Cancel(Target::Id(id));
+        let refusal = Refusal::NoSuchWork { id };
+        Executed::answering(alloc, line, command, Reply::Refused(refusal))
+    }
+}
+
+/// Cancels the unfinished works that a target is for. No run is unreturned, so none is stopped.
+fn cancel_each(
+    alloc: Global,
+    state: &State,
+    line: u32,
+    target: Target,
+) -> Result<Executed, AllocError>
+    requires valid { Valid state.now }
+    requires no_run { state.now.runs ≡ [] }
+    requires accepted { outcome state.now (Command.Cancel target)
+        ≡ cancelled_each state.now (targeted target state.now.works) }
+    ensures { IfOk result (IsExecuted state.entry.now line (Command.Cancel target)) }
+{
+    let works = state.works.as_slice();
+    let seqs = targeted(alloc, works, &target)?;
+    let cleared = cancelling(alloc, reached_from_any(alloc, works, seqs.as_slice())?);
+    let replaced = replaced_by_clearing(alloc, works, &cleared)?;
     let count = replaced.len() as u64;
     let event = Event::Command {
         line,
-        command: Command::Cancel(Target::Id(id)),
+        command: Command::Cancel(target),
         reply: Reply::Cancelled(count),
     };
     Ok(Executed {
@@ -73,49 +80,48 @@ fn cancel(
     })
 }
 
-/// What the cancelling of the work with this id comes to.
-fn cancel_id(
-    alloc: Global,
-    state: &State,
-    graph: &Graph,
-    line: u32,
-    id: Uuid,
-) -> Result<Executed, AllocError>
-    requires valid { Valid state.now }
-    requires no_run { state.now.runs ≡ [] }
-    requires nodes { graph.now ≡ nodes_of state.now.works }
-    ensures { IfOk result (IsExecuted state.entry.now line (Command.Cancel (Target.Id id))) }
+/// The numbers of the unfinished works that a target is for, ascending.
+fn targeted(alloc: Global, works: &[Record], target: &Target) -> Result<Items<u64>, AllocError>
+    ensures { IfOk result (λ numbers. numbers ≡ targeted target.entry.now works.entry.now) }
 {
-    match work_with_id(state.works.as_slice(), id) {
-        Some(work) if is_open(work.phase) => cancel(alloc, state, graph, line, id, work),
-        Some(_) => {
-            let command = Command::Cancel(Target::Id(id));
-            Executed::answering(alloc, line, command, Reply::Cancelled(0))
+    let mut numbers = Items::new(alloc);
+    for work in works {
+        if is_cancellable(target, work) {
+            numbers.push(work.seq)?;
         }
-        None => {
-            let command = Command::Cancel(Target::Id(id));
-            let refusal = Refusal::NoSuchWork { id };
-            Executed::answering(alloc, line, command, Reply::Refused(refusal))
-        }
+    }
+    Ok(numbers)
+}
+
+/// Whether a target is for a work that is unfinished.
+fn is_cancellable(target: &Target, work: &Record) -> bool
+    ensures { result ≡ is_cancellable target.now work.now }
+{
+    is_open(work.phase) && is_for(target, work)
+}
+
+/// Whether a target is for a work.
+fn is_for(target: &Target, work: &Record) -> bool
+    ensures { result ≡ is_for target.now work.now }
+{
+    match target {
+        Target::Id(id) => work.request.id() == *id,
+        Target::Tag(tag) => has_tag(work.request.tags().as_slice(), tag),
+        Target::Name(name) => is_name(name, &work.name),
+        Target::All => true,
     }
 }
 
-/// What a cancel comes to.
-pub fn execute(
-    alloc: Global,
-    state: &State,
-    graph: &Graph,
-    line: u32,
-    target: Target,
-) -> Result<Executed, AllocError>
-    requires valid { Valid state.now }
-    requires no_run { state.now.runs ≡ [] }
-    requires nodes { graph.now ≡ nodes_of state.now.works }
-    requires built { IsBuilt (Command.Cancel target) }
-    ensures { IfOk result (IsExecuted state.entry.now line (Command.Cancel target)) }
+/// Whether a tag is one of these.
+fn has_tag(tags: &[Text], tag: &Text) -> bool
+    ensures { result ≡ list_any (λ own. bytes_eq own tag.now) tags.now }
 {
-    match target {
-        Target::Id(id) => cancel_id(alloc, state, graph, line, id),
-        _ => unreachable!(),
-    }
+    tags.iter().any(|own| *own == *tag)
+}
+
+/// Whether a record has this id.
+fn is_stored(works: &[Record], id: Uuid) -> bool
+    ensures { result ≡ is_stored works.now id }
+{
+    works.iter().any(|work| work.request.id() == id)
 }

@@ -58,7 +58,11 @@ pub fn clearing_of(
 }
 
 /// The numbers of the descendants of any of these works, ascending.
-fn reached_from_any(alloc: Global, works: &[Record], seqs: &[u64]) -> Result<Items<u64>, AllocError>
+pub fn reached_from_any(
+    alloc: Global,
+    works: &[Record],
+    seqs: &[u64],
+) -> Result<Items<u64>, AllocError>
     ensures { IfOk result (λ numbers. numbers ≡ reached_from_any seqs.now works.now) }
 {
     let mut numbers = Items::new(alloc);

@@ -106,7 +106,7 @@ fn members_of(alloc: Global, works: &[Record], name: &Text) -> Result<Items<u64>
 }
 
 /// Whether a work has this unique name.
-fn is_name(name: &Text, own: &Option<Text>) -> bool
+pub fn is_name(name: &Text, own: &Option<Text>) -> bool
     ensures { result ≡ is_name name.now own.now }
 {
     match own {

@@ -1,13 +1,12 @@
-//! A query is answered by what is told of the works.
+//! A query is answered by what is told of the works that match.
 ghost use Rattle.std.specs.Prelude.{IfOk};
 ghost use Rattle.wm_commands.specs.Builds.{IsExecuted};
-ghost use Rattle.wm_machine.specs.Built.{NamesNothing};
 ghost use Rattle.wm_machine.specs.Valid.{Valid};
 
 use crate::executed::Executed;
 use std::alloc::{AllocError, Global};
 use wm_machine::{Command, Reply, State, WorkQuery};
-use wm_query::infos_of;
+use wm_query::answer_to;
 
 /// What a query comes to.
 pub fn execute(
@@ -17,9 +16,8 @@ pub fn execute(
     query: WorkQuery,
 ) -> Result<Executed, AllocError>
     requires valid { Valid state.now }
-    requires all { NamesNothing query }
     ensures { IfOk result (IsExecuted state.entry.now line (Command.Query query)) }
 {
-    let works = infos_of(alloc, state)?;
+    let works = answer_to(alloc, state, &query)?;
     Executed::answering(alloc, line, Command::Query(query), Reply::Query(works))
 }

@@ -11,9 +11,9 @@ use Rattle.wm_machine.proofs.Updates.{update-answered}
 use Rattle.wm_machine.specs.Outcome.{IsBuilt}
 use Rattle.wm_machine.specs.Pruned.{pruned, removable}
 use Rattle.wm_machine.specs.Queried.{answer_to}
+use Rattle.wm_machine.specs.Summarized.{counts_of}
 use Rattle.wm_machine.specs.declared.command.Command.{Command}
 use Rattle.wm_machine.specs.declared.command.Command.TheVariants as command
-use Rattle.wm_machine.specs.declared.command.Target.TheVariants as target
 use Rattle.wm_machine.specs.declared.reply.Refusal.TheVariants.{Line}
 use Rattle.wm_machine.specs.declared.reply.Reply.TheVariants as reply
 use Rattle.wm_machine.specs.declared.state.State.{State}
@@ -22,7 +22,7 @@ use Rattle.wm_machine.specs.declared.state.State.{State}
 pub answered : (s : State) (asked : Command) → IsBuilt asked → IsAnswered s asked
 answered s (command.Enqueue None batch) built = enqueue-answered s batch built
 answered s (command.Enqueue (Some unique) batch) built = enqueue-named-answered s unique batch built
-answered s (command.Cancel (target.Id id)) built = cancel-answered s id
+answered s (command.Cancel target) built = cancel-answered s target
 answered s (command.Update request) built = update-answered s request built
 answered s (command.Moment at) built = moment-answered s at built
 answered s (command.Conditions conditions) built = conditions-answered s conditions
@@ -34,6 +34,8 @@ answered s command.Prune built = record {
 }
 answered s (command.Query query) built =
     record { answered = λ no_run. (reply.Query (answer_to s query), refl); reached = λ reached. reached; frame = refl }
+answered s command.Summary built =
+    record { answered = λ no_run. (reply.Summary (counts_of s), refl); reached = λ reached. reached; frame = refl }
 answered s (command.Faulty fault) built =
     record { answered = λ no_run. (reply.Refused (Line fault), refl); reached = λ reached. reached; frame = refl }
 answered s _ built = absurd built

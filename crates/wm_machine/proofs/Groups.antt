@@ -4,8 +4,8 @@ use mathlib.Core.List.{reverse, reverse_aux}
 use Rattle.std.specs.List.{AllByRecursion, list_any}
 use Rattle.std.proofs.lemmas.Bool.{and_from, and_parts, cases_Bool, cond_both, true≢false}
 use Rattle.std.proofs.lemmas.List.{length-map}
-use Rattle.wm_machine.proofs.Cancels.{reached-closed}
 use Rattle.wm_machine.proofs.Changes.{IsChange-still, IsSameRequest, KeepsRun, OfNumber, reached-changed, Succeeded}
+use Rattle.wm_machine.proofs.Closings.{HasNotSucceeded, reached-closed}
 use Rattle.wm_machine.proofs.Endings.{closed_both, closed_in, KeepsRun-same}
 use Rattle.wm_machine.proofs.Lists.{All-any, All-filter, All-map, All-weaker, filter-all, filter-few, list_any-before, list_any-false, map-same, none_pass}
 use Rattle.wm_machine.proofs.Removals.{reached-removed, without_gone}
@@ -89,11 +89,7 @@ none_reached how seq other works runs none =
 
 -- ---- cancelling one after another
 
--- no record of this number has succeeded
-abbrev pub HasNotSucceeded : List Record → ℕ → Type 0
-HasNotSucceeded works seq = AllByRecursion (OfNumber seq (λ work. Succeeded work.phase → ⊥)) works
-
--- nor has one after a cancelling
+-- what hasn't succeeded hasn't after a cancelling
 not_yet_later : (seq : ℕ) (works : List Record) (other : ℕ) → HasNotSucceeded works other → HasNotSucceeded (with_closed how.Cancelled seq works) other
 not_yet_later seq works other not_yet =
     All-map (OfNumber other (λ work. Succeeded work.phase → ⊥)) (OfNumber other (λ work. Succeeded work.phase → ⊥)) (closed_in how.Cancelled seq works)
@@ -101,16 +97,21 @@ not_yet_later seq works other not_yet =
     (λ work not.
     closed_both (OfNumber other (λ w. Succeeded w.phase → ⊥)) how.Cancelled seq works work (λ e same succeeded. absurd (cc)) (λ e. not)) not_yet
 
-reached-each_closed : (seqs : List ℕ) (s : State) → IsReached s → AllByRecursion (HasNotSucceeded s.works) seqs
+one_by_one : (seqs : List ℕ) (s : State) → IsReached s → AllByRecursion (HasNotSucceeded s.works) seqs
     → AllByRecursion (λ seq. reaches_run seq s.works s.runs ≡ false) seqs
     → IsReached (record s { works = with_each_closed how.Cancelled seqs s.works })
-reached-each_closed [] s reached not_yet none = reached
-reached-each_closed (seq ∷ seqs) s reached not_yet none =
-    reached-each_closed seqs (record s { works = with_closed how.Cancelled seq s.works }) (reached-closed s seq reached not_yet.0 none.0)
+one_by_one [] s reached not_yet none = reached
+one_by_one (seq ∷ seqs) s reached not_yet none =
+    one_by_one seqs (record s { works = with_closed how.Cancelled seq s.works }) (reached-closed s seq reached not_yet.0 none.0)
     (All-weaker (HasNotSucceeded s.works) (HasNotSucceeded (with_closed how.Cancelled seq s.works)) seqs
     (λ other not. not_yet_later seq s.works other not) not_yet.1)
     (All-weaker (λ other. reaches_run other s.works s.runs ≡ false) (λ other. reaches_run other (with_closed how.Cancelled seq s.works) s.runs ≡ false) seqs
     (λ other no_run. none_reached how.Cancelled seq other s.works s.runs no_run) none.1)
+
+-- a state in which none of these has succeeded or reaches a run, once they are cancelled
+pub reached-each_closed : (seqs : List ℕ) (s : State) → IsReached s → AllByRecursion (HasNotSucceeded s.works) seqs
+    → reaches_any_run seqs s.works s.runs ≡ false → IsReached (record s { works = with_each_closed how.Cancelled seqs s.works })
+reached-each_closed seqs s reached not_yet none = one_by_one seqs s reached not_yet (none_pass (λ seq. reaches_run seq s.works s.runs) seqs none)
 
 -- a record, closed where one of these works reaches it
 abbrev pub closed_by : How → List ℕ → List Record → Record → Record
@@ -214,7 +215,7 @@ pub reached-made_ready : (s : State) (placing : Placing) → IsReached s → All
     → reaches_any_run placing.cancel s.works s.runs ≡ false → IsReached (made_ready s placing)
 reached-made_ready s placing reached not_yet none =
     reached-let_go placing.let_go (record s { works = with_each_closed how.Cancelled placing.cancel s.works })
-    (reached-each_closed placing.cancel s reached not_yet (none_pass (λ seq. reaches_run seq s.works s.runs) placing.cancel none))
+    (reached-each_closed placing.cancel s reached not_yet none)
 
 -- ---- what holds of the records then
 

@@ -1,5 +1,6 @@
 pub mod Cancels
 pub mod Changes
+pub mod Closings
 pub mod Commands
 pub mod Descendants
 pub mod DiaryLogs
@@ -18,7 +19,6 @@ pub mod Names
 pub mod NumberPlaces
 pub mod Owed
 pub mod Placings
-pub mod Queries
 pub mod Records
 pub mod Removals
 pub mod Reports

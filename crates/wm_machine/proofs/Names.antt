@@ -4,22 +4,22 @@ use Rattle.std.specs.List.{AllByRecursion, list_any}
 use Rattle.std.proofs.Math.Bool.{and-true}
 use Rattle.std.proofs.lemmas.Bool.{cond_both, eq-eqb, false≢true, ltb-false, or_left, or_parts, or_right, true≢false}
 use Rattle.wm_collections.specs.Lists.{AllLater}
-use Rattle.wm_machine.proofs.Cancels.{not_yet_unfinished}
+use Rattle.wm_machine.proofs.Closings.{HasNotSucceeded, no_run_reached, not_yet_passing}
 use Rattle.wm_machine.proofs.Enqueues.{AreBothOneTime, CanFollow, CanFollow-none, CanShare, first_refusal-none, frame-placed, IsOfItsKind, none_found, not_some, passes, PassesChecks, placeable, reached-placed}
-use Rattle.wm_machine.proofs.Groups.{All-made_ready, HasNotSucceeded, length-made_ready, reached-made_ready, with_let_go-none}
-use Rattle.wm_machine.proofs.Lists.{All-any, All-both, All-filter, All-map, All-stored, All-weaker, AllLater-filter, AllLater-map, find-stored, HasOne-weaker, list_any-false, one_gives}
+use Rattle.wm_machine.proofs.Groups.{All-made_ready, length-made_ready, reached-made_ready, with_let_go-none}
+use Rattle.wm_machine.proofs.Lists.{All-any, All-both, All-filter, All-map, All-stored, All-weaker, AllLater-filter, AllLater-map, find-stored, HasOne-weaker, one_gives}
 use Rattle.wm_machine.proofs.Owed.{IsAnswered}
 use Rattle.wm_machine.proofs.Placings.{AllLater-few, bytes_eq-refl, IsOneTime}
 use Rattle.wm_machine.proofs.Updates.{update-reached}
 use Rattle.wm_machine.specs.Built.{AreAsked, AreAskedUnder}
-use Rattle.wm_machine.specs.Cancelled.{reaches_any_run, reaches_run}
+use Rattle.wm_machine.specs.Cancelled.{reaches_any_run}
 use Rattle.wm_machine.specs.Closed.{is_among}
 use Rattle.wm_machine.specs.Enqueued.{cancelled_by, carried_out, enqueued, made_ready, outcome_by, placed_after, plan_in, refusal_by, refusal_of, refusal_of_placing, stops_run, updated_by}
 use Rattle.wm_machine.specs.Frame.{untouched}
 use Rattle.wm_machine.specs.Group.{is_name, is_prior_of, leaves_of, members_of, numbers_in}
 use Rattle.wm_machine.specs.Narrow.{IsReached}
 use Rattle.wm_machine.specs.Plan as plan
-use Rattle.wm_machine.specs.Plan.{appending, first_of_batch, id_mismatched, is_appending, is_for_periodic, is_lost, is_unfinished, is_unfit, mismatch, Placing, Plan, plan_of, replacing, unfit_work, updating}
+use Rattle.wm_machine.specs.Plan.{appending, id_mismatched, is_appending, is_lost, is_unfinished, is_unfit, mismatch, Placing, Plan, plan_of, replacing, unfit_work, updating}
 use Rattle.wm_machine.specs.Replied.{Outcome}
 use Rattle.wm_machine.specs.Step.{state_by}
 use Rattle.wm_machine.specs.Updated.{is_same_kind}
@@ -33,7 +33,6 @@ use Rattle.wm_machine.specs.declared.record.Record.{Record}
 use Rattle.wm_machine.specs.declared.reply.Refusal.{Refusal}
 use Rattle.wm_machine.specs.declared.reply.Refusal.TheVariants.{KindMismatch}
 use Rattle.wm_machine.specs.declared.reply.Reply.{Reply}
-use Rattle.wm_machine.specs.declared.state.Run.{Run}
 use Rattle.wm_machine.specs.declared.state.State.{State}
 use Rattle.wm_request.specs.Batches.{BatchFields, is_periodic}
 use Rattle.wm_request.specs.declared.request.Node.{Node}
@@ -127,13 +126,8 @@ record AreAccepted (s : State) (name : List ℕ) (works : List Node) (placing : 
 not_yet_members : (s : State) (name : List ℕ) → Valid s
     → AllByRecursion (HasNotSucceeded s.works) (numbers_in (filter is_unfinished (members_of s.works name)))
 not_yet_members s name valid =
-    All-map (λ work. HasOne (λ other. other ≡ work) s.works × (is_unfinished work ≡ true)) (HasNotSucceeded s.works) (λ (work : Record). work.seq)
-    (filter is_unfinished (members_of s.works name)) (λ work both. not_yet_unfinished s work valid both.0 both.1)
-    (All-filter (λ work. HasOne (λ other. other ≡ work) s.works × (is_unfinished work ≡ true)) is_unfinished (members_of s.works name)
-    (All-weaker (λ work. HasOne (λ other. other ≡ work) s.works)
-    (λ work. is_unfinished work ≡ true → HasOne (λ other. other ≡ work) s.works × (is_unfinished work ≡ true)) (members_of s.works name)
-    (λ work stored unfinished. (stored, unfinished))
-    (All-of_filter (λ work. HasOne (λ other. other ≡ work) s.works) (λ work. is_name name work.name) s.works (All-stored s.works))))
+    not_yet_passing s is_unfinished (members_of s.works name) valid (λ work is. is)
+    (All-of_filter (λ work. HasOne (λ other. other ≡ work) s.works) (λ work. is_name name work.name) s.works (All-stored s.works))
 
 -- once the members are let go, no record has the name
 abbrev pub HasAnotherName : List ℕ → Record → Type 0
@@ -324,11 +318,7 @@ module _ (s : State) (name : List ℕ) (works : List Node) (asked : AreAskedUnde
 pub no_run_stopped : (s : State) (named : Option UniqueName) (works : List Node) → s.runs ≡ [] → stops_run s named works ≡ false
 no_run_stopped s None works no_run = refl
 no_run_stopped s (Some unique) works no_run =
-    let seqs = cancelled_by (plan_in s unique) in
-    let none : reaches_any_run seqs s.works s.runs ≡ false =
-    ap (λ (runs : List Run). reaches_any_run seqs s.works runs) no_run
-    ∙ list_any-false (λ seq. reaches_run seq s.works []) seqs (All-any (λ seq. reaches_run seq s.works [] ≡ false) seqs (λ seq. refl)) in
-    ap (λ b. b && not (is_some (refusal_of s (Some unique) works))) none
+    ap (λ b. b && not (is_some (refusal_of s (Some unique) works))) (no_run_reached (cancelled_by (plan_in s unique)) s.works s.runs no_run)
 
 not_stopped : (reaches : Bool) (found : Option Refusal) → (reaches && not (is_some found)) ≡ false → found ≡ None → reaches ≡ false
 not_stopped reaches found stops none = sym (and-true reaches) ∙ ap (λ o. reaches && not (is_some o)) (sym none) ∙ stops

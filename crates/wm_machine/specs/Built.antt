@@ -1,7 +1,6 @@
 -- What is built of the commands. Each step of the work widens it.
-use Rattle.std.specs.Prelude.{◌≡◌, ℕ, List, []}
+use Rattle.std.specs.Prelude.{ℕ, List}
 use Rattle.std.specs.List.{AllByRecursion}
-use Rattle.wm_machine.specs.declared.state.WorkQuery.{WorkQuery}
 use Rattle.wm_request.specs.Batches.{IsBatch}
 use Rattle.wm_request.specs.Requests.{IsRequest, IsShortText}
 use Rattle.wm_request.specs.declared.request.Node.{Node}
@@ -15,10 +14,3 @@ pub record AreAsked (works : List Node) : Type 0 where
 pub record AreAskedUnder (name : List ℕ) (works : List Node) : Type 0 where
   pub asked : AreAsked works
   pub name_is : IsShortText name
-
--- a query that names nothing, which matches all
-pub record NamesNothing (query : WorkQuery) : Type 0 where
-  pub ids : query.ids ≡ []
-  pub names : query.names ≡ []
-  pub states : query.states ≡ []
-  pub tags : query.tags ≡ []

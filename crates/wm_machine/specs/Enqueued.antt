@@ -5,7 +5,7 @@
 use Rattle.std.specs.Prelude.{ℕ, ◌+◌, ◌^◌, ◌==◌, ◌&&◌, ◌||◌, Bool, true, false, not, find, is_some, List, [], ◌∷◌, ◌++◌, length, map, filter, flat_map, nat_lt, if◌then◌else◌, Option, Some, None, option_map}
 use Rattle.std.specs.List.{list_any}
 use Rattle.std.specs.Str.{bytes_eq}
-use Rattle.wm_machine.specs.Cancelled.{reaches_any_run}
+use Rattle.wm_machine.specs.Cancelled.{is_stored, reaches_any_run}
 use Rattle.wm_machine.specs.Closed.{is_among, with_each_closed}
 use Rattle.wm_machine.specs.Group.{members_of, with_let_go}
 use Rattle.wm_machine.specs.Plan as plan
@@ -25,10 +25,6 @@ use Rattle.wm_request.specs.Batches.{has_id}
 use Rattle.wm_request.specs.declared.request.Node.{Node}
 
 -- ---- the checks, in their order
-
--- whether a stored record has this id
-abbrev pub is_stored : List Record → List ℕ → Bool
-is_stored works id = list_any (λ work. bytes_eq work.request.id id) works
 
 -- the records and the batch together are too many
 abbrev pub too_many_works : State → List Node → Option Refusal

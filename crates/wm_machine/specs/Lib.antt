@@ -29,6 +29,7 @@ pub mod Settings
 pub mod Shown
 pub mod Started
 pub mod Step
+pub mod Summarized
 pub mod Turns
 pub mod Updated
 pub mod Valid

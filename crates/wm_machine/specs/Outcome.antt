@@ -1,17 +1,17 @@
 -- What a command does: the one reply to it in a state, and the state after it; and which commands are built. Each has its rule in a file of
 -- its own.
 use Rattle.std.specs.Prelude.{◌^◌, ◌<◌, if◌then◌else◌, Option, Some, None}
-use Rattle.wm_machine.specs.Built.{AreAsked, AreAskedUnder, NamesNothing}
+use Rattle.wm_machine.specs.Built.{AreAsked, AreAskedUnder}
 use Rattle.wm_machine.specs.Cancelled.{cancelled}
 use Rattle.wm_machine.specs.Enqueued.{enqueued, stops_run}
 use Rattle.wm_machine.specs.Pruned.{pruned}
 use Rattle.wm_machine.specs.Queried.{answer_to}
 use Rattle.wm_machine.specs.Replied.{Outcome, unchanged}
 use Rattle.wm_machine.specs.Settings.{conditioned, moved}
+use Rattle.wm_machine.specs.Summarized.{counts_of}
 use Rattle.wm_machine.specs.Updated.{update}
 use Rattle.wm_machine.specs.declared.command.Command.{Command}
 use Rattle.wm_machine.specs.declared.command.Command.TheVariants as command
-use Rattle.wm_machine.specs.declared.command.Target.TheVariants as target
 use Rattle.wm_machine.specs.declared.reply.Refusal.TheVariants.{Line}
 use Rattle.wm_machine.specs.declared.reply.Reply.TheVariants as reply
 use Rattle.wm_machine.specs.declared.state.State.{State}
@@ -20,12 +20,13 @@ use Rattle.wm_request.specs.Requests.{IsRequest}
 -- none where the command isn't legal in the state
 abbrev pub outcome : State → Command → Option Outcome
 outcome s (command.Enqueue named batch) = if stops_run s named batch.works then None else Some (enqueued s named batch.works)
-outcome s (command.Cancel (target.Id id)) = cancelled s id
+outcome s (command.Cancel target) = cancelled s target
 outcome s (command.Update request) = Some (update s request)
 outcome s (command.Moment at) = Some (moved s at)
 outcome s (command.Conditions conditions) = conditioned s conditions
 outcome s command.Prune = Some (pruned s)
 outcome s (command.Query query) = Some (unchanged s (reply.Query (answer_to s query)))
+outcome s command.Summary = Some (unchanged s (reply.Summary (counts_of s)))
 outcome s (command.Faulty fault) = Some (unchanged s (reply.Refused (Line fault)))
 outcome s _ = None
 
@@ -33,11 +34,12 @@ outcome s _ = None
 abbrev pub IsBuilt : Command → Type 0
 IsBuilt (command.Enqueue None batch) = AreAsked batch.works
 IsBuilt (command.Enqueue (Some unique) batch) = AreAskedUnder unique.name batch.works
-IsBuilt (command.Cancel (target.Id id)) = Unit {0}
+IsBuilt (command.Cancel target) = Unit {0}
 IsBuilt (command.Update request) = IsRequest request
 IsBuilt (command.Moment at) = at < 2 ^ 53
 IsBuilt (command.Conditions conditions) = Unit {0}
 IsBuilt command.Prune = Unit {0}
-IsBuilt (command.Query query) = NamesNothing query
+IsBuilt (command.Query query) = Unit {0}
+IsBuilt command.Summary = Unit {0}
 IsBuilt (command.Faulty fault) = Unit {0}
 IsBuilt _ = ⊥

@@ -40,9 +40,13 @@ info_in work state = record {
   tags = work.request.tags;
 }
 
+-- the state shown of a work among these
+abbrev pub shown_of : List Record → Record → Shown
+shown_of works work = shown_in work.phase (all_met works work)
+
 -- what is told of a work among these
 abbrev pub info_of : List Record → Record → WorkInfo
-info_of works work = info_in work (shown_in work.phase (all_met works work))
+info_of works work = info_in work (shown_of works work)
 
 -- what is told of each work, in ascending number
 unfoldable pub infos_of : State → List WorkInfo

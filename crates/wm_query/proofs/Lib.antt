@@ -1,2 +1,4 @@
+pub mod Counting
+pub mod Groups
 pub mod NumbersDone
 pub mod ScanLemmas

@@ -1,12 +1,13 @@
-//! What is told of the works of a state.
+//! What is told of a work.
 ghost use Rattle.std.specs.Prelude.{◌≡◌, IfOk};
-ghost use Rattle.wm_machine.specs.Shown.{due_shown, info_in, info_of, infos_of, shown_in};
-ghost use Rattle.wm_machine.specs.Valid.{Valid, IsRecord};
+ghost use Rattle.wm_collections.specs.Lists.{AllLater};
+ghost use Rattle.wm_machine.specs.Shown.{due_shown, info_in, shown_in, shown_of};
+ghost use Rattle.wm_machine.specs.Valid.{IsBefore, IsRecord};
 
 use crate::scan::{all_met, due};
 use std::alloc::{AllocError, Global};
-use wm_collections::{Items, Replica};
-use wm_machine::{How, Phase, Record, Shown, State, WorkInfo};
+use wm_collections::Replica;
+use wm_machine::{How, Phase, Record, Shown, WorkInfo};
 
 /// The state shown of a work in this phase, whose prerequisites have all succeeded or haven't.
 fn shown_in(phase: Phase, all_met: bool) -> Shown
@@ -22,6 +23,14 @@ fn shown_in(phase: Phase, all_met: bool) -> Shown
     }
 }
 
+/// The state shown of a work among these.
+pub fn shown_of(works: &[Record], work: &Record) -> Shown
+    requires { AllLater IsBefore works.now }
+    ensures { result ≡ shown_of works.now work.now }
+{
+    shown_in(work.phase, all_met(works, work))
+}
+
 /// When a work in this shown state is due, where that is told.
 fn due_shown(state: Shown, work: &Record) -> Option<u64>
     requires record { IsRecord work.now }
@@ -33,8 +42,8 @@ fn due_shown(state: Shown, work: &Record) -> Option<u64>
     }
 }
 
-/// What is told of a work in this shown state.
-fn info(alloc: Global, work: &Record, state: Shown) -> Result<WorkInfo, AllocError>
+/// What is told of a work in this shown state. Memory that is refused is the only error.
+pub fn info(alloc: Global, work: &Record, state: Shown) -> Result<WorkInfo, AllocError>
     requires record { IsRecord work.now }
     ensures { IfOk result (λ info. info ≡ info_in work.entry.now state) }
 {
@@ -50,19 +59,4 @@ fn info(alloc: Global, work: &Record, state: Shown) -> Result<WorkInfo, AllocErr
         progress: work.progress.replica(alloc)?,
         tags: work.request.tags().replica(alloc)?,
     })
-}
-
-/// What is told of each work, in ascending number.
-#[tactic(auto, unfolding(wm_machine::specs::Shown::infos_of))]
-pub fn infos_of(alloc: Global, state: &State) -> Result<Items<WorkInfo>, AllocError>
-    requires valid { Valid state.now }
-    ensures { IfOk result (λ infos. infos ≡ infos_of state.entry.now) }
-{
-    let works = state.works.as_slice();
-    let mut infos = Items::new(alloc);
-    for work in works {
-        let shown = shown_in(work.phase, all_met(works, work));
-        infos.push(info(alloc, work, shown)?)?;
-    }
-    Ok(infos)
 }

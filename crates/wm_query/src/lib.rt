@@ -1,11 +1,17 @@
 //! What is read off the works of a state: when each is due and whether its prerequisites have
-//! succeeded, which starts next and on which instance, and what is told of it.
+//! succeeded, which starts next and on which instance, what is told of it, which works a query asks
+//! for, and what a summary counts.
 //!
-//! After the guide's pages "Work states", "Chaining work" and "Managing work" (observing your work).
+//! After the guide's pages "Work states", "Chaining work" and "Managing work" (observing your work,
+//! complex work queries).
 #![tactic(auto)]
 
+mod counts;
 mod infos;
+mod queries;
 mod scan;
 
-pub use infos::infos_of;
+pub use counts::counts_of;
+pub use infos::info;
+pub use queries::{answer, answer_to, matches};
 pub use scan::{all_met, due, first_index, idle_in, is_waiting};

@@ -30,10 +30,10 @@ use Rattle.wm_request.specs.declared.request.Node.{Node}
 use Rattle.wm_schedule.proofs.Clamps.{IsBackoffDelay-clamped, IsPeriod-clamped}
 use Rattle.wm_schedule.specs.Clamped.{clamped_period, IsPeriod}
 use Rattle.wm_script.proofs.BuiltForms.{AreForms, AreShort, AreWithin, AreLayers, HasSixteen, IsEnqueue, IsEnqueue-enqueued_form, IsNamed, IsWithin, IsWithin-lone_in}
-use Rattle.wm_script.proofs.Options.{either, map_of, tested, then_any, then_of}
+use Rattle.wm_script.proofs.Options.{either, map_any, map_of, tested, then_any, then_of}
 use Rattle.wm_script.specs.Batches.{batch_in, chain_from, each_of, input_in, nodes_in, node_in, of_chain, of_data, of_request, or_fault, request_in, ◌>>=◌}
 use Rattle.wm_script.specs.Enqueues.{enqueued_form, Layers, Works, WorksForm}
-use Rattle.wm_script.specs.Lines.{asked_by, command_of, command_with, commands_in, conditions_of, cut, enqueue_of, moment_of, readers, update_of, updated_in, value_of}
+use Rattle.wm_script.specs.Lines.{asked_by, command_of, command_with, commands_in, conditions_of, cut, enqueue_of, moment_of, one_key, readers, update_of, updated_in, value_of}
 use Rattle.wm_script.specs.Values.{whole_in}
 use Rattle.wm_script.specs.Works.{asked_for, lone_in, with_tags, PeriodForm, WorkForm}
 use Rattle.wm_script.specs.declared.batches.BatchFault.{BatchFault}
@@ -203,7 +203,7 @@ IsBuilt-enqueue_of d =
 
 IsWithin-updated_in : (d : json.Data) → IfSome (updated_in d) IsWithin
 unfolding updated_in
-IsWithin-updated_in d = either IsWithin _ _ None (then_any IsWithin lone_in (get (codes "work") d) IsWithin-lone_in) tt
+IsWithin-updated_in d = then_any IsWithin lone_in (one_key (codes "work") d) IsWithin-lone_in
 
 IsBuilt-update_of : (d : json.Data) → IfSome (update_of d) IsBuilt
 unfolding update_of
@@ -222,8 +222,7 @@ IsMoment-whole_in d =
 IsBuilt-moment_of : (d : json.Data) → IfSome (moment_of d) IsBuilt
 unfolding moment_of IsMoment
 IsBuilt-moment_of d =
-    either IsBuilt _ _ None
-    (then_any IsBuilt _ (get (codes "at") d) (λ value. then_of IsMoment IsBuilt _ (whole_in value) (IsMoment-whole_in value) (λ at below. below))) tt
+    then_any IsBuilt _ (one_key (codes "at") d) (λ value. then_of IsMoment IsBuilt _ (whole_in value) (IsMoment-whole_in value) (λ at below. below))
 
 -- what each reader answers is built
 AreBuilt : List (List ℕ × (json.Data → Option Command)) → Type 0
@@ -231,7 +230,7 @@ AreBuilt table = AllByRecursion (λ reader. (d : json.Data) → IfSome (reader.1
 
 AreBuilt-readers : AreBuilt readers
 unfolding AreBuilt conditions_of
-AreBuilt-readers = search (rules, either, then_any, IsBuilt-enqueue_of, IsBuilt-update_of, IsBuilt-moment_of)
+AreBuilt-readers = search (rules, either, then_any, map_any, IsBuilt-enqueue_of, IsBuilt-update_of, IsBuilt-moment_of)
 
 found : (b : Bool) (reader : json.Data → Option Command) (rest : Option (json.Data → Option Command)) (d : json.Data) → IfSome (reader d) IsBuilt
     → IfSome (option_and_then (λ reader. reader d) rest) IsBuilt → IfSome (option_and_then (λ reader. reader d) (cond b (Some reader) rest)) IsBuilt

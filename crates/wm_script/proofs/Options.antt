@@ -25,6 +25,10 @@ pub map_of : {A B : Type 0} (Q : A → Type 0) (P : B → Type 0) (f : A → B) 
 map_of Q P f None q h = tt
 map_of Q P f (Some x) q h = h x q
 
+pub map_any : {A B : Type 0} (P : B → Type 0) (f : A → B) (o : Option A) → ((x : A) → P (f x)) → IfSome (option_map f o) P
+map_any P f None h = tt
+map_any P f (Some x) h = h x
+
 -- ---- lists
 
 one_more : {A : Type 0} (P : A → Type 0) (o : Option A) (xs : List A) → IfSome o P → AllByRecursion P xs → AllByRecursion P (cons_option o xs)

@@ -4,5 +4,6 @@ pub mod Limits
 pub mod Lines
 pub mod Names
 pub mod Objects
+pub mod Queries
 pub mod Values
 pub mod Works

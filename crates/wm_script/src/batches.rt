@@ -6,16 +6,14 @@ ghost use Rattle.wm_chain.specs.Layers.{no_layer};
 ghost use Rattle.wm_data.specs.Entries.{IsFaultOf as IsDataFaultOf};
 ghost use Rattle.wm_script.specs.Batches.{batch_in, chain_from, each_of, input_in, IsFaultOf, node_in, request_in};
 ghost use Rattle.wm_script.specs.Enqueues.{HasWorks, layer_of, layers_of, Layers, Works, works_form, works_of};
-ghost use Rattle.wm_script.specs.Values.{ids_of};
 ghost use Rattle.wm_script.specs.Works.{form_of};
 
 use crate::enqueues::{WorksForm, layer_in};
 use crate::requests::request_of;
-use crate::values::id_in;
+use crate::values::given_ids;
 use crate::works::{WorkForm, work_of};
 use serde_json::Value;
 use std::alloc::{AllocError, AllocFailed, Global};
-use uuid::Uuid;
 use wm_chain::{ChainFault, Continuation, batch_of};
 use wm_collections::Items;
 use wm_data::{Data, DataFault};
@@ -150,24 +148,8 @@ fn node_in(alloc: Global, work: &WorkForm<'_>) -> Result<Node, BatchFault>
     ensures err { IfErr result (IsFaultOf (node_in (form_of work.entry.now))) }
 {
     let request = request_in(alloc, work)?;
-    let after = match work.after {
-        Some(items) => ids_of(alloc, items)?,
-        None => Items::new(alloc),
-    };
+    let after = given_ids(alloc, work.after)?;
     Ok(Node { request, after })
-}
-
-/// The ids of a list.
-fn ids_of(alloc: Global, items: &[Value]) -> Result<Items<Uuid>, AllocError>
-    ensures { IfOk result (λ ids. ids ≡ ids_of (items_view items.now)) }
-{
-    let mut ids = Items::new(alloc);
-    for item in items {
-        if let Some(id) = id_in(item) {
-            ids.push(id)?;
-        }
-    }
-    Ok(ids)
 }
 
 /// The request of a work, or its first fault: that of its input, and then its own.

@@ -1,7 +1,7 @@
 //! The lines of a script.
 //!
 //! [`read_lines`] reads the commands of a script's bytes. Their definition is `specs/Lines.antt`, with
-//! `Limits`, `Enqueues`, `Names`, `Batches`, `Works`, `Objects` and `Values`.
+//! `Limits`, `Enqueues`, `Names`, `Batches`, `Works`, `Queries`, `Objects` and `Values`.
 #![tactic(auto)]
 
 mod batches;
@@ -10,6 +10,7 @@ pub mod limits;
 pub mod lines;
 mod names;
 mod objects;
+mod queries;
 mod requests;
 mod values;
 mod works;

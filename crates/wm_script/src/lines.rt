@@ -9,7 +9,7 @@ ghost use Rattle.wm_machine.specs.declared.command.Command.TheVariants.{Enqueue,
 ghost use Rattle.wm_script.specs.Batches.{batch_in, request_in};
 ghost use Rattle.wm_script.specs.Enqueues.{enqueue_form, HasWorks};
 ghost use Rattle.wm_script.specs.Limits.{first_limit, IsFaultOf};
-ghost use Rattle.wm_script.specs.Lines.{asked_by, cancel_of, command_of, command_with, commands_in, conditions_of, cut, enqueue_of, moment_of, prune_of, query_of, query_of_all, readers, update_of, updated_in, value_of};
+ghost use Rattle.wm_script.specs.Lines.{alone, asked_by, cancel_of, command_of, command_with, commands_in, conditions_of, cut, enqueue_of, id_under, is_of_all, moment_of, one_key, query_of, readers, target_of, text_under, update_of, updated_in, value_of};
 ghost use Rattle.wm_script.specs.Works.{form_of};
 
 use crate::batches::{BatchFault, batch_in, request_in};
@@ -17,13 +17,15 @@ use crate::enqueues::{EnqueueForm, enqueued_form};
 use crate::limits::{Limit, ScriptFault, first_limit};
 use crate::names::named_of;
 use crate::objects::has_only;
-use crate::values::{flag_at, whole_in};
-use crate::works::{WorkForm, id_at, lone_in};
+use crate::queries::query_in;
+use crate::values::{flag_at, id_in, short_in, whole_in};
+use crate::works::{WorkForm, lone_in};
 use serde_json::Value;
 use std::alloc::{AllocError, Global};
-use wm_collections::Items;
+use uuid::Uuid;
+use wm_collections::{Items, Text};
 use wm_conditions::Conditions;
-use wm_machine::{Command, LineFault, Target, WorkQuery};
+use wm_machine::{Command, LineFault, Target};
 
 /// The byte that ends a line.
 const LF: u8 = b'\n';
@@ -126,14 +128,50 @@ fn command_named(alloc: Global, name: &str, value: &Value) -> Result<Option<Comm
 {
     match name {
         "enqueue" => enqueue_of(alloc, value),
-        "cancel" => Ok(cancel_of(value)),
+        "cancel" => cancel_of(alloc, value),
         "update" => update_of(alloc, value),
         "moment" => Ok(moment_of(value)),
         "conditions" => Ok(conditions_of(value)),
-        "prune" => Ok(prune_of(value)),
-        "query" => Ok(query_of(alloc, value)),
+        "prune" => Ok(alone(Command::Prune, value)),
+        "summary" => Ok(alone(Command::Summary, value)),
+        "query" => query_of(alloc, value),
         _ => Ok(None),
     }
+}
+
+/// A command, where it has no further key.
+fn alone(command: Command, value: &Value) -> Option<Command>
+    ensures { result ≡ alone command (view value.now) }
+{
+    has_only(value, &["cmd"]).then_some(command)
+}
+
+/// The value of the one further key that a command has.
+#[tactic(auto, unfolding(crate::specs::Lines::one_key))]
+fn one_key<'v>(value: &'v Value, key: &str) -> Option<&'v Value>
+    ensures { option_map (λ found. view found.now) result ≡ one_key key.now (view value.now) }
+{
+    if has_only(value, &["cmd", key]) {
+        value.get(key)
+    } else {
+        None
+    }
+}
+
+/// An id under the one further key.
+#[tactic(auto, unfolding(crate::specs::Lines::id_under))]
+fn id_under(value: &Value, key: &str) -> Option<Uuid>
+    ensures { result ≡ id_under key.now (view value.now) }
+{
+    id_in(one_key(value, key)?)
+}
+
+/// A text of 1 to 200 bytes under the one further key.
+#[tactic(auto, unfolding(crate::specs::Lines::text_under))]
+fn text_under<'v>(value: &'v Value, key: &str) -> Option<&'v str>
+    ensures { option_map (λ text. text.now) result ≡ text_under key.now (view value.now) }
+{
+    short_in(one_key(value, key)?)
 }
 
 /// The command that enqueues works. Their Data is read once the whole line is in the form.
@@ -161,14 +199,46 @@ fn enqueue_with(alloc: Global, form: &EnqueueForm<'_>) -> Result<Command, AllocE
     }
 }
 
-/// The command that cancels a work by its id.
-fn cancel_of(value: &Value) -> Option<Command>
-    ensures { result ≡ cancel_of (view value.now) }
+/// The command that cancels works.
+fn cancel_of(alloc: Global, value: &Value) -> Result<Option<Command>, AllocError>
+    ensures { IfOk result (λ command. command ≡ cancel_of (view value.now)) }
 {
-    if !has_only(value, &["cmd", "id"]) {
-        return None;
+    match target_of(alloc, value)? {
+        Some(target) => Ok(Some(Command::Cancel(target))),
+        None => Ok(None),
     }
-    Some(Command::Cancel(Target::Id(id_at(value.get("id"))?)))
+}
+
+/// Which works a cancel is for: its one further key is `id`, `tag`, `name` or `all`.
+#[tactic(auto, unfolding(crate::specs::Lines::target_of))]
+fn target_of(alloc: Global, value: &Value) -> Result<Option<Target>, AllocError>
+    ensures { IfOk result (λ target. target ≡ target_of (view value.now)) }
+{
+    if let Some(id) = id_under(value, "id") {
+        return Ok(Some(Target::Id(id)));
+    }
+    if let Some(tag) = text_under(value, "tag") {
+        return Ok(Some(Target::Tag(Text::from_str(alloc, tag)?)));
+    }
+    if let Some(name) = text_under(value, "name") {
+        return Ok(Some(Target::Name(Text::from_str(alloc, name)?)));
+    }
+    if is_of_all(value) {
+        Ok(Some(Target::All))
+    } else {
+        Ok(None)
+    }
+}
+
+/// Whether a cancel is of all: its one further key is `all`, which is true.
+#[tactic(auto, unfolding(crate::specs::Lines::is_of_all))]
+fn is_of_all(value: &Value) -> bool
+    ensures { result ≡ is_of_all (view value.now) }
+{
+    match one_key(value, "all") {
+        Some(all) => all.as_bool().unwrap_or(false),
+        None => false,
+    }
 }
 
 /// The command that updates a work. Its Data is read once the whole line is in the form.
@@ -187,10 +257,7 @@ fn update_of(alloc: Global, value: &Value) -> Result<Option<Command>, AllocError
 fn updated_in(value: &Value) -> Option<WorkForm<'_>>
     ensures { option_map form_of result ≡ updated_in (view value.now) }
 {
-    if !has_only(value, &["cmd", "work"]) {
-        return None;
-    }
-    lone_in(value.get("work")?)
+    lone_in(one_key(value, "work")?)
 }
 
 /// The command of an update's request, or of its fault.
@@ -204,26 +271,12 @@ fn update_with(alloc: Global, work: &WorkForm<'_>) -> Result<Command, AllocError
     }
 }
 
-/// The command that prunes.
-fn prune_of(value: &Value) -> Option<Command>
-    ensures { result ≡ prune_of (view value.now) }
-{
-    if has_only(value, &["cmd"]) {
-        Some(Command::Prune)
-    } else {
-        None
-    }
-}
-
 /// The command that sets the moment.
 #[tactic(auto, unfolding(crate::specs::Lines::moment_of))]
 fn moment_of(value: &Value) -> Option<Command>
     ensures { result ≡ moment_of (view value.now) }
 {
-    if !has_only(value, &["at", "cmd"]) {
-        return None;
-    }
-    Some(Command::Moment(whole_in(value.get("at")?)?))
+    Some(Command::Moment(whole_in(one_key(value, "at")?)?))
 }
 
 /// The command that sets all seven conditions, each false where it is absent.
@@ -257,25 +310,12 @@ fn conditions_of(value: &Value) -> Option<Command>
     }))
 }
 
-/// The query without further keys, which names nothing.
-fn query_of(alloc: Global, value: &Value) -> Option<Command>
-    ensures { result ≡ query_of (view value.now) }
+/// The command that queries works.
+fn query_of(alloc: Global, value: &Value) -> Result<Option<Command>, AllocError>
+    ensures { IfOk result (λ command. command ≡ query_of (view value.now)) }
 {
-    if has_only(value, &["cmd"]) {
-        Some(Command::Query(query_of_all(alloc)))
-    } else {
-        None
-    }
-}
-
-/// The query that names nothing.
-fn query_of_all(alloc: Global) -> WorkQuery
-    ensures { result ≡ query_of_all }
-{
-    WorkQuery {
-        ids: Items::new(alloc),
-        names: Items::new(alloc),
-        states: Items::new(alloc),
-        tags: Items::new(alloc),
+    match query_in(alloc, value)? {
+        Some(query) => Ok(Some(Command::Query(query))),
+        None => Ok(None),
     }
 }

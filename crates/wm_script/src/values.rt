@@ -1,11 +1,13 @@
 //! How single values are read, and what an absent one stands for.
-ghost use Rattle.std.specs.Prelude.{◌≡◌, ◌^◌, ◌<◌, is_some, option_map, IfSome};
+ghost use Rattle.std.specs.Prelude.{◌≡◌, ◌^◌, ◌<◌, [], is_some, option_map, unwrap_or, IfOk, IfSome};
 ghost use Rattle.serde_json.specs.View.{view, items_view};
 ghost use Rattle.wm_request.specs.Requests.{IsShortText};
 ghost use Rattle.wm_script.specs.Values.{are_ids, are_short, flag_at, id_in, ids_at, ids_of, short_in, texts_at, texts_of, whole_at, whole_in};
 
 use serde_json::Value;
+use std::alloc::{AllocError, Global};
 use uuid::Uuid;
+use wm_collections::{Items, Text};
 use wm_request::MAX_TEXT_BYTES;
 
 /// The number after the greatest that a line may hold.
@@ -122,5 +124,42 @@ pub fn ids_at(value: Option<&Value>) -> Option<Option<&[Value]>>
         Some(Some(items))
     } else {
         None
+    }
+}
+
+/// The texts of a list.
+pub fn texts_of(alloc: Global, items: &[Value]) -> Result<Items<Text>, AllocError>
+    ensures { IfOk result (λ texts. texts ≡ texts_of (items_view items.now)) }
+{
+    let mut texts = Items::new(alloc);
+    for item in items {
+        if let Some(text) = short_in(item) {
+            texts.push(Text::from_str(alloc, text)?)?;
+        }
+    }
+    Ok(texts)
+}
+
+/// The ids of a list.
+fn ids_of(alloc: Global, items: &[Value]) -> Result<Items<Uuid>, AllocError>
+    ensures { IfOk result (λ ids. ids ≡ ids_of (items_view items.now)) }
+{
+    let mut ids = Items::new(alloc);
+    for item in items {
+        if let Some(id) = id_in(item) {
+            ids.push(id)?;
+        }
+    }
+    Ok(ids)
+}
+
+/// The ids of a list; none where there is no list.
+pub fn given_ids(alloc: Global, items: Option<&[Value]>) -> Result<Items<Uuid>, AllocError>
+    ensures { IfOk result (λ ids. ids
+        ≡ unwrap_or (option_map (λ given. ids_of (items_view given.now)) items.entry) []) }
+{
+    match items {
+        Some(given) => ids_of(alloc, given),
+        None => Ok(Items::new(alloc)),
     }
 }

@@ -119,7 +119,7 @@ fn period_at(period: Option<&Value>, flex: Option<&Value>) -> Option<Option<Peri
 
 /// An id. There has to be one.
 #[tactic(auto, unfolding(crate::specs::Works::id_at))]
-pub fn id_at(value: Option<&Value>) -> Option<Uuid>
+fn id_at(value: Option<&Value>) -> Option<Uuid>
     ensures { result ≡ id_at (option_map (λ found. view found.now) value.entry) }
 {
     id_in(value?)

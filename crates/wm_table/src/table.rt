@@ -205,13 +205,7 @@ impl<K: Keeper> Table<K> {
         ensures keeper_fault { result ≡ Err Trouble.KeeperFault
             → ChangesRows self.old.state command }
     {
-        let Executed { change, reply } = execute(
-            self.alloc,
-            &self.state,
-            &self.graph,
-            line,
-            command,
-        )?;
+        let Executed { change, reply } = execute(self.alloc, &self.state, line, command)?;
         match self.make(change) {
             Ok(()) => Ok(reply),
             Err(trouble) => {

@@ -5,8 +5,9 @@ use Rattle.std.specs.Str.{bytes_eq}
 use Rattle.std.proofs.lemmas.Bool.{cases_Bool, or_left, or_right, true≢false}
 use Rattle.wm_machine.proofs.Lists.{All-any, All-stored, All-weaker, list_any-filter, list_any-stored}
 use Rattle.wm_machine.proofs.Placings.{bytes_eq-refl, bytes_eq-same}
+use Rattle.wm_machine.specs.Cancelled.{is_stored}
 use Rattle.wm_machine.specs.Closed.{is_among}
-use Rattle.wm_machine.specs.Enqueued.{first_refusal, first_unknown, id_in_use, is_stored, is_stored_periodic, no_such_prerequisite, numbers_spent, periodic_in_chain, refusal_of_placing, too_many_after, too_many_works, without}
+use Rattle.wm_machine.specs.Enqueued.{first_refusal, first_unknown, id_in_use, is_stored_periodic, no_such_prerequisite, numbers_spent, periodic_in_chain, refusal_of_placing, too_many_after, too_many_works, without}
 use Rattle.wm_machine.specs.Plan.{Placing}
 use Rattle.wm_machine.specs.Valid.{HasOne}
 use Rattle.wm_machine.specs.declared.record.Record.{Record}

@@ -2,7 +2,7 @@
 use Rattle.std.proofs.Common.{◌≡◌, ◌++◌, drop}
 use Rattle.serde_json.specs.View.{items_view}
 use Rattle.wm_script.specs.Values.{ids_of}
-use Rattle.wm_script.proofs.batches.ids_of.Given as goal
+use Rattle.wm_script.proofs.values.ids_of.Given as goal
 
 abbrev pub invariant-loop-item : goal.invariant-loop-item
 invariant-loop-item l = l.ids ++ ids_of (items_view (drop l.item-index l.items)) ≡ ids_of (items_view l.items)

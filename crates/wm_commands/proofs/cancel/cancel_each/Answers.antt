@@ -1,0 +1,200 @@
+-- The step of a cancel: works are closed with their unfinished descendants.
+use Rattle.std.proofs.Common.{◌≡◌, ◌||◌, ℕ, ◌+◌, Bool, true, false, cond, List, [], ◌∷◌, filter, length, map, rules, Option, Some, None, refl, sym, ◌∙◌, ap, arith, inl, inr}
+use Rattle.std.specs.List.{AllByRecursion, list_any}
+use Rattle.std.specs.Prelude.{◌⊎◌, ◌≢◌, count_by, is_some}
+use Rattle.std.proofs.lemmas.Bool.{and_parts, false≢true}
+use Rattle.wm_commands.proofs.ClearingSteps.{clearing_alone-step}
+use Rattle.wm_commands.proofs.Clearings.{any_reached, cancelled-each}
+use Rattle.wm_commands.proofs.Executions.{Answers-outcome, rows-change}
+use Rattle.wm_commands.specs.Builds.{IsExecuted}
+use Rattle.wm_commands.specs.Cleared.{becomes_cancelled, cancelled_in, cancelling, cleared, cleared_by, reached_from_any, replaced_by_clearing, stays, with_cleared}
+use Rattle.wm_commands.specs.declared.clearing.Clearing.{Clearing}
+use Rattle.wm_keeper.specs.declared.row.Row.{Row}
+use Rattle.wm_machine.proofs.Closings.{no_run_reached}
+use Rattle.wm_machine.proofs.Groups.{closed_by, each_closed-at_once}
+use Rattle.wm_machine.proofs.Lists.{All-any, All-filter, All-stored, All-weaker, count-cons, count-none, filter-all, map-same, weight}
+use Rattle.wm_machine.specs.Cancelled.{cancelled_each, count_reached, is_cancellable, is_for, targeted}
+use Rattle.wm_machine.specs.Closed.{closed, is_open, is_reached, with_each_closed}
+use Rattle.wm_machine.specs.Group.{numbers_in}
+use Rattle.wm_machine.specs.Outcome.{outcome}
+use Rattle.wm_machine.specs.Replied.{Outcome}
+use Rattle.wm_machine.specs.Rows.{phase_code, row_of, rows_of}
+use Rattle.wm_machine.specs.Step.{after, state_by}
+use Rattle.wm_machine.specs.Valid.{HasOne, Valid}
+use Rattle.wm_machine.specs.declared.command.Command.TheVariants as command
+use Rattle.wm_machine.specs.declared.command.Target.{Target}
+use Rattle.wm_machine.specs.declared.event.Event.{Event}
+use Rattle.wm_machine.specs.declared.event.Event.TheVariants as event
+use Rattle.wm_machine.specs.declared.record.How.TheVariants as how
+use Rattle.wm_machine.specs.declared.record.Phase.{Phase}
+use Rattle.wm_machine.specs.declared.record.Phase.TheVariants as phase
+use Rattle.wm_machine.specs.declared.record.Record.{Record}
+use Rattle.wm_machine.specs.declared.reply.Reply.TheVariants as reply
+use Rattle.wm_machine.specs.declared.state.State.{State}
+use Rattle.wm_steps.proofs.Nodes.{itself_reached}
+use Rattle.wm_steps.specs.Replacements.{at_index, replacements}
+use Rattle.wm_steps.specs.StepChanges.{replacing_all, row_changes}
+use Rattle.wm_steps.specs.declared.change.Replacement.{Replacement}
+use Rattle.wm_steps.specs.declared.change.RunChange.TheVariants.{Unchanged}
+use Rattle.wm_commands.proofs.cancel.cancel_each.Goals as goal
+
+-- ---- how many are touched
+
+-- one record more, where one is given
+at_index-count : (i : ℕ) (change : Record → Option Record) (found : Option Record) (works : List Record)
+    → length (at_index i found (replacements change (i + 1) works)) ≡ weight (is_some found) + length (replacements change (i + 1) works)
+at_index-count i change None works = omega arith
+at_index-count i change (Some work) works = omega arith
+
+-- as many are replaced as pass a test that says which are touched
+touched-count : (test : Record → Bool) (change : Record → Option Record) (i : ℕ) (works : List Record)
+    → AllByRecursion (λ work. is_some (change work) ≡ test work) works → length (replacements change i works) ≡ count_by test works
+touched-count test change i [] same = refl
+touched-count test change i (work ∷ works) same =
+    let here = at_index-count i change (change work) works in
+    let weighs : weight (is_some (change work)) ≡ weight (test work) = ap weight same.0 in
+    let rest = touched-count test change (i + 1) works same.1 in
+    let all = count-cons test work works in
+    omega (arith, here, weighs, rest, all)
+
+-- ---- what is reached
+
+-- works are cancelled with their descendants
+abbrev cancelling_from : List ℕ → List Record → Clearing
+cancelling_from seqs works = cancelling (reached_from_any seqs works)
+
+-- the records that take the place of others then
+abbrev replaced_by_cancel : List ℕ → List Record → List Replacement
+replaced_by_cancel seqs works = replaced_by_clearing (cancelling_from seqs works) works
+
+-- whether one of the works reaches a record
+abbrev any_reaches : List ℕ → List Record → Record → Bool
+any_reaches seqs works work = list_any (λ seq. is_reached seq works work) seqs
+
+is_some-cond : (test : Bool) (new : Record) → is_some (cond test (Some new) None) ≡ test
+is_some-cond true new = refl
+is_some-cond false new = refl
+
+-- those that a cancelling touches are those that one of the works reaches
+touched-cancelling : (seqs : List ℕ) (works : List Record)
+    → AllByRecursion (λ w. is_some (cleared_by (cancelling_from seqs works) w) ≡ any_reaches seqs works w) works
+touched-cancelling seqs works =
+    let clearing = cancelling_from seqs works in
+    All-any (λ w. is_some (cleared_by clearing w) ≡ any_reaches seqs works w) works
+    (λ w. is_some-cond (becomes_cancelled clearing.cancelled w) (cleared clearing w) ∙ sym (any_reached seqs works w))
+
+-- as many are replaced as are reached
+count-replaced : (seqs : List ℕ) (works : List Record) → length (replaced_by_cancel seqs works) ≡ count_reached seqs works
+count-replaced seqs works =
+    touched-count (any_reaches seqs works) (cleared_by (cancelling_from seqs works)) 0 works (touched-cancelling seqs works)
+
+-- and it closes just those
+cancelling-closes : (seqs : List ℕ) (works : List Record) → with_each_closed how.Cancelled seqs works ≡ with_cleared (cancelling_from seqs works) works
+cancelling-closes seqs works =
+    let clearing = cancelling_from seqs works in
+    cancelled-each seqs works
+    ∙ map-same (cancelled_in clearing.cancelled) (cleared clearing) works
+    (All-any (λ w. cancelled_in clearing.cancelled w ≡ cleared clearing w) works (λ w. refl))
+    ∙ ap (map (cleared clearing)) (sym (filter-all (stays []) works (λ w. refl)))
+
+-- ---- the rows
+
+-- an unfinished phase is stored as another than the one of cancelled work
+open_code : (p : Phase) → is_open p ≡ true → phase_code (phase.Done how.Cancelled) ≡ phase_code p → ⊥
+open_code phase.Waiting unfinished same = absurd (cc)
+open_code phase.Running unfinished same = absurd (cc)
+open_code (phase.Done how) unfinished same = absurd (false≢true unfinished)
+
+-- the row of an unfinished record that is reached changes
+reached_row-changes : (seqs : List ℕ) (work : Record) (works : List Record) → HasOne (λ other. other ≡ work) works → is_open work.phase ≡ true
+    → any_reaches seqs works work ≡ true → map row_of (with_each_closed how.Cancelled seqs works) ≢ map row_of works
+reached_row-changes seqs work works stored unfinished reached same =
+    rows-change (closed_by how.Cancelled seqs works) work works stored
+    (λ row.
+    open_code work.phase unfinished
+    (ap (λ b. phase_code (cond b (closed how.Cancelled work) work).phase) (sym reached) ∙ ap (λ (r : Row). r.phase) row))
+    (ap (map row_of) (sym (each_closed-at_once how.Cancelled seqs works)) ∙ same)
+
+-- where none is meant, none takes the place of another
+none_replaced : (works : List Record) → replaced_by_cancel [] works ≡ []
+none_replaced works =
+    none_is_empty (replaced_by_cancel [] works)
+    (count-replaced [] works ∙ count-none (any_reaches [] works) works (All-any (λ w. any_reaches [] works w ≡ false) works (λ w. refl))) where
+      none_is_empty : (replaced : List Replacement) → length replaced ≡ 0 → replaced ≡ []
+      none_is_empty [] none = refl
+      none_is_empty (one ∷ replaced) none = absurd (omega (arith, none))
+
+-- a work that a target is for is there, and unfinished
+record IsMeant (works : List Record) (work : Record) : Type 0 where
+  stored : HasOne (λ other. other ≡ work) works
+  unfinished : is_open work.phase ≡ true
+
+all_meant : (target : Target) (works : List Record) → AllByRecursion (IsMeant works) (filter (is_cancellable target) works)
+all_meant target works =
+    All-filter (IsMeant works) (is_cancellable target) works
+    (All-weaker (λ work. HasOne (λ other. other ≡ work) works) (λ work. is_cancellable target work ≡ true → IsMeant works work) works
+    (λ work stored is. record { stored = stored; unfinished = (and_parts (is_open work.phase) (is_for target work) is).0 }) (All-stored works))
+
+-- where there is a work that is meant, its row changes
+meant_row-changes : (works found : List Record) (work : Record) → IsMeant works work
+    → map row_of (with_each_closed how.Cancelled (numbers_in (work ∷ found)) works) ≢ map row_of works
+meant_row-changes works found work is =
+    reached_row-changes (numbers_in (work ∷ found)) work works is.stored is.unfinished
+    (ap (λ b. b || any_reaches (numbers_in found) works work) (itself_reached work works is.stored is.unfinished))
+
+-- ---- the step
+
+abbrev cancel_event : ℕ → Target → ℕ → Event
+cancel_event line target count = event.Command line (command.Cancel target) (reply.Cancelled count)
+
+abbrev cancel_outcome : State → List ℕ → Outcome
+cancel_outcome s seqs = record {
+  reply = reply.Cancelled (count_reached seqs s.works);
+  state = record s { works = with_each_closed how.Cancelled seqs s.works };
+}
+
+-- where no run is unreturned, the works are closed
+outcome-is : (s : State) (seqs : List ℕ) → s.runs ≡ [] → cancelled_each s seqs ≡ Some (cancel_outcome s seqs)
+outcome-is s seqs no_run = ap (λ b. cond b None (Some (cancel_outcome s seqs))) (no_run_reached seqs s.works s.runs no_run)
+
+-- rows change, or there is none to change
+rows-cancelled : (s : State) (target : Target) (e : Event) (found : List Record) → filter (is_cancellable target) s.works ≡ found
+    → AllByRecursion (IsMeant s.works) found
+    → after s e ≡ record s { works = with_each_closed how.Cancelled (numbers_in found) s.works }
+    → (rows_of (after s e) ≢ rows_of s) ⊎ (row_changes (replacing_all (replaced_by_cancel (numbers_in found) s.works) Unchanged e) ≡ [])
+rows-cancelled s target e [] is meant after-is = inr (ap (λ replaced. row_changes (replacing_all replaced Unchanged e)) (none_replaced s.works))
+rows-cancelled s target e (work ∷ found) is meant after-is =
+    inl (λ same. meant_row-changes s.works found work meant.0 (ap rows_of (sym after-is) ∙ same))
+
+cancelling-executed : (s : State) (line : ℕ) (target : Target) → Valid s → s.runs ≡ []
+    → outcome s (command.Cancel target) ≡ cancelled_each s (targeted target s.works)
+    → IsExecuted s line (command.Cancel target) (record {
+      change = replacing_all (replaced_by_cancel (targeted target s.works) s.works) Unchanged
+          (cancel_event line target (length (replaced_by_cancel (targeted target s.works) s.works)));
+      reply = reply.Cancelled (length (replaced_by_cancel (targeted target s.works) s.works));
+    })
+cancelling-executed s line target valid no_run accepted =
+    let seqs = targeted target s.works in
+    let count = length (replaced_by_cancel seqs s.works) in
+    let e = cancel_event line target count in
+    let is = accepted ∙ outcome-is s seqs no_run in
+    let after-is : after s e ≡ record s { works = with_each_closed how.Cancelled seqs s.works } = ap (state_by s) is in
+    record {
+      event = refl;
+      step =
+          clearing_alone-step s (cancelling_from seqs s.works) e valid (record { there = tt; ascend = tt })
+          (tt, Answers-outcome s (command.Cancel target) (reply.Cancelled count) (cancel_outcome s seqs) is (ap reply.Cancelled (count-replaced seqs s.works)))
+          (after-is ∙ ap (λ (works : List Record). record s { works = works }) (cancelling-closes seqs s.works));
+      rows = rows-cancelled s target e (filter (is_cancellable target) s.works) refl (all_meant target s.works) after-is;
+    }
+
+pub returns : goal.returns
+returns c =
+    let s = c.args.state.now in
+    let line = c.args.line in
+    let target = c.args.target in
+    let seqs = targeted target s.works in
+    let replaced = replaced_by_cancel seqs s.works in
+    let count : c.len-count.result ≡ length replaced = search rules in
+    let change : c.replacing_all.result ≡ replacing_all replaced Unchanged (cancel_event line target (length replaced)) = search rules in
+    rw (change, count) (cancelling-executed s line target c.requires.valid c.requires.no_run c.requires.accepted)

@@ -1,0 +1,146 @@
+//! Which works a query asks for.
+ghost use Rattle.std.specs.List.{list_any};
+ghost use Rattle.std.specs.Prelude.{◌≡◌, ◌&&◌, filter, IfOk};
+ghost use Rattle.std.specs.Str.{bytes_eq};
+ghost use Rattle.wm_machine.specs.Queried.{answer_to, any_or_empty, is_named, is_state, matches};
+ghost use Rattle.wm_machine.specs.Shown.{info_in};
+ghost use Rattle.wm_machine.specs.Valid.{Valid};
+
+use crate::infos::{info, shown_of};
+use std::alloc::{AllocError, Global};
+use uuid::Uuid;
+use wm_collections::{Items, Replica, Text};
+use wm_machine::{Record, Shown, State, WorkInfo, WorkQuery};
+
+/// Whether this id is one of those asked for, or none is.
+#[tactic(auto, using(crate::proofs::Groups::any_or_empty_is))]
+fn any_id(asked: &[Uuid], id: Uuid) -> bool
+    ensures { result ≡ any_or_empty (λ one. bytes_eq id one) asked.now }
+{
+    asked.is_empty() || asked.iter().any(|one| id == *one)
+}
+
+/// Whether a work has this name.
+fn is_named(name: &Option<Text>, other: &Text) -> bool
+    ensures { result ≡ is_named name.now other.now }
+{
+    match name {
+        Some(own) => *own == *other,
+        None => false,
+    }
+}
+
+/// Whether the name that a work has is one of those asked for, or none is.
+#[tactic(auto, using(crate::proofs::Groups::any_or_empty_is))]
+fn any_name(asked: &[Text], name: &Option<Text>) -> bool
+    ensures { result ≡ any_or_empty (is_named name.now) asked.now }
+{
+    asked.is_empty() || asked.iter().any(|one| is_named(name, one))
+}
+
+/// Whether two shown states are the same.
+fn is_state(state: Shown, other: Shown) -> bool
+    ensures { result ≡ is_state state other }
+{
+    state == other
+}
+
+/// Whether this shown state is one of those asked for, or none is.
+#[tactic(auto, using(crate::proofs::Groups::any_or_empty_is))]
+fn any_state(asked: &[Shown], state: Shown) -> bool
+    ensures { result ≡ any_or_empty (is_state state) asked.now }
+{
+    asked.is_empty() || asked.iter().any(|one| is_state(state, *one))
+}
+
+/// Whether a work of these tags has the tag.
+fn has_tag(tags: &[Text], tag: &Text) -> bool
+    ensures { result ≡ list_any (bytes_eq tag.now) tags.now }
+{
+    tags.iter().any(|own| *tag == *own)
+}
+
+/// Whether one of these tags is among those asked for, or none is asked for.
+#[tactic(auto, using(crate::proofs::Groups::any_or_empty_is))]
+fn any_tag(asked: &[Text], tags: &[Text]) -> bool
+    ensures { result ≡ any_or_empty (λ tag. list_any (bytes_eq tag) tags.now) asked.now }
+{
+    asked.is_empty() || asked.iter().any(|tag| has_tag(tags, tag))
+}
+
+/// Whether a work of this id, name, shown state and tags has one of each group that a query names.
+fn matches_parts(
+    query: &WorkQuery,
+    id: Uuid,
+    name: &Option<Text>,
+    state: Shown,
+    tags: &[Text],
+) -> bool
+    ensures { result ≡ (any_or_empty (λ one. bytes_eq id one) query.now.ids
+        && any_or_empty (is_named name.now) query.now.names
+        && any_or_empty (is_state state) query.now.states
+        && any_or_empty (λ tag. list_any (bytes_eq tag) tags.now) query.now.tags) }
+{
+    any_id(query.ids.as_slice(), id)
+        && any_name(query.names.as_slice(), name)
+        && any_state(query.states.as_slice(), state)
+        && any_tag(query.tags.as_slice(), tags)
+}
+
+/// Whether a work, by what is told of it, has one of each group that a query names. It takes no
+/// memory.
+#[tactic(auto, unfolding(wm_machine::specs::Queried::matches))]
+pub fn matches(query: &WorkQuery, info: &WorkInfo) -> bool
+    ensures { result ≡ matches query.now info.now }
+{
+    matches_parts(query, info.id, &info.name, info.state, info.tags.as_slice())
+}
+
+/// Whether a work in this shown state has one of each group that a query names.
+#[tactic(auto, unfolding(wm_machine::specs::Queried::matches))]
+fn matches_work(query: &WorkQuery, work: &Record, state: Shown) -> bool
+    ensures { result ≡ matches query.now (info_in work.now state) }
+{
+    let tags = work.request.tags().as_slice();
+    matches_parts(query, work.request.id(), &work.name, state, tags)
+}
+
+/// Those of what is told of works that a query asks for, in their order. Memory that is refused is
+/// the only error.
+pub fn answer(
+    alloc: Global,
+    query: &WorkQuery,
+    infos: &[WorkInfo],
+) -> Result<Items<WorkInfo>, AllocError>
+    ensures { IfOk result (λ kept. kept ≡ filter (matches query.entry.now) infos.entry.now) }
+{
+    let mut kept = Items::new(alloc);
+    for info in infos {
+        if matches(query, info) {
+            kept.push(info.replica(alloc)?)?;
+        }
+    }
+    Ok(kept)
+}
+
+/// What is told of the works of a state that a query asks for, in ascending number. Nothing is
+/// copied of the others. Memory that is refused is the only error.
+#[tactic(auto, unfolding(wm_machine::specs::Shown::infos_of))]
+pub fn answer_to(
+    alloc: Global,
+    state: &State,
+    query: &WorkQuery,
+) -> Result<Items<WorkInfo>, AllocError>
+    requires valid { Valid state.now }
+    ensures { IfOk result (λ works. works ≡ answer_to state.entry.now query.entry.now) }
+{
+    let works = state.works.as_slice();
+    let mut kept = Items::new(alloc);
+    for work in works {
+        let shown = shown_of(works, work);
+        if matches_work(query, work, shown) {
+            kept.push(info(alloc, work, shown)?)?;
+        }
+    }
+    Ok(kept)
+}
