@@ -1,6 +1,8 @@
 //! The table of `wm_table`, over a keeper that fails at the commits that it is told to.
 ghost use Rattle.std.specs.Prelude.{◌≡◌, [], IfOk, None};
 ghost use Rattle.wm_machine.specs.Outcome.{IsBuilt};
+ghost use Rattle.wm_machine.specs.Quiet.{CanCome};
+ghost use Rattle.wm_machine.specs.declared.state.State.{State};
 ghost use Rattle.wm_request.specs.Requests.{IsRequest};
 ghost use Rattle.wm_table.specs.Table.{AreFresh, Stands};
 
@@ -72,7 +74,8 @@ fn request(alloc: Global, merger: Merger, input: Data) -> Result<Request, Fail>
 
 /// An enqueue of one work of class Echo, with this merger and input.
 fn enqueue(alloc: Global, merger: Merger, input: Data) -> Result<Command, Fail>
-    ensures { IfOk result IsBuilt }
+    ensures built { IfOk result IsBuilt }
+    ensures comes { IfOk result (λ command. (s : State) → s.runs ≡ [] → CanCome command s) }
 {
     let request = request(alloc, merger, input)?;
     let mut works = Items::new(alloc);
@@ -227,7 +230,7 @@ fn enqueue_and_run(
     subject: Subject,
 ) -> &'static str
     requires built { IsBuilt command }
-    requires no_run { table.old.state.runs ≡ [] }
+    requires can { CanCome command table.old.state }
 {
     match table.command(1, command) {
         Ok(reply) => {

@@ -62,6 +62,8 @@ fn command_words(alloc: Global, command: &Command) -> Result<String, AllocError>
         Command::Conditions(conditions) => conditions_words(alloc, conditions),
         Command::Prune => String::from_str(alloc, "prune"),
         Command::Query(query) => query_words(alloc, query),
+        Command::Settle => String::from_str(alloc, "settle"),
+        Command::Hush => String::from_str(alloc, "hush"),
         Command::Summary => String::from_str(alloc, "summary"),
         Command::Faulty(fault) => {
             let fault = fault_words(alloc, fault)?;
@@ -332,6 +334,8 @@ fn reply_words(alloc: Global, reply: &Reply) -> Result<String, AllocError> {
             }
             format!(in alloc; "works {works:?}")
         }
+        Reply::Settled => String::from_str(alloc, "settled"),
+        Reply::Hushed => String::from_str(alloc, "hushed"),
         Reply::Summary(counts) => summary_words(alloc, counts),
         Reply::Moment => String::from_str(alloc, "moment"),
         Reply::Conditions { stopped } => format!(in alloc; "conditions stopped {stopped}"),

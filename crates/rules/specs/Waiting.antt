@@ -1,10 +1,12 @@
--- Records of works that wait, to be tested on. This project's own choice.
+-- Records of works that wait, and commands, to be tested on. This project's own choice.
 use Rattle.std.specs.Prelude.{◌≡◌, ℕ, ◌≤◌, List, [], length, None, IfSome}
 use Rattle.std.specs.Int.{to_be_bytes, w128}
 use Rattle.std.specs.List.{AllByRecursion}
 use Rattle.wm_collections.specs.Lists.{AllLater}
 use Rattle.wm_machine.specs.Opened.{opening_state}
+use Rattle.wm_machine.specs.Quiet.{CanCome}
 use Rattle.wm_machine.specs.Valid.{IsBefore, IsRecord}
+use Rattle.wm_machine.specs.declared.command.Command.{Command}
 use Rattle.wm_machine.specs.declared.record.Phase.{Phase}
 use Rattle.wm_machine.specs.declared.record.Phase.TheVariants as phase
 use Rattle.wm_machine.specs.declared.record.Record.{Record}
@@ -48,3 +50,7 @@ pub record AreWaiting (works : List Record) : Type 0 where
 -- a state of these works, as one opens to them, but with this as the number of the next new work
 abbrev pub waiting_state : List Record → ℕ → State
 waiting_state works number = record (opening_state works []) { next = number }
+
+-- a command that can come wherever no run is unreturned
+abbrev pub ComesBetweenRuns : Command → Type 0
+ComesBetweenRuns asked = (s : State) → s.runs ≡ [] → CanCome asked s

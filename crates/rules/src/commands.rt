@@ -1,7 +1,7 @@
 //! An enqueue under a unique name, of `wm_commands`, where there are as many works as there may be or
 //! no number is left: the works are kept, one is updated or a kind is refused before either is told.
 ghost use Rattle.std.specs.Prelude.{◌≡◌, ◌^◌, ◌<◌, ◌≤◌, [], length, IfOk};
-ghost use Rattle.rules.specs.Waiting.{waiting_state, AreWaiting};
+ghost use Rattle.rules.specs.Waiting.{waiting_state, AreWaiting, ComesBetweenRuns};
 ghost use Rattle.wm_machine.specs.Built.{AreAsked};
 ghost use Rattle.wm_machine.specs.Outcome.{IsBuilt};
 ghost use Rattle.wm_machine.specs.Valid.{Valid};
@@ -87,7 +87,8 @@ fn unique(alloc: Global, policy: Policy) -> Result<UniqueName, AllocError>
 
 /// An enqueue of one work, under the name of the first record where there is a policy.
 fn enqueue(alloc: Global, policy: Option<Policy>, is_periodic: bool) -> Result<Command, Fail>
-    ensures { IfOk result IsBuilt }
+    ensures built { IfOk result IsBuilt }
+    ensures comes { IfOk result ComesBetweenRuns }
 {
     let batch = batch(alloc, is_periodic)?;
     match policy {

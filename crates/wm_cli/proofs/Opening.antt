@@ -1,7 +1,7 @@
 -- A run that opens an empty store.
 use Rattle.std.proofs.Common.{◌≡◌, List, [], refl, arith}
 use Rattle.std.specs.List.{AllByRecursion}
-use Rattle.wm_machine.proofs.Serials.{BeginsSerial-goes-on}
+use Rattle.wm_machine.proofs.Serials.{AreInOrder-nothing, BeginsSerial-goes-on}
 use Rattle.wm_machine.specs.Outcome.{IsBuilt}
 use Rattle.wm_machine.specs.Opened.{opening_state}
 use Rattle.wm_machine.specs.Serial.{BeginsSerial}
@@ -11,7 +11,6 @@ use Rattle.wm_machine.specs.declared.state.Instance.{Instance}
 use Rattle.wm_machine.specs.declared.state.State.{State}
 use Rattle.wm_table.proofs.TableSteps.{IsNarrow-opening, Valid-opening}
 use Rattle.wm_table.specs.Table.{AreFresh}
-use Rattle.wm_session.proofs.SerialLemmas.{AreInOrder-nothing}
 use Rattle.wm_session.specs.Ended.{IsSerialRun}
 use Rattle.wm_session.specs.declared.status.Status.{Status}
 use Rattle.wm_session.specs.declared.status.Status.TheVariants as status

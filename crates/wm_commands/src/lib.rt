@@ -4,9 +4,10 @@
 //! [`execute`] asks them. Nothing here changes a state.
 #![tactic(auto)]
 
-ghost use Rattle.std.specs.Prelude.{◌≡◌, [], IfOk};
+ghost use Rattle.std.specs.Prelude.{IfOk};
 ghost use Rattle.wm_commands.specs.Builds.{IsExecuted};
 ghost use Rattle.wm_machine.specs.Outcome.{IsBuilt};
+ghost use Rattle.wm_machine.specs.Quiet.{CanCome};
 ghost use Rattle.wm_machine.specs.Valid.{Valid};
 
 mod cancel;
@@ -16,6 +17,7 @@ mod conditions;
 mod enqueue;
 pub mod executed;
 mod faulty;
+mod hush;
 mod member;
 mod moment;
 mod naming;
@@ -23,6 +25,7 @@ mod placement;
 mod placing;
 mod prune;
 mod query;
+mod settle;
 mod summary;
 mod update;
 
@@ -38,7 +41,7 @@ pub fn execute(
     command: Command,
 ) -> Result<Executed, AllocError>
     requires valid { Valid state.now }
-    requires no_run { state.now.runs ≡ [] }
+    requires can { CanCome command state.now }
     requires built { IsBuilt command }
     ensures { IfOk result (IsExecuted state.entry.now line command) }
 {
@@ -50,6 +53,8 @@ pub fn execute(
         Command::Conditions(conditions) => conditions::execute(alloc, state, line, conditions),
         Command::Prune => prune::execute(alloc, state, line),
         Command::Query(query) => query::execute(alloc, state, line, query),
+        Command::Settle => settle::execute(alloc, state, line),
+        Command::Hush => hush::execute(alloc, state, line),
         Command::Summary => summary::execute(alloc, state, line),
         Command::Faulty(fault) => faulty::execute(alloc, line, fault),
         _ => unreachable!(),

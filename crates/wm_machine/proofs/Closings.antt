@@ -1,6 +1,6 @@
 -- Works are closed: no current run is of a record that one of them reaches, and none of them has succeeded.
 use Rattle.std.proofs.Common.{◌≡◌, ◌&&◌, ℕ, Bool, true, false, eqb, List, [], ◌∷◌, filter, refl, sym, ◌∙◌, ap, inl, inr}
-use Rattle.std.specs.List.{AllByRecursion, list_any}
+use Rattle.std.specs.List.{AllByRecursion}
 use Rattle.std.proofs.lemmas.Bool.{and_from, eq-eqb, false≢true, or_left, or_right}
 use Rattle.wm_machine.proofs.Changes.{KeepsRun, OfNumber, reached-changed, Succeeded}
 use Rattle.wm_machine.proofs.Endings.{closed_both, closed_in, idle-done, IsChange-closing, KeepsRun-same, KeepsShape, reached_parts, succeeded-open}

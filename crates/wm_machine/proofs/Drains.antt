@@ -8,6 +8,7 @@ use Rattle.wm_machine.proofs.Firsts.{first_of-no_worker, start_refusal-no_worker
 use Rattle.wm_machine.proofs.Inputs.{start_refusal-some}
 use Rattle.wm_machine.proofs.Runnings.{found_narrow, found_valid}
 use Rattle.wm_machine.proofs.Roles.{closed, Closes, continued, Continues, opened, Opens}
+use Rattle.wm_machine.proofs.Settles.{can-come}
 use Rattle.wm_machine.proofs.Steps.{framed, IsReached-after, kept}
 use Rattle.wm_machine.specs.Outcome.{IsBuilt}
 use Rattle.wm_machine.specs.Ends.{given_by}
@@ -253,7 +254,7 @@ goes_on (asked ∷ lines) s built reached few =
     let done = settle (suc (left_to_drain s)) s reached few (omega arith) in
     let t = done.last in
     let owed = answered t asked built.0 in
-    let answer = owed.answered done.quiet.no_run in
+    let answer = owed.answered (can-come asked t done.quiet.no_run (λ settles. done.quiet.nothing_startable)) in
     let e = event.Command 0 asked answer.0 in
     let legal : Legal t e = (built.0, answer.1) in
     let no_run : (after t e).runs ≡ [] = ap (λ (f : Frame). f.runs) owed.frame ∙ done.quiet.no_run in

@@ -478,7 +478,7 @@ frame-outcome s commands None works = frame-placed s commands None [] works
 
 pub enqueue-answered : (s : State) (batch : BatchFields) → AreAsked batch.works → IsAnswered s (command.Enqueue None batch)
 enqueue-answered s batch asked = record {
-  answered = λ no_run. ((enqueued s None batch.works).reply, refl);
+  answered = λ can. ((enqueued s None batch.works).reply, refl);
   reached = λ reached. reached-outcome s batch.works (refusal_of s None batch.works) asked refl reached;
   frame = frame-outcome s (command.Enqueue None batch ∷ []) (refusal_of s None batch.works) batch.works;
 }

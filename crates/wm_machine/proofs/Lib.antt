@@ -27,6 +27,7 @@ pub mod Rows
 pub mod Runnings
 pub mod Serials
 pub mod Settings
+pub mod Settles
 pub mod StartFailures
 pub mod StartedLogs
 pub mod Starts

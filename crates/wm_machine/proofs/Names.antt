@@ -354,9 +354,9 @@ enqueue-named-answered s unique batch asked =
     let done = enqueued s (Some unique) batch.works in
     let refused = refusal_of s (Some unique) batch.works in
     record {
-      answered = λ no_run.
+      answered = λ can.
           cond_both stops None (Some done) (λ (o : Option Outcome). (answer : Reply) × IsSomeAnd o (λ outcome. answer ≡ outcome.reply))
-          (λ e. absurd (true≢false (sym e ∙ no_run_stopped s (Some unique) batch.works no_run))) (λ e. (done.reply, refl));
+          (λ e. absurd (true≢false (sym e ∙ no_run_stopped s (Some unique) batch.works can))) (λ e. (done.reply, refl));
       reached = λ reached.
           cond_both stops None (Some done) (λ (o : Option Outcome). IsReached (state_by s o)) (λ e. reached)
           (λ e. reached-named s unique batch.works refused asked reached refl e);

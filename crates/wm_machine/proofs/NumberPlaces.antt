@@ -1,5 +1,5 @@
 -- The place of a number among records in ascending number.
-use Rattle.std.proofs.Common.{◌≡◌, ℕ, zero, suc, ◌<◌, eqb, List, [], ◌∷◌, length, get_or, slice_get, Option, None, Result, Ok, Err, nat_cmp, refl, sym, arith}
+use Rattle.std.proofs.Common.{◌≡◌, ℕ, zero, suc, ◌<◌, List, [], ◌∷◌, length, get_or, slice_get, Option, None, Result, Ok, Err, nat_cmp, refl, sym, arith}
 use Rattle.std.specs.List.Sorted.{IsBinarySearchResult, IsSearchInRange}
 use Rattle.std.proofs.lemmas.Bool.{eq-eqb, ne_eqb}
 use Rattle.wm_collections.proofs.Places.{above-at, place-found, place-none}

@@ -2,6 +2,7 @@
 use Rattle.std.proofs.Common.{◌≡◌, [], ◌∷◌}
 use Rattle.wm_machine.specs.Frame.{untouched}
 use Rattle.wm_machine.specs.Narrow.{IsReached}
+use Rattle.wm_machine.specs.Quiet.{CanCome}
 use Rattle.wm_machine.specs.Role.{Role}
 use Rattle.wm_machine.specs.Step.{after_command, Answers}
 use Rattle.wm_machine.specs.Waiting.{left_to_drain, LeavesOf}
@@ -9,10 +10,10 @@ use Rattle.wm_machine.specs.declared.command.Command.{Command}
 use Rattle.wm_machine.specs.declared.reply.Reply.{Reply}
 use Rattle.wm_machine.specs.declared.state.State.{State}
 
--- of a command: where no run is unreturned it has a reply, and it keeps what holds of the states that are reached, and changes neither runs
+-- of a command: where it can come it has a reply, and it keeps what holds of the states that are reached, and changes neither runs
 -- nor instances
 pub record IsAnswered (s : State) (asked : Command) : Type 0 where
-  pub answered : s.runs ≡ [] → (answer : Reply) × Answers s asked answer
+  pub answered : CanCome asked s → (answer : Reply) × Answers s asked answer
   pub reached : IsReached s → IsReached (after_command s asked)
   pub frame : untouched (after_command s asked) (asked ∷ []) ≡ untouched s (asked ∷ [])
 

@@ -1,4 +1,4 @@
--- What is owed for the commands that set the moment and the conditions.
+-- What is owed for the commands that set the moment and the conditions, and for the one that hushes.
 use Rattle.std.proofs.Common.{◌≡◌, ℕ, ◌^◌, ◌<◌, Bool, true, false, cond, ltb, List, [], ◌∷◌, Option, Some, None, refl}
 use Rattle.std.specs.List.{list_any}
 use Rattle.wm_conditions.specs.declared.conditions.Conditions.{Conditions}
@@ -16,14 +16,14 @@ use Rattle.wm_machine.specs.declared.reply.Refusal.TheVariants.{MomentBack}
 use Rattle.wm_machine.specs.declared.reply.Reply.TheVariants as reply
 use Rattle.wm_machine.specs.declared.state.State.{State}
 
--- another moment and other conditions
-abbrev set_to : State → ℕ → Conditions → State
-set_to s at conditions = record s { now = at; conditions = conditions }
+-- another moment and other conditions, hushed or not
+abbrev set_to : State → ℕ → Conditions → Bool → State
+set_to s at conditions hushed = record s { now = at; conditions = conditions; hushed = hushed }
 
-reached-set : (s : State) (at : ℕ) (conditions : Conditions) → at < 2 ^ 53 → IsReached s → IsReached (set_to s at conditions)
-reached-set s at conditions below reached =
+reached-set : (s : State) (at : ℕ) (conditions : Conditions) (hushed : Bool) → at < 2 ^ 53 → IsReached s → IsReached (set_to s at conditions hushed)
+reached-set s at conditions hushed below reached =
     let valid = reached.valid in
-    let valid_then : Valid (set_to s at conditions) = record {
+    let valid_then : Valid (set_to s at conditions hushed) = record {
       numbers = valid.numbers;
       first = valid.first;
       next = valid.next;
@@ -32,7 +32,7 @@ reached-set s at conditions below reached =
       in_order = valid.in_order;
       sound = valid.sound;
       running = valid.running;
-      runs = All-weaker (IsValidRun s) (IsValidRun (set_to s at conditions)) s.runs (λ r is. record {
+      runs = All-weaker (IsValidRun s) (IsValidRun (set_to s at conditions hushed)) s.runs (λ r is. record {
         number = is.number;
         turn = is.turn;
         input = is.input;
@@ -58,7 +58,7 @@ moved_by s at back = cond back (unchanged s (reply.Refused (MomentBack s.now))) 
 reached-moved : (s : State) (at : ℕ) (back : Bool) → at < 2 ^ 53 → IsReached s → IsReached (moved_by s at back).state
 unfolding moved_by
 reached-moved s at true below reached = reached
-reached-moved s at false below reached = reached-set s at s.conditions below reached
+reached-moved s at false below reached = reached-set s at s.conditions s.hushed below reached
 
 frame-moved : (s : State) (at : ℕ) (back : Bool) (commands : List Command) → untouched (moved_by s at back).state commands ≡ untouched s commands
 unfolding moved_by
@@ -68,7 +68,7 @@ frame-moved s at false commands = refl
 pub moment-answered : (s : State) (at : ℕ) → at < 2 ^ 53 → IsAnswered s (command.Moment at)
 unfolding moved_by
 moment-answered s at below = record {
-  answered = λ no_run. ((moved s at).reply, refl);
+  answered = λ can. ((moved s at).reply, refl);
   reached = λ reached. reached-moved s at (ltb at s.now) below reached;
   frame = frame-moved s at (ltb at s.now) (command.Moment at ∷ []);
 }
@@ -81,7 +81,7 @@ conditioned_by s conditions stops = cond stops None (Some (record { reply = repl
 reached-conditioned : (s : State) (conditions : Conditions) (stops : Bool) → IsReached s → IsReached (state_by s (conditioned_by s conditions stops))
 unfolding conditioned_by
 reached-conditioned s conditions true reached = reached
-reached-conditioned s conditions false reached = reached-set s s.now conditions reached.valid.now reached
+reached-conditioned s conditions false reached = reached-set s s.now conditions s.hushed reached.valid.now reached
 
 frame-conditioned : (s : State) (conditions : Conditions) (stops : Bool) (commands : List Command)
     → untouched (state_by s (conditioned_by s conditions stops)) commands ≡ untouched s commands
@@ -96,7 +96,16 @@ answers-conditioned s conditions no_run = rw no_run refl
 pub conditions-answered : (s : State) (conditions : Conditions) → IsAnswered s (command.Conditions conditions)
 unfolding conditioned_by
 conditions-answered s conditions = record {
-  answered = λ no_run. (reply.Conditions 0, answers-conditioned s conditions no_run);
+  answered = λ can. (reply.Conditions 0, answers-conditioned s conditions can);
   reached = λ reached. reached-conditioned s conditions (list_any (is_stopped_by conditions) s.runs) reached;
   frame = frame-conditioned s conditions (list_any (is_stopped_by conditions) s.runs) (command.Conditions conditions ∷ []);
+}
+
+-- ---- the hush
+
+pub hush-answered : (s : State) → IsAnswered s command.Hush
+hush-answered s = record {
+  answered = λ can. (reply.Hushed, refl);
+  reached = λ reached. reached-set s s.now s.conditions true reached.valid.now reached;
+  frame = refl;
 }

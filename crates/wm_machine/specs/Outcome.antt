@@ -6,8 +6,9 @@ use Rattle.wm_machine.specs.Cancelled.{cancelled}
 use Rattle.wm_machine.specs.Enqueued.{enqueued, stops_run}
 use Rattle.wm_machine.specs.Pruned.{pruned}
 use Rattle.wm_machine.specs.Queried.{answer_to}
+use Rattle.wm_machine.specs.Quiet.{settled}
 use Rattle.wm_machine.specs.Replied.{Outcome, unchanged}
-use Rattle.wm_machine.specs.Settings.{conditioned, moved}
+use Rattle.wm_machine.specs.Settings.{conditioned, hushed, moved}
 use Rattle.wm_machine.specs.Summarized.{counts_of}
 use Rattle.wm_machine.specs.Updated.{update}
 use Rattle.wm_machine.specs.declared.command.Command.{Command}
@@ -26,6 +27,8 @@ outcome s (command.Moment at) = Some (moved s at)
 outcome s (command.Conditions conditions) = conditioned s conditions
 outcome s command.Prune = Some (pruned s)
 outcome s (command.Query query) = Some (unchanged s (reply.Query (answer_to s query)))
+outcome s command.Settle = settled s
+outcome s command.Hush = Some (hushed s)
 outcome s command.Summary = Some (unchanged s (reply.Summary (counts_of s)))
 outcome s (command.Faulty fault) = Some (unchanged s (reply.Refused (Line fault)))
 outcome s _ = None
@@ -40,6 +43,8 @@ IsBuilt (command.Moment at) = at < 2 ^ 53
 IsBuilt (command.Conditions conditions) = Unit {0}
 IsBuilt command.Prune = Unit {0}
 IsBuilt (command.Query query) = Unit {0}
+IsBuilt command.Settle = Unit {0}
+IsBuilt command.Hush = Unit {0}
 IsBuilt command.Summary = Unit {0}
 IsBuilt (command.Faulty fault) = Unit {0}
 IsBuilt _ = ⊥

@@ -1,6 +1,6 @@
--- The commands that set the moment and the conditions. After the guide's page "Define work requests", "Work constraints"; that a moment
--- doesn't go back is this project's own choice.
-use Rattle.std.specs.Prelude.{ℕ, ◌&&◌, Bool, not, nat_lt, if◌then◌else◌, Option, Some, None}
+-- The commands that set the moment and the conditions, and the one that hushes. After the guide's page "Define work requests", "Work
+-- constraints"; that a moment doesn't go back, and the hush, are this project's own choice.
+use Rattle.std.specs.Prelude.{ℕ, ◌&&◌, Bool, true, not, nat_lt, if◌then◌else◌, Option, Some, None}
 use Rattle.std.specs.List.{list_any}
 use Rattle.wm_conditions.specs.Met.{met}
 use Rattle.wm_conditions.specs.declared.conditions.Conditions.{Conditions}
@@ -14,6 +14,10 @@ use Rattle.wm_machine.specs.declared.state.State.{State}
 abbrev pub moved : State → ℕ → Outcome
 moved s at =
     if nat_lt at s.now then unchanged s (reply.Refused (MomentBack s.now)) else record { reply = reply.Moment; state = record s { now = at } }
+
+-- from now on only summaries are written
+abbrev pub hushed : State → Outcome
+hushed s = record { reply = reply.Hushed; state = record s { hushed = true } }
 
 -- whether a run is current, and such conditions don't meet the constraints that it took
 abbrev pub is_stopped_by : Conditions → Run → Bool

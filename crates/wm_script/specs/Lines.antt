@@ -8,7 +8,7 @@ use Rattle.serde_json.specs.Data as json
 use Rattle.serde_json.specs.Find.{as_bool, as_str, get}
 use Rattle.serde_json.specs.Read.{read}
 use Rattle.wm_machine.specs.declared.command.Command.{Command}
-use Rattle.wm_machine.specs.declared.command.Command.TheVariants.{Cancel, Conditions, Enqueue, Faulty, Moment, Prune, Query, Summary, Update}
+use Rattle.wm_machine.specs.declared.command.Command.TheVariants.{Cancel, Conditions, Enqueue, Faulty, Hush, Moment, Prune, Query, Settle, Summary, Update}
 use Rattle.wm_machine.specs.declared.command.LineFault.TheVariants as fault
 use Rattle.wm_machine.specs.declared.command.Target.{Target}
 use Rattle.wm_machine.specs.declared.command.Target.TheVariants.{All, Id, Name, Tag}
@@ -155,6 +155,8 @@ readers =
     (codes "moment", moment_of) ∷
     (codes "conditions", conditions_of) ∷
     (codes "prune", alone Prune) ∷
+    (codes "settle", alone Settle) ∷
+    (codes "hush", alone Hush) ∷
     (codes "summary", alone Summary) ∷
     (codes "query", query_of) ∷ []
 

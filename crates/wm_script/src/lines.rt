@@ -133,6 +133,8 @@ fn command_named(alloc: Global, name: &str, value: &Value) -> Result<Option<Comm
         "moment" => Ok(moment_of(value)),
         "conditions" => Ok(conditions_of(value)),
         "prune" => Ok(alone(Command::Prune, value)),
+        "settle" => Ok(alone(Command::Settle, value)),
+        "hush" => Ok(alone(Command::Hush, value)),
         "summary" => Ok(alone(Command::Summary, value)),
         "query" => query_of(alloc, value),
         _ => Ok(None),

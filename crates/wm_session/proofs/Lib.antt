@@ -8,6 +8,7 @@ pub mod BookSteps
 pub mod BookStops
 pub mod DiaryLemmas
 pub mod HandLemmas
+pub mod NextLines
 pub mod PlacesAndInstances
 pub mod SerialLemmas
 pub mod WrittenTexts

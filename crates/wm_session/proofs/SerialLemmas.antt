@@ -1,5 +1,5 @@
 -- What the steps of a serial session make of its book.
-use Rattle.std.proofs.Common.{◌≡◌, ◌⊎◌, ℕ, ◌+◌, ◌<◌, ◌≤◌, Bool, List, [], ◌∷◌, ◌++◌, length, Option, Some, None, IsSome, Result, Ok, Err, refl, sym, ◌∙◌, ap, subst, inl, inr, arith}
+use Rattle.std.proofs.Common.{◌≡◌, ◌⊎◌, ℕ, ◌+◌, ◌<◌, ◌≤◌, Bool, true, List, [], ◌∷◌, ◌++◌, length, Option, Some, None, IsSome, Result, Ok, Err, refl, sym, ◌∙◌, ap, subst, inl, inr, arith}
 use Rattle.std.specs.List.{AllByRecursion}
 use Rattle.std.specs.declared.alloc.AllocError.{AllocError}
 use Rattle.std.proofs.lemmas.Bool.{eq-eqb}
@@ -7,7 +7,7 @@ use Rattle.wm_bench.specs.Places.{changed_at, made_away, made_idle, IsAwayAt}
 use Rattle.wm_bench.specs.Seat.{Seat}
 use Rattle.wm_data.specs.declared.data.DataEntry.{DataEntry}
 use Rattle.wm_keeper.specs.declared.row.Row.{Row}
-use Rattle.wm_machine.proofs.Serials.{AreInOrder-push, BeginsSerial-goes-on}
+use Rattle.wm_machine.proofs.Serials.{AreInOrder-first, AreInOrder-nothing, AreInOrder-push, BeginsSerial-goes-on}
 use Rattle.wm_machine.specs.Outcome.{IsBuilt}
 use Rattle.wm_machine.specs.Frame.{Frame}
 use Rattle.wm_machine.specs.Log.{commands_of}
@@ -15,10 +15,11 @@ use Rattle.wm_machine.specs.Narrow.{IsNarrow}
 use Rattle.wm_machine.specs.Quiet.{IsQuiet}
 use Rattle.wm_machine.specs.Replay.{Replay}
 use Rattle.wm_machine.specs.Runs.{other_runs, run_numbered}
-use Rattle.wm_machine.specs.Serial.{AreInOrder, IsInTurn, MayGoOn}
+use Rattle.wm_machine.specs.Serial.{AreInOrder, drains_first, IsInTurn, MayGoOn}
 use Rattle.wm_machine.specs.Turns.{turned, with_turned}
 use Rattle.wm_machine.specs.Valid.{Valid}
 use Rattle.wm_machine.specs.Waiting.{left_to_drain}
+use Rattle.wm_machine.specs.Step.{Legal}
 use Rattle.wm_machine.specs.declared.command.Command.{Command}
 use Rattle.wm_machine.specs.declared.event.Cause.{Cause}
 use Rattle.wm_machine.specs.declared.event.Event.{Event}
@@ -174,9 +175,8 @@ module _ {K W B : Type 0} (held : K → Option (List Row)) (diary_of : B → Opt
 
 -- once there is an event runs may start
 MayGoOn-push : (lines : List Command) (log : List Event) (e : Event) → MayGoOn lines (log ++ e ∷ [])
-MayGoOn-push [] log e = tt
-MayGoOn-push (asked ∷ lines) [] e = tt
-MayGoOn-push (asked ∷ lines) (d ∷ log) e = tt
+MayGoOn-push lines [] e = tt
+MayGoOn-push lines (d ∷ log) e = tt
 
 module _ {K W B : Type 0} (held : K → Option (List Row)) (lines : List Command) (e : Event) (old new : BookState K W B)
     (step : IsOneStep held e old.table new.table) (few : length new.table.state.runs ≤ 1) where
@@ -210,11 +210,15 @@ pub IsReady-quiet : {K W B : Type 0} (lines : List Command) (book : BookState K 
     → IsReady lines book
 IsReady-quiet lines book quiet goes = record { order = goes.order; next = λ going. inl (quiet going, goes.may_go_on going) }
 
--- where no line is left runs may start
-pub GoesInOrder-ready : {K W B : Type 0} (lines : List Command) (book : BookState K W B) → book.left ≡ [] → IsReady lines book → GoesInOrder lines book
-GoesInOrder-ready lines book none ready = record {
+-- where what is startable is driven before the next line runs may start
+pub GoesInOrder-ready : {K W B : Type 0} (lines : List Command) (book : BookState K W B) → drains_first book.left ≡ true → IsReady lines book
+    → GoesInOrder lines book
+GoesInOrder-ready lines book drains ready = record {
   order = ready.order;
-  may_go_on = λ going. elim (ready.next going) [ inl quiet ↦ quiet.1 | inr begins ↦ rw (begins.1, none) tt ];
+  may_go_on = λ going. elim (ready.next going) [
+    | inl quiet ↦ quiet.1
+    | inr begins ↦ subst (MayGoOn lines) (sym begins.0) (ap drains_first begins.1 ∙ drains)
+  ];
 }
 
 -- ---- a start
@@ -436,7 +440,10 @@ module _ {K W B : Type 0} {held : K → Option (List Row)} {old new : BookState 
       GoesInOrder-event held lines e old new done.step (rw (line_none going done) (omega arith)) ready.order.from_rest
       (elim (ready.next going) [
         | inl quiet ↦ AreInOrder-push lines old.table.first old.table.log old.table.state e ready.order.in_order rest.replay quiet.1 quiet.0
-        | inr begins ↦ rw (begins.0, begins.1, done.next) tt
+        | inr begins ↦
+            let at_first : old.table.state ≡ old.table.first = subst (λ log. Replay old.table.first log old.table.state) begins.0 rest.replay in
+            rw (begins.0, begins.1, done.next)
+            (AreInOrder-first done.command new.left old.table.first (old.line + 1) done.reply (subst (λ s. Legal s e) at_first done.step.legal))
       ])
 
   -- the session has stopped early, with or without a line
@@ -455,10 +462,6 @@ module _ {K W B : Type 0} {held : K → Option (List Row)} {old new : BookState 
       ]
 
 -- ---- begin and end
-
-pub AreInOrder-nothing : (lines : List Command) (first : State) → AreInOrder lines first []
-AreInOrder-nothing [] first = tt
-AreInOrder-nothing (asked ∷ lines) first = tt
 
 -- a session that begins is at rest
 pub IsBetweenRuns-begin : {K W B : Type 0} {lines : List Command} {book : BookState K W B} → IsAtBegin lines book → IsBetweenRuns book

@@ -5,8 +5,10 @@ use Rattle.wm_bench.specs.Places.{changed_at, idle_at, made_away, made_idle}
 use Rattle.wm_bench.specs.Seat.{Seat}
 use Rattle.wm_keeper.specs.declared.row.Row.{Row}
 use Rattle.wm_machine.specs.First.{first_of}
+use Rattle.wm_machine.specs.Quiet.{IsQuiet}
 use Rattle.wm_machine.specs.Waiting.{left_to_drain}
 use Rattle.wm_machine.specs.declared.command.Command.{Command}
+use Rattle.wm_machine.specs.declared.command.Command.TheVariants as command
 use Rattle.wm_machine.specs.declared.event.Cause.{Cause}
 use Rattle.wm_machine.specs.declared.event.Event.TheVariants as event
 use Rattle.wm_machine.specs.declared.reply.Reply.{Reply}
@@ -53,6 +55,22 @@ pub record HasMoved {K W B : Type 0} (held : K → Option (List Row)) (old new :
   pub line : IsLineDone held old new
   pub places : new.places ≡ old.places
 
+-- the first of these lines settles
+abbrev pub SettlesNext : List Command → Type 0
+SettlesNext [] = ⊥
+SettlesNext (asked ∷ lines) = asked ≡ command.Settle
+
+-- the next line settles, and there is something left to do first
+pub record MustWait (lines : List Command) (s : State) : Type 0 where
+  pub next : SettlesNext lines
+  pub busy : IsQuiet s → ⊥
+
+-- the session goes on, but its next line has to wait, and nothing changes
+pub record IsNotSettled {K W B : Type 0} (old new : BookState K W B) : Type 0 where
+  pub going : old.status ≡ None
+  pub waits : MustWait old.left old.table.state
+  pub book_is : new ≡ old
+
 -- the session goes on, but no line is left, and nothing changes
 pub record HasNoLine {K W B : Type 0} (old new : BookState K W B) : Type 0 where
   pub going : old.status ≡ None
@@ -71,9 +89,11 @@ pub record IsFrontStopped {K W B : Type 0} (held : K → Option (List Row)) (old
   pub how : IsUntouched held old.table new.table ⊎ IsLineUntold held old new
   pub places : new.places ≡ old.places
 
--- Moved where a line was executed; Ended where none is left; Stopped where the session has stopped early
+-- Moved where a line was executed; NotSettled where the next one settles and can't come yet; Ended where none is left; Stopped where the
+-- session has stopped early
 abbrev pub IsFronted : {K W B : Type 0} → (K → Option (List Row)) → Front → BookState K W B → BookState K W B → Type 0
 IsFronted held front.Moved old new = HasMoved held old new
+IsFronted held front.NotSettled old new = IsNotSettled old new
 IsFronted held front.Ended old new = HasNoLine old new
 IsFronted held front.Stopped old new = IsFrontStopped held old new
 

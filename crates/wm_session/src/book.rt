@@ -1,15 +1,16 @@
 //! The book of a session: the table with the bench, the lines that are left, and what is still to
 //! be written.
-ghost use Rattle.std.specs.Prelude.{◌≡◌, ◌↔◌, ◌^◌, ◌<◌, ◌≤◌, ◌+◌, [], None, Some, length, map, option_map, IsSome, IsNone, IfSome, IfOk, IfErr, Ok, false};
+ghost use Rattle.std.specs.Prelude.{◌≡◌, ◌↔◌, ◌^◌, ◌<◌, ◌≤◌, ◌+◌, [], None, Some, length, map, option_map, IsSome, IsNone, IsTrue, IfSome, IfOk, IfErr, MatchBool, Ok, false};
 ghost use Rattle.std.specs.List.{AllByRecursion};
 ghost use Rattle.wm_bench.specs.Places.{IsAwayAt};
 ghost use Rattle.wm_machine.specs.Outcome.{IsBuilt};
 ghost use Rattle.wm_machine.specs.Narrow.{IsNarrow};
 ghost use Rattle.wm_machine.specs.Quiet.{IsQuiet};
 ghost use Rattle.wm_machine.specs.Rows.{rows_of};
+ghost use Rattle.wm_machine.specs.Serial.{drains_first};
 ghost use Rattle.wm_machine.specs.Valid.{Valid};
 ghost use Rattle.wm_session.specs.Bench.{instance_traits, place_traits, AreIdle};
-ghost use Rattle.wm_session.specs.Book.{IsClaimed, IsFronted, IsReported};
+ghost use Rattle.wm_session.specs.Book.{IsClaimed, IsFronted, IsReported, MustWait, SettlesNext};
 ghost use Rattle.wm_session.specs.Causes.{status_by_stop};
 ghost use Rattle.wm_session.specs.Ended.{IsHandedBack, IsSessionEnd};
 ghost use Rattle.wm_session.specs.Tells.{tells_of};
@@ -86,6 +87,8 @@ impl From<AllocError> for Stop {
 pub enum Front {
     /// It was executed.
     Moved,
+    /// It settles, and there is something left to do first.
+    NotSettled,
     /// There is none.
     Ended,
     /// The session has ended early.
@@ -200,13 +203,17 @@ impl<K: Keeper, W: Sink, B: Worker, M: Mark> Book<K, W, B, M> {
         }
     }
 
-    /// Executes the next line and writes the reply. No run is unreturned while the session goes on.
+    /// Executes the next line and writes the reply; one that settles only where there is nothing left
+    /// to do. No run is unreturned while the session goes on.
     pub fn front_step(&mut self) -> Front
         requires { self.old.status ≡ None → self.old.table.state.runs ≡ [] }
         ensures { IsFronted K.held result self.old self.new }
     {
         if self.status.is_some() {
             return Front::Stopped;
+        }
+        if self.must_wait() {
+            return Front::NotSettled;
         }
         let Some(command) = self.left.pop_front() else {
             return Front::Ended;
@@ -328,6 +335,29 @@ impl<K: Keeper, W: Sink, B: Worker, M: Mark> Book<K, W, B, M> {
                 After::Stopped
             }
         }
+    }
+
+    /// Whether the next line settles.
+    fn settles_next(&self) -> bool
+        ensures { IsTrue result ↔ SettlesNext self.now.left }
+    {
+        matches!(self.left.front(), Some(Command::Settle))
+    }
+
+    /// Whether the next line settles, and there is something left to do first.
+    fn must_wait(&self) -> bool
+        ensures { MatchBool result (MustWait self.now.left self.now.table.state)
+            (SettlesNext self.now.left → IsQuiet self.now.table.state) }
+    {
+        self.settles_next() && !self.table.quiet()
+    }
+
+    /// Whether all that may start is driven to its end before the next line: none is left, or it
+    /// settles. It takes no memory.
+    pub fn drains_first(&self) -> bool
+        ensures { result ≡ drains_first self.now.left }
+    {
+        self.left.is_empty() || self.settles_next()
     }
 
     /// The number of the next line, from 1; none where no line is left. It takes no memory.

@@ -37,8 +37,8 @@ enum Progress {
     Stopped,
 }
 
-/// Executes the lines of a book one after another. After each line, or once where there is no line,
-/// the work that is first is started and driven to its end, until there is nothing left to do. It
+/// Executes the lines of a book one after another. After each line, and once before where there is
+/// none or the first one settles, the work that is first is started and driven to its end, until there is nothing left to do. It
 /// waits for nothing, and returns.
 pub fn run_serial<K: Keeper, W: Sink, B: Worker, M: Mark>(
     alloc: Global,
@@ -53,8 +53,8 @@ pub fn run_serial<K: Keeper, W: Sink, B: Worker, M: Mark>(
     book.finish()
 }
 
-/// Executes the lines that are left. After each of them, or once where none is left, it drives all
-/// that may start, until there is nothing left to do.
+/// Executes the lines that are left. After each of them, and once before where none is left or the
+/// first one settles, it drives all that may start, until there is nothing left to do.
 fn execute_lines<K: Keeper, W: Sink, B: Worker, M: Mark>(alloc: Global, book: &mut Book<K, W, B, M>)
     requires { IsBetweenRuns book.old }
     ensures rest { IsBetweenRuns book.new }
@@ -65,12 +65,13 @@ fn execute_lines<K: Keeper, W: Sink, B: Worker, M: Mark>(alloc: Global, book: &m
         → KeepDiaries B.diary_of diaries book.old
         → KeepDiaries B.diary_of diaries book.new }
 {
-    if book.next_line().is_none() {
+    if book.drains_first() {
         drain(alloc, book);
     }
     'lines: loop {
         match book.front_step() {
             Front::Moved => drain(alloc, book),
+            Front::NotSettled => unreachable!(),
             Front::Ended | Front::Stopped => return,
         }
     }

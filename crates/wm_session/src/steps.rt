@@ -3,6 +3,7 @@
 ghost use Rattle.std.specs.Prelude.{◌≡◌, ◌++◌, [], None, Some, IsNone, IfErr, IfSome, OnOk, OnErr};
 ghost use Rattle.wm_bench.specs.Places.{changed_at, made_idle, IsAwayAt};
 ghost use Rattle.wm_machine.specs.Outcome.{IsBuilt};
+ghost use Rattle.wm_machine.specs.Quiet.{CanCome};
 ghost use Rattle.wm_texts.specs.Texts.{text_of};
 ghost use Rattle.wm_machine.specs.declared.event.Event.TheVariants as event;
 ghost use Rattle.wm_machine.specs.declared.reply.Reply.{Reply};
@@ -27,7 +28,7 @@ use wm_worker::Worker;
 /// Executes the command of a line. Its reply stands in the table's last event.
 pub fn execute<K: Keeper>(table: &mut Table<K>, line: u32, command: Command) -> Result<(), Trouble>
     requires built { IsBuilt command }
-    requires no_run { table.old.state.runs ≡ [] }
+    requires can { CanCome command table.old.state }
     ensures ok { OnOk result ((reply : Reply)
         × IsOneStep K.held (event.Command line command reply) table.old table.new) }
     ensures err { OnErr result (IsUntouched K.held table.old table.new) }

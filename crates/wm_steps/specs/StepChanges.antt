@@ -1,5 +1,5 @@
 -- What the change of a step makes of a state and of the rows held, and when it fits a state. This project's own choice.
-use Rattle.std.specs.Prelude.{◌≡◌, ℕ, ◌+◌, ◌^◌, ◌==◌, ◌≤◌, pos, true, false, not, List, [], ◌∷◌, ◌++◌, length, map, filter, slice_get, slice_set, Some, IsSomeAnd}
+use Rattle.std.specs.Prelude.{◌≡◌, ℕ, ◌+◌, ◌^◌, ◌==◌, ◌≤◌, pos, Bool, true, false, not, List, [], ◌∷◌, ◌++◌, length, map, filter, slice_get, slice_set, Some, IsSomeAnd}
 use Rattle.std.specs.List.{AllByRecursion}
 use Rattle.wm_conditions.specs.declared.conditions.Conditions.{Conditions}
 use Rattle.wm_keeper.specs.Keeper.{AreOfDifferentNumbers}
@@ -70,6 +70,11 @@ abbrev pub conditions_by : SettingChange → Conditions → Conditions
 conditions_by (set.Conditions conditions) before = conditions
 conditions_by _ before = before
 
+-- whether only summaries are written then
+abbrev pub hushed_by : SettingChange → Bool → Bool
+hushed_by set.Hush before = true
+hushed_by _ before = before
+
 -- the state after a change: works without the removed ones, with the told and the replaced ones in place and the placed ones at the end
 abbrev pub changed_state : StepChange → State → State
 changed_state change s = record s {
@@ -80,6 +85,7 @@ changed_state change s = record s {
   next_run = next_run_by change.run s.next_run;
   now = now_by change.setting s.now;
   conditions = conditions_by change.setting s.conditions;
+  hushed = hushed_by change.setting s.hushed;
 }
 
 -- ---- the rows

@@ -28,7 +28,7 @@ pub enum RunChange {
     End { run: u64, instance: u32 },
 }
 
-/// What becomes of the moment and the conditions in a step.
+/// What becomes of the moment and the conditions in a step, and of what is written.
 #[derive(Drop)]
 pub enum SettingChange {
     /// They stay as they are.
@@ -37,6 +37,8 @@ pub enum SettingChange {
     Moment(u64),
     /// These are the conditions.
     Conditions(Conditions),
+    /// From now on only summaries are written.
+    Hush,
 }
 
 /// All that one step is about to do, with its memory taken.
@@ -52,7 +54,7 @@ pub struct StepChange {
     pub placed: Items<Record>,
     /// What becomes of runs and instances.
     pub run: RunChange,
-    /// What becomes of the moment and the conditions.
+    /// What becomes of the moment and the conditions, and of what is written.
     pub setting: SettingChange,
     /// The event of the step.
     pub event: Event,
@@ -74,7 +76,7 @@ impl StepChange {
         }
     }
 
-    /// A change of the moment or the conditions.
+    /// A change of the moment or the conditions, or of what is written.
     pub fn setting(alloc: Global, to: SettingChange, event: Event) -> StepChange
         ensures { result ≡ setting to event }
     {

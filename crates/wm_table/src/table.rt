@@ -4,7 +4,7 @@ ghost use Rattle.std.specs.Option.{option_copied};
 ghost use Rattle.wm_machine.specs.Outcome.{IsBuilt};
 ghost use Rattle.wm_machine.specs.Narrow.{IsNarrow};
 ghost use Rattle.wm_machine.specs.Opened.{opening_state, Opened};
-ghost use Rattle.wm_machine.specs.Quiet.{IsQuiet};
+ghost use Rattle.wm_machine.specs.Quiet.{CanCome, IsQuiet};
 ghost use Rattle.wm_machine.specs.Replay.{Replay};
 ghost use Rattle.wm_machine.specs.Valid.{Valid};
 ghost use Rattle.wm_machine.specs.declared.event.Event.TheVariants as event;
@@ -195,7 +195,7 @@ impl<K: Keeper> Table<K> {
     /// no row leaves the keeper as it was.
     pub fn command(&mut self, line: u32, command: Command) -> Result<Reply, Trouble>
         requires built { IsBuilt command }
-        requires no_run { self.old.state.runs ≡ [] }
+        requires can { CanCome command self.old.state }
         ensures ok { IfOk result (λ reply.
             IsOneStep K.held (event.Command line command reply) self.old self.new) }
         ensures err { OnErr result (IsUntouched K.held self.old self.new) }

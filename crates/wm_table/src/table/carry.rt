@@ -8,7 +8,7 @@ ghost use Rattle.wm_machine.specs.Runs.{other_runs, with_out};
 ghost use Rattle.wm_machine.specs.Turns.{with_turned};
 ghost use Rattle.wm_machine.specs.Valid.{Valid};
 ghost use Rattle.wm_steps.specs.Nodes.{nodes_of};
-ghost use Rattle.wm_steps.specs.StepChanges.{changed_state, conditions_by, instances_by, next_run_by, now_by, other_works, row_changes, runs_by, with_replaced, without, Fits};
+ghost use Rattle.wm_steps.specs.StepChanges.{changed_state, conditions_by, hushed_by, instances_by, next_run_by, now_by, other_works, row_changes, runs_by, with_replaced, without, Fits};
 ghost use Rattle.wm_table.specs.Following.{placed_node, AreAddable};
 ghost use Rattle.wm_table.specs.Table.{TroubleCause};
 
@@ -90,6 +90,7 @@ impl Lists {
           next_run = next_run_by change.run state.old.next_run;
           now = now_by change.setting state.old.now;
           conditions = conditions_by change.setting state.old.conditions;
+          hushed = hushed_by change.setting state.old.hushed;
         } }
     {
         let StepChange {
@@ -196,17 +197,19 @@ fn change_runs(
     }
 }
 
-/// Changes the moment and the conditions.
+/// Changes the moment or the conditions, or what is written.
 fn change_setting(state: &mut State, setting: SettingChange)
     ensures { state.new ≡ record state.old {
       now = now_by setting state.old.now;
       conditions = conditions_by setting state.old.conditions;
+      hushed = hushed_by setting state.old.hushed;
     } }
 {
     match setting {
         SettingChange::Unchanged => {}
         SettingChange::Moment(at) => state.now = at,
         SettingChange::Conditions(conditions) => state.conditions = conditions,
+        SettingChange::Hush => state.hushed = true,
     }
 }
 

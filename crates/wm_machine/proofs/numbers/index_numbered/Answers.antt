@@ -1,4 +1,4 @@
-use Rattle.std.proofs.Common.{◌≡◌, nat_cmp, rules, sym}
+use Rattle.std.proofs.Common.{nat_cmp, rules, sym}
 use Rattle.std.proofs.lemmas.Fn.{always_returns_same}
 use Rattle.wm_machine.proofs.NumberPlaces.{numbered-search}
 use Rattle.wm_machine.proofs.Runnings.{WorksAscend-in_order}

@@ -1,30 +1,31 @@
-use Rattle.std.proofs.Common.{not, inl, inr, refl, sym, ◌∙◌, ap, subst}
+use Rattle.std.proofs.Common.{inl, inr, refl, sym, ◌∙◌, ap, subst}
 use Rattle.std.proofs.lemmas.Bool.{false≢true}
+use Rattle.wm_machine.specs.Serial.{drains_first}
 use Rattle.wm_session.proofs.DiaryLemmas.{KeepDiaries-same, no_longer}
+use Rattle.wm_session.proofs.NextLines.{drains-settles}
 use Rattle.wm_session.proofs.SerialLemmas.{GoesInOrder-line, GoesInOrder-ready, IsBetweenRuns-front, IsBetweenRuns-line, IsReady-front, IsReady-quiet}
 use Rattle.wm_session.specs.Book.{IsFronted}
 use Rattle.wm_session.specs.declared.book.Front.TheVariants as front
 use Rattle.wm_session.proofs.serial.execute_lines.Goals as goal
-use Rattle.wm_session.proofs.serial.execute_lines.Goals.{then-is_none, else-is_none}
+use Rattle.wm_session.proofs.serial.execute_lines.Goals.{then-drains_first, else-drains_first}
 
 pub lines-init : goal.lines-init
 lines-init g c =
-    let none_left = c.next_line.ensures.none in
-    elim c.if-is_none.branch [
-      | then-is_none w ↦
+    elim c.if-drains_first.branch [
+      | then-drains_first w ↦
           let new = w.drain.new.book in
           let drained = w.drain.ensures in
           rw w.book-is (record {
             rest = drained.rest;
-            quiet = λ going none. drained.quiet going;
+            quiet = λ going drains. drained.quiet going;
             order = λ lines ready.
                 IsReady-quiet lines new drained.quiet
-                (drained.order lines (GoesInOrder-ready lines c.args.book.now (none_left.0 (c.is_none.ensures ∙ ap not w.if-is_none.true)) ready));
+                (drained.order lines (GoesInOrder-ready lines c.args.book.now (sym c.drains_first.ensures ∙ w.if-drains_first.true) ready));
             diaries = drained.diaries;
           })
-      | else-is_none w ↦ rw w.book-is (record {
+      | else-drains_first w ↦ rw w.book-is (record {
         rest = c.requires;
-        quiet = λ going none. absurd (false≢true (sym (none_left.1 none) ∙ c.is_none.ensures ∙ ap not w.if-is_none.false));
+        quiet = λ going drains. absurd (false≢true (sym w.if-drains_first.false ∙ c.drains_first.ensures ∙ drains));
         order = λ lines ready. ready;
         diaries = λ diaries keep. keep;
       })
@@ -41,7 +42,7 @@ lines-preserved g c =
     let new = c.drain-in-Moved.new.book in
     record {
       rest = drained.rest;
-      quiet = λ going none. drained.quiet going;
+      quiet = λ going drains. drained.quiet going;
       order = λ lines ready.
           IsReady-quiet lines new drained.quiet
           (drained.order lines (GoesInOrder-line kept.rest lines moved.goes_on.before moved.line (kept.order lines ready)));
@@ -61,7 +62,7 @@ returns-in-Ended g c =
           rw is.book_is (record {
             rest = kept.rest;
             done = λ going. is.none_left;
-            quiet = λ going. kept.quiet is.going is.none_left;
+            quiet = λ going. kept.quiet is.going (ap drains_first is.none_left);
             order = kept.order;
             diaries = kept.diaries;
           })
@@ -74,3 +75,9 @@ returns-in-Ended g c =
             diaries = λ diaries keep. no_longer new.status is.status;
           }
     ]
+
+-- before a line that settles nothing is left to do
+pub unreachable-requires : goal.unreachable-requires
+unreachable-requires g c =
+    let is = c.in-NotSettled.ensures in
+    absurd (is.waits.busy (c.lines.invariant.quiet is.going (drains-settles c.lines.book.left is.waits.next)))
