@@ -9,8 +9,7 @@ pub set-change : {B : Type 0} (change : Place B → Place B) (number : ℕ) (pla
     → set places number (change (get_or places number default)) ≡ changed_at change number places
 set-change change number [] default within = absurd (omega arith)
 set-change change zero (first ∷ places) default within = refl
-set-change change (suc number) (first ∷ places) default within =
-    ap (λ rest. first ∷ rest) (set-change change number places default (omega arith))
+set-change change (suc number) (first ∷ places) default within = ap (λ rest. first ∷ rest) (set-change change number places default (omega arith))
 
 -- past the places nothing changes
 pub changed_at-past : {B : Type 0} (change : Place B → Place B) (number : ℕ) (places : List (Place B)) → length places ≤ number

@@ -1,5 +1,5 @@
 -- The places of a bench, numbered from 0 in order: which instances are idle there, and what taking
--- and giving leave. This project's own choice.
+-- and giving leave.
 use Rattle.std.specs.Prelude.{◌≡◌, ℕ, zero, suc, false, List, [], ◌∷◌, slice_get, filter_map, Option, Some, None, option_map, option_and_then, IsSomeAnd}
 use Rattle.wm_bench.specs.declared.hand.Hand.{Hand}
 use Rattle.wm_bench.specs.declared.place.Place.{Place}

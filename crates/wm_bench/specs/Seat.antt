@@ -1,4 +1,4 @@
--- What a contract sees of a seat. This project's own choice.
+-- What a contract sees of a seat.
 use Rattle.std.specs.Prelude.{ℕ}
 
 -- the number of the place that the worker was taken from, and the worker

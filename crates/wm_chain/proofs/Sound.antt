@@ -5,6 +5,7 @@ use Rattle.std.specs.Str.{bytes_eq}
 use Rattle.std.proofs.lemmas.Bool.{cond_both, false≢true, ne_eqb, or_parts}
 use Rattle.std.proofs.lemmas.Cmp.{nat_list_eq_equiv}
 use Rattle.std.proofs.lemmas.List.Folds.{list_any-append}
+use Rattle.wm_collections.proofs.Lists.{find-none, option_map-none}
 use Rattle.wm_chain.specs.Walk.{after_periodic, again, fault_from, fault_in, fault_of, first_fault, id_twice, named_twice, periodic_after}
 use Rattle.wm_chain.specs.declared.fault.ChainFault.{ChainFault}
 use Rattle.wm_chain.specs.declared.fault.ChainFault.TheVariants as fault
@@ -26,8 +27,7 @@ apart-each : (seen : List (List ℕ)) (id : List ℕ) (ids : List (List ℕ)) �
 apart-each seen id [] none = (tt, tt)
 apart-each seen id (later ∷ ids) none =
     let rest = apart-each seen id ids none.1 in
-    let parts = or_parts (has_id seen later) (bytes_eq id later || false)
-    (sym (list_any-append (λ one. bytes_eq one later) seen (id ∷ [])) ∙ none.0) in
+    let parts = or_parts (has_id seen later) (bytes_eq id later || false) (sym (list_any-append (λ one. bytes_eq one later) seen (id ∷ [])) ∙ none.0) in
     let other = or_parts (bytes_eq id later) false parts.1 in
     ((apart id later other.0, rest.0), (parts.0, rest.1))
 
@@ -38,28 +38,16 @@ pub again-none : (seen ids : List (List ℕ)) → again seen ids ≡ None → Ar
 again-none seen [] none = (tt, tt)
 again-none seen (id ∷ ids) none =
     cond_both (has_id seen id) (Some id) (again (seen ++ id ∷ []) ids) (λ (found : Option (List ℕ)). found ≡ None → AreNew seen (id ∷ ids))
-    (λ e is. absurd (cc))
-    (λ e is.
+    (λ e is. absurd (cc)) (λ e is.
     let rest = again-none (seen ++ id ∷ []) ids is in
     let each = apart-each seen id ids rest.1 in
-    ((each.0, rest.0), (e, each.1)))
-    none
+    ((each.0, rest.0), (e, each.1))) none
 
 -- ---- a work without a fault
 
 first-none : (found : Option ChainFault) (later : List (Option ChainFault)) → first_fault (found ∷ later) ≡ None → (found ≡ None) × (first_fault later ≡ None)
 first-none (Some fault) later none = absurd (cc)
 first-none None later none = (refl, none)
-
-map-none : {T U : Type 0} (f : T → U) (found : Option T) → option_map f found ≡ None → found ≡ None
-map-none f None none = refl
-map-none f (Some x) none = absurd (cc)
-
-find-none : {T : Type 0} (test : T → Bool) (xs : List T) → find test xs ≡ None → AllByRecursion (λ x. test x ≡ false) xs
-find-none test [] none = tt
-find-none {T} test (x ∷ xs) none =
-    cond_both (test x) (Some x) (find test xs) (λ (found : Option T). found ≡ None → AllByRecursion (λ y. test y ≡ false) (x ∷ xs))
-    (λ e is. absurd (cc)) (λ e is. (e, find-none test xs is)) none
 
 if-none : {T : Type 0} (b : Bool) (x : T) → cond b (Some x) None ≡ None → b ≡ false
 if-none true x none = absurd (cc)
@@ -84,11 +72,10 @@ fault_of-none works before work none =
     let one = first-none (after_periodic (periodic_ids works) work) [] after.1 in (
       if-none (has_id before work.request.id) (fault.IdTwice work.request.id) own.0,
       record {
-        different = (again-none [] work.after (map-none fault.IdTwice (again [] work.after) named.0)).0;
-        of_one_time = find-none (has_id (periodic_ids works)) work.after (map-none fault.PeriodicInChain (find (has_id (periodic_ids works)) work.after) one.0);
-        alone = λ periodic.
-            no_length work.after
-            (and-second (is_periodic work) (not (length work.after == 0))
+        different = (again-none [] work.after (option_map-none fault.IdTwice (again [] work.after) named.0)).0;
+        of_one_time = find-none (has_id (periodic_ids works)) work.after (option_map-none fault.PeriodicInChain (find (has_id (periodic_ids works)) work.after)
+            one.0);
+        alone = λ periodic. no_length work.after (and-second (is_periodic work) (not (length work.after == 0))
             (if-none (is_periodic work && not (length work.after == 0)) (fault.PeriodicInChain work.request.id) after.0) periodic);
       },
     )

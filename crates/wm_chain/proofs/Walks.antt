@@ -12,11 +12,6 @@ use Rattle.wm_chain.specs.declared.fault.ChainFault.{ChainFault}
 use Rattle.wm_request.specs.Batches.{has_id, ids_of, periodic_ids}
 use Rattle.wm_request.specs.declared.request.Node.{Node}
 
--- a test of a list that is made of another one
-pub list_any-map : {T U : Type 0} (test : U → Bool) (f : T → U) (xs : List T) → list_any test (map f xs) ≡ list_any (λ x. test (f x)) xs
-list_any-map test f [] = refl
-list_any-map test f (x ∷ xs) = rw (list_any-map test f xs) refl
-
 -- ---- ids
 
 module _ (ids : List (List ℕ)) (i : ℕ) (id : List ℕ) (within : i < length ids) (is : id ≡ get_or ids i id) where
@@ -26,8 +21,7 @@ module _ (ids : List (List ℕ)) (i : ℕ) (id : List ℕ) (within : i < length 
   seen : take (i + 1) ids ≡ take i ids ++ id ∷ []
   seen = take_more ids i id within ∙ ap (λ x. take i ids ++ x ∷ []) (sym is)
 
-  step : (b : Bool) → has_id (take i ids) id ≡ b
-      → again (take i ids) (drop i ids) ≡ cond b (Some id) (again (take (i + 1) ids) (drop (i + 1) ids))
+  step : (b : Bool) → has_id (take i ids) id ≡ b → again (take i ids) (drop i ids) ≡ cond b (Some id) (again (take (i + 1) ids) (drop (i + 1) ids))
   step b e =
       ap (again (take i ids)) left ∙ ap (λ t. cond t (Some id) (again (take i ids ++ id ∷ []) (drop (i + 1) ids))) e
       ∙ ap (λ before. cond b (Some id) (again before (drop (i + 1) ids))) (sym seen)
@@ -37,8 +31,7 @@ module _ (ids : List (List ℕ)) (i : ℕ) (id : List ℕ) (within : i < length 
   again-here so_far e = sym (step true e) ∙ so_far
 
   -- it stands for the first time
-  pub again-on : again (take i ids) (drop i ids) ≡ again [] ids → has_id (take i ids) id ≡ false
-      → again (take (i + 1) ids) (drop (i + 1) ids) ≡ again [] ids
+  pub again-on : again (take i ids) (drop i ids) ≡ again [] ids → has_id (take i ids) id ≡ false → again (take (i + 1) ids) (drop (i + 1) ids) ≡ again [] ids
   again-on so_far e = sym (step false e) ∙ so_far
 
 -- whether an id is among those seen or is the next one
@@ -53,14 +46,9 @@ pub more-seen : (ids : List (List ℕ)) (i : ℕ) (id : List ℕ) → i < length
     → before ≡ has_id (take i ids) other → cond (is_eq (slice_cmp nat_cmp id other)) true before ≡ has_id (take (i + 1) ids) other
 more-seen ids i id within is other before e =
     ap (λ next. cond next true before) (is_eq-slice_cmp id other) ∙ either (bytes_eq id other) (has_id (take i ids) other) before e
-    ∙ sym (list_any-append (λ one. bytes_eq one other) (take i ids) (id ∷ []))
-    ∙ ap (λ list. has_id list other) (sym (seen ids i id within is))
+    ∙ sym (list_any-append (λ one. bytes_eq one other) (take i ids) (id ∷ [])) ∙ ap (λ list. has_id list other) (sym (seen ids i id within is))
 
 -- ---- works
-
-first-some : (found : Option ChainFault) (later : List (Option ChainFault)) → is_some found ≡ true → first_fault (found ∷ later) ≡ found
-first-some (Some fault) later e = refl
-first-some None later e = absurd (cc)
 
 first-none : (found later : Option ChainFault) → is_some found ≡ false → first_fault (found ∷ later ∷ []) ≡ later
 first-none (Some fault) later e = absurd (cc)
@@ -77,22 +65,10 @@ module _ (works : List Node) (i : ℕ) (work : Node) (within : i < length works)
 
   more : ids_of (take (i + 1) works) ≡ ids_of (take i works) ++ work.request.id ∷ []
   more =
-      ap ids_of (take_more works i work within ∙ ap (λ x. take i works ++ x ∷ []) (sym is))
-      ∙ map-append (λ (w : Node). w.request.id) (take i works) (work ∷ [])
+      ap ids_of (take_more works i work within ∙ ap (λ x. take i works ++ x ∷ []) (sym is)) ∙ map-append (λ (w : Node). w.request.id) (take i works) (work ∷ [])
 
   turn : first_fault (fault_of periodic (ids_of (take i works)) work ∷ fault_from periodic (ids_of (take (i + 1) works)) (drop (i + 1) works) ∷ [])
       ≡ fault_in works
   turn =
       ap (λ before. first_fault (fault_of periodic (ids_of (take i works)) work ∷ fault_from periodic before (drop (i + 1) works) ∷ [])) more
       ∙ sym (ap (fault_from periodic (ids_of (take i works))) others) ∙ so_far
-
-  -- the work has a fault
-  pub fault-here : is_some (fault_of periodic (ids_of (take i works)) work) ≡ true → fault_of periodic (ids_of (take i works)) work ≡ fault_in works
-  fault-here e =
-      sym (first-some (fault_of periodic (ids_of (take i works)) work) (fault_from periodic (ids_of (take (i + 1) works)) (drop (i + 1) works) ∷ []) e) ∙ turn
-
-  -- it has none
-  pub fault-on : is_some (fault_of periodic (ids_of (take i works)) work) ≡ false
-      → fault_from periodic (ids_of (take (i + 1) works)) (drop (i + 1) works) ≡ fault_in works
-  fault-on e =
-      sym (first-none (fault_of periodic (ids_of (take i works)) work) (fault_from periodic (ids_of (take (i + 1) works)) (drop (i + 1) works)) e) ∙ turn

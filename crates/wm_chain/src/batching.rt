@@ -1,15 +1,13 @@
 ghost use Rattle.std.specs.Prelude.{◌≡◌, ◌≤◌, ◌∷◌, [], find, length, map, option_map, Ok, IfOk, IfErr};
-ghost use Rattle.std.specs.List.{list_any};
-ghost use Rattle.std.specs.Str.{bytes_eq};
 ghost use Rattle.wm_chain.specs.Walk.{again, batched, fault_in, fault_of, IsFaultOf};
-ghost use Rattle.wm_request.specs.Batches.{has_id, ids_of, is_periodic, periodic_ids};
+ghost use Rattle.wm_request.specs.Batches.{has_id, ids_of, periodic_ids};
 
 use crate::fault::ChainFault;
 use std::alloc::{AllocError, Global};
 use std::collections::BTreeSet;
 use uuid::Uuid;
 use wm_collections::Items;
-use wm_request::{Batch, Node};
+use wm_request::{Batch, Node, has_id, has_work};
 
 /// The batch of these works, at least one, or why they aren't one. The works are looked at in
 /// order, and the first fault is told. Of a work:
@@ -39,7 +37,7 @@ fn periodic_ids(alloc: Global, works: &[Node]) -> Result<Vec<Uuid>, AllocError>
 {
     let mut ids = Vec::new(alloc);
     for work in works {
-        if is_periodic(work) {
+        if work.is_periodic() {
             ids.push(work.request.id())?;
         }
     }
@@ -81,7 +79,7 @@ fn fault_of(
     if let Some(id) = again(alloc, work.after.as_slice())? {
         return Ok(Some(ChainFault::IdTwice { id }));
     }
-    if is_periodic(work) && !work.after.is_empty() {
+    if work.is_periodic() && !work.after.is_empty() {
         return Ok(Some(ChainFault::PeriodicInChain { id }));
     }
     match first_of(work.after.as_slice(), periodic) {
@@ -90,31 +88,11 @@ fn fault_of(
     }
 }
 
-fn is_periodic(work: &Node) -> bool
-    ensures { result ≡ is_periodic work.now }
-{
-    work.request.period().is_some()
-}
-
-/// Whether one of these works has the id.
-fn has_work(works: &[Node], id: Uuid) -> bool
-    ensures { result ≡ list_any (λ work. bytes_eq work.request.id id) works.now }
-{
-    works.iter().any(|work| work.request.id() == id)
-}
-
 /// Whether a work comes after one with its id.
 fn is_id_used(before: &[Node], work: &Node) -> bool
     ensures { result ≡ has_id (ids_of before.now) work.now.request.id }
 {
     has_work(before, work.request.id())
-}
-
-/// Whether the id is one of these.
-fn has_id(ids: &[Uuid], id: Uuid) -> bool
-    ensures { result ≡ has_id ids.now id }
-{
-    ids.iter().any(|one| *one == id)
 }
 
 /// The first id that stands a second time.

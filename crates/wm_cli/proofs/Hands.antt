@@ -7,12 +7,12 @@ use Rattle.wm_machine.specs.Valid.{AreNumberedInOrder}
 use Rattle.wm_machine.specs.Opened.{opening_state}
 use Rattle.wm_machine.specs.declared.state.Instance.{Instance}
 use Rattle.wm_machine.specs.declared.state.State.{State}
+use Rattle.wm_worker.specs.declared.kind.Kind.{Kind}
 use Rattle.wm_session.specs.Bench.{hand_diaries, hand_traits, instance_traits, place_diaries, place_traits}
 use Rattle.wm_session.specs.Ended.{AreHandsBack}
 use Rattle.wm_session.specs.Hands.{instance_of, instances_from}
 use Rattle.wm_table.specs.Table.{AreFresh, IsFresh}
 use Rattle.wm_worker.specs.declared.answer.Entry.{Entry}
-use Rattle.wm_worker.specs.declared.kind.Kind.{Kind}
 use Rattle.std.proofs.Common.{Option}
 
 module _ {B : Type 0} (kind_of : B → Kind) where

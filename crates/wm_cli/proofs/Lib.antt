@@ -4,3 +4,4 @@ pub mod RunEnds
 pub mod RunsWithoutEvents
 pub mod ScriptLimits
 pub mod TakenBytes
+pub mod WordsLemmas

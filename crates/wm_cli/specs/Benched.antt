@@ -1,4 +1,4 @@
--- The table and the workers that a run begins with. This project's own choice.
+-- The table and the workers that a run begins with.
 use Rattle.std.specs.Prelude.{◌≡◌, List, [], map, Option}
 use Rattle.wm_bench.specs.Places.{place_of}
 use Rattle.wm_bench.specs.declared.hand.Hand.{Hand}

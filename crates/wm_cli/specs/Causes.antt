@@ -1,4 +1,4 @@
--- Which status a fault of reading gives, and when each status comes. This project's own choice.
+-- Which status a fault of reading gives, and when each status comes.
 use Rattle.std.specs.Prelude.{◌≡◌, ◌⊎◌, ℕ, ℤ, true, List, [], ◌∷◌, Option, Some, None, IfSome, IsSomeAnd}
 use Rattle.wm_keeper.specs.declared.row.Row.{Row}
 use Rattle.wm_script.specs.Limits.{first_limit}

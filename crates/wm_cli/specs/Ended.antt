@@ -1,5 +1,4 @@
--- How a run ends: what its log, its last state, the rows kept, the bytes given and the workers handed back are. This project's own
--- choice.
+-- How a run ends: what its log, its last state, the rows kept, the bytes given and the workers handed back are.
 use Rattle.std.specs.Prelude.{◌≡◌, ℕ, Bool, true, false, List, [], ◌∷◌, Option, Some, IfSome, MatchBool, option_map, Vec}
 use Rattle.std.specs.declared.alloc.Global.{Global}
 use Rattle.wm_bench.specs.declared.hand.Hand.{Hand}

@@ -1,4 +1,4 @@
--- What reading the commands of a script answers. This project's own choice.
+-- What reading the commands of a script answers.
 use Rattle.std.specs.Prelude.{◌≡◌, ℕ, List, Option, None}
 use Rattle.wm_cli.specs.Causes.{IsPastLimit}
 use Rattle.wm_cli.specs.Ended.{ForScript}

@@ -1,4 +1,4 @@
--- What reading a script takes from its source. This project's own choice.
+-- What reading a script takes from its source.
 use Rattle.std.specs.Prelude.{◌≡◌, ℕ, ◌<◌, ◌≤◌, Bool, true, false, List, [], ◌++◌, length, Option, option_map, IfSome, Result, Ok, Err}
 use Rattle.wm_faults.specs.Faults as faults
 use Rattle.wm_cli.specs.declared.script.ReadFault.{ReadFault}

@@ -7,7 +7,7 @@ ghost use Rattle.wm_cli.specs.Causes.{IsToldTooLong, IsToldWithin, IsUnlessMemor
 ghost use Rattle.wm_cli.specs.Ended.{AreHandsOf, AreRowsKept, HasCommandsOf, HaveToldOnDone, IsBegunBy, IsEndedAtOnce, IsQuietOnDone, IsReplayed, IsRunEnd, IsSerialOver};
 ghost use Rattle.wm_cli.specs.Reading.{AreCommandsOf, IsReadStatus};
 ghost use Rattle.wm_cli.specs.Script.{IsTakenWithin};
-ghost use Rattle.wm_cli.specs.Words.{store_named};
+ghost use Rattle.wm_cli.specs.Words.{options_of};
 ghost use Rattle.wm_faults.specs.Faults.{Failed};
 ghost use Rattle.wm_keeper.specs.declared.row.Row.{Row};
 ghost use Rattle.wm_machine.specs.Outcome.{IsBuilt};
@@ -22,7 +22,7 @@ ghost use Rattle.wm_session.specs.Tells.{tells_of};
 
 use crate::instances::instances_of;
 use crate::script::{ReadFault, read_script};
-use crate::words::store_named;
+use crate::words::options_of;
 use std::alloc::{AllocFailed, Global};
 use std::marker::Brand;
 use wm_bench::{Bench, Hand};
@@ -218,7 +218,7 @@ pub fn run<S: Source, W: Sink + Send, K: Keeper + Send, B: Worker>(
     // The causes: when each status comes. Memory alone is free.
     ensures done { result.status ≡ Status.Done → result.began ≡ true }
     ensures usage { (result.status ≡ Status.Usage)
-        ↔ (store_named (map string_bytes words.now) ≡ None) }
+        ↔ (options_of (map string_bytes words.now) ≡ None) }
     ensures usage_reads_nothing { result.status ≡ Status.Usage → source.new ≡ source.old }
     ensures usage_keeps { result.status ≡ Status.Usage
         → (result.keeper ≡ keeper) × (result.sink ≡ sink) }
@@ -230,7 +230,7 @@ pub fn run<S: Source, W: Sink + Send, K: Keeper + Send, B: Worker>(
         (S.faults source.old) (S.faults source.new) (S.left source.old) }
     ensures script_too_long_keeps { (limit : Limit) → result.status ≡ Status.ScriptTooLong limit
         → (result.keeper ≡ keeper) × (result.sink ≡ sink) }
-    ensures long_script { (limit : Limit) → IsSome (store_named (map string_bytes words.now))
+    ensures long_script { (limit : Limit) → IsSome (options_of (map string_bytes words.now))
         → IsToldTooLong limit (S.left source.old)
         → ¬ Failed (S.faults source.old) (S.faults source.new)
         → IsUnlessMemory result.status (Status.ScriptTooLong limit) }
@@ -240,23 +240,23 @@ pub fn run<S: Source, W: Sink + Send, K: Keeper + Send, B: Worker>(
         → Failed (W.faults sink) (W.faults result.sink) }
     ensures bad_store { StoreCause result.status (K.held keeper) }
     ensures stored_row { (row : Row) (rest : List Row)
-        → IsSome (store_named (map string_bytes words.now))
+        → IsSome (options_of (map string_bytes words.now))
         → IsToldWithin (S.left source.old) → ¬ Failed (S.faults source.old) (S.faults source.new)
         → K.held keeper ≡ Some (row ∷ rest) → ¬ Failed (K.faults keeper) (K.faults result.keeper)
         → IsUnlessMemory result.status (Status.BadStore row.seq true) }
 
     // Completeness: right words, a script within its limits, an empty store and no fault.
-    ensures completes { IsSome (store_named (map string_bytes words.now))
+    ensures completes { IsSome (options_of (map string_bytes words.now))
         → IsToldWithin (S.left source.old) → ¬ Failed (S.faults source.old) (S.faults source.new)
         → K.held keeper ≡ Some [] → ¬ Failed (K.faults keeper) (K.faults result.keeper)
         → ¬ Failed (W.faults sink) (W.faults result.sink)
         → IsUnlessMemory result.status Status.Done }
 {
-    let Some(store) = store_named(words) else {
+    let Some(options) = options_of(words) else {
         return Ended::before_begin(alloc, Status::Usage, keeper, sink, hands);
     };
     match read_commands(alloc, source) {
-        Ok(commands) => run_commands(alloc, store, commands, hands, sink, keeper),
+        Ok(commands) => run_commands(alloc, options.store, commands, hands, sink, keeper),
         Err(status) => Ended::before_begin(alloc, status, keeper, sink, hands),
     }
 }

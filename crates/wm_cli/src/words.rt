@@ -1,6 +1,7 @@
+//! The words of the command line.
 ghost use Rattle.std.specs.Prelude.{◌≡◌, map, option_map, string_bytes};
 ghost use Rattle.std.specs.List.{list_all};
-ghost use Rattle.wm_cli.specs.Words.{is_name_byte, is_name, store_named};
+ghost use Rattle.wm_cli.specs.Words.{asked, is_name_byte, is_name, only_value, options_of, parts_of, value_in};
 
 /// The most bytes that the name of a store has.
 const MAX_NAME_BYTES: usize = 200;
@@ -28,15 +29,47 @@ fn is_name(name: &str) -> bool
     bytes[0] != b'-' && are_name_bytes(bytes)
 }
 
-/// The name of the store, where the words are `--store NAME`.
-pub fn store_named(words: &[String]) -> Option<&str>
-    ensures { option_map (λ name. name.now) result ≡ store_named (map string_bytes words.now) }
+/// What stands before the first `=` of a word, and what after it.
+fn parts_of(word: &str) -> Option<(&str, &str)>
+    ensures { option_map (λ parts. (parts.0.now, parts.1.now)) result ≡ parts_of word.now }
 {
-    let [flag, name] = words else {
-        return None;
-    };
-    if flag.as_str() == "--store" && is_name(name.as_str()) {
-        Some(name.as_str())
+    word.split_once('=')
+}
+
+/// The value of this option, which may be the one that a word gives a value.
+fn value_in<'w>(option: &str, word: &'w str) -> Option<&'w str>
+    ensures { option_map (λ value. value.now) result ≡ value_in option.now word.now }
+{
+    let (named, value) = parts_of(word)?;
+    if named == option { Some(value) } else { None }
+}
+
+/// The value of this option, where the words say nothing else: it is a word of its own, or stands
+/// after `=` in the word of the option.
+fn only_value<'w>(option: &str, words: &'w [String]) -> Option<&'w str>
+    ensures { option_map (λ value. value.now) result ≡ only_value option.now (map string_bytes words.now) }
+{
+    match words {
+        [word] => value_in(option, word.as_str()),
+        [named, value] if named.as_str() == option => Some(value.as_str()),
+        _ => None,
+    }
+}
+
+/// What the words of the command line ask for.
+#[derive(Clone, Copy)]
+pub struct Options<'w> {
+    /// The name of the store.
+    pub store: &'w str,
+}
+
+/// The options of the words: `--store NAME` or `--store=NAME`, once, and nothing else.
+pub fn options_of(words: &[String]) -> Option<Options<'_>>
+    ensures { option_map asked result ≡ options_of (map string_bytes words.now) }
+{
+    let store = only_value("--store", words)?;
+    if is_name(store) {
+        Some(Options { store })
     } else {
         None
     }

@@ -10,8 +10,7 @@ use Rattle.wm_collections.specs.Lists.{AllLater}
 -- a greater number doesn't come before a smaller one
 not_less : (one other : ℕ) → other < one → is_lt (nat_cmp one other) ≡ false
 not_less one other less =
-    cond_both (ltb one other) Less (cond (eqb one other) Equal Greater) (λ o. is_lt o ≡ false)
-    (λ e. let more = ltb-true one other e in absurd (omega arith))
+    cond_both (ltb one other) Less (cond (eqb one other) Equal Greater) (λ o. is_lt o ≡ false) (λ e. let more = ltb-true one other e in absurd (omega arith))
     (λ e. cond_both (eqb one other) Equal Greater (λ o. is_lt o ≡ false) (λ e. refl) (λ e. refl))
 
 module _ {T : Type 0} (number_of : T → ℕ) where

@@ -1,7 +1,7 @@
--- What holds of each element of a list and of those after it. This project's own choice.
-use Rattle.std.specs.Prelude.{◌≡◌, ℕ, List, [], ◌∷◌}
+-- What holds of each element of a list and of those after it, or of one of them.
+use Rattle.std.specs.Prelude.{◌≡◌, ◌⊎◌, ℕ, ◌==◌, Bool, List, [], ◌∷◌}
 use Rattle.std.specs.Cmp.Lexicographic.{slice_cmp}
-use Rattle.std.specs.List.{AllByRecursion}
+use Rattle.std.specs.List.{AllByRecursion, list_any}
 use Rattle.std.specs.Ordering.{nat_cmp}
 use Rattle.std.specs.declared.cmp.Ordering.TheVariants.{Less}
 
@@ -9,6 +9,15 @@ use Rattle.std.specs.declared.cmp.Ordering.TheVariants.{Less}
 abbrev pub AllLater : {T : Type 0} → (T → T → Type 0) → List T → Type 0
 AllLater R [] = Unit {0}
 AllLater R (x ∷ xs) = AllByRecursion (R x) xs × AllLater R xs
+
+-- one of these has this fact
+abbrev pub HasOne : {T : Type 0} → (T → Type 0) → List T → Type 0
+HasOne P [] = ⊥
+HasOne P (x ∷ xs) = P x ⊎ HasOne P xs
+
+-- whether a number is one of these
+abbrev pub is_among : List ℕ → ℕ → Bool
+is_among numbers number = list_any (λ one. one == number) numbers
 
 -- texts in strictly ascending order of their bytes
 abbrev pub AscendByBytes : List (List ℕ) → Type 0

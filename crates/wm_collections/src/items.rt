@@ -113,26 +113,3 @@ impl<T> Items<T> {
         self.elements.truncate(count);
     }
 }
-
-/// Adds a value at the end of each of two lists, or none to either where memory is refused.
-pub fn push_both<T: Drop, U: Drop>(
-    first: &mut Items<T>,
-    value: T,
-    second: &mut Items<U>,
-    other: U,
-) -> Result<(), AllocError>
-    ensures first { OnOk result (first.new ≡ first.old ++ value ∷ []) }
-    ensures second { OnOk result (second.new ≡ second.old ++ other ∷ []) }
-    ensures first_err { OnErr result (first.new ≡ first.old) }
-    ensures second_err { OnErr result (second.new ≡ second.old) }
-{
-    let count = first.len();
-    first.push(value)?;
-    match second.push(other) {
-        Ok(()) => Ok(()),
-        Err(refused) => {
-            first.truncate(count);
-            Err(AllocError::from(refused))
-        }
-    }
-}

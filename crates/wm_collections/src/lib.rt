@@ -7,9 +7,11 @@
 #![tactic(auto)]
 
 pub mod items;
+pub mod numbers;
 pub mod replica;
 pub mod text;
 
-pub use items::{Items, push_both};
+pub use items::Items;
+pub use numbers::is_among;
 pub use replica::Replica;
 pub use text::Text;

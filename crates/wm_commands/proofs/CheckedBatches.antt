@@ -13,8 +13,8 @@ use Rattle.wm_machine.specs.declared.command.UniqueName.{UniqueName}
 use Rattle.wm_machine.specs.declared.record.Record.{Record}
 use Rattle.wm_machine.specs.declared.reply.Refusal.{Refusal}
 use Rattle.wm_machine.specs.declared.state.State.{State}
-use Rattle.wm_request.specs.declared.request.Batch.{Batch}
 use Rattle.wm_request.specs.declared.request.Node.{Node}
+use Rattle.wm_request.specs.declared.request.Batch.{Batch}
 
 -- while no work runs an enqueue stops no run
 pub outcome-enqueued : (s : State) (named : Option UniqueName) (batch : Batch) → s.runs ≡ []

@@ -3,26 +3,25 @@ use Rattle.std.proofs.Common.{◌≡◌, ◌≢◌, ℕ, ◌+◌, ◌^◌, ◌<�
 use Rattle.std.specs.List.{AllByRecursion}
 use Rattle.std.proofs.lemmas.Bool.{and_parts, cond_both, eqb-false}
 use Rattle.std.proofs.lemmas.Int.{ints}
-use Rattle.wm_collections.specs.Lists.{AllLater}
+use Rattle.wm_collections.specs.Lists.{AllLater, HasOne, is_among}
 use Rattle.wm_commands.proofs.Clearings.{cleared-in_place, cleared-number, clearing-nodes}
-use Rattle.wm_commands.proofs.Placings.{apart, later-numbers, with_none, All-append}
+use Rattle.wm_commands.proofs.Placings.{apart, later-numbers, with_none}
 use Rattle.wm_commands.specs.Cleared.{becomes_cancelled, cancelled_in, cleared, cleared_by, cleared_state, is_touched, replaced_by_clearing, stays}
 use Rattle.wm_commands.specs.Placed.{with_placed}
 use Rattle.wm_commands.specs.declared.clearing.Clearing.{Clearing}
 use Rattle.wm_keeper.specs.Keeper.{changed_number, AreOfDifferentNumbers}
 use Rattle.wm_keeper.specs.declared.row.Change.{Change}
-use Rattle.wm_machine.proofs.Lists.{All-both, All-map, All-stored, All-weaker, AllLater-filter, AllLater-map, none_pass, one_gives}
-use Rattle.wm_machine.proofs.Names.{All-of_filter}
+use Rattle.wm_collections.proofs.Lists.{All-append, All-kept, All-map, All-stored, All-weaker, All-with2, AllLater-filter, AllLater-map, none_pass, one_gives}
 use Rattle.wm_machine.proofs.Runnings.{WorksAscend-in_order}
-use Rattle.wm_machine.specs.Closed.{closed, is_among}
+use Rattle.wm_machine.specs.Closed.{closed}
 use Rattle.wm_machine.specs.Group.{numbers_in}
 use Rattle.wm_machine.specs.Limits.{FitsRow}
 use Rattle.wm_machine.specs.Step.{Legal, after}
-use Rattle.wm_machine.specs.Valid.{HasOne, IsBefore, IsRecord, Valid}
+use Rattle.wm_machine.specs.Valid.{IsBefore, IsRecord, Valid}
 use Rattle.wm_machine.specs.declared.event.Event.{Event}
-use Rattle.wm_machine.specs.declared.record.How.TheVariants as how
 use Rattle.wm_machine.specs.declared.record.Record.{Record}
 use Rattle.wm_machine.specs.declared.state.State.{State}
+use Rattle.wm_machine.specs.declared.record.How.TheVariants as how
 use Rattle.wm_steps.proofs.ManyRows.{replaced-apart, replaced-keep}
 use Rattle.wm_steps.proofs.Nodes.{HasOne-number}
 use Rattle.wm_steps.specs.Replacements.{at_index, replacements}
@@ -32,8 +31,7 @@ use Rattle.wm_steps.specs.declared.change.Replacement.{Replacement}
 -- ---- what holds of those that are replaced
 
 given-by : (P : Record → Type 0) (change : Record → Option Record) (found : Option Record) (i : ℕ) (works : List Record) → IfSome found P
-    → AllByRecursion (λ r. P r.work) (replacements change (i + 1) works)
-    → AllByRecursion (λ r. P r.work) (at_index i found (replacements change (i + 1) works))
+    → AllByRecursion (λ r. P r.work) (replacements change (i + 1) works) → AllByRecursion (λ r. P r.work) (at_index i found (replacements change (i + 1) works))
 given-by P change None i works p later = later
 given-by P change (Some new) i works p later = (p, later)
 
@@ -83,12 +81,8 @@ pub record AreStored (works : List Record) (numbers : List ℕ) : Type 0 where
 pub passing-stored : (test : Record → Bool) (works : List Record) → AllLater IsBefore works → AreStored works (numbers_in (filter test works))
 passing-stored test works order = record {
   there =
-      All-map (λ work. HasOne (λ other. other ≡ work) works) (λ number. HasOne (λ work. work.seq ≡ number) works) (λ (work : Record). work.seq)
-      (filter test works) (λ work stored. HasOne-number work works stored)
-      (All-of_filter (λ work. HasOne (λ other. other ≡ work) works) test works (All-stored works));
-  ascend =
-      AllLater-map IsBefore (λ number later. number < later) (λ (work : Record). work.seq) (filter test works) (λ work later before. before.number)
-      (AllLater-filter IsBefore test works order);
+      All-map _ (λ (work : Record). work.seq) (filter test works) (λ work stored. HasOne-number work works stored) (All-kept _ test works (All-stored works));
+  ascend = AllLater-map _ (λ (work : Record). work.seq) (filter test works) (λ work later before. before.number) (AllLater-filter _ test works order);
 }
 
 -- ---- each number in one change
@@ -100,25 +94,21 @@ AreApartFrom later change = AllByRecursion (λ (other : Change). changed_number 
 different-append : (xs ys : List Change) → AreOfDifferentNumbers xs → AreOfDifferentNumbers ys → AllByRecursion (AreApartFrom ys) xs
     → AreOfDifferentNumbers (xs ++ ys)
 different-append [] ys each every between = every
-different-append (x ∷ xs) ys each every between =
-    (All-append (λ (other : Change). changed_number x ≢ changed_number other) xs ys each.0 between.0, different-append xs ys each.1 every between.1)
+different-append (x ∷ xs) ys each every between = (All-append _ xs ys each.0 between.0, different-append xs ys each.1 every between.1)
 
 -- numbers that aren't among those removed
 apart-removed : (number : ℕ) (removed : List ℕ) → AllByRecursion (λ one. eqb one number ≡ false) removed
     → AllByRecursion (λ (other : Change). pos number ≢ changed_number other) (map remove_numbered removed)
 apart-removed number removed none =
-    All-map (λ one. eqb one number ≡ false) (λ (other : Change). pos number ≢ changed_number other) remove_numbered removed
-    (λ one differs same.
+    All-map _ remove_numbered removed (λ one differs same.
     let clash : pos number ≡ pos one = same in
-    let equal : one ≡ number = omega (arith, ints) in absurd (eqb-false one number differs equal))
-    none
+    let equal : one ≡ number = omega (arith, ints) in absurd (eqb-false one number differs equal)) none
 
 -- the numbers removed differ
 removed-apart : (numbers : List ℕ) → AllLater (λ number later. number < later) numbers → AreOfDifferentNumbers (map remove_numbered numbers)
 removed-apart [] ascend = tt
 removed-apart (number ∷ numbers) ascend = (
-  All-map (λ later. number < later) (λ (other : Change). pos number ≢ changed_number other) remove_numbered numbers
-      (λ later less same. let clash : pos number ≡ pos later = same in absurd (omega (arith, ints, less))) ascend.0,
+  All-map _ remove_numbered numbers (λ later less same. let clash : pos number ≡ pos later = same in absurd (omega (arith, ints, less))) ascend.0,
   removed-apart numbers ascend.1,
 )
 
@@ -136,33 +126,23 @@ module _ (s : State) (clearing : Clearing) (new : List Record) (e : Event) (vali
   given : AllByRecursion (λ r. IsGiven clearing s.next r.work) replaced
   given =
       given-each (IsGiven clearing s.next) (cleared_by clearing) 0 s.works
-      (All-weaker (λ work. IsRecord work × (work.seq < s.next)) (λ work. IfSome (cleared_by clearing work) (IsGiven clearing s.next)) s.works
-      (λ work both. given-cleared clearing s.next work both.0.fits both.1)
-      (All-both IsRecord (λ work. work.seq < s.next) s.works valid.records valid.numbers))
+      (All-with2 s.works (λ work fine below. given-cleared clearing s.next work fine.fits below) valid.works.records valid.works.numbers)
 
   removed-below : AllByRecursion (λ number. number < s.next) clearing.removed
   removed-below =
-      All-weaker (λ number. HasOne (λ work. work.seq ≡ number) s.works) (λ number. number < s.next) clearing.removed
-      (λ number there.
-      one_gives (λ work. work.seq < s.next) (λ work. work.seq ≡ number) (number < s.next) s.works
-      (λ work below is. subst (λ n. n < s.next) is below) valid.numbers there) removed.there
+      All-weaker clearing.removed (λ number there. one_gives s.works (λ work below is. subst (λ n. n < s.next) is below) valid.works.numbers there)
+      removed.there
 
   -- no row is changed twice
   all-apart : AreOfDifferentNumbers ((map put_replaced replaced ++ map remove_numbered clearing.removed) ++ map put_work new)
   all-apart =
       different-append (map put_replaced replaced ++ map remove_numbered clearing.removed) (map put_work new)
       (different-append (map put_replaced replaced) (map remove_numbered clearing.removed)
-      (replaced-apart (cleared_by clearing) 0 s.works (clearing-nodes clearing s.works) (WorksAscend-in_order s.works valid.in_order))
-      (removed-apart clearing.removed removed.ascend)
-      (All-map (λ r. IsGiven clearing s.next r.work) (AreApartFrom (map remove_numbered clearing.removed)) put_replaced replaced
-      (λ r is.
-      apart-removed r.work.seq clearing.removed
+      (replaced-apart (cleared_by clearing) 0 s.works (clearing-nodes clearing s.works) (WorksAscend-in_order s.works valid.works.in_order))
+      (removed-apart clearing.removed removed.ascend) (All-map _ put_replaced replaced (λ r is. apart-removed r.work.seq clearing.removed
       (none_pass (λ one. eqb one r.work.seq) clearing.removed (not_true_is (is_among clearing.removed r.work.seq) is.stays))) given))
-      (apart s.next new numbered)
-      (All-append (AreApartFrom (map put_work new)) (map put_replaced replaced) (map remove_numbered clearing.removed)
-      (All-map (λ r. IsGiven clearing s.next r.work) (AreApartFrom (map put_work new)) put_replaced replaced
-      (λ r is. later-numbers r.work.seq s.next new is.number numbered) given)
-      (All-map (λ number. number < s.next) (AreApartFrom (map put_work new)) remove_numbered clearing.removed
+      (apart s.next new numbered) (All-append _ (map put_replaced replaced) (map remove_numbered clearing.removed)
+      (All-map _ put_replaced replaced (λ r is. later-numbers r.work.seq s.next new is.number numbered) given) (All-map _ remove_numbered clearing.removed
       (λ number below. later-numbers number s.next new below numbered) removed-below))
 
   -- a legal event that clears the records so and places new ones is made by the change that does it
@@ -176,7 +156,7 @@ module _ (s : State) (clearing : Clearing) (new : List Record) (e : Event) (vali
       placed = numbered;
       named = named;
       numbers = room;
-      replaced_rows = All-weaker (λ r. IsGiven clearing s.next r.work) (λ r. FitsRow r.work) replaced (λ r is. is.fits) given;
+      replaced_rows = All-weaker replaced (λ r is. is.fits) given;
       placed_rows = fit;
       apart = all-apart;
     };
@@ -188,4 +168,4 @@ module _ (s : State) (clearing : Clearing) (new : List Record) (e : Event) (vali
 pub clearing_alone-step : (s : State) (clearing : Clearing) (e : Event) → Valid s → AreStored s.works clearing.removed → Legal s e
     → after s e ≡ cleared_state clearing s → IsStepOf s (placing (replaced_by_clearing clearing s.works) clearing.removed [] e)
 clearing_alone-step s clearing e valid removed legal then =
-    clearing-step s clearing [] e valid removed tt tt tt (omega (arith, valid.next)) legal (then ∙ sym (with_none (cleared_state clearing s)))
+    clearing-step s clearing [] e valid removed tt tt tt (omega (arith, valid.works.fits)) legal (then ∙ sym (with_none (cleared_state clearing s)))

@@ -4,13 +4,13 @@ use Rattle.std.specs.List.{list_any}
 use Rattle.std.specs.Prelude.{reverse}
 use Rattle.std.proofs.lemmas.Bool.{and_parts, and_right, cases_Bool, cond_both, eq-eqb, eqb-false, eqb-true, ne_eqb, or_parts}
 use Rattle.std.proofs.lemmas.Simd.{map-map}
-use Rattle.wm_collections.specs.Lists.{AllLater}
-use Rattle.wm_commands.specs.Cleared.{becomes_cancelled, cancelled_in, cleared, cleared_by, clearing_of, descendants_of_any, is_needed_then, is_removed, is_touched, phase_then, reached_from_any, replaced_by_clearing, stays, with_cleared}
+use Rattle.wm_collections.specs.Lists.{AllLater, is_among}
+use Rattle.wm_commands.specs.Cleared.{becomes_cancelled, cancelled_in, cleared, cleared_by, clearing_of, is_needed_then, is_removed, is_touched, phase_then, replaced_by_clearing, stays, with_cleared}
 use Rattle.wm_commands.specs.declared.clearing.Clearing.{Clearing}
 use Rattle.wm_machine.proofs.Groups.{closed_by, each_closed-at_once}
-use Rattle.wm_machine.proofs.Lists.{All-any, All-weaker, filter-all, map-same}
+use Rattle.wm_collections.proofs.Lists.{All-any, All-weaker, filter-all, filter-same, list_any-agree, list_any_after, map-same}
 use Rattle.wm_machine.proofs.Runnings.{WorksAscend-in_order}
-use Rattle.wm_machine.specs.Closed.{closed, descendants, is_among, is_open, is_reached, with_each_closed}
+use Rattle.wm_machine.specs.Closed.{closed, is_open, is_reached, with_each_closed}
 use Rattle.wm_machine.specs.Group.{is_dropped, numbers_in, unnamed, with_let_go}
 use Rattle.wm_machine.specs.Pruned.{is_needed, removable}
 use Rattle.wm_machine.specs.Valid.{IsBefore}
@@ -18,123 +18,31 @@ use Rattle.wm_machine.specs.declared.record.How.TheVariants as how
 use Rattle.wm_machine.specs.declared.record.Phase.TheVariants as phase
 use Rattle.wm_machine.specs.declared.record.Record.{Record}
 use Rattle.wm_steps.proofs.ManyRows.{after_change, replaced-all, KeepNodes}
-use Rattle.wm_steps.proofs.Nodes.{open_not_succeeded, among-reverse}
-use Rattle.wm_steps.specs.Nodes.{KeepsNode}
+use Rattle.wm_steps.proofs.Nodes.{open_not_succeeded}
+use Rattle.wm_steps.proofs.ReachedNodes.{reached_any-test}
+use Rattle.wm_steps.proofs.Tests.{eqb-swap}
+use Rattle.wm_steps.specs.Nodes.{nodes_of, reached_from, KeepsNode}
 use Rattle.wm_steps.specs.Replacements.{or_same}
 use Rattle.wm_steps.specs.StepChanges.{other_works, with_replaced, without}
-use Rattle.wm_unique.proofs.Numbered.{among_filter, filter_both, filter_same}
-
--- ---- tests
-
-pub eqb-swap : (m n : ℕ) → eqb m n ≡ eqb n m
-eqb-swap m n = elim (cases_Bool (eqb m n)) [
-  | inl e ↦ e ∙ sym (eq-eqb n m (sym (eqb-true m n e)))
-  | inr e ↦ e ∙ sym (ne_eqb n m (λ same. absurd (eqb-false m n e (sym same))))
-]
-
-pub any-ext : {T : Type 0} (test other : T → Bool) (xs : List T) → ((x : T) → test x ≡ other x) → list_any test xs ≡ list_any other xs
-any-ext test other [] same = refl
-any-ext test other (x ∷ xs) same = rw (same x, any-ext test other xs same) refl
-
-or-swap : (a b c d : Bool) → ((a || b) || (c || d)) ≡ ((a || c) || (b || d))
-or-swap true b c d = refl
-or-swap false true true d = refl
-or-swap false true false d = refl
-or-swap false false true d = refl
-or-swap false false false d = refl
-
-and-over : (a b c : Bool) → ((a && c) || (b && c)) ≡ ((a || b) && c)
-and-over true true true = refl
-and-over true true false = refl
-and-over true false true = refl
-and-over true false false = refl
-and-over false b c = refl
-
-and-out : (a b c : Bool) → ((a && b) || (a && c)) ≡ (a && (b || c))
-and-out true b c = refl
-and-out false b c = refl
-
--- one of two tests
-any-or : {T : Type 0} (test other : T → Bool) (xs : List T) → list_any (λ x. test x || other x) xs ≡ (list_any test xs || list_any other xs)
-any-or test other [] = refl
-any-or test other (x ∷ xs) =
-    ap (λ b. (test x || other x) || b) (any-or test other xs) ∙ or-swap (test x) (other x) (list_any test xs) (list_any other xs)
-
--- a test beside one that is the same for all
-any-and : {T : Type 0} (test : T → Bool) (b : Bool) (xs : List T) → list_any (λ x. test x && b) xs ≡ (list_any test xs && b)
-any-and test b [] = refl
-any-and test b (x ∷ xs) = ap (λ rest. (test x && b) || rest) (any-and test b xs) ∙ and-over (test x) (list_any test xs) b
-
-any-under : {T : Type 0} (test : T → Bool) (b : Bool) (xs : List T) → list_any (λ x. b && test x) xs ≡ (b && list_any test xs)
-any-under test b [] = sym (and_right b false refl)
-any-under test b (x ∷ xs) = ap (λ rest. (b && test x) || rest) (any-under test b xs) ∙ and-out b (test x) (list_any test xs)
-
-none-any : {T : Type 0} (xs : List T) → list_any (λ x. false) xs ≡ false
-none-any [] = refl
-none-any (x ∷ xs) = none-any xs
-
--- a test of two elements, either way round
-any-swap : {T U : Type 0} (test : T → U → Bool) (xs : List T) (ys : List U)
-    → list_any (λ x. list_any (test x) ys) xs ≡ list_any (λ y. list_any (λ x. test x y) xs) ys
-any-swap test [] ys = sym (none-any ys)
-any-swap test (x ∷ xs) ys =
-    ap (λ rest. list_any (test x) ys || rest) (any-swap test xs ys) ∙ sym (any-or (test x) (λ y. list_any (λ x. test x y) xs) ys)
+use Rattle.wm_unique.proofs.Numbered.{among_filter, filter_both}
 
 -- ---- what any of several works reaches
 
-among-cond : (b : Bool) (one : ℕ) (numbers : List ℕ) (number : ℕ)
-    → is_among (cond b (one ∷ numbers) numbers) number ≡ ((b && eqb one number) || is_among numbers number)
-among-cond true one numbers number = refl
-among-cond false one numbers number = refl
-
--- the descendants of any of them are those of each
-any_descendant : (seqs : List ℕ) (works : List Record) (number : ℕ)
-    → is_among (descendants_of_any seqs works) number ≡ list_any (λ seq. is_among (descendants seq works) number) seqs
-any_descendant seqs [] number = sym (none-any seqs)
-any_descendant seqs (work ∷ earlier) number =
-    let all = descendants_of_any seqs earlier in
-    let each = λ (seq : ℕ). descendants seq earlier in
-    let joins = λ (seq : ℕ). eqb work.seq seq || list_any (is_among (each seq)) work.prior in
-    let itself : list_any (λ seq. eqb work.seq seq) seqs ≡ is_among seqs work.seq =
-    any-ext (λ seq. eqb work.seq seq) (λ seq. eqb seq work.seq) seqs (λ seq. eqb-swap work.seq seq) in
-    let prior : list_any (λ seq. list_any (is_among (each seq)) work.prior) seqs ≡ list_any (is_among all) work.prior =
-    any-swap (λ seq. is_among (each seq)) seqs work.prior
-    ∙ any-ext (λ prior. list_any (λ seq. is_among (each seq) prior) seqs) (is_among all) work.prior (λ prior. sym (any_descendant seqs earlier prior)) in
-    let joined : list_any joins seqs ≡ (is_among seqs work.seq || list_any (is_among all) work.prior) =
-    any-or (λ seq. eqb work.seq seq) (λ seq. list_any (is_among (each seq)) work.prior) seqs
-    ∙ ap (λ b. b || list_any (λ seq. list_any (is_among (each seq)) work.prior) seqs) itself
-    ∙ ap (λ b. is_among seqs work.seq || b) prior in
-    among-cond (is_among seqs work.seq || list_any (is_among all) work.prior) work.seq all number
-    ∙ ap (λ b. (b && eqb work.seq number) || is_among all number) (sym joined)
-    ∙ ap (λ b. (list_any joins seqs && eqb work.seq number) || b) (any_descendant seqs earlier number)
-    ∙ ap (λ b. b || list_any (λ seq. is_among (each seq) number) seqs) (sym (any-and joins (eqb work.seq number) seqs))
-    ∙ sym (any-or (λ seq. joins seq && eqb work.seq number) (λ seq. is_among (each seq) number) seqs)
-    ∙ any-ext (λ seq. (joins seq && eqb work.seq number) || is_among (each seq) number) (λ seq. is_among (descendants seq (work ∷ earlier)) number) seqs
-    (λ seq. sym (among-cond (joins seq) work.seq (each seq) number))
-
 -- a record is reached by one of them where it is unfinished, and one of those that are found
 pub any_reached : (seqs : List ℕ) (works : List Record) (work : Record)
-    → list_any (λ seq. is_reached seq works work) seqs ≡ becomes_cancelled (reached_from_any seqs works) work
-unfolding is_reached
-any_reached seqs works work =
-    any-under (λ seq. is_among (descendants seq (reverse works)) work.seq) (is_open work.phase) seqs
-    ∙ ap (λ b. is_open work.phase && b)
-    (sym (any_descendant seqs (reverse works) work.seq) ∙ sym (among-reverse (descendants_of_any seqs (reverse works)) work.seq))
+    → list_any (λ seq. is_reached seq works work) seqs ≡ becomes_cancelled (reached_from seqs (nodes_of works)) work
+any_reached seqs works work = sym (reached_any-test seqs works work)
 
 -- so each is cancelled at once
-pub cancelled-each : (seqs : List ℕ) (works : List Record)
-    → with_each_closed how.Cancelled seqs works ≡ map (cancelled_in (reached_from_any seqs works)) works
+pub cancelled-each : (seqs : List ℕ) (works : List Record) → with_each_closed how.Cancelled seqs works ≡ map (cancelled_in (reached_from seqs (nodes_of works))) works
 cancelled-each seqs works =
-    each_closed-at_once how.Cancelled seqs works
-    ∙ map-same (closed_by how.Cancelled seqs works) (cancelled_in (reached_from_any seqs works)) works
-    (All-any (λ work. closed_by how.Cancelled seqs works work ≡ cancelled_in (reached_from_any seqs works) work) works
-    (λ work. ap (λ b. cond b (closed how.Cancelled work) work) (any_reached seqs works work)))
+    each_closed-at_once how.Cancelled seqs works ∙ map-same (closed_by how.Cancelled seqs works) (cancelled_in (reached_from seqs (nodes_of works))) works
+    (All-any works (λ work. ap (λ b. cond b (closed how.Cancelled work) work) (any_reached seqs works work)))
 
 -- ---- what a cancelling leaves of a record
 
 cancelled_both : (P : Record → Type 0) (cancelled : List ℕ) (work : Record) → P (closed how.Cancelled work) → P work → P (cancelled_in cancelled work)
-cancelled_both P cancelled work hit miss =
-    cond_both (becomes_cancelled cancelled work) (closed how.Cancelled work) work P (λ e. hit) (λ e. miss)
+cancelled_both P cancelled work hit miss = cond_both (becomes_cancelled cancelled work) (closed how.Cancelled work) work P (λ e. hit) (λ e. miss)
 
 cancelled-number : (cancelled : List ℕ) (work : Record) → (cancelled_in cancelled work).seq ≡ work.seq
 cancelled-number cancelled work = cancelled_both (λ w. w.seq ≡ work.seq) cancelled work refl refl
@@ -151,25 +59,20 @@ cancelled-phase cancelled work = cond-phase (becomes_cancelled cancelled work) w
 
 -- ---- which are removed
 
-pub any-map : {T U : Type 0} (test : U → Bool) (f : T → U) (xs : List T) → list_any test (map f xs) ≡ list_any (λ x. test (f x)) xs
-any-map test f [] = refl
-any-map test f (x ∷ xs) = ap (λ rest. test (f x) || rest) (any-map test f xs)
-
 needed-then : (cancelled : List ℕ) (works : List Record) (number : ℕ)
     → is_needed (map (cancelled_in cancelled) works) number ≡ is_needed_then cancelled works number
 unfolding is_needed
 needed-then cancelled works number =
-    any-map (λ work. is_open work.phase && is_among work.prior number) (cancelled_in cancelled) works
-    ∙ any-ext (λ work. is_open (cancelled_in cancelled work).phase && is_among (cancelled_in cancelled work).prior number)
+    list_any_after (λ work. is_open work.phase && is_among work.prior number) (cancelled_in cancelled) works
+    ∙ list_any-agree (λ work. is_open (cancelled_in cancelled work).phase && is_among (cancelled_in cancelled work).prior number)
     (λ work. is_open (phase_then cancelled work) && is_among work.prior number) works
-    (λ work. rw (cancelled-phase cancelled work, cancelled-prior cancelled work) refl)
+    (All-any works (λ work. rw (cancelled-phase cancelled work, cancelled-prior cancelled work) refl))
 
 -- once others are cancelled, a record is dropped where it is removed
 dropped-then : (cancelled let_go : List ℕ) (works : List Record) (work : Record)
     → is_dropped let_go (map (cancelled_in cancelled) works) (cancelled_in cancelled work) ≡ is_removed cancelled let_go works work
 unfolding removable
-dropped-then cancelled let_go works work =
-    rw (cancelled-number cancelled work, cancelled-phase cancelled work, needed-then cancelled works work.seq) refl
+dropped-then cancelled let_go works work = rw (cancelled-number cancelled work, cancelled-phase cancelled work, needed-then cancelled works work.seq) refl
 
 -- ---- lists
 
@@ -194,10 +97,8 @@ map-kept {T} f g keep (x ∷ xs) same =
 pub stays-passing : (test : Record → Bool) (works : List Record) → AllLater IsBefore works
     → filter (stays (numbers_in (filter test works))) works ≡ filter (λ work. not (test work)) works
 stays-passing test works order =
-    filter_same (stays (numbers_in (filter test works))) (λ work. not (test work)) works
-    (All-weaker (λ work. is_among (numbers_in (filter test works)) work.seq ≡ test work)
-    (λ work. stays (numbers_in (filter test works)) work ≡ not (test work)) works (λ work same. ap not same)
-    (among_filter test works (WorksAscend-in_order works order)))
+    filter-same (stays (numbers_in (filter test works))) (λ work. not (test work)) works
+    (All-weaker works (λ work same. ap not same) (among_filter test works (WorksAscend-in_order works order)))
 
 -- ---- the records made ready
 
@@ -205,17 +106,13 @@ stays-passing test works order =
 pub made_ready-cleared : (works : List Record) (cancel let_go : List ℕ) → AllLater IsBefore works
     → with_let_go let_go (with_each_closed how.Cancelled cancel works) ≡ with_cleared (clearing_of works cancel let_go) works
 made_ready-cleared works cancel let_go order =
-    let cancelled = reached_from_any cancel works in
+    let cancelled = reached_from cancel (nodes_of works) in
     let change = cancelled_in cancelled in
     let gone = is_dropped let_go (map change works) in
-    ap (with_let_go let_go) (cancelled-each cancel works)
-    ∙ ap (map (unnamed let_go)) (filter-map (λ work. not (gone work)) change works)
-    ∙ map-map (unnamed let_go) change (filter (λ work. not (gone (change work))) works)
-    ∙ ap (map (λ work. unnamed let_go (change work)))
-    (filter_same (λ work. not (gone (change work))) (λ work. not (is_removed cancelled let_go works work)) works
-    (All-any (λ work. not (gone (change work)) ≡ not (is_removed cancelled let_go works work)) works
-    (λ work. ap not (dropped-then cancelled let_go works work)))
-    ∙ sym (stays-passing (is_removed cancelled let_go works) works order))
+    ap (with_let_go let_go) (cancelled-each cancel works) ∙ ap (map (unnamed let_go)) (filter-map (λ work. not (gone work)) change works)
+    ∙ map-map (unnamed let_go) change (filter (λ work. not (gone (change work))) works) ∙ ap (map (λ work. unnamed let_go (change work)))
+    (filter-same (λ work. not (gone (change work))) (λ work. not (is_removed cancelled let_go works work)) works (All-any works
+    (λ work. ap not (dropped-then cancelled let_go works work))) ∙ sym (stays-passing (is_removed cancelled let_go works) works order))
 
 -- ---- the change
 
@@ -245,8 +142,7 @@ same-node work = record { seq = refl; prior = refl; succeeded = λ is. is }
 cancelled-node : (cancelled : List ℕ) (work : Record) → KeepsNode work (cancelled_in cancelled work)
 cancelled-node cancelled work =
     cond_both (becomes_cancelled cancelled work) (closed how.Cancelled work) work (KeepsNode work)
-    (λ e. record { seq = refl; prior = refl; succeeded = λ is. absurd (open_not_succeeded work.phase (and_parts _ _ e).0 is) })
-    (λ e. same-node work)
+    (λ e. record { seq = refl; prior = refl; succeeded = λ is. absurd (open_not_succeeded work.phase (and_parts _ _ e).0 is) }) (λ e. same-node work)
 
 cleared-node : (clearing : Clearing) (work : Record) → KeepsNode work (cleared clearing work)
 cleared-node clearing work =
@@ -261,7 +157,7 @@ clearing-node clearing work =
     (λ e. cleared-node clearing work) (λ e. same-node work)
 
 pub clearing-nodes : (clearing : Clearing) (works : List Record) → KeepNodes (cleared_by clearing) works
-clearing-nodes clearing works = All-any (λ work. KeepsNode work (after_change (cleared_by clearing) work)) works (clearing-node clearing)
+clearing-nodes clearing works = All-any works (clearing-node clearing)
 
 -- a record that stays and isn't touched is as before
 untouched-same : (clearing : Clearing) (work : Record) → (is_among clearing.unnamed work.seq || becomes_cancelled clearing.cancelled work) ≡ false
@@ -288,8 +184,7 @@ pub without-stays : (numbers : List ℕ) (works : List Record) → without numbe
 without-stays [] works = sym (filter-all (stays []) works (λ work. refl))
 without-stays (number ∷ numbers) works =
     without-stays numbers (other_works number works) ∙ filter_both (λ work. not (eqb work.seq number)) (stays numbers) works
-    ∙ filter_same (λ work. not (eqb work.seq number) && stays numbers work) (stays (number ∷ numbers)) works
-    (All-any (λ work. (not (eqb work.seq number) && stays numbers work) ≡ stays (number ∷ numbers) work) works
+    ∙ filter-same (λ work. not (eqb work.seq number) && stays numbers work) (stays (number ∷ numbers)) works (All-any works
     (λ work. ap (λ b. not b && stays numbers work) (eqb-swap work.seq number) ∙ not-or (eqb number work.seq) (is_among numbers work.seq)))
 
 -- the records that take the place of others and the numbers of those that are removed make it so
@@ -297,11 +192,8 @@ pub cleared-in_place : (clearing : Clearing) (works : List Record)
     → without clearing.removed (with_replaced (replaced_by_clearing clearing works) works) ≡ with_cleared clearing works
 cleared-in_place clearing works =
     let change = after_change (cleared_by clearing) in
-    ap (without clearing.removed) (replaced-all (cleared_by clearing) works)
-    ∙ without-stays clearing.removed (map change works)
-    ∙ filter-map (stays clearing.removed) change works
-    ∙ ap (map change)
-    (filter_same (λ work. stays clearing.removed (change work)) (stays clearing.removed) works
-    (All-any (λ work. stays clearing.removed (change work) ≡ stays clearing.removed work) works
+    ap (without clearing.removed) (replaced-all (cleared_by clearing) works) ∙ without-stays clearing.removed (map change works)
+    ∙ filter-map (stays clearing.removed) change works ∙ ap (map change)
+    (filter-same (λ work. stays clearing.removed (change work)) (stays clearing.removed) works (All-any works
     (λ work. ap (λ number. not (is_among clearing.removed number)) (clearing-node clearing work).seq)))
     ∙ map-kept change (cleared clearing) (stays clearing.removed) works (λ work kept. kept-cleared clearing work kept)

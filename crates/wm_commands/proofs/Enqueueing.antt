@@ -11,9 +11,12 @@ use Rattle.wm_commands.specs.Builds.{ChangesRows, IsExecuted}
 use Rattle.wm_commands.specs.Cleared.{cleared_state, clearing_of, is_removed, replaced_by_clearing, with_cleared}
 use Rattle.wm_commands.specs.Placed.{name_in, placed_records, with_placed}
 use Rattle.wm_commands.specs.declared.clearing.Clearing.{Clearing}
-use Rattle.wm_graph.proofs.Lists.{All-back}
+use Rattle.wm_collections.proofs.Lists.{All-back, All-map, All-unmap, All-weaker}
 use Rattle.wm_keeper.specs.declared.row.Row.{Row}
-use Rattle.wm_machine.proofs.Lists.{All-map, All-weaker}
+use Rattle.wm_machine.specs.declared.command.UniqueName.{UniqueName}
+use Rattle.wm_machine.specs.declared.event.Event.{Event}
+use Rattle.wm_machine.specs.declared.record.Record.{Record}
+use Rattle.wm_machine.specs.declared.state.State.{State}
 use Rattle.wm_machine.proofs.Steps.{Valid-after}
 use Rattle.wm_machine.specs.Enqueued.{enqueued, made_ready, placing_in}
 use Rattle.wm_machine.specs.Limits.{FitsRow}
@@ -24,14 +27,9 @@ use Rattle.wm_machine.specs.Rows.{row_of, rows_of}
 use Rattle.wm_machine.specs.Step.{Legal, after, state_by}
 use Rattle.wm_machine.specs.Valid.{IsRecord, Valid}
 use Rattle.wm_machine.specs.declared.command.Command.TheVariants as command
-use Rattle.wm_machine.specs.declared.command.UniqueName.{UniqueName}
-use Rattle.wm_machine.specs.declared.event.Event.{Event}
 use Rattle.wm_machine.specs.declared.event.Event.TheVariants as event
-use Rattle.wm_machine.specs.declared.record.Record.{Record}
 use Rattle.wm_machine.specs.declared.reply.Reply.TheVariants as reply
-use Rattle.wm_machine.specs.declared.state.State.{State}
 use Rattle.wm_request.specs.declared.request.Batch.{Batch}
-use Rattle.wm_steps.proofs.ManyRows.{All-unmap}
 use Rattle.wm_steps.specs.Nodes.{is_there}
 use Rattle.wm_steps.specs.StepChanges.{placing, seqs_of, HaveNextNumbers, NameEarlier}
 
@@ -50,8 +48,7 @@ not_empty (Some unique) batch asked = let some = asked.asked.batch.not_empty in 
 -- ---- the step
 
 module _ (s : State) (line : ℕ) (named : Option UniqueName) (batch : Batch) (by : Placing) (valid : Valid s) (no_run : s.runs ≡ [])
-    (built : IsBuilt (command.Enqueue named batch))
-    (places : enqueued s named batch.works ≡ placing_in (made_ready s by) (name_in named) by.after batch.works)
+    (built : IsBuilt (command.Enqueue named batch)) (places : enqueued s named batch.works ≡ placing_in (made_ready s by) (name_in named) by.after batch.works)
     (after_there : AllByRecursion (λ number. is_there s.works number ≡ true) by.after) where
   abbrev clearing : Clearing
   clearing = clearing_of s.works by.cancel by.let_go
@@ -66,7 +63,7 @@ module _ (s : State) (line : ℕ) (named : Option UniqueName) (batch : Batch) (b
   enqueue_event = event.Command line (command.Enqueue named batch) (reply.Enqueued (seqs_of new))
 
   ready : made_ready s by ≡ cleared_s
-  ready = ap (λ (works : List Record). record s { works = works }) (made_ready-cleared s.works by.cancel by.let_go valid.in_order)
+  ready = ap (λ (works : List Record). record s { works = works }) (made_ready-cleared s.works by.cancel by.let_go valid.works.in_order)
 
   outcome-is : outcome s (command.Enqueue named batch) ≡ Some (placing_in cleared_s (name_in named) by.after batch.works)
   outcome-is =
@@ -91,26 +88,22 @@ module _ (s : State) (line : ℕ) (named : Option UniqueName) (batch : Batch) (b
   new-numbered = numbered cleared_s (name_in named) by.after batch.works
 
   new-records : AllByRecursion IsRecord new
-  new-records = All-back IsRecord (with_cleared clearing s.works) new valid_after.records
+  new-records = All-back _ (with_cleared clearing s.works) new valid_after.works.records
 
   -- and each names records before it
   new-named : NameEarlier s.works new
-  new-named =
-      named-earlier cleared_s s.works (name_in named) by.after batch.works (there-cleared clearing s.works) after_there new-records
+  new-named = named-earlier cleared_s s.works (name_in named) by.after batch.works (there-cleared clearing s.works) after_there new-records
 
   -- there is a row under a new number
   more_rows : ChangesRows s (command.Enqueue named batch)
   more_rows same =
       let rows : map row_of (with_cleared clearing s.works ++ new) ≡ map row_of s.works = ap rows_of (sym after-is) ∙ same in
       let before : AllByRecursion (λ (row : Row). row.seq ≢ pos s.next) (map row_of s.works) =
-      All-map (λ work. work.seq < s.next) (λ (row : Row). row.seq ≢ pos s.next) row_of s.works
-      (λ work below is. let clash : pos work.seq ≡ pos s.next = is in absurd (omega (arith, ints, below))) valid.numbers in
-      let each = All-unmap (λ (row : Row). row.seq ≢ pos s.next) row_of (with_cleared clearing s.works ++ new)
-      (subst (AllByRecursion (λ (row : Row). row.seq ≢ pos s.next)) (sym rows) before) in
+      All-map _ row_of s.works (λ work below is. let clash : pos work.seq ≡ pos s.next = is in absurd (omega (arith, ints, below))) valid.works.numbers in
+      let each = All-unmap _ row_of (with_cleared clearing s.works ++ new) (subst (AllByRecursion (λ (row : Row). row.seq ≢ pos s.next)) (sym rows) before) in
       let many = as_many cleared_s (name_in named) by.after batch.works in
       let some = not_empty named batch built in
-      none_new s.next new new-numbered (omega (arith, many, some))
-      (All-back (λ work. (row_of work).seq ≢ pos s.next) (with_cleared clearing s.works) new each)
+      none_new s.next new new-numbered (omega (arith, many, some)) (All-back _ (with_cleared clearing s.works) new each)
 
   -- a batch is placed
   pub placement-executed : IsExecuted s line (command.Enqueue named batch) (record {
@@ -121,7 +114,7 @@ module _ (s : State) (line : ℕ) (named : Option UniqueName) (batch : Batch) (b
     event = refl;
     step =
         clearing-step s clearing new enqueue_event valid
-        (passing-stored (is_removed clearing.cancelled by.let_go s.works) s.works valid.in_order) new-numbered new-named
-        (All-weaker IsRecord FitsRow new (λ work is. is.fits) new-records) valid_after.next legal after-is;
+        (passing-stored (is_removed clearing.cancelled by.let_go s.works) s.works valid.works.in_order) new-numbered new-named
+        (All-weaker new (λ work is. is.fits) new-records) valid_after.works.fits legal after-is;
     rows = inl more_rows;
   }

@@ -1,7 +1,6 @@
 pub mod CheckedBatches
 pub mod Clearings
 pub mod ClearingSteps
-pub mod DescendantScans
 pub mod Enqueueing
 pub mod Executions
 pub mod MemberUpdates

@@ -3,14 +3,14 @@ use Rattle.std.proofs.Common.{◌≡◌, ◌||◌, ℕ, ◌≤◌, true, false, 
 use Rattle.std.specs.List.{AllByRecursion, list_any}
 use Rattle.std.specs.Prelude.{option_map, IsSomeAnd}
 use Rattle.std.proofs.lemmas.Bool.{cond_both, ltb-false, or_parts}
-use Rattle.wm_collections.specs.Lists.{AllLater}
+use Rattle.wm_collections.specs.Lists.{AllLater, HasOne}
 use Rattle.wm_commands.proofs.CheckedBatches.{outcome-enqueued}
 use Rattle.wm_commands.proofs.NamedPlans.{group-members, updated-outcome}
 use Rattle.wm_commands.proofs.Updating.{updating-executed}
 use Rattle.wm_commands.specs.Builds.{IsExecuted, IsUpdating}
 use Rattle.wm_commands.specs.Planned.{kind_refused_in}
 use Rattle.wm_commands.specs.declared.executed.Executed.{Executed}
-use Rattle.wm_machine.proofs.Lists.{find-stored, one_gives}
+use Rattle.wm_collections.proofs.Lists.{find-stored, one_gives}
 use Rattle.wm_machine.proofs.Names.{alone_periodic, both_periodic, id_mismatched-none}
 use Rattle.wm_machine.specs.Built.{AreAskedUnder}
 use Rattle.wm_machine.specs.Enqueued.{plan_in}
@@ -20,17 +20,17 @@ use Rattle.wm_machine.specs.Plan.{first_of_batch, is_unfinished, is_unfit, misma
 use Rattle.wm_machine.specs.Plan as plan
 use Rattle.wm_machine.specs.Replied.{Outcome}
 use Rattle.wm_machine.specs.Updated.{is_same_kind}
-use Rattle.wm_machine.specs.Valid.{HasOne, IsBefore, Valid}
+use Rattle.wm_machine.specs.Valid.{IsBefore, Valid}
 use Rattle.wm_machine.specs.declared.command.Command.TheVariants as command
 use Rattle.wm_machine.specs.declared.command.Policy.{Policy}
-use Rattle.wm_machine.specs.declared.command.Policy.TheVariants as policy
 use Rattle.wm_machine.specs.declared.command.UniqueName.{UniqueName}
 use Rattle.wm_machine.specs.declared.record.Record.{Record}
 use Rattle.wm_machine.specs.declared.state.State.{State}
+use Rattle.wm_request.specs.declared.request.Node.{Node}
+use Rattle.wm_machine.specs.declared.command.Policy.TheVariants as policy
 use Rattle.wm_request.specs.Batches.{is_periodic}
 use Rattle.wm_request.specs.Requests.{IsRequest, RequestFields}
 use Rattle.wm_request.specs.declared.request.Batch.{Batch}
-use Rattle.wm_request.specs.declared.request.Node.{Node}
 use Rattle.wm_unique.proofs.Numbered.{numbered_found}
 use Rattle.wm_unique.specs.Plans.{plan_fields, refused_kind}
 
@@ -78,9 +78,7 @@ first_member-found works name member order is =
 -- a policy takes all members
 fit-each : (by : Policy) (members : List Record) (member : Record) → HasOne (λ other. other ≡ member) members
     → AllByRecursion (λ work. is_unfit by work ≡ false) members → is_unfit by member ≡ false
-fit-each by members member stored fit =
-    one_gives (λ work. is_unfit by work ≡ false) (λ other. other ≡ member) (is_unfit by member ≡ false) members
-    (λ work fits is. subst (λ w. is_unfit by w ≡ false) is fits) fit stored
+fit-each by members member stored fit = one_gives members (λ work fits is. subst (λ w. is_unfit by w ≡ false) is fits) fit stored
 
 -- the first work of a batch that updates is periodic
 first-periodic : (found : Option Node) (work : Node) (later : List Node) → find is_periodic (work ∷ later) ≡ found
@@ -101,8 +99,7 @@ pub record IsMember (s : State) (unique : UniqueName) (works : List Node) (numbe
   pub found : work_numbered number s.works ≡ Some member
   pub kind : (work : Node) (later : List Node) → works ≡ work ∷ later → is_same_kind work.request.period member.request.period ≡ true
 
-pub member-updated : (s : State) (unique : UniqueName) (works : List Node) (number : ℕ) → Valid s
-    → (plan_fields (plan_in s unique)).update ≡ Some number
+pub member-updated : (s : State) (unique : UniqueName) (works : List Node) (number : ℕ) → Valid s → (plan_fields (plan_in s unique)).update ≡ Some number
     → refused_kind (plan_in s unique) (mismatch unique.policy (members_of s.works unique.name) works) ≡ None → IsMember s unique works number
 member-updated s unique works number valid is fits =
     let members = members_of s.works unique.name in
@@ -111,19 +108,14 @@ member-updated s unique works number valid is fits =
     let by = updates-policy unique.policy members member planned.planned_is in
     let stored = find-stored is_unfinished members member by.1 in
     let none : mismatch policy.Update members works ≡ None =
-    ap (λ p. mismatch p members works) (sym by.0)
-    ∙ ap (λ p. refused_kind p (mismatch unique.policy members works)) (sym planned.planned_is) ∙ fits in
+    ap (λ p. mismatch p members works) (sym by.0) ∙ ap (λ p. refused_kind p (mismatch unique.policy members works)) (sym planned.planned_is) ∙ fits in
     let parts = id_mismatched-none (unfit_work (find is_periodic works) policy.Update works) policy.Update members none in
     record {
       member = member;
       planned = planned.planned_is;
-      found = ap (λ n. work_numbered n s.works) planned.number_is
-          ∙ first_member-found s.works unique.name member valid.in_order by.1;
-      kind = λ work later same.
-          both_periodic work.request.period member.request.period
-          (first-periodic (find is_periodic (work ∷ later)) work later refl
-          (subst (λ ws. unfit_work (find is_periodic ws) policy.Update ws ≡ None) same parts.0))
-          (fit-each policy.Update members member stored parts.1);
+      found = ap (λ n. work_numbered n s.works) planned.number_is ∙ first_member-found s.works unique.name member valid.works.in_order by.1;
+      kind = λ work later same. both_periodic work.request.period member.request.period (first-periodic (find is_periodic (work ∷ later)) work later refl
+          (subst (λ ws. unfit_work (find is_periodic ws) policy.Update ws ≡ None) same parts.0)) (fit-each policy.Update members member stored parts.1);
     }
 
 -- it is there
@@ -132,8 +124,7 @@ pub member-there : (s : State) (unique : UniqueName) (number : ℕ) → (plan_fi
 member-there s unique number is valid none =
     let planned = updates-is (plan_in s unique) number is in
     let by = updates-policy unique.policy (members_of s.works unique.name) planned.member planned.planned_is in
-    let found =
-    ap (λ n. work_numbered n s.works) planned.number_is ∙ first_member-found s.works unique.name planned.member valid.in_order by.1 in
+    let found = ap (λ n. work_numbered n s.works) planned.number_is ∙ first_member-found s.works unique.name planned.member valid.works.in_order by.1 in
     absurd (cc)
 
 some-same : (one other : Record) → Some one ≡ Some other → one ≡ other

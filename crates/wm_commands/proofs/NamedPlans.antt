@@ -5,8 +5,7 @@ use Rattle.std.specs.Prelude.{option_map}
 use Rattle.std.proofs.lemmas.Bool.{cond_both}
 use Rattle.wm_collections.specs.Lists.{AllLater}
 use Rattle.wm_commands.specs.Planned.{kind_refused_in}
-use Rattle.wm_machine.proofs.Lists.{All-map}
-use Rattle.wm_machine.proofs.Names.{All-of_filter}
+use Rattle.wm_collections.proofs.Lists.{All-kept, All-map}
 use Rattle.wm_machine.specs.Enqueued.{carried_out, enqueued, outcome_by, plan_in, refusal_by, updated_by}
 use Rattle.wm_machine.specs.Group.{is_name, is_prior_of, leaves_of, members_of, numbers_in}
 use Rattle.wm_machine.specs.Plan.{appending, is_lost, is_unfinished, mismatch, plan_of, replacing, updating, Placing, Plan}
@@ -14,12 +13,12 @@ use Rattle.wm_machine.specs.Plan as plan
 use Rattle.wm_machine.specs.Updated.{update_of}
 use Rattle.wm_machine.specs.Valid.{IsBefore}
 use Rattle.wm_machine.specs.declared.command.Policy.{Policy}
-use Rattle.wm_machine.specs.declared.command.Policy.TheVariants as policy
 use Rattle.wm_machine.specs.declared.command.UniqueName.{UniqueName}
 use Rattle.wm_machine.specs.declared.record.Record.{Record}
-use Rattle.wm_machine.specs.declared.reply.Refusal.TheVariants.{KindMismatch}
 use Rattle.wm_machine.specs.declared.state.State.{State}
 use Rattle.wm_request.specs.declared.request.Node.{Node}
+use Rattle.wm_machine.specs.declared.command.Policy.TheVariants as policy
+use Rattle.wm_machine.specs.declared.reply.Refusal.TheVariants.{KindMismatch}
 use Rattle.wm_steps.proofs.Nodes.{there-each}
 use Rattle.wm_steps.specs.Nodes.{is_there}
 use Rattle.wm_unique.proofs.Numbered.{grouped_filter, numbers_filter}
@@ -45,15 +44,13 @@ group-members works name group order is = ap (grouped works) is ∙ grouped-memb
 abbrev after_of : Plan → List ℕ
 after_of planned = (plan_fields planned).after
 
-leaves-there : (works : List Record) (name : List ℕ)
-    → AllByRecursion (λ number. is_there works number ≡ true) (numbers_in (leaves_of (members_of works name)))
+leaves-there : (works : List Record) (name : List ℕ) → AllByRecursion (λ number. is_there works number ≡ true) (numbers_in (leaves_of (members_of works name)))
 leaves-there works name =
     let there : Record → Type 0 = λ work. is_there works work.seq ≡ true in
     let members = members_of works name in
     let leaves = leaves_of members in
-    let stored : AllByRecursion there members = All-of_filter there (λ work. is_name name work.name) works (there-each works) in
-    All-map there (λ number. is_there works number ≡ true) (λ (work : Record). work.seq) leaves (λ work is. is)
-    (All-of_filter there (λ work. not (is_prior_of members work)) members stored)
+    let stored : AllByRecursion there members = All-kept _ (λ work. is_name name work.name) works (there-each works) in
+    All-map _ (λ (work : Record). work.seq) leaves (λ work is. is) (All-kept _ (λ work. not (is_prior_of members work)) members stored)
 
 updates-after : (works : List Record) (found : Option Record) (members : List Record)
     → AllByRecursion (λ number. is_there works number ≡ true) (after_of (updating found members))

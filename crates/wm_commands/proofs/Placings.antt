@@ -8,13 +8,13 @@ use Rattle.std.proofs.lemmas.List.Elements.{filter-append}
 use Rattle.std.proofs.lemmas.List.Folds.{list_any-append}
 use Rattle.std.proofs.lemmas.Simd.{map-map}
 use Rattle.std.specs.Str.{bytes_eq}
-use Rattle.wm_commands.proofs.Clearings.{any-ext, any-map, cleared-id, cleared-number, cleared-phase, filter-map}
+use Rattle.wm_commands.proofs.Clearings.{cleared-id, cleared-number, cleared-phase, filter-map}
 use Rattle.wm_commands.specs.Cleared.{cleared, phase_then, stays, with_cleared}
 use Rattle.wm_commands.specs.Placed.{is_done, is_then, placed_record, placed_records, with_placed}
 use Rattle.wm_commands.specs.declared.clearing.Clearing.{Clearing}
 use Rattle.wm_keeper.specs.Keeper.{changed_number, AreOfDifferentNumbers}
 use Rattle.wm_keeper.specs.declared.row.Change.{Change}
-use Rattle.wm_machine.proofs.Lists.{All-any, All-weaker, map-same}
+use Rattle.wm_collections.proofs.Lists.{All-any, All-append, All-weaker, filter-same, list_any-agree, list_any_after, map-same}
 use Rattle.wm_machine.specs.Enqueued.{new_numbers, numbers_of, placed_after, prior_of, with_work}
 use Rattle.wm_machine.specs.Narrow.{IsNarrow}
 use Rattle.wm_machine.specs.Valid.{IsRecord}
@@ -26,7 +26,7 @@ use Rattle.wm_steps.proofs.Nodes.{there-each}
 use Rattle.wm_steps.proofs.StepFits.{unplaced}
 use Rattle.wm_steps.specs.Nodes.{is_there}
 use Rattle.wm_steps.specs.StepChanges.{put_work, seqs_of, HaveNextNumbers, NameEarlier}
-use Rattle.wm_unique.proofs.Numbered.{filter_both, filter_same}
+use Rattle.wm_unique.proofs.Numbered.{filter_both}
 
 and-swap : (a b : Bool) → (a && b) ≡ (b && a)
 and-swap true true = refl
@@ -102,20 +102,16 @@ numbers-more works placed ids i id within is =
     sym (map-append (λ (work : Record). work.seq) (filter (λ (work : Record). bytes_eq work.request.id id) works)
     (filter (λ (work : Record). bytes_eq work.request.id id) placed))
     ∙ ap (map (λ (work : Record). work.seq)) (sym (filter-append (λ (work : Record). bytes_eq work.request.id id) works placed)) in
-    append_assoc (numbers_of all (take i ids)) (numbers_with works id) (numbers_with placed id)
-    ∙ ap (λ rest. numbers_of all (take i ids) ++ rest) both
-    ∙ flat_map_more (numbers_with all) [] (take i ids) id
-    ∙ ap (numbers_of all) (ap (λ x. take i ids ++ x ∷ []) is ∙ sym (take_more ids i id within))
+    append_assoc (numbers_of all (take i ids)) (numbers_with works id) (numbers_with placed id) ∙ ap (λ rest. numbers_of all (take i ids) ++ rest) both
+    ∙ flat_map_more (numbers_with all) [] (take i ids) id ∙ ap (numbers_of all) (ap (λ x. take i ids ++ x ∷ []) is ∙ sym (take_more ids i id within))
 
 -- what holds of records that stay, once they are cleared
 filter-cleared : (test : Record → Bool) (clearing : Clearing) (works : List Record) → ((work : Record) → test (cleared clearing work) ≡ test work)
-    → filter test (with_cleared clearing works)
-    ≡ map (cleared clearing) (filter (λ work. test work && stays clearing.removed work) works)
+    → filter test (with_cleared clearing works) ≡ map (cleared clearing) (filter (λ work. test work && stays clearing.removed work) works)
 filter-cleared test clearing works same =
     filter-map test (cleared clearing) (filter (stays clearing.removed) works)
     ∙ ap (map (cleared clearing)) (filter_both (stays clearing.removed) (λ work. test (cleared clearing work)) works
-    ∙ filter_same (λ work. stays clearing.removed work && test (cleared clearing work)) (λ work. test work && stays clearing.removed work) works
-    (All-any (λ work. (stays clearing.removed work && test (cleared clearing work)) ≡ (test work && stays clearing.removed work)) works
+    ∙ filter-same (λ work. stays clearing.removed work && test (cleared clearing work)) (λ work. test work && stays clearing.removed work) works (All-any works
     (λ work. ap (λ b. stays clearing.removed work && b) (same work) ∙ and-swap (stays clearing.removed work) (test work))))
 
 -- the numbers of the records with an id, once they are cleared
@@ -124,26 +120,22 @@ pub numbers-cleared : (clearing : Clearing) (works : List Record) (id : List ℕ
     ≡ numbers_with (with_cleared clearing works) id
 numbers-cleared clearing works id =
     let kept = filter (λ work. bytes_eq work.request.id id && stays clearing.removed work) works in
-    sym (ap (map (λ (work : Record). work.seq))
-    (filter-cleared (λ work. bytes_eq work.request.id id) clearing works
-    (λ work. ap (λ id_of. bytes_eq id_of id) (cleared-id clearing work)))
-    ∙ map-map (λ (work : Record). work.seq) (cleared clearing) kept
-    ∙ map-same (λ (work : Record). (cleared clearing work).seq) (λ (work : Record). work.seq) kept
-    (All-any (λ work. (cleared clearing work).seq ≡ work.seq) kept (cleared-number clearing)))
+    sym (ap (map (λ (work : Record). work.seq)) (filter-cleared (λ work. bytes_eq work.request.id id) clearing works
+    (λ work. ap (λ id_of. bytes_eq id_of id) (cleared-id clearing work))) ∙ map-map (λ (work : Record). work.seq) (cleared clearing) kept
+    ∙ map-same (λ (work : Record). (cleared clearing work).seq) (λ (work : Record). work.seq) kept (All-any kept (cleared-number clearing)))
 
 -- whether the record of a number is finished in a way, once they are cleared
 any_cleared : (clearing : Clearing) (works : List Record) (number : ℕ) (way : How)
     → list_any (λ work. eqb work.seq number && is_done way work.phase) (with_cleared clearing works)
     ≡ list_any (λ work. eqb work.seq number && is_then clearing way work) works
 any_cleared clearing works number way =
-    any-map (λ work. eqb work.seq number && is_done way work.phase) (cleared clearing) (filter (stays clearing.removed) works)
+    list_any_after (λ work. eqb work.seq number && is_done way work.phase) (cleared clearing) (filter (stays clearing.removed) works)
     ∙ any-filter (λ work. eqb (cleared clearing work).seq number && is_done way (cleared clearing work).phase) (stays clearing.removed) works
-    ∙ any-ext (λ work. stays clearing.removed work && (eqb (cleared clearing work).seq number && is_done way (cleared clearing work).phase))
-    (λ work. eqb work.seq number && is_then clearing way work) works
-    (λ work.
+    ∙ list_any-agree (λ work. stays clearing.removed work && (eqb (cleared clearing work).seq number && is_done way (cleared clearing work).phase))
+    (λ work. eqb work.seq number && is_then clearing way work) works (All-any works (λ work.
     ap (λ n. stays clearing.removed work && (eqb n number && is_done way (cleared clearing work).phase)) (cleared-number clearing work)
     ∙ ap (λ p. stays clearing.removed work && (eqb work.seq number && is_done way p)) (cleared-phase clearing work)
-    ∙ and-front (stays clearing.removed work) (eqb work.seq number) (is_done way (phase_then clearing.cancelled work)))
+    ∙ and-front (stays clearing.removed work) (eqb work.seq number) (is_done way (phase_then clearing.cancelled work))))
 
 -- and so of one that is stored or placed
 pub any_either : (clearing : Clearing) (works placed : List Record) (number : ℕ) (way : How)
@@ -191,29 +183,21 @@ numbers-there all keep [] there = tt
 numbers-there all keep (work ∷ works) there =
     let rest = numbers-there all keep works there.1 in
     cond_both (keep work) (work ∷ filter keep works) (filter keep works)
-    (λ (kept : List Record). AllByRecursion (λ number. is_there all number ≡ true) (map (λ (work : Record). work.seq) kept)) (λ e. (there.0, rest))
-    (λ e. rest)
-
-pub All-append : {T : Type 0} (P : T → Type 0) (xs ys : List T) → AllByRecursion P xs → AllByRecursion P ys → AllByRecursion P (xs ++ ys)
-All-append P [] ys all others = others
-All-append P (x ∷ xs) ys all others = (all.0, All-append P xs ys all.1 others)
+    (λ (kept : List Record). AllByRecursion (λ number. is_there all number ≡ true) (map (λ (work : Record). work.seq) kept)) (λ e. (there.0, rest)) (λ e. rest)
 
 prior-there : (works : List Record) (ids : List (List ℕ)) → AllByRecursion (λ number. is_there works number ≡ true) (numbers_of works ids)
 prior-there works [] = tt
 prior-there works (id ∷ ids) =
-    All-append (λ number. is_there works number ≡ true) (numbers_with works id) (numbers_of works ids)
+    All-append _ (numbers_with works id) (numbers_of works ids)
     (numbers-there works (λ (work : Record). bytes_eq work.request.id id) works (there-each works)) (prior-there works ids)
 
 -- those of a new work are there, where those are that it comes after if it names none
 placed-prior : (all works : List Record) (after : List ℕ) (ids : List (List ℕ))
     → ((number : ℕ) → is_there works number ≡ true → is_there all number ≡ true) → AllByRecursion (λ number. is_there all number ≡ true) after
     → AllByRecursion (λ number. is_there all number ≡ true) (prior_of works after ids)
-placed-prior all works [] ids more afters =
-    All-weaker (λ number. is_there works number ≡ true) (λ number. is_there all number ≡ true) (numbers_of works ids) more (prior-there works ids)
+placed-prior all works [] ids more afters = All-weaker (numbers_of works ids) more (prior-there works ids)
 placed-prior all works (one ∷ after) [] more afters = afters
-placed-prior all works (one ∷ after) (id ∷ ids) more afters =
-    All-weaker (λ number. is_there works number ≡ true) (λ number. is_there all number ≡ true) (numbers_of works (id ∷ ids)) more
-    (prior-there works (id ∷ ids))
+placed-prior all works (one ∷ after) (id ∷ ids) more afters = All-weaker (numbers_of works (id ∷ ids)) more (prior-there works (id ∷ ids))
 
 -- what is there is there beside one more
 there-before : (works : List Record) (work : Record) (number : ℕ) → is_there works number ≡ true → is_there (works ++ work ∷ []) number ≡ true
@@ -240,8 +224,7 @@ named-earlier s all name after (node ∷ nodes) more afters records =
     let is : IsRecord work = records.0 in (
       record { few = is.prior.few; different = is.prior.different; there = placed-prior all s.works after node.after more afters },
       named-earlier (with_work s work) (all ++ work ∷ []) name after nodes (there-beside all s.works work more)
-          (All-weaker (λ number. is_there all number ≡ true) (λ number. is_there (all ++ work ∷ []) number ≡ true) after (there-before all work) afters)
-          records.1,
+          (All-weaker after (there-before all work) afters) records.1,
     )
 
 any-weaker : {T : Type 0} (test other : T → Bool) (xs : List T) → ((x : T) → test x ≡ true → other x ≡ true) → list_any test xs ≡ true
@@ -258,7 +241,7 @@ pub there-cleared : (clearing : Clearing) (works : List Record) (number : ℕ) �
 there-cleared clearing works number is =
     any-weaker (λ work. stays clearing.removed work && eqb (cleared clearing work).seq number) (λ work. eqb work.seq number) works
     (λ work e. ap (λ n. eqb n number) (sym (cleared-number clearing work)) ∙ (and_parts _ _ e).1)
-    (sym (any-map (λ work. eqb work.seq number) (cleared clearing) (filter (stays clearing.removed) works)
+    (sym (list_any_after (λ work. eqb work.seq number) (cleared clearing) (filter (stays clearing.removed) works)
     ∙ any-filter (λ work. eqb (cleared clearing work).seq number) (stays clearing.removed) works) ∙ is)
 
 -- where no run is unreturned the state is narrow

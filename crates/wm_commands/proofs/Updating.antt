@@ -16,13 +16,13 @@ use Rattle.wm_machine.specs.Step.{Legal, after_command, state_by}
 use Rattle.wm_machine.specs.Updated.{is_same_kind, update_by, update_of, updated}
 use Rattle.wm_machine.specs.Valid.{IsRecord, Valid}
 use Rattle.wm_machine.specs.declared.command.Command.{Command}
+use Rattle.wm_machine.specs.declared.record.Record.{Record}
+use Rattle.wm_machine.specs.declared.state.State.{State}
 use Rattle.wm_machine.specs.declared.command.Command.TheVariants as command
 use Rattle.wm_machine.specs.declared.event.Event.TheVariants as event
-use Rattle.wm_machine.specs.declared.record.Record.{Record}
 use Rattle.wm_machine.specs.declared.reply.Applied.TheVariants.{NotApplied}
 use Rattle.wm_machine.specs.declared.reply.Refusal.TheVariants.{KindMismatch}
 use Rattle.wm_machine.specs.declared.reply.Reply.TheVariants as reply
-use Rattle.wm_machine.specs.declared.state.State.{State}
 use Rattle.wm_request.specs.Requests.{IsRequest, RequestFields}
 use Rattle.wm_steps.proofs.Lookups.{All-at, stored-at}
 use Rattle.wm_steps.proofs.StepFits.{keeping_row-step, replacing-step}
@@ -43,7 +43,7 @@ module _ (s : State) (line : ℕ) (asked : Command) (i : ℕ) (work : Record) (r
   legal = (built, Answers-outcome s asked executed.reply (update_of s request work) outcome-is is.answer)
 
   fine : IsRecord (updated request work)
-  fine = IsRecord-updated request work within kind (All-at IsRecord s.works i work valid.records at)
+  fine = IsRecord-updated request work within kind (All-at IsRecord s.works i work valid.works.records at)
 
   keeps : KeepsNode work (updated request work)
   keeps = record { seq = refl; prior = refl; succeeded = λ is. is }

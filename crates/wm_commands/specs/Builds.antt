@@ -1,6 +1,9 @@
--- What is built for a command: the change of its step, and its reply. This project's own choice.
-use Rattle.std.specs.Prelude.{◌≡◌, ◌≢◌, ◌⊎◌, ℕ, []}
+-- What is built for a command: the change of its step, and its reply.
+use Rattle.std.specs.Prelude.{◌≡◌, ◌≢◌, ◌⊎◌, ℕ, [], Some}
 use Rattle.wm_commands.specs.declared.executed.Executed.{Executed}
+use Rattle.wm_machine.specs.Outcome.{IsBuilt, outcome}
+use Rattle.wm_machine.specs.Quiet.{CanCome}
+use Rattle.wm_machine.specs.Replied.{Outcome}
 use Rattle.wm_machine.specs.Rows.{row_of, rows_of}
 use Rattle.wm_machine.specs.Step.{after_command}
 use Rattle.wm_machine.specs.Updated.{applied, one_update_more, updated}
@@ -12,7 +15,7 @@ use Rattle.wm_machine.specs.declared.reply.Reply.{Reply}
 use Rattle.wm_machine.specs.declared.reply.Reply.TheVariants as reply
 use Rattle.wm_machine.specs.declared.state.State.{State}
 use Rattle.wm_request.specs.Requests.{RequestFields}
-use Rattle.wm_steps.specs.StepChanges.{keeping_row, replacing, row_changes, setting, telling, IsStepOf}
+use Rattle.wm_steps.specs.StepChanges.{keeping_row, replacing, row_changes, set_by, setting, IsStepOf}
 use Rattle.wm_steps.specs.declared.change.RunChange.TheVariants as runs
 use Rattle.wm_steps.specs.declared.change.SettingChange.{SettingChange}
 use Rattle.wm_steps.specs.declared.change.StepChange.{StepChange}
@@ -25,17 +28,27 @@ ChangesNoRow s asked = rows_of (after_command s asked) ≡ rows_of s
 abbrev pub ChangesRows : State → Command → Type 0
 ChangesRows s asked = ChangesNoRow s asked → ⊥
 
+-- a command that is built, and can come in the state
+pub record IsExecutable (s : State) (asked : Command) : Type 0 where
+  pub built : IsBuilt asked
+  pub can : CanCome asked s
+
+-- a command that is built, and has this outcome
+pub record HasOutcome (s : State) (asked : Command) (out : Outcome) : Type 0 where
+  pub built : IsBuilt asked
+  pub is : outcome s asked ≡ Some out
+
 -- the step of a command and its reply
 pub record IsExecuted (s : State) (line : ℕ) (asked : Command) (executed : Executed) : Type 0 where
   pub event : executed.change.event ≡ event.Command line asked executed.reply
   pub step : IsStepOf s executed.change
   pub rows : ChangesRows s asked ⊎ (row_changes executed.change ≡ [])
 
--- a command that only has a reply
-abbrev pub answering : ℕ → Command → Reply → Executed
-answering line asked answer = record { change = telling (event.Command line asked answer); reply = answer }
+-- a reply to a command by which something is set in the state, or nothing
+abbrev pub setting_outcome : Reply → SettingChange → State → Outcome
+setting_outcome answer to s = record { reply = answer; state = set_by to s }
 
--- a command that sets the moment or the conditions
+-- what is built for it
 abbrev pub setting_by : ℕ → Command → Reply → SettingChange → Executed
 setting_by line asked answer to = record { change = setting to (event.Command line asked answer); reply = answer }
 

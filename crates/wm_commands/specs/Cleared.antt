@@ -1,29 +1,20 @@
--- What becomes of the records where works are cancelled, let go or removed: by a cancel, by a prune, and before a batch is placed. This project's own choice.
-use Rattle.std.specs.Prelude.{ℕ, ◌&&◌, ◌||◌, Bool, not, List, [], ◌∷◌, map, filter, reverse, if◌then◌else◌, Option, Some, None}
+-- What becomes of the records where works are cancelled, let go or removed: by a cancel, by a prune, and before a batch is placed.
+use Rattle.std.specs.Prelude.{ℕ, ◌&&◌, ◌||◌, Bool, not, List, [], map, filter, if◌then◌else◌, Option, Some, None}
 use Rattle.std.specs.List.{list_any}
+use Rattle.wm_collections.specs.Lists.{is_among}
 use Rattle.wm_commands.specs.declared.clearing.Clearing.{Clearing}
-use Rattle.wm_machine.specs.Closed.{closed, is_among, is_open}
+use Rattle.wm_machine.specs.Closed.{closed, is_open}
 use Rattle.wm_machine.specs.Group.{numbers_in, unnamed}
 use Rattle.wm_machine.specs.declared.record.How.TheVariants as how
 use Rattle.wm_machine.specs.declared.record.Phase.{Phase}
 use Rattle.wm_machine.specs.declared.record.Phase.TheVariants as phase
 use Rattle.wm_machine.specs.declared.record.Record.{Record}
 use Rattle.wm_machine.specs.declared.state.State.{State}
+use Rattle.wm_steps.specs.Nodes.{nodes_of, reached_from}
 use Rattle.wm_steps.specs.Replacements.{replacements}
 use Rattle.wm_steps.specs.declared.change.Replacement.{Replacement}
 
 -- ---- what is cancelled
-
--- the numbers of the descendants of any of these works, among records in descending number
-abbrev pub descendants_of_any : List ℕ → List Record → List ℕ
-descendants_of_any seqs [] = []
-descendants_of_any seqs (work ∷ earlier) =
-    if is_among seqs work.seq || list_any (is_among (descendants_of_any seqs earlier)) work.prior then work.seq ∷ descendants_of_any seqs earlier
-    else descendants_of_any seqs earlier
-
--- and ascending
-abbrev pub reached_from_any : List ℕ → List Record → List ℕ
-reached_from_any seqs works = reverse (descendants_of_any seqs (reverse works))
 
 -- whether a record becomes cancelled, where those of these numbers do that are unfinished
 abbrev pub becomes_cancelled : List ℕ → Record → Bool
@@ -53,9 +44,9 @@ removed_by cancelled let_go works = numbers_in (filter (is_removed cancelled let
 -- what becomes of the records where these works are cancelled, and then others let go
 abbrev pub clearing_of : List Record → List ℕ → List ℕ → Clearing
 clearing_of works cancel let_go = record {
-  cancelled = reached_from_any cancel works;
+  cancelled = reached_from cancel (nodes_of works);
   unnamed = let_go;
-  removed = removed_by (reached_from_any cancel works) let_go works;
+  removed = removed_by (reached_from cancel (nodes_of works)) let_go works;
 }
 
 -- what becomes of them where these are cancelled

@@ -1,4 +1,4 @@
--- The records of new works, and the state with them. This project's own choice.
+-- The records of new works, and the state with them.
 use Rattle.std.specs.Prelude.{◌≡◌, ℕ, ◌+◌, ◌&&◌, Bool, List, [], ◌∷◌, ◌++◌, length, Option, Some, None}
 use Rattle.wm_commands.specs.Cleared.{cleared_state, clearing_of, phase_then, replaced_by_clearing, stays}
 use Rattle.wm_commands.specs.declared.clearing.Clearing.{Clearing}

@@ -1,4 +1,4 @@
--- What is planned for an enqueue under a unique name in a state. This project's own choice.
+-- What is planned for an enqueue under a unique name in a state.
 use Rattle.std.specs.Prelude.{ℕ, List, Option}
 use Rattle.wm_machine.specs.Enqueued.{plan_in}
 use Rattle.wm_machine.specs.Group.{members_of}

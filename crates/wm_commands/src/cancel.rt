@@ -1,72 +1,66 @@
 //! Works are cancelled, each with its unfinished descendants: the one with an id, those with a tag
 //! or of a unique name, or all.
 ghost use Rattle.std.specs.Prelude.{◌≡◌, [], IfOk};
-ghost use Rattle.std.specs.List.{list_any};
-ghost use Rattle.std.specs.Str.{bytes_eq};
 ghost use Rattle.wm_commands.specs.Builds.{IsExecuted};
 ghost use Rattle.wm_machine.specs.Cancelled.{cancelled_each, is_cancellable, is_for, is_stored, targeted};
 ghost use Rattle.wm_machine.specs.Outcome.{outcome};
-ghost use Rattle.wm_machine.specs.Valid.{Valid};
 
-use crate::clearing::{cancelling, reached_from_any, replaced_by_clearing};
+use crate::clearing::{cancelling, reached_from, replaced_by_clearing};
 use crate::executed::Executed;
-use crate::naming::is_name;
 use std::alloc::{AllocError, Global};
 use uuid::Uuid;
-use wm_collections::{Items, Text};
-use wm_machine::{Command, Event, Record, Refusal, Reply, State, Target};
-use wm_steps::{RunChange, StepChange, is_open};
+use wm_collections::Items;
+use wm_machine::{Command, Event, Record, Refusal, Reply, Target};
+use wm_query::{has_tag, is_name};
+use wm_steps::{RunChange, StepChange, View};
 
 /// What a cancel comes to.
 pub fn execute(
     alloc: Global,
-    state: &State,
+    view: &View,
     line: u32,
     target: Target,
 ) -> Result<Executed, AllocError>
-    requires valid { Valid state.now }
-    requires no_run { state.now.runs ≡ [] }
-    ensures { IfOk result (IsExecuted state.entry.now line (Command.Cancel target)) }
+    requires no_run { view.now.runs ≡ [] }
+    ensures { IfOk result (IsExecuted view.entry.now line (Command.Cancel target)) }
 {
     match target {
-        Target::Id(id) => cancel_id(alloc, state, line, id),
-        Target::Tag(tag) => cancel_each(alloc, state, line, Target::Tag(tag)),
-        Target::Name(name) => cancel_each(alloc, state, line, Target::Name(name)),
-        Target::All => cancel_each(alloc, state, line, Target::All),
+        Target::Id(id) => cancel_id(alloc, view, line, id),
+        Target::Tag(tag) => cancel_each(alloc, view, line, Target::Tag(tag)),
+        Target::Name(name) => cancel_each(alloc, view, line, Target::Name(name)),
+        Target::All => cancel_each(alloc, view, line, Target::All),
     }
 }
 
 /// What the cancelling of the work with this id comes to.
-fn cancel_id(alloc: Global, state: &State, line: u32, id: Uuid) -> Result<Executed, AllocError>
-    requires valid { Valid state.now }
-    requires no_run { state.now.runs ≡ [] }
-    ensures { IfOk result (IsExecuted state.entry.now line (Command.Cancel (Target.Id id))) }
+fn cancel_id(alloc: Global, view: &View, line: u32, id: Uuid) -> Result<Executed, AllocError>
+    requires no_run { view.now.runs ≡ [] }
+    ensures { IfOk result (IsExecuted view.entry.now line (Command.Cancel (Target.Id id))) }
 {
-    if is_stored(state.works.as_slice(), id) {
-        cancel_each(alloc, state, line, Target::Id(id))
+    if is_stored(view.state.works.as_slice(), id) {
+        cancel_each(alloc, view, line, Target::Id(id))
     } else {
         let command = Command::Cancel(Target::Id(id));
         let refusal = Refusal::NoSuchWork { id };
-        Executed::answering(alloc, line, command, Reply::Refused(refusal))
+        Executed::answering(alloc, view, line, command, Reply::Refused(refusal))
     }
 }
 
 /// Cancels the unfinished works that a target is for. No run is unreturned, so none is stopped.
 fn cancel_each(
     alloc: Global,
-    state: &State,
+    view: &View,
     line: u32,
     target: Target,
 ) -> Result<Executed, AllocError>
-    requires valid { Valid state.now }
-    requires no_run { state.now.runs ≡ [] }
-    requires accepted { outcome state.now (Command.Cancel target)
-        ≡ cancelled_each state.now (targeted target state.now.works) }
-    ensures { IfOk result (IsExecuted state.entry.now line (Command.Cancel target)) }
+    requires no_run { view.now.runs ≡ [] }
+    requires accepted { outcome view.now (Command.Cancel target)
+        ≡ cancelled_each view.now (targeted target view.now.works) }
+    ensures { IfOk result (IsExecuted view.entry.now line (Command.Cancel target)) }
 {
-    let works = state.works.as_slice();
+    let works = view.state.works.as_slice();
     let seqs = targeted(alloc, works, &target)?;
-    let cleared = cancelling(alloc, reached_from_any(alloc, works, seqs.as_slice())?);
+    let cleared = cancelling(alloc, reached_from(view, seqs.as_slice())?);
     let replaced = replaced_by_clearing(alloc, works, &cleared)?;
     let count = replaced.len() as u64;
     let event = Event::Command {
@@ -97,7 +91,7 @@ fn targeted(alloc: Global, works: &[Record], target: &Target) -> Result<Items<u6
 fn is_cancellable(target: &Target, work: &Record) -> bool
     ensures { result ≡ is_cancellable target.now work.now }
 {
-    is_open(work.phase) && is_for(target, work)
+    work.phase.is_open() && is_for(target, work)
 }
 
 /// Whether a target is for a work.
@@ -110,13 +104,6 @@ fn is_for(target: &Target, work: &Record) -> bool
         Target::Name(name) => is_name(name, &work.name),
         Target::All => true,
     }
-}
-
-/// Whether a tag is one of these.
-fn has_tag(tags: &[Text], tag: &Text) -> bool
-    ensures { result ≡ list_any (λ own. bytes_eq own tag.now) tags.now }
-{
-    tags.iter().any(|own| *own == *tag)
 }
 
 /// Whether a record has this id.

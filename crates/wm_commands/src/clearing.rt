@@ -3,17 +3,18 @@
 //!
 //! After the guide's page "Managing work" (unique work). Nothing but the records that change is
 //! made: the others are seen through a [`Clearing`].
-ghost use Rattle.std.specs.Prelude.{◌≡◌, ◌&&◌, ◌||◌, IfOk};
-ghost use Rattle.std.specs.List.{list_any};
-ghost use Rattle.wm_commands.specs.Cleared.{becomes_cancelled, cancelled_in, cancelling, cleared, cleared_by, clearing_of, is_needed_then, is_removed, is_touched, phase_then, reached_from_any, removed_by, replaced_by_clearing, stays};
-ghost use Rattle.wm_machine.specs.Closed.{is_among, is_open};
+ghost use Rattle.std.specs.Prelude.{◌≡◌, ◌&&◌, IfOk};
+ghost use Rattle.wm_collections.specs.Lists.{is_among};
+ghost use Rattle.wm_commands.specs.Cleared.{becomes_cancelled, cancelled_in, cancelling, cleared, cleared_by, clearing_of, is_needed_then, is_removed, is_touched, phase_then, removed_by, replaced_by_clearing, stays};
+ghost use Rattle.wm_machine.specs.Closed.{is_open};
 ghost use Rattle.wm_machine.specs.Group.{unnamed};
+ghost use Rattle.wm_steps.specs.Nodes.{nodes_of, reached_from};
 
 use std::alloc::{AllocError, Global};
-use wm_collections::{Items, Replica};
+use wm_collections::{Items, Replica, is_among};
 use wm_lifecycle::closed;
 use wm_machine::{How, Phase, Record};
-use wm_steps::{Replacement, has_any, is_among, is_open, put_at};
+use wm_steps::{Replacement, View, put_at};
 
 /// Which records change where works are cancelled and others are let go, by their numbers.
 #[derive(Drop)]
@@ -42,13 +43,15 @@ pub fn cancelling(alloc: Global, cancelled: Items<u64>) -> Clearing
 /// lose their names.
 pub fn clearing_of(
     alloc: Global,
-    works: &[Record],
+    view: &View,
     cancel: &[u64],
     let_go: Items<u64>,
 ) -> Result<Clearing, AllocError>
-    ensures { IfOk result (λ clearing. clearing ≡ clearing_of works.entry.now cancel.entry.now let_go) }
+    ensures { IfOk result (λ clearing. clearing
+        ≡ clearing_of view.entry.now.works cancel.entry.now let_go) }
 {
-    let cancelled = reached_from_any(alloc, works, cancel)?;
+    let works = view.state.works.as_slice();
+    let cancelled = reached_from(view, cancel)?;
     let removed = removed_by(alloc, works, cancelled.as_slice(), let_go.as_slice())?;
     Ok(Clearing {
         cancelled,
@@ -58,35 +61,17 @@ pub fn clearing_of(
 }
 
 /// The numbers of the descendants of any of these works, ascending.
-pub fn reached_from_any(
-    alloc: Global,
-    works: &[Record],
-    seqs: &[u64],
-) -> Result<Items<u64>, AllocError>
-    ensures { IfOk result (λ numbers. numbers ≡ reached_from_any seqs.now works.now) }
+pub fn reached_from(view: &View, seqs: &[u64]) -> Result<Items<u64>, AllocError>
+    ensures { IfOk result (λ numbers. numbers ≡ reached_from seqs.now (nodes_of view.entry.now.works)) }
 {
-    let mut numbers = Items::new(alloc);
-    for work in works {
-        if follows_any(work, seqs, numbers.as_slice()) {
-            numbers.push(work.seq)?;
-        }
-    }
-    Ok(numbers)
-}
-
-/// Whether it is one of these works, or has one of those found as a prerequisite.
-fn follows_any(work: &Record, seqs: &[u64], found: &[u64]) -> bool
-    ensures { result
-        ≡ (is_among seqs.now work.now.seq || list_any (is_among found.now) work.now.prior) }
-{
-    is_among(seqs, work.seq) || has_any(work.prior.as_slice(), found)
+    Ok(Items::from_vec(view.graph.descendants_of(seqs)?))
 }
 
 /// Whether a record becomes cancelled.
 fn becomes_cancelled(cancelled: &[u64], work: &Record) -> bool
     ensures { result ≡ becomes_cancelled cancelled.now work.now }
 {
-    is_open(work.phase) && is_among(cancelled, work.seq)
+    work.phase.is_open() && is_among(cancelled, work.seq)
 }
 
 /// The phase of a record once works are cancelled.
@@ -123,7 +108,7 @@ fn is_removed(works: &[Record], cancelled: &[u64], let_go: &[u64], work: &Record
     ensures { result ≡ is_removed cancelled.now let_go.now works.now work.now }
 {
     is_among(let_go, work.seq)
-        && !is_open(phase_then(cancelled, work))
+        && !phase_then(cancelled, work).is_open()
         && !is_needed_then(works, cancelled, work.seq)
 }
 
@@ -139,7 +124,7 @@ fn needs(cancelled: &[u64], work: &Record, number: u64) -> bool
     ensures { result
         ≡ (is_open (phase_then cancelled.now work.now) && is_among work.now.prior number) }
 {
-    is_among(work.prior.as_slice(), number) && is_open(phase_then(cancelled, work))
+    is_among(work.prior.as_slice(), number) && phase_then(cancelled, work).is_open()
 }
 
 /// Whether a record isn't removed.

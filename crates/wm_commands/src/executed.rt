@@ -1,10 +1,11 @@
 //! What a command comes to: the change of its step, and its reply.
-ghost use Rattle.std.specs.Prelude.{◌≡◌, IfOk};
-ghost use Rattle.wm_commands.specs.Builds.{answering, setting_by};
+ghost use Rattle.std.specs.Prelude.{IfOk};
+ghost use Rattle.wm_commands.specs.Builds.{setting_outcome, HasOutcome, IsExecuted};
+ghost use Rattle.wm_machine.specs.Replied.{unchanged};
 
 use std::alloc::{AllocError, Global};
 use wm_machine::{Command, Event, Reply};
-use wm_steps::{SettingChange, StepChange, copied};
+use wm_steps::{SettingChange, StepChange, View, copied};
 
 /// The change of a command's step, and its reply.
 #[derive(Drop)]
@@ -17,34 +18,31 @@ impl Executed {
     /// A command that only has a reply.
     pub(crate) fn answering(
         alloc: Global,
+        view: &View,
         line: u32,
         command: Command,
         reply: Reply,
     ) -> Result<Executed, AllocError>
-        ensures { IfOk result (λ executed. executed ≡ answering line command reply) }
+        requires { HasOutcome view.now command (unchanged view.now reply) }
+        ensures { IfOk result (IsExecuted view.entry.now line command) }
     {
-        let (reply, logged, command) = copied(alloc, reply, command)?;
-        let event = Event::Command {
-            line,
-            command,
-            reply: logged,
-        };
-        Ok(Executed {
-            change: StepChange::telling(alloc, event),
-            reply,
-        })
+        Executed::setting(alloc, view, line, command, reply, SettingChange::Unchanged)
     }
 
-    /// A command that sets the moment or the conditions.
+    /// A command that sets something in the state, and nothing else.
     pub(crate) fn setting(
         alloc: Global,
+        view: &View,
         line: u32,
         command: Command,
         reply: Reply,
         to: SettingChange,
     ) -> Result<Executed, AllocError>
-        ensures { IfOk result (λ executed. executed ≡ setting_by line command reply to) }
+        requires { HasOutcome view.now command (setting_outcome reply to view.now) }
+        ensures { IfOk result (IsExecuted view.entry.now line command) }
     {
+        // what the type of a view keeps is known where a field of it is read
+        let _reached = &view.state;
         let (reply, logged, command) = copied(alloc, reply, command)?;
         let event = Event::Command {
             line,

@@ -1,20 +1,19 @@
 //! From a hush on only summaries are written.
 ghost use Rattle.std.specs.Prelude.{IfOk};
 ghost use Rattle.wm_commands.specs.Builds.{IsExecuted};
-ghost use Rattle.wm_machine.specs.Valid.{Valid};
 
 use crate::executed::Executed;
 use std::alloc::{AllocError, Global};
-use wm_machine::{Command, Reply, State};
-use wm_steps::SettingChange;
+use wm_machine::{Command, Reply};
+use wm_steps::{SettingChange, View};
 
 /// What a hush comes to.
-pub fn execute(alloc: Global, state: &State, line: u32) -> Result<Executed, AllocError>
-    requires valid { Valid state.now }
-    ensures { IfOk result (IsExecuted state.entry.now line Command.Hush) }
+pub fn execute(alloc: Global, view: &View, line: u32) -> Result<Executed, AllocError>
+    ensures { IfOk result (IsExecuted view.entry.now line Command.Hush) }
 {
     Executed::setting(
         alloc,
+        view,
         line,
         Command::Hush,
         Reply::Hushed,

@@ -1,42 +1,38 @@
 //! The work of a unique name is updated, where its policy says so.
 ghost use Rattle.std.specs.Prelude.{◌≡◌, ◌<◌, ◌≤◌, [], length, slice_get, Some, None, IfOk, IsSomeAnd};
-ghost use Rattle.wm_commands.specs.Builds.{IsExecuted};
+ghost use Rattle.wm_commands.specs.Builds.{IsExecutable, IsExecuted};
 ghost use Rattle.wm_commands.specs.Planned.{kind_refused_in};
-ghost use Rattle.wm_machine.specs.Built.{AreAskedUnder};
 ghost use Rattle.wm_machine.specs.Enqueued.{plan_in};
 ghost use Rattle.wm_machine.specs.Input.{work_numbered};
 ghost use Rattle.wm_machine.specs.Plan.{first_of_batch};
-ghost use Rattle.wm_machine.specs.Valid.{Valid};
 ghost use Rattle.wm_unique.specs.Plans.{plan_fields};
 
 use crate::executed::Executed;
 use crate::update::update_of;
 use std::alloc::{AllocError, Global};
 use wm_collections::Replica;
-use wm_machine::{Command, State, UniqueName, index_numbered};
+use wm_machine::{Command, UniqueName, index_numbered};
 use wm_request::{Batch, Node, Request};
-use wm_steps::{at, with};
+use wm_steps::{View, at, both};
 
 /// Updates the member of this number by the first work of a batch, which is its only one.
 pub fn update_member(
     alloc: Global,
-    state: &State,
+    view: &View,
     line: u32,
     unique: UniqueName,
     batch: Batch,
     number: u64,
 ) -> Result<Executed, AllocError>
-    requires valid { Valid state.now }
-    requires no_run { state.now.runs ≡ [] }
-    requires asked { AreAskedUnder unique.name batch.works }
-    requires planned { (plan_fields (plan_in state.now unique)).update ≡ Some number }
-    requires fits { kind_refused_in state.now unique batch.works ≡ None }
-    ensures { IfOk result (IsExecuted state.entry.now line (Command.Enqueue (Some unique) batch)) }
+    requires asked { IsExecutable view.now (Command.Enqueue (Some unique) batch) }
+    requires planned { (plan_fields (plan_in view.now unique)).update ≡ Some number }
+    requires fits { kind_refused_in view.now unique batch.works ≡ None }
+    ensures { IfOk result (IsExecuted view.entry.now line (Command.Enqueue (Some unique) batch)) }
 {
-    let index = member_index(state, &unique, number);
-    let work = at(state.works.as_slice(), index);
+    let index = member_index(view, &unique, number);
+    let work = at(view.state.works.as_slice(), index);
     let request = first_request(alloc, batch.works().as_slice());
-    let ((unique, batch), request) = with((unique, batch), request)?;
+    let ((unique, batch), request) = both((unique, batch), request)?;
     let command = Command::Enqueue {
         named: Some(unique),
         batch,
@@ -45,13 +41,12 @@ pub fn update_member(
 }
 
 /// The index of the member that is updated.
-fn member_index(state: &State, unique: &UniqueName, number: u64) -> usize
-    requires valid { Valid state.now }
-    requires planned { (plan_fields (plan_in state.now unique.now)).update ≡ Some number }
-    ensures within { result < length state.entry.now.works }
-    ensures found { work_numbered number state.entry.now.works ≡ slice_get state.entry.now.works result }
+fn member_index(view: &View, unique: &UniqueName, number: u64) -> usize
+    requires planned { (plan_fields (plan_in view.now unique.now)).update ≡ Some number }
+    ensures within { result < length view.entry.now.works }
+    ensures found { work_numbered number view.entry.now.works ≡ slice_get view.entry.now.works result }
 {
-    match index_numbered(state.works.as_slice(), number) {
+    match index_numbered(view.state.works.as_slice(), number) {
         Some(index) => index,
         None => unreachable!(),
     }

@@ -1,11 +1,9 @@
 //! A batch is placed, and other records make way for it.
 ghost use Rattle.std.specs.Prelude.{◌≡◌, ◌^◌, ◌≤◌, ◌+◌, [], true, length, IfOk};
 ghost use Rattle.std.specs.List.{AllByRecursion};
-ghost use Rattle.wm_commands.specs.Builds.{IsExecuted};
+ghost use Rattle.wm_commands.specs.Builds.{IsExecutable, IsExecuted};
 ghost use Rattle.wm_commands.specs.Placed.{name_in, placement_of};
 ghost use Rattle.wm_machine.specs.Enqueued.{enqueued, made_ready, placing_in};
-ghost use Rattle.wm_machine.specs.Outcome.{IsBuilt};
-ghost use Rattle.wm_machine.specs.Valid.{Valid};
 ghost use Rattle.wm_steps.specs.Nodes.{is_there};
 ghost use Rattle.wm_unique.specs.Plans.{placing_by};
 
@@ -14,9 +12,9 @@ use crate::executed::Executed;
 use crate::placing::{placed_records, seqs_twice};
 use std::alloc::{AllocError, Global};
 use wm_collections::{Items, Replica, Text};
-use wm_machine::{Command, Event, Record, Reply, State, UniqueName};
+use wm_machine::{Command, Event, Record, Reply, UniqueName};
 use wm_request::{Batch, Node};
-use wm_steps::{Replacement, StepChange, with};
+use wm_steps::{Replacement, StepChange, View, both};
 use wm_unique::GroupPlan;
 
 /// How a batch is placed, with its memory taken.
@@ -43,14 +41,14 @@ fn name_in(alloc: Global, named: &Option<UniqueName>) -> Result<Option<Text>, Al
 /// How works are placed by a plan.
 fn placement_of(
     alloc: Global,
-    state: &State,
+    view: &View,
     named: &Option<UniqueName>,
     plan: GroupPlan,
     works: &[Node],
 ) -> Result<Placement, AllocError>
-    requires { state.now.next + length works.now ≤ 2 ^ 53 }
+    requires { view.now.next + length works.now ≤ 2 ^ 53 }
     ensures { IfOk result (λ placement. placement
-        ≡ placement_of state.entry.now (name_in named.entry.now) (placing_by plan) works.entry.now) }
+        ≡ placement_of view.entry.now (name_in named.entry.now) (placing_by plan) works.entry.now) }
 {
     let GroupPlan {
         cancel,
@@ -58,10 +56,17 @@ fn placement_of(
         after,
         ..
     } = plan;
-    let stored = state.works.as_slice();
+    let stored = view.state.works.as_slice();
     let name = name_in(alloc, named)?;
-    let clearing = clearing_of(alloc, stored, cancel.as_slice(), let_go)?;
-    let placed = placed_records(alloc, state, &clearing, &name, after.as_slice(), works)?;
+    let clearing = clearing_of(alloc, view, cancel.as_slice(), let_go)?;
+    let placed = placed_records(
+        alloc,
+        &view.state,
+        &clearing,
+        &name,
+        after.as_slice(),
+        works,
+    )?;
     let replaced = replaced_by_clearing(alloc, stored, &clearing)?;
     Ok(Placement {
         replaced,
@@ -73,25 +78,25 @@ fn placement_of(
 /// Places the works of a batch that isn't refused, by a plan.
 pub fn place(
     alloc: Global,
-    state: &State,
+    view: &View,
     line: u32,
     named: Option<UniqueName>,
     batch: Batch,
     plan: GroupPlan,
 ) -> Result<Executed, AllocError>
-    requires valid { Valid state.now }
-    requires no_run { state.now.runs ≡ [] }
-    requires built { IsBuilt (Command.Enqueue named batch) }
-    requires room { state.now.next + length batch.works ≤ 2 ^ 53 }
-    requires places { enqueued state.now named batch.works
-        ≡ placing_in (made_ready state.now (placing_by plan)) (name_in named) plan.after batch.works }
-    requires after { AllByRecursion (λ number. is_there state.now.works number ≡ true) plan.after }
-    ensures { IfOk result (IsExecuted state.entry.now line (Command.Enqueue named batch)) }
+    requires asked { IsExecutable view.now (Command.Enqueue named batch) }
+    requires room { view.now.next + length batch.works ≤ 2 ^ 53 }
+    requires places { enqueued view.now named batch.works
+        ≡ placing_in (made_ready view.now (placing_by plan)) (name_in named) plan.after batch.works }
+    requires after { AllByRecursion (λ number. is_there view.now.works number ≡ true) plan.after }
+    ensures { IfOk result (IsExecuted view.entry.now line (Command.Enqueue named batch)) }
 {
-    let placement = placement_of(alloc, state, &named, plan, batch.works().as_slice());
-    let ((named, batch), placement) = with((named, batch), placement)?;
+    // what the type of a view keeps is known where a field of it is read
+    let _reached = &view.state;
+    let placement = placement_of(alloc, view, &named, plan, batch.works().as_slice());
+    let ((named, batch), placement) = both((named, batch), placement)?;
     let numbers = seqs_twice(alloc, placement.placed.as_slice());
-    let ((named, batch, placement), (logged, told)) = with((named, batch, placement), numbers)?;
+    let ((named, batch, placement), (logged, told)) = both((named, batch, placement), numbers)?;
     let event = Event::Command {
         line,
         command: Command::Enqueue { named, batch },

@@ -3,20 +3,18 @@ ghost use Rattle.std.specs.Prelude.{◌≡◌, filter, IfOk};
 ghost use Rattle.wm_commands.specs.Builds.{IsExecuted};
 ghost use Rattle.wm_machine.specs.Group.{numbers_in};
 ghost use Rattle.wm_machine.specs.Pruned.{is_needed, removable};
-ghost use Rattle.wm_machine.specs.Valid.{Valid};
 
 use crate::executed::Executed;
 use std::alloc::{AllocError, Global};
-use wm_collections::Items;
-use wm_machine::{Command, Event, Record, Reply, State};
-use wm_steps::{StepChange, is_among, is_open};
+use wm_collections::{Items, is_among};
+use wm_machine::{Command, Event, Record, Reply};
+use wm_steps::{StepChange, View};
 
 /// What a prune comes to.
-pub fn execute(alloc: Global, state: &State, line: u32) -> Result<Executed, AllocError>
-    requires valid { Valid state.now }
-    ensures { IfOk result (IsExecuted state.entry.now line Command.Prune) }
+pub fn execute(alloc: Global, view: &View, line: u32) -> Result<Executed, AllocError>
+    ensures { IfOk result (IsExecuted view.entry.now line Command.Prune) }
 {
-    let removed = removable_numbers(alloc, state.works.as_slice())?;
+    let removed = removable_numbers(alloc, view.state.works.as_slice())?;
     let count = removed.len() as u64;
     let event = Event::Command {
         line,
@@ -48,7 +46,7 @@ fn removable_numbers(alloc: Global, works: &[Record]) -> Result<Items<u64>, Allo
 fn is_removable(works: &[Record], work: &Record) -> bool
     ensures { result ≡ removable works.now work.now }
 {
-    !is_open(work.phase) && !is_needed(works, work.seq)
+    !work.phase.is_open() && !is_needed(works, work.seq)
 }
 
 /// Whether an unfinished record has the work of this number as a prerequisite.
@@ -56,5 +54,5 @@ fn is_removable(works: &[Record], work: &Record) -> bool
 fn is_needed(works: &[Record], number: u64) -> bool
     ensures { result ≡ is_needed works.now number }
 {
-    works.iter().any(|work| is_open(work.phase) && is_among(work.prior.as_slice(), number))
+    works.iter().any(|work| work.phase.is_open() && is_among(work.prior.as_slice(), number))
 }

@@ -1,22 +1,20 @@
 //! A work that was enqueued is asked for anew.
-ghost use Rattle.std.specs.Prelude.{◌≡◌, ◌<◌, true, length, slice_get, Some, None, IfOk, MatchOption};
+ghost use Rattle.std.specs.Prelude.{◌≡◌, ◌<◌, length, slice_get, None, IfOk, MatchOption};
 ghost use Rattle.wm_commands.specs.Builds.{IsExecuted, IsReplacing, IsUpdating};
 ghost use Rattle.wm_machine.specs.Cancelled.{work_with_id};
-ghost use Rattle.wm_machine.specs.Closed.{is_open};
 ghost use Rattle.wm_machine.specs.Limits.{FitsRow};
 ghost use Rattle.wm_machine.specs.Updated.{applied, is_same_kind, one_update_more, updated};
-ghost use Rattle.wm_machine.specs.Valid.{Valid};
 ghost use Rattle.wm_request.specs.Requests.{IsRequest};
 
 use crate::executed::Executed;
 use std::alloc::{AllocError, Global};
 use uuid::Uuid;
 use wm_collections::Replica;
-use wm_machine::{Applied, Command, Event, Phase, Record, Refusal, Reply, State};
+use wm_machine::{Applied, Command, Event, Phase, Record, Refusal, Reply};
 use wm_request::Request;
 use wm_rows::have_one_row;
 use wm_schedule::Period;
-use wm_steps::{RunChange, StepChange, at, copied, is_open, with};
+use wm_steps::{RunChange, StepChange, View, at, both, copied};
 
 /// Updates are counted up to this number, 2^53 - 1.
 const LAST_GENERATION: u64 = 9_007_199_254_740_991;
@@ -24,20 +22,19 @@ const LAST_GENERATION: u64 = 9_007_199_254_740_991;
 /// What an update comes to.
 pub fn execute(
     alloc: Global,
-    state: &State,
+    view: &View,
     line: u32,
     request: Request,
 ) -> Result<Executed, AllocError>
-    requires valid { Valid state.now }
     requires asked { IsRequest request }
-    ensures { IfOk result (IsExecuted state.entry.now line (Command.Update request)) }
+    ensures { IfOk result (IsExecuted view.entry.now line (Command.Update request)) }
 {
-    match index_with_id(state.works.as_slice(), request.id()) {
-        Some(index) => update_at(alloc, state, line, index, request),
+    match index_with_id(view.state.works.as_slice(), request.id()) {
+        Some(index) => update_at(alloc, view, line, index, request),
         None => {
             let refusal = Refusal::NoSuchWork { id: request.id() };
             let command = Command::Update(request);
-            Executed::answering(alloc, line, command, Reply::Refused(refusal))
+            Executed::answering(alloc, view, line, command, Reply::Refused(refusal))
         }
     }
 }
@@ -54,30 +51,30 @@ fn index_with_id(works: &[Record], id: Uuid) -> Option<usize>
 /// left as it is, and an unfinished one of the other kind is refused.
 fn update_at(
     alloc: Global,
-    state: &State,
+    view: &View,
     line: u32,
     index: usize,
     request: Request,
 ) -> Result<Executed, AllocError>
-    requires valid { Valid state.now }
     requires asked { IsRequest request }
-    requires index { index < length state.now.works }
-    requires found { work_with_id state.now.works request.id ≡ slice_get state.now.works index }
-    ensures { IfOk result (IsExecuted state.entry.now line (Command.Update request)) }
+    requires index { index < length view.now.works }
+    requires found { work_with_id view.now.works request.id ≡ slice_get view.now.works index }
+    ensures { IfOk result (IsExecuted view.entry.now line (Command.Update request)) }
 {
-    let work = at(state.works.as_slice(), index);
-    if !is_open(work.phase) {
+    let work = at(view.state.works.as_slice(), index);
+    if !work.phase.is_open() {
         let reply = Reply::Updated {
             result: Applied::NotApplied,
             generation: work.generation,
         };
-        Executed::answering(alloc, line, Command::Update(request), reply)
+        Executed::answering(alloc, view, line, Command::Update(request), reply)
     } else if is_same_kind(request.period(), work.request.period()) {
-        update(alloc, state, line, index, work, request)
+        let (request, asked, _) = copied(alloc, request, ())?;
+        update_of(alloc, line, Command::Update(asked), index, work, request)
     } else {
         let refusal = Refusal::KindMismatch { id: request.id() };
         let command = Command::Update(request);
-        Executed::answering(alloc, line, command, Reply::Refused(refusal))
+        Executed::answering(alloc, view, line, command, Reply::Refused(refusal))
     }
 }
 
@@ -86,27 +83,6 @@ fn is_same_kind(one: Option<Period>, other: Option<Period>) -> bool
     ensures { result ≡ is_same_kind one other }
 {
     one.is_some() == other.is_some()
-}
-
-/// Updates the unfinished work at an index by a request of its kind.
-fn update(
-    alloc: Global,
-    state: &State,
-    line: u32,
-    index: usize,
-    work: &Record,
-    request: Request,
-) -> Result<Executed, AllocError>
-    requires valid { Valid state.now }
-    requires asked { IsRequest request }
-    requires at { slice_get state.now.works index ≡ Some work.now }
-    requires found { work_with_id state.now.works request.id ≡ Some work.now }
-    requires unfinished { is_open work.now.phase ≡ true }
-    requires kind { is_same_kind request.period work.now.request.period ≡ true }
-    ensures { IfOk result (IsExecuted state.entry.now line (Command.Update request)) }
-{
-    let (request, asked, _) = copied(alloc, request, ())?;
-    update_of(alloc, line, Command::Update(asked), index, work, request)
 }
 
 /// What an update of the work at an index comes to, for the command of a line: its record is
@@ -122,7 +98,7 @@ pub fn update_of(
     requires { FitsRow work.now }
     ensures { IfOk result (IsUpdating line command index work.entry.now request) }
 {
-    let (command, changed) = with(command, updated(alloc, work, request))?;
+    let (command, changed) = both(command, updated(alloc, work, request))?;
     let result = applied(work.phase);
     let generation = changed.generation;
     let event = Event::Command {
@@ -141,7 +117,7 @@ pub fn update_of(
 pub fn updated(alloc: Global, work: &Record, request: Request) -> Result<Record, AllocError>
     ensures { IfOk result (λ changed. changed ≡ updated request work.entry.now) }
 {
-    let (request, mut changed) = with(request, work.replica(alloc))?;
+    let (request, mut changed) = both(request, work.replica(alloc))?;
     changed.request = request.with_id(work.request.id());
     changed.generation = one_update_more(work.generation);
     Ok(changed)
@@ -178,7 +154,7 @@ fn replacing(
     ensures { IfOk result (IsReplacing index work.entry.now changed event) }
 {
     let same = have_one_row(alloc, &changed, work);
-    let ((changed, event), same) = with((changed, event), same)?;
+    let ((changed, event), same) = both((changed, event), same)?;
     if same {
         StepChange::keeping_row(alloc, index, changed, RunChange::Unchanged, event)
     } else {

@@ -5,12 +5,12 @@ use Rattle.std.proofs.lemmas.List.{take_more}
 use Rattle.std.specs.Cmp.Lexicographic.{slice_cmp}
 use Rattle.std.specs.Ordering.{ordering_reverse}
 use Rattle.serde_json.specs.Data as json
+use Rattle.wm_collections.proofs.Lists.{All-append}
 use Rattle.wm_collections.specs.Lists.{AscendByBytes}
 use Rattle.wm_data.specs.DataJson.{entries_json, value_json}
 use Rattle.wm_data.specs.InType.{AreInType, IsInType}
 use Rattle.wm_data.specs.declared.data.DataEntry.{DataEntry}
 use Rattle.wm_data.proofs.Places.{keys, first_before, AllBefore}
-use Rattle.wm_data.proofs.Puts.{all_append}
 
 -- a member whose key is above the others goes last
 put_last : (front : List DataEntry) (entry : DataEntry) → AllBefore entry.key front
@@ -34,5 +34,4 @@ put_more entries i d up h = rw (take_more entries i d h) (put_last (take i entri
 
 pub in_type_more : (entries : List DataEntry) (i : ℕ) (d : DataEntry) → i < length entries → AreInType (take i entries)
     → IsInType (get_or entries i d).value → AreInType (take (i + 1) entries)
-in_type_more entries i d h are is =
-    rw (take_more entries i d h) (all_append (λ entry. IsInType entry.value) (take i entries) (get_or entries i d ∷ []) are (is, tt))
+in_type_more entries i d h are is = rw (take_more entries i d h) (All-append _ (take i entries) (get_or entries i d ∷ []) are (is, tt))

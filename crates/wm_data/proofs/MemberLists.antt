@@ -123,8 +123,7 @@ put_of_read (Some entry) ms m builder now is good put =
 
 -- a member that was put
 pub entries_of-put : (done : List (String Global × Value)) (e : String Global × Value) (builder now : List DataEntry)
-    → entries_of (members_in done) ≡ Ok builder
-    → option_map (λ entry. with_entry entry builder) (read_entry (string_bytes e.0, view e.1)) ≡ Some now
+    → entries_of (members_in done) ≡ Ok builder → option_map (λ entry. with_entry entry builder) (read_entry (string_bytes e.0, view e.1)) ≡ Some now
     → entries_of (members_in (done ++ e ∷ [])) ≡ Ok now
 entries_of-put done e builder now good put =
     rw (map-append as_member done (e ∷ []))
@@ -132,8 +131,7 @@ entries_of-put done e builder now good put =
 
 bad_answer : (o : Option DataEntry) (ms rest : List (List ℕ × json.Data)) (m : List ℕ × json.Data) (builder : List DataEntry) (x : DataFault) → read_entry m ≡ o
     → entries_of ms ≡ Ok builder → ok_or o (fault.BadData m.0) ≡ Err x → entries_of (ms ++ m ∷ rest) ≡ Err x
-bad_answer None ms rest m builder x is good bad =
-    entries_of-bad ms rest m builder good is ∙ ap (λ r. Err (unwrap_or (result_err r) x)) bad
+bad_answer None ms rest m builder x is good bad = entries_of-bad ms rest m builder good is ∙ ap (λ r. Err (unwrap_or (result_err r) x)) bad
 bad_answer (Some entry) ms rest m builder x is good bad = absurd (true≢false (ap is_ok bad))
 
 -- a member that wasn't

@@ -1,5 +1,5 @@
 -- The place of a key among entries in the order of their keys.
-use Rattle.std.proofs.Common.{◌≡◌, ℕ, zero, suc, ◌+◌, ◌<◌, ◌≤◌, Bool, true, false, List, [], ◌∷◌, length, map, filter, find, get_or, None, Result, Ok, Err, IfOk, IfErr, Less, Equal, Greater, nat_cmp, is_eq, is_lt, is_gt, refl, sym, ap, ◌∙◌, subst, add-one, arith}
+use Rattle.std.proofs.Common.{◌≡◌, ℕ, zero, suc, ◌+◌, ◌<◌, ◌≤◌, false, List, [], ◌∷◌, length, map, filter, find, get_or, None, Result, Ok, Err, IfOk, IfErr, Less, Equal, Greater, nat_cmp, is_eq, is_lt, is_gt, refl, sym, ap, ◌∙◌, subst, add-one, arith}
 use Rattle.std.proofs.lemmas.Cmp.{nat_list_cmp_total, tied_itself}
 use Rattle.std.proofs.lemmas.List.Elements.{All-from_all_within, recursion_from_All}
 use Rattle.std.proofs.lemmas.List.Sorted.{searchable_from_sorted}
@@ -9,31 +9,12 @@ use Rattle.std.specs.Cmp.Lexicographic.{slice_cmp}
 use Rattle.std.specs.List.{AllByRecursion, AllWithin}
 use Rattle.std.specs.List.Sorted.{IsBinarySearchResult, IsSearchInRange}
 use Rattle.std.specs.Ordering.{ordering_reverse}
+use Rattle.wm_collections.proofs.Lists.{All-unmap, All-weaker, filter-each, filter-none, find-fails}
 use Rattle.wm_collections.specs.Lists.{AscendByBytes}
 use Rattle.wm_data.specs.Entries.{is_after, is_at, is_before, IsFoundAt, IsMissingAt}
 use Rattle.wm_data.specs.declared.data.DataEntry.{DataEntry}
 
 -- ---- tests that all elements pass, or none
-
-pub filter_all : {X : Type 0} (p : X → Bool) (xs : List X) → AllByRecursion (λ x. p x ≡ true) xs → filter p xs ≡ xs
-filter_all p [] h = refl
-filter_all p (x ∷ xs) h = rw h.0 (ap (λ rest. x ∷ rest) (filter_all p xs h.1))
-
-pub filter_none : {X : Type 0} (p : X → Bool) (xs : List X) → AllByRecursion (λ x. p x ≡ false) xs → filter p xs ≡ []
-filter_none p [] h = refl
-filter_none p (x ∷ xs) h = rw h.0 (filter_none p xs h.1)
-
-pub find_none : {X : Type 0} (p : X → Bool) (xs : List X) → AllByRecursion (λ x. p x ≡ false) xs → find p xs ≡ None
-find_none p [] h = refl
-find_none p (x ∷ xs) h = rw h.0 (find_none p xs h.1)
-
-pub all_weaker : {X : Type 0} (P Q : X → Type 0) → ((x : X) → P x → Q x) → (xs : List X) → AllByRecursion P xs → AllByRecursion Q xs
-all_weaker P Q weaker [] h = tt
-all_weaker P Q weaker (x ∷ xs) h = (weaker x h.0, all_weaker P Q weaker xs h.1)
-
-pub all_of_mapped : {X Y : Type 0} (f : X → Y) (P : Y → Type 0) (xs : List X) → AllByRecursion P (map f xs) → AllByRecursion (λ x. P (f x)) xs
-all_of_mapped f P [] h = tt
-all_of_mapped f P (x ∷ xs) h = (h.0, all_of_mapped f P xs h.1)
 
 -- ---- keys
 
@@ -54,20 +35,19 @@ AllAfter key entries = AllByRecursion (λ entry. slice_cmp nat_cmp entry.key key
 -- the entries after the first of ascending ones
 pub later_keys : (first : DataEntry) (entries : List DataEntry) → AscendByBytes (keys (first ∷ entries)) → AllAfter first.key entries
 later_keys first entries up =
-    all_weaker (λ entry. slice_cmp nat_cmp first.key entry.key ≡ Less) (λ entry. slice_cmp nat_cmp entry.key first.key ≡ Greater)
-    (λ entry less. nat_list_cmp_total.antisymm entry.key first.key ∙ ap ordering_reverse less) entries
-    (all_of_mapped (λ entry. entry.key) (λ later. slice_cmp nat_cmp first.key later ≡ Less) entries up.0)
+    All-weaker entries (λ entry less. nat_list_cmp_total.antisymm entry.key first.key ∙ ap ordering_reverse less)
+    (All-unmap _ (λ entry. entry.key) entries up.0)
 
 -- ---- where entries all lie on one side
 
 none_at_after : (key : List ℕ) (entries : List DataEntry) → AllAfter key entries → find (is_at key) entries ≡ None
-none_at_after key entries h = find_none (is_at key) entries (all_weaker _ (λ entry. is_at key entry ≡ false) (λ entry e. ap is_eq e) entries h)
+none_at_after key entries h = find-fails (is_at key) entries (All-weaker entries (λ entry e. ap is_eq e) h)
 
 none_before_after : (key : List ℕ) (entries : List DataEntry) → AllAfter key entries → filter (is_before key) entries ≡ []
-none_before_after key entries h = filter_none (is_before key) entries (all_weaker _ (λ entry. is_before key entry ≡ false) (λ entry e. ap is_lt e) entries h)
+none_before_after key entries h = filter-none (is_before key) entries (All-weaker entries (λ entry e. ap is_lt e) h)
 
 all_after_after : (key : List ℕ) (entries : List DataEntry) → AllAfter key entries → filter (is_after key) entries ≡ entries
-all_after_after key entries h = filter_all (is_after key) entries (all_weaker _ (λ entry. is_after key entry ≡ true) (λ entry e. ap is_gt e) entries h)
+all_after_after key entries h = filter-each (is_after key) entries (All-weaker entries (λ entry e. ap is_gt e) h)
 
 -- ---- the place
 
@@ -148,8 +128,7 @@ pub IsFoundAt-search : (key : List ℕ) (entries : List DataEntry) (answer : Res
     → IsSearchInRange answer (length entries) → IsBinarySearchResult (λ entry. slice_cmp nat_cmp entry.key key) entries answer
     → IfOk answer (IsFoundAt key entries) × IfErr answer (IsMissingAt key entries)
 IsFoundAt-search key [] (Ok index) up range is = absurd (omega arith)
-IsFoundAt-search key (entry ∷ entries) (Ok index) up range is =
-    (IsFoundAt-equal key (entry ∷ entries) index entry up range (same_key _ key (is entry)), tt)
+IsFoundAt-search key (entry ∷ entries) (Ok index) up range is = (IsFoundAt-equal key (entry ∷ entries) index entry up range (same_key _ key (is entry)), tt)
 IsFoundAt-search key entries (Err index) up range is =
     let parted = is (searchable_from_sorted nat_list_cmp_total (λ entry. entry.key) entries key (λ k d low high. in_order entries k d up high)) in
     (tt, IsMissingAt-between key entries index range parted.0 parted.1)

@@ -3,6 +3,7 @@ use Rattle.std.proofs.Common.{◌≡◌, ℕ, ℤ, pos, negsuc, ◌^◌, ◌<◌
 use Rattle.std.specs.Cmp.Lexicographic.{slice_cmp}
 use Rattle.std.specs.List.{AllByRecursion, list_all, list_any}
 use Rattle.std.specs.Ordering.{is_lt, is_gt, nat_cmp}
+use Rattle.wm_collections.proofs.Lists.{All-any, All-weaker, filter-each, filter-none}
 use Rattle.wm_collections.specs.Lists.{AscendByBytes}
 use Rattle.serde_json.specs.Data as json
 use Rattle.serde_json.specs.Find.{as_bool, as_str}
@@ -15,7 +16,7 @@ use Rattle.wm_data.specs.declared.data.DataEntry.{DataEntry}
 use Rattle.wm_data.specs.declared.value.Value.{Value}
 use Rattle.wm_data.specs.declared.value.Value.TheVariants as value
 use Rattle.wm_data.proofs.ItemLists.{item_list-items_of}
-use Rattle.wm_data.proofs.Places.{all_weaker, filter_all, filter_none, keys, AllBefore}
+use Rattle.wm_data.proofs.Places.{keys, AllBefore}
 
 -- ---- numbers
 
@@ -53,10 +54,6 @@ list_in-list_of form reading xs h =
     let whole_list = list_all-written form reading xs h in
     rw (item_list-items_of (map form xs), whole_list.0, whole_list.1) refl
 
-each : {T : Type 0} (P : T → Type 0) → ((x : T) → P x) → (xs : List T) → AllByRecursion P xs
-each P all [] = tt
-each P all (x ∷ xs) = (all x, each P all xs)
-
 -- ---- values
 
 read_value-value_json : (v : Value) → IsInType v → read_value (value_json v) ≡ Some v
@@ -65,16 +62,11 @@ read_value-value_json (value.Byte n) h = rw (byte_of-whole n h) refl
 read_value-value_json (value.Int n) h = rw (int_of-whole n h) refl
 read_value-value_json (value.Long n) h = rw (long_of-whole n h) refl
 read_value-value_json (value.Text text) h = refl
-read_value-value_json (value.Bools bs) h =
-    rw (list_in-list_of json.boolean as_bool bs (each (λ b. as_bool (json.boolean b) ≡ Some b) (λ b. refl) bs)) refl
-read_value-value_json (value.Bytes ns) h =
-    rw (list_in-list_of whole (whole_of 7) ns (all_weaker (FitsSigned w8) (λ n. whole_of 7 (whole n) ≡ Some n) byte_of-whole ns h)) refl
-read_value-value_json (value.Ints ns) h =
-    rw (list_in-list_of whole (whole_of 31) ns (all_weaker (FitsSigned w32) (λ n. whole_of 31 (whole n) ≡ Some n) int_of-whole ns h)) refl
-read_value-value_json (value.Longs ns) h =
-    rw (list_in-list_of whole long_of ns (all_weaker (FitsSigned w64) (λ n. long_of (whole n) ≡ Some n) long_of-whole ns h)) refl
-read_value-value_json (value.Texts texts) h =
-    rw (list_in-list_of json.string as_str texts (each (λ text. as_str (json.string text) ≡ Some text) (λ text. refl) texts)) refl
+read_value-value_json (value.Bools bs) h = rw (list_in-list_of json.boolean as_bool bs (All-any bs (λ b. refl))) refl
+read_value-value_json (value.Bytes ns) h = rw (list_in-list_of whole (whole_of 7) ns (All-weaker ns byte_of-whole h)) refl
+read_value-value_json (value.Ints ns) h = rw (list_in-list_of whole (whole_of 31) ns (All-weaker ns int_of-whole h)) refl
+read_value-value_json (value.Longs ns) h = rw (list_in-list_of whole long_of ns (All-weaker ns long_of-whole h)) refl
+read_value-value_json (value.Texts texts) h = rw (list_in-list_of json.string as_str texts (All-any texts (λ text. refl))) refl
 
 -- ---- entries
 
@@ -93,8 +85,8 @@ all_read (entry ∷ entries) h = rw (read_entry-written entry h.0, all_read entr
 with_entry-last : (entry : DataEntry) (entries : List DataEntry) → AllBefore entry.key entries → with_entry entry entries ≡ entries ++ entry ∷ []
 with_entry-last entry entries before =
     rw (
-      filter_all (is_before entry.key) entries (all_weaker _ (λ e. is_before entry.key e ≡ true) (λ e less. ap is_lt less) entries before),
-      filter_none (is_after entry.key) entries (all_weaker _ (λ e. is_after entry.key e ≡ false) (λ e less. ap is_gt less) entries before),
+      filter-each (is_before entry.key) entries (All-weaker entries (λ e less. ap is_lt less) before),
+      filter-none (is_after entry.key) entries (All-weaker entries (λ e less. ap is_gt less) before),
     ) refl
 
 first_before : (first : DataEntry) (done : List DataEntry) (entry : DataEntry) (more : List DataEntry)
@@ -111,8 +103,7 @@ put_all-ascending : (done more : List DataEntry) → AscendByBytes (keys (done +
 put_all-ascending done [] up = sym (append-nil done)
 put_all-ascending done (entry ∷ more) up =
     let whole = append_assoc done (entry ∷ []) more in
-    rw (with_entry-last entry done (all_before done entry more up))
-    (put_all-ascending (done ++ entry ∷ []) more (rw whole up) ∙ whole)
+    rw (with_entry-last entry done (all_before done entry more up)) (put_all-ascending (done ++ entry ∷ []) more (rw whole up) ∙ whole)
 
 no_empty_key : (entries : List DataEntry) → AllByRecursion (λ entry. 1 ≤ length entry.key) entries
     → list_any (λ m. length m.0 == 0) (member_list (entries_json entries)) ≡ false

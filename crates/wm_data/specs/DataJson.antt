@@ -1,4 +1,4 @@
--- Data as JSON, and its canonical text. This project's own choice.
+-- Data as JSON, and its canonical text.
 use Rattle.std.specs.Prelude.{ℕ, ℤ, List, [], ◌∷◌, map, codes}
 use Rattle.serde_json.specs.Data as json
 use Rattle.serde_json.specs.Find.{of_integer}

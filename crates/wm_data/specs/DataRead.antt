@@ -1,4 +1,4 @@
--- Which Data a JSON value is, and why one is none. This project's own choice.
+-- Which Data a JSON value is, and why one is none.
 use Rattle.std.specs.Prelude.{ℕ, ℤ, pos, negsuc, ◌^◌, ◌==◌, List, [], ◌∷◌, length, codes, filter_map, find, nat_lt, Bool, if◌then◌else◌, Option, Some, None, is_some, is_none, option_map, option_and_then, Result, Ok, Err}
 use Rattle.std.specs.List.{fold, list_all, list_any}
 use Rattle.std.specs.Map.{lookup}

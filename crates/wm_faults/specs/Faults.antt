@@ -1,4 +1,4 @@
--- What a count of faults says about the calls between two moments. This project's own choice.
+-- What a count of faults says about the calls between two moments.
 use Rattle.std.specs.Prelude.{◌≡◌, ℕ, ◌+◌, ◌-◌, ◌^◌, ◌≤◌, Bool, true, false, min}
 
 -- the count is higher, or stands at the end of its type

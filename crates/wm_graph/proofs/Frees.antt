@@ -2,11 +2,10 @@
 use Rattle.std.proofs.Common.{◌≡◌, ◌≢◌, ℕ, ◌==◌, Bool, true, false, not, ◌||◌, ◌&&◌, eqb, List, [], ◌∷◌, map, filter, refl, sym, ap, subst, ◌∙◌, inl, inr}
 use Rattle.std.specs.List.{AllByRecursion, list_all}
 use Rattle.std.proofs.lemmas.Bool.{cases_Bool, cond_both, eq-eqb, eqb-true, eqb-false, ne_eqb, not-false, not-true}
-use Rattle.wm_collections.specs.Lists.{AllLater}
-use Rattle.wm_graph.proofs.Lists.{All-weaker}
-use Rattle.wm_graph.specs.Descendants.{is_among}
+use Rattle.wm_collections.specs.Lists.{AllLater, is_among}
+use Rattle.wm_collections.proofs.Lists.{All-weaker, filter-same}
 use Rattle.wm_graph.specs.Marks.{freed_by, frees, is_just, is_met, unmet_of, with_marked}
-use Rattle.wm_graph.specs.Nodes.{HasNode, IsGraph, IsNode, NodeFields}
+use Rattle.wm_graph.specs.Nodes.{HasNode, IsGraph, NodeFields}
 
 and_false : (a b : Bool) → b ≡ false → (a && b) ≡ false
 and_false true b e = e
@@ -48,8 +47,7 @@ module _ (met then : ℕ → Bool) (seq : ℕ) (unmet : met seq ≡ false) (will
             let agrees : then n ≡ met n = stays n (eqb-false n seq other) in
             let rest = just-left before different.1 in
             rw (other) (cond_both (not (met n)) (n ∷ left before) (left before)
-            (λ unmet_now. is_just seq unmet_now ≡ (is_among before seq && (then n && list_all then before)))
-            (λ e. just-other seq n (left before) other
+            (λ unmet_now. is_just seq unmet_now ≡ (is_among before seq && (then n && list_all then before))) (λ e. just-other seq n (left before) other
             ∙ sym (and_false (is_among before seq) (then n && list_all then before) (rw (agrees, not-true (met n) e) refl)))
             (λ e. rw (agrees, not-false (met n) e) rest))
       ]
@@ -75,20 +73,9 @@ stays-so seq n (node ∷ nodes) apart =
     (λ e. let other : eqb node.seq n ≡ false = ne_eqb node.seq n (λ same. apart (sym same ∙ eqb-true node.seq seq e)) in rw (other) rest)
     (λ e. ap (λ b. ((node.seq == n) && node.done) || b) rest)
 
--- two tests that agree on each node
-filter-agrees : (test other : NodeFields → Bool) (nodes : List NodeFields) → AllByRecursion (λ node. test node ≡ other node) nodes
-    → filter test nodes ≡ filter other nodes
-filter-agrees test other [] agree = refl
-filter-agrees test other (node ∷ nodes) agree = rw (agree.0, filter-agrees test other nodes agree.1) refl
-
 pub frees-freed_by : (nodes : List NodeFields) (seq : ℕ) → IsGraph nodes → HasNode nodes seq → is_met nodes seq ≡ false → frees nodes seq ≡ freed_by nodes seq
 frees-freed_by nodes seq graph has unmarked =
-    ap (map (λ (node : NodeFields). node.seq))
-    (filter-agrees (λ node. is_just seq (unmet_of nodes node.before))
-    (λ node. is_among node.before seq && list_all (is_met (with_marked seq nodes)) node.before) nodes
-    (All-weaker (IsNode nodes)
-    (λ node. is_just seq (unmet_of nodes node.before) ≡ (is_among node.before seq && list_all (is_met (with_marked seq nodes)) node.before)) nodes
-    (λ node is.
+    ap (map (λ (node : NodeFields). node.seq)) (filter-same (λ node. is_just seq (unmet_of nodes node.before))
+    (λ node. is_among node.before seq && list_all (is_met (with_marked seq nodes)) node.before) nodes (All-weaker nodes (λ node is.
     just-left (is_met nodes) (is_met (with_marked seq nodes)) seq unmarked (will-be seq nodes has) (λ n apart. stays-so seq n nodes apart) node.before
-    is.names.different)
-    graph.each))
+    is.names.different) graph.each))

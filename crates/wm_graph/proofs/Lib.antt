@@ -1,6 +1,5 @@
 pub mod Descends
 pub mod Frees
 pub mod Graphs
-pub mod Lists
 pub mod Reaches
 pub mod Unmet

@@ -5,9 +5,9 @@ use Rattle.std.specs.List.Sorted.{IsBinarySearchResult, IsSearchInRange}
 use Rattle.std.specs.Option.{option_map_or}
 use Rattle.std.proofs.lemmas.Bool.{cond_both, eq-eqb, eqb-true, ne_eqb}
 use Rattle.std.proofs.lemmas.Map.Views.{any-filter_same}
-use Rattle.wm_graph.proofs.Lists.{fewer-filter}
+use Rattle.wm_collections.specs.Lists.{is_among}
+use Rattle.wm_collections.proofs.Lists.{filter-few}
 use Rattle.wm_collections.proofs.Places.{above-at, place-found, place-none}
-use Rattle.wm_graph.specs.Descendants.{is_among}
 use Rattle.wm_graph.specs.Marks.{before_of, is_just, is_met, unmet, unmet_of}
 use Rattle.wm_graph.specs.Nodes.{AreAscending, IsGraph, IsNode, NodeFields}
 
@@ -42,8 +42,7 @@ is_among-unmet nodes before seq unmarked =
 pub freed-counted : (nodes : List NodeFields) (before : List ℕ) (seq : ℕ) → is_met nodes seq ≡ false
     → is_just seq (unmet_of nodes before) ≡ (is_among before seq && (length (unmet_of nodes before) == 1))
 freed-counted nodes before seq unmarked =
-    is_just-counted seq (unmet_of nodes before)
-    ∙ and_turned (length (unmet_of nodes before) == 1) (is_among (unmet_of nodes before) seq)
+    is_just-counted seq (unmet_of nodes before) ∙ and_turned (length (unmet_of nodes before) == 1) (is_among (unmet_of nodes before) seq)
     ∙ ap (λ among. among && (length (unmet_of nodes before) == 1)) (is_among-unmet nodes before seq unmarked)
 
 -- a node that is found has few prerequisites
@@ -56,7 +55,7 @@ few-found all (node ∷ nodes) seq each =
     (λ e. few-found all nodes seq each.1)
 
 pub unmet-few : (nodes : List NodeFields) (seq : ℕ) → IsGraph nodes → unmet nodes seq ≤ 100
-unmet-few nodes seq graph = fewer-filter (λ number. not (is_met nodes number)) (before_of nodes seq) 100 (few-found nodes nodes seq graph.each)
+unmet-few nodes seq graph = omega (arith, filter-few (λ number. not (is_met nodes number)) (before_of nodes seq), few-found nodes nodes seq graph.each)
 
 -- ---- the mark of a node
 

@@ -1,14 +1,16 @@
 ghost use Rattle.std.specs.Prelude.{◌≡◌, ◌==◌, ◌&&◌, ◌<◌, ◌≤◌, [], ◌∷◌, ◌++◌, find, length, map, reverse, take, false, IfOk, OnOk, OnErr};
 ghost use Rattle.std.specs.List.{AllByRecursion, list_any};
 ghost use Rattle.std.specs.Option.{option_copied};
-ghost use Rattle.wm_graph.specs.Descendants.{AreDescendants, descendants, is_among};
+ghost use Rattle.wm_collections.specs.Lists.{is_among};
+ghost use Rattle.wm_graph.specs.Descendants.{descendants, AreDescendants, BeginsWith};
 ghost use Rattle.wm_graph.specs.Marks.{freed_by, frees, is_just, is_met, unmet, unmet_of, with_marked};
 ghost use Rattle.wm_graph.specs.Leaves.{is_leaf, is_needed, leaves};
 ghost use Rattle.wm_graph.specs.Nodes.{forgetting, AreAscending, HasNode, NamesNodes, without};
 
-use crate::node::{Node, is_among};
+use crate::node::Node;
 use std::alloc::{AllocError, Global};
 use std::marker::Model;
+use wm_collections::is_among;
 
 /// Nodes in ascending number, each with its prerequisites and a mark. A contract sees it as their
 /// list. A prerequisite is a node before it, and a node has at most 100, which differ.
@@ -74,18 +76,25 @@ impl Graph {
     pub fn descendants(&self, seq: u64) -> Result<Vec<u64>, AllocError>
         requires { HasNode self.now seq }
         ensures found { IfOk result
-            (λ found. found.items ≡ reverse (descendants seq (reverse self.now))) }
+            (λ found. found.items ≡ reverse (descendants (seq ∷ []) (reverse self.now))) }
 
         // What follows of the numbers found.
-        ensures descendants { IfOk result (λ found. AreDescendants self.now seq found.items) }
+        ensures descendants { IfOk result (λ found. AreDescendants self.now (seq ∷ []) found.items) }
+        ensures itself_first { IfOk result (λ found. BeginsWith seq found.items) }
     {
-        let mut found = Vec::new(self.alloc);
-        for node in &self.nodes {
-            if node.follows(seq, found.as_slice()) {
-                found.push(node.seq())?;
-            }
-        }
-        Ok(found)
+        reached(self.alloc, self.nodes.as_slice(), &[seq])
+    }
+
+    /// The numbers of some nodes and of all that any of them reaches, ascending. Numbers of nodes
+    /// that aren't there reach nothing. Memory that is refused is the only error.
+    pub fn descendants_of(&self, seqs: &[u64]) -> Result<Vec<u64>, AllocError>
+        ensures found { IfOk result
+            (λ found. found.items ≡ reverse (descendants seqs.now (reverse self.now))) }
+
+        // What follows of the numbers found.
+        ensures descendants { IfOk result (λ found. AreDescendants self.now seqs.now found.items) }
+    {
+        reached(self.alloc, self.nodes.as_slice(), seqs)
     }
 
     /// The given nodes that aren't a prerequisite of a given node, ascending. Memory that is refused
@@ -158,6 +167,19 @@ impl Graph {
     {
         self.nodes.truncate(count);
     }
+}
+
+/// The numbers of the nodes that are these or that one of these reaches.
+fn reached(alloc: Global, nodes: &[Node], seqs: &[u64]) -> Result<Vec<u64>, AllocError>
+    ensures { IfOk result (λ found. found.items ≡ reverse (descendants seqs.now (reverse nodes.now))) }
+{
+    let mut found = Vec::new(alloc);
+    for node in nodes {
+        if node.follows(seqs, found.as_slice()) {
+            found.push(node.seq())?;
+        }
+    }
+    Ok(found)
 }
 
 /// The node of this number.

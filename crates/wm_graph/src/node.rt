@@ -1,10 +1,11 @@
-ghost use Rattle.std.specs.Prelude.{◌≡◌, ◌==◌, ◌||◌};
+ghost use Rattle.std.specs.Prelude.{◌≡◌, ◌||◌};
 ghost use Rattle.std.specs.List.{list_any};
-ghost use Rattle.wm_graph.specs.Descendants.{is_among};
+ghost use Rattle.wm_collections.specs.Lists.{is_among};
 ghost use Rattle.wm_graph.specs.Marks.{marked};
 ghost use Rattle.wm_graph.specs.Nodes.{forgetting};
 
 use std::marker::Model;
+use wm_collections::is_among;
 
 /// A node as the graph keeps it. A contract sees it as the record of its fields.
 #[derive(Debug, Drop)]
@@ -29,12 +30,12 @@ impl Node {
         self.seq
     }
 
-    /// Whether it is the node of this number, or has one of those found as a prerequisite.
-    pub(crate) fn follows(&self, seq: u64, found: &[u64]) -> bool
+    /// Whether it is the node of one of these numbers, or has one of those found as a prerequisite.
+    pub(crate) fn follows(&self, seqs: &[u64], found: &[u64]) -> bool
         ensures { result
-            ≡ (self.now.seq == seq || list_any (is_among found.now) self.now.before) }
+            ≡ (is_among seqs.now self.now.seq || list_any (is_among found.now) self.now.before) }
     {
-        self.seq == seq || has_any(self.before.as_slice(), found)
+        is_among(seqs, self.seq) || has_any(self.before.as_slice(), found)
     }
 
     pub(crate) fn before(&self) -> &[u64]
@@ -64,13 +65,6 @@ impl Node {
     {
         self.before.retain(|number| *number != seq);
     }
-}
-
-/// Whether a number is one of these.
-pub(crate) fn is_among(numbers: &[u64], number: u64) -> bool
-    ensures { result ≡ is_among numbers.now number }
-{
-    numbers.iter().any(|one| *one == number)
 }
 
 /// Whether one of these numbers is one of the others.

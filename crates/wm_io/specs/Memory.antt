@@ -1,5 +1,4 @@
--- What a source and a sink in memory keep, and how many bytes a call moves. This project's own
--- choice.
+-- What a source and a sink in memory keep, and how many bytes a call moves.
 use Rattle.std.specs.Prelude.{◌≡◌, ℕ, ◌+◌, ◌-◌, ◌^◌, List, length, drop, min}
 use Rattle.wm_io.specs.declared.source.Got.{Got}
 use Rattle.wm_io.specs.declared.source.Got.TheVariants as got

@@ -1,5 +1,4 @@
--- What a write does to the bytes that a sink was given and to its count of faults. This project's
--- own choice.
+-- What a write does to the bytes that a sink was given and to its count of faults.
 use Rattle.std.specs.Prelude.{◌≡◌, ℕ, ◌<◌, ◌≤◌, Bool, true, false, List, ◌++◌, take, Option, option_map}
 use Rattle.wm_faults.specs.Faults.{HasCause}
 use Rattle.wm_io.specs.declared.sink.Put.{Put}

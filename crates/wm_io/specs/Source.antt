@@ -1,5 +1,4 @@
--- What a read does to the bytes that a source has left and to its count of faults. This project's
--- own choice.
+-- What a read does to the bytes that a source has left and to its count of faults.
 use Rattle.std.specs.Prelude.{◌≡◌, ℕ, ◌<◌, ◌≤◌, Bool, true, false, List, [], ◌++◌, take, Option, option_map, IfSome}
 use Rattle.wm_faults.specs.Faults.{HasCause}
 use Rattle.wm_io.specs.declared.source.Got.{Got}

@@ -1,5 +1,4 @@
--- What a call does to the bytes of a std reader or writer behind it, where std knows them. This
--- project's own choice.
+-- What a call does to the bytes of a std reader or writer behind it, where std knows them.
 use Rattle.std.specs.Prelude.{ℕ, List, take, Option}
 use Rattle.std.specs.Io.KnownBytes.{Keeps, Consumes, Appends, IsAtEnd}
 use Rattle.wm_io.specs.declared.source.Got.{Got}

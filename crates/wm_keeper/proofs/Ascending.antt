@@ -58,8 +58,7 @@ pub put_row-Ascends : (row : Row) (rows : List Row) → Ascends rows → Ascends
 put_row-Ascends row [] h = (tt, tt)
 put_row-Ascends row (first ∷ rows) h =
     by_lt_z row.seq first.seq
-    (λ below. let e = int_lt-true row.seq first.seq below in rw e ((below, above_lower row.seq first.seq rows (omega (arith, ints)) h.0), h))
-    (λ at_least.
+    (λ below. let e = int_lt-true row.seq first.seq below in rw e ((below, above_lower row.seq first.seq rows (omega (arith, ints)) h.0), h)) (λ at_least.
     let e = int_lt-false row.seq first.seq at_least in
     by_lt_z first.seq row.seq
     (λ above. let f = int_lt-true first.seq row.seq above in rw (e, f) (All-put_row (λ r. first.seq <ℤ r.seq) row rows above h.0, put_row-Ascends row rows h.1))

@@ -1,4 +1,4 @@
--- That rows ascend in one way only, by which a type can keep it as a fact. This project's own choice.
+-- That rows ascend in one way only, by which a type can keep it as a fact.
 use Rattle.std.specs.Prelude.{ℤ, List, [], ◌∷◌, ◌<ℤ◌}
 use Rattle.std.specs.List.{AllByRecursion-prop}
 use Rattle.std.specs.Coded.{×_prop, Unit-prop}

@@ -1,5 +1,5 @@
 -- What the changes of a commit do to the rows held, and what a keeper's answer says of its count of
--- faults. This project's own choice.
+-- faults.
 use Rattle.std.specs.Prelude.{◌≡◌, ◌≢◌, ℕ, ℤ, Bool, true, false, List, [], ◌∷◌, Result, Ok, Err, if◌then◌else◌, int_lt, ◌<ℤ◌}
 use Rattle.std.specs.List.{AllByRecursion}
 use Rattle.wm_faults.specs.Faults as faults

@@ -1,4 +1,4 @@
--- What a `MemoryKeeper` holds, and what a call does to it. This project's own choice.
+-- What a `MemoryKeeper` holds, and what a call does to it.
 use Rattle.std.specs.Prelude.{◌≡◌, ◌==◌, ℕ, ◌+◌, ◌-◌, ◌^◌, min, Bool, List, if◌then◌else◌}
 use Rattle.std.specs.List.{list_any}
 use Rattle.wm_keeper.specs.declared.row.Row.{Row}

@@ -3,7 +3,7 @@ use Rattle.std.proofs.Common.{◌≡◌, ℕ, cond, List, [], ◌∷◌, Option,
 use Rattle.std.proofs.lemmas.Bool.{and_parts, cond_both, true≢false}
 use Rattle.wm_machine.proofs.Closings.{no_run_reached, not_yet_passing}
 use Rattle.wm_machine.proofs.Groups.{reached-each_closed}
-use Rattle.wm_machine.proofs.Lists.{All-stored}
+use Rattle.wm_collections.proofs.Lists.{All-stored}
 use Rattle.wm_machine.proofs.Owed.{IsAnswered}
 use Rattle.wm_machine.specs.Cancelled.{cancelled, cancelled_each, count_reached, is_cancellable, is_for, is_stored, reaches_any_run, targeted}
 use Rattle.wm_machine.specs.Closed.{is_open, with_each_closed}
@@ -11,15 +11,12 @@ use Rattle.wm_machine.specs.Frame.{untouched}
 use Rattle.wm_machine.specs.Narrow.{IsReached}
 use Rattle.wm_machine.specs.Replied.{Outcome, unchanged}
 use Rattle.wm_machine.specs.Step.{state_by}
-use Rattle.wm_machine.specs.declared.command.Command.{Command}
+use Rattle.wm_machine.specs.Types.{Command, Reply, State, Target}
 use Rattle.wm_machine.specs.declared.command.Command.TheVariants as command
-use Rattle.wm_machine.specs.declared.command.Target.{Target}
 use Rattle.wm_machine.specs.declared.command.Target.TheVariants as target
 use Rattle.wm_machine.specs.declared.record.How.TheVariants as how
 use Rattle.wm_machine.specs.declared.reply.Refusal.TheVariants.{NoSuchWork}
-use Rattle.wm_machine.specs.declared.reply.Reply.{Reply}
 use Rattle.wm_machine.specs.declared.reply.Reply.TheVariants as reply
-use Rattle.wm_machine.specs.declared.state.State.{State}
 
 -- what is owed for an outcome
 record IsOwed (s : State) (commands : List Command) (o : Option Outcome) : Type 0 where
@@ -34,23 +31,19 @@ owed-each s commands target =
       reply = reply.Cancelled (count_reached seqs s.works);
       state = record s { works = with_each_closed how.Cancelled seqs s.works };
     } in
-    cond_both (reaches_any_run seqs s.works s.runs) None (Some done) (IsOwed s commands)
-    (λ stops. record {
+    cond_both (reaches_any_run seqs s.works s.runs) None (Some done) (IsOwed s commands) (λ stops. record {
       answered = λ no_run. absurd (true≢false (sym stops ∙ no_run_reached seqs s.works s.runs no_run));
       reached = λ reached. reached;
       frame = refl;
-    })
-    (λ none. record {
+    }) (λ none. record {
       answered = λ no_run. (done.reply, refl);
-      reached = λ reached.
-          reached-each_closed seqs s reached
+      reached = λ reached. reached-each_closed seqs s reached
           (not_yet_passing s (is_cancellable target) s.works reached.valid (λ work is. (and_parts (is_open work.phase) (is_for target work) is).0)
           (All-stored s.works)) none;
       frame = refl;
     })
 
-owed-id : (s : State) (commands : List Command) (id : List ℕ)
-    → IsOwed s commands
+owed-id : (s : State) (commands : List Command) (id : List ℕ) → IsOwed s commands
     (cond (is_stored s.works id) (cancelled_each s (targeted (target.Id id) s.works)) (Some (unchanged s (reply.Refused (NoSuchWork id)))))
 owed-id s commands id =
     cond_both (is_stored s.works id) (cancelled_each s (targeted (target.Id id) s.works)) (Some (unchanged s (reply.Refused (NoSuchWork id))))

@@ -1,20 +1,17 @@
 -- What holds of the records of a state after a change of each of them by itself, and of the state where no run begins or ends.
-use Rattle.std.proofs.Common.{◌≡◌, ◌∙◌, ℕ, ◌<◌, ◌≤◌, Bool, true, List, [], ◌∷◌, length, map, is_some, refl, ap, subst, sym}
+use Rattle.std.proofs.Common.{◌≡◌, ◌∙◌, ℕ, ◌<◌, ◌≤◌, Bool, true, List, [], ◌∷◌, map, is_some, refl, ap, subst, sym}
 use Rattle.std.specs.List.{AllByRecursion}
 use Rattle.std.proofs.lemmas.Bool.{false≢true}
 use Rattle.std.proofs.lemmas.List.{length-map}
-use Rattle.wm_collections.specs.Lists.{AllLater}
-use Rattle.wm_machine.proofs.Lists.{All-any, All-both, All-map, All-weaker, AllLater-map, HasOne-map, HasOne-weaker}
-use Rattle.wm_machine.proofs.Runnings.{all_of_number, changed, changed_both, HasNoOtherName, IsBefore-same, IsSameWork, still_one_time}
+use Rattle.wm_collections.specs.Lists.{AllLater, HasOne}
+use Rattle.wm_collections.proofs.Lists.{All-any, All-map, All-map2, All-weaker, All-with2, AllLater-map, HasOne-map_with, HasOne-weaker}
+use Rattle.wm_machine.proofs.Runnings.{AreRuns-beside, HasNoOtherName, IsBefore-same, IsSameWork, all_of_number, changed, changed_both, still_one_time}
 use Rattle.wm_machine.specs.Closed.{is_open}
 use Rattle.wm_machine.specs.Narrow.{IsReached}
-use Rattle.wm_machine.specs.Valid.{ArePriorSound, HasOne, HasSucceeded, IsBefore, IsCurrentOf, IsOpenPhase, IsPrerequisite, IsRecord, IsValidRun, IsWorkOf, Valid}
+use Rattle.wm_machine.specs.Valid.{ArePriorSound, AreWorks, HasSucceeded, IsBefore, IsCurrentOf, IsPrerequisite, IsRecord, IsWorkOf, MaySucceedOrHas, Valid}
 use Rattle.wm_machine.specs.declared.record.How.TheVariants as how
-use Rattle.wm_machine.specs.declared.record.Phase.{Phase}
+use Rattle.wm_machine.specs.Types.{Phase, Record, Run, State}
 use Rattle.wm_machine.specs.declared.record.Phase.TheVariants as phase
-use Rattle.wm_machine.specs.declared.record.Record.{Record}
-use Rattle.wm_machine.specs.declared.state.Run.{Run}
-use Rattle.wm_machine.specs.declared.state.State.{State}
 use Rattle.wm_request.specs.Requests.{RequestFields}
 
 -- ---- a change
@@ -35,7 +32,7 @@ Succeeded p = p ≡ phase.Done how.Succeeded
 
 -- each record of this number that can still succeed, or has, still can after the change
 abbrev pub StaysOpen : List Record → (Record → Record) → ℕ → Type 0
-StaysOpen works change number = AllByRecursion (λ work. work.seq ≡ number → IsOpenPhase work.phase → IsOpenPhase (change work).phase) works
+StaysOpen works change number = AllByRecursion (λ work. work.seq ≡ number → MaySucceedOrHas work.phase → MaySucceedOrHas (change work).phase) works
 
 -- Where a change of these records may bring a record in this phase with these prerequisites: only what is unfinished waits or runs; what waits
 -- keeps its prerequisites, and of what runs, or has succeeded, they have.
@@ -61,8 +58,7 @@ pub moves-kept : (works : List Record) (change : Record → Record) (p : Phase) 
 moves-kept works change phase.Waiting prior sound opens = (refl, opens refl)
 moves-kept works change phase.Running prior sound opens = (
   refl,
-  All-weaker (λ number. HasOne (IsPrerequisite number) works × HasOne (HasSucceeded number) works) (λ number. HasOne (HasSucceeded number) works)
-      prior (λ number both. both.1) sound,
+  All-weaker prior (λ number both. both.1) sound,
 )
 moves-kept works change (phase.Done how.Succeeded) prior sound opens = sound
 moves-kept works change (phase.Done how.Failed) prior sound opens = tt
@@ -70,44 +66,33 @@ moves-kept works change (phase.Done how.Cancelled) prior sound opens = tt
 
 -- all prerequisites stay open where every record does
 pub all_open : (works : List Record) (change : Record → Record) (prior : List ℕ)
-    → AllByRecursion (λ work. IsOpenPhase work.phase → IsOpenPhase (change work).phase) works → AllByRecursion (StaysOpen works change) prior
-all_open works change prior opens =
-    All-any (StaysOpen works change) prior (λ number.
-    All-weaker (λ work. IsOpenPhase work.phase → IsOpenPhase (change work).phase)
-    (λ work. work.seq ≡ number → IsOpenPhase work.phase → IsOpenPhase (change work).phase) works (λ work opens same. opens) opens)
+    → AllByRecursion (λ work. MaySucceedOrHas work.phase → MaySucceedOrHas (change work).phase) works → AllByRecursion (StaysOpen works change) prior
+all_open works change prior opens = All-any prior (λ number. All-weaker works (λ work opens same. opens) opens)
 
 -- where some have succeeded, each of their numbers has
 pub succeeded_each : (works : List Record) (prior : List ℕ) → AllLater IsBefore works → AllByRecursion (λ number. HasOne (HasSucceeded number) works) prior
     → AllByRecursion (λ number. AllByRecursion (λ work. work.seq ≡ number → Succeeded work.phase) works) prior
 succeeded_each works prior order have =
-    All-weaker (λ number. HasOne (HasSucceeded number) works) (λ number. AllByRecursion (λ work. work.seq ≡ number → Succeeded work.phase) works) prior
-    (λ number one. all_of_number (λ work. Succeeded work.phase) number works order
-    (HasOne-weaker (λ work. Unit {0}) (HasSucceeded number) (λ work. (work.seq ≡ number) × Succeeded work.phase) works (λ work u is. (is.seq, is.succeeded))
-    (All-any (λ work. Unit {0}) works (λ work. tt)) one)) have
+    All-weaker prior (λ number one. all_of_number (λ work. Succeeded work.phase) number works order
+    (HasOne-weaker works (λ work is. (is.seq, is.succeeded)) one)) have
 
 -- of what runs the prerequisites have succeeded
 pub running_prior : (works : List Record) (p : Phase) (prior : List ℕ) → p ≡ phase.Running → ArePriorSound works p prior
     → AllByRecursion (λ number. HasOne (HasSucceeded number) works) prior
-running_prior works p prior running sound =
-    All-weaker (λ number. HasOne (IsPrerequisite number) works × HasOne (HasSucceeded number) works) (λ number. HasOne (HasSucceeded number) works) prior
-    (λ number both. both.1) (subst (λ p. ArePriorSound works p prior) running sound)
+running_prior works p prior running sound = All-weaker prior (λ number both. both.1) (subst (λ p. ArePriorSound works p prior) running sound)
 
 -- the prerequisites of what is unfinished are there
 open_prior : (works : List Record) (p : Phase) (prior : List ℕ) → is_open p ≡ true → ArePriorSound works p prior
     → AllByRecursion (λ number. HasOne (IsPrerequisite number) works) prior
 open_prior works phase.Waiting prior unfinished sound = sound
-open_prior works phase.Running prior unfinished sound =
-    All-weaker (λ number. HasOne (IsPrerequisite number) works × HasOne (HasSucceeded number) works) (λ number. HasOne (IsPrerequisite number) works) prior
-    (λ number both. both.0) sound
+open_prior works phase.Running prior unfinished sound = All-weaker prior (λ number both. both.0) sound
 open_prior works (phase.Done how) prior unfinished sound = absurd (false≢true unfinished)
 
 module _ (works : List Record) (change : Record → Record) (is : IsChange works change) (order : AllLater IsBefore works) where
   -- what can still succeed is there after the change
-  prerequisite_stays : (number : ℕ) → StaysOpen works change number → HasOne (IsPrerequisite number) works
-      → HasOne (IsPrerequisite number) (map change works)
+  prerequisite_stays : (number : ℕ) → StaysOpen works change number → HasOne (IsPrerequisite number) works → HasOne (IsPrerequisite number) (map change works)
   prerequisite_stays number opens one =
-      HasOne-map (λ work. work.seq ≡ number → IsOpenPhase work.phase → IsOpenPhase (change work).phase) (IsPrerequisite number) (IsPrerequisite number)
-      change works (λ work open_then of.
+      HasOne-map_with _ change works (λ work open_then of.
       let same = is.same work in record {
         seq = same.seq ∙ of.seq;
         open_is = open_then of.seq of.open_is;
@@ -117,39 +102,24 @@ module _ (works : List Record) (change : Record → Record) (is : IsChange works
   -- what has succeeded has after the change
   succeeded_stays : (number : ℕ) → HasOne (HasSucceeded number) works → HasOne (HasSucceeded number) (map change works)
   succeeded_stays number one =
-      HasOne-map (λ work. Succeeded work.phase → Succeeded (change work).phase) (HasSucceeded number) (HasSucceeded number) change works
-      (λ work stays of. record { seq = (is.same work).seq ∙ of.seq; succeeded = stays of.succeeded }) is.stays one
+      HasOne-map_with _ change works (λ work stays of. record { seq = (is.same work).seq ∙ of.seq; succeeded = stays of.succeeded }) is.stays one
 
   -- and so it is a prerequisite that is there
   prerequisite_done : (number : ℕ) → HasOne (IsPrerequisite number) works × HasOne (HasSucceeded number) works
       → HasOne (IsPrerequisite number) (map change works)
   prerequisite_done number both =
-      prerequisite_stays number
-      (All-weaker (λ work. (work.seq ≡ number → Succeeded work.phase) × (Succeeded work.phase → Succeeded (change work).phase))
-      (λ work. work.seq ≡ number → IsOpenPhase work.phase → IsOpenPhase (change work).phase) works
-      (λ work facts same opens. subst IsOpenPhase (sym (facts.1 (facts.0 same))) tt)
-      (All-both (λ work. work.seq ≡ number → Succeeded work.phase) (λ work. Succeeded work.phase → Succeeded (change work).phase) works
-      (succeeded_each works (number ∷ []) order (both.1, tt)).0 is.stays)) both.0
+      prerequisite_stays number (All-with2 works (λ work done stays same may. subst MaySucceedOrHas (sym (stays (done same))) tt)
+      (succeeded_each works (number ∷ []) order (both.1, tt)).0 is.stays) both.0
 
   sound_then : (before : Phase) (prior : List ℕ) (then : Phase) → ArePriorSound works before prior → MovesTo works change before prior then
       → ArePriorSound (map change works) then prior
   sound_then before prior phase.Waiting sound moves =
-      All-weaker (λ number. StaysOpen works change number × HasOne (IsPrerequisite number) works) (λ number. HasOne (IsPrerequisite number) (map change works))
-      prior (λ number both. prerequisite_stays number both.0 both.1)
-      (All-both (StaysOpen works change) (λ number. HasOne (IsPrerequisite number) works) prior moves.1 (open_prior works before prior moves.0 sound))
+      All-with2 prior (λ number stays one. prerequisite_stays number stays one) moves.1 (open_prior works before prior moves.0 sound)
   sound_then before prior phase.Running sound moves =
-      All-weaker (λ number. HasOne (IsPrerequisite number) works × HasOne (HasSucceeded number) works)
-      (λ number. HasOne (IsPrerequisite number) (map change works) × HasOne (HasSucceeded number) (map change works)) prior
-      (λ number both. (prerequisite_done number both, succeeded_stays number both.1))
-      (All-both (λ number. HasOne (IsPrerequisite number) works) (λ number. HasOne (HasSucceeded number) works) prior
-      (open_prior works before prior moves.0 sound) moves.1)
+      All-with2 prior (λ number open_one done. (prerequisite_done number (open_one, done), succeeded_stays number done))
+      (open_prior works before prior moves.0 sound) moves.1
   sound_then before prior (phase.Done how.Succeeded) sound moves =
-      All-weaker (λ number. AllByRecursion (λ work. work.seq ≡ number → Succeeded work.phase) works)
-      (λ number. AllByRecursion (λ work. work.seq ≡ number → Succeeded work.phase) (map change works)) prior
-      (λ number all.
-      All-map (λ work. (work.seq ≡ number → Succeeded work.phase) × (Succeeded work.phase → Succeeded (change work).phase))
-      (λ work. work.seq ≡ number → Succeeded work.phase) change works (λ work both same. both.1 (both.0 (sym (is.same work).seq ∙ same)))
-      (All-both (λ work. work.seq ≡ number → Succeeded work.phase) (λ work. Succeeded work.phase → Succeeded (change work).phase) works all is.stays)) moves
+      All-weaker prior (λ number all. All-map2 _ change works (λ work done stays same. stays (done (sym (is.same work).seq ∙ same))) all is.stays) moves
   sound_then before prior (phase.Done how.Failed) sound moves = tt
   sound_then before prior (phase.Done how.Cancelled) sound moves = tt
 
@@ -164,28 +134,19 @@ pub IsChange-one : (works : List Record) (seq : ℕ) (change : Record → Record
     → AllByRecursion IsRecord works → AllByRecursion (λ work. ArePriorSound works work.phase work.prior) works
     → AllByRecursion (OfNumber seq (λ work. IsRecord (change work))) works
     → AllByRecursion (OfNumber seq (λ work. MovesTo works (changed change seq) work.phase work.prior (change work).phase)) works
-    → AllByRecursion (OfNumber seq (λ work. Succeeded work.phase → ⊥)) works → AllByRecursion (OfNumber seq (λ work. IsOpenPhase (change work).phase)) works
+    → AllByRecursion (OfNumber seq (λ work. Succeeded work.phase → ⊥)) works → AllByRecursion (OfNumber seq (λ work. MaySucceedOrHas (change work).phase)) works
     → IsChange works (changed change seq)
 IsChange-one works seq change same records sound fits moves not_yet opens =
-    let open_then =
-    All-weaker (OfNumber seq (λ work. IsOpenPhase (change work).phase)) (λ work. IsOpenPhase work.phase → IsOpenPhase (changed change seq work).phase) works
-    (λ work then before. changed_both (λ c. IsOpenPhase c.phase) change seq work then (λ differs. before)) opens in
+    let open_then = All-weaker works (λ work then before. changed_both (λ c. MaySucceedOrHas c.phase) change seq work then (λ differs. before)) opens in
     record {
       same = λ work. changed_both (IsSameRequest work) change seq work (λ e. same work)
           (λ differs. record { seq = refl; name = λ text is. is; request = refl; prior = refl });
-      fits = All-weaker (λ work. IsRecord work × OfNumber seq (λ work. IsRecord (change work)) work) (λ work. IsRecord (changed change seq work)) works
-          (λ work both. changed_both IsRecord change seq work both.1 (λ differs. both.0))
-          (All-both IsRecord (OfNumber seq (λ work. IsRecord (change work))) works records fits);
-      moves = All-weaker (λ work. ArePriorSound works work.phase work.prior
-          × OfNumber seq (λ work. MovesTo works (changed change seq) work.phase work.prior (change work).phase) work)
-          (λ work. MovesTo works (changed change seq) work.phase work.prior (changed change seq work).phase) works
-          (λ work both. changed_both (λ c. MovesTo works (changed change seq) work.phase work.prior c.phase) change seq work both.1
-          (λ differs. moves-kept works (changed change seq) work.phase work.prior both.0
-          (λ waits. all_open works (changed change seq) work.prior open_then)))
-          (All-both (λ work. ArePriorSound works work.phase work.prior)
-          (OfNumber seq (λ work. MovesTo works (changed change seq) work.phase work.prior (change work).phase)) works sound moves);
-      stays = All-weaker (OfNumber seq (λ work. Succeeded work.phase → ⊥)) (λ work. Succeeded work.phase → Succeeded (changed change seq work).phase) works
-          (λ work not succeeded. changed_both (λ c. Succeeded c.phase) change seq work (λ e. absurd (not e succeeded)) (λ differs. succeeded)) not_yet;
+      fits = All-with2 works (λ work fine then. changed_both IsRecord change seq work then (λ differs. fine)) records fits;
+      moves = All-with2 works (λ work sound moves. changed_both (λ c. MovesTo works (changed change seq) work.phase work.prior c.phase) change seq work moves
+          (λ differs. moves-kept works (changed change seq) work.phase work.prior sound
+          (λ waits. all_open works (changed change seq) work.prior open_then))) sound moves;
+      stays = All-weaker works (λ work not succeeded. changed_both (λ c. Succeeded c.phase) change seq work (λ e. absurd (not e succeeded))
+          (λ differs. succeeded)) not_yet;
     }
 
 -- a change that leaves each record in its phase
@@ -193,15 +154,13 @@ pub IsChange-still : (works : List Record) (change : Record → Record) → ((wo
     → ((work : Record) → (change work).phase ≡ work.phase) → AllByRecursion (λ work. IsRecord (change work)) works
     → AllByRecursion (λ work. ArePriorSound works work.phase work.prior) works → IsChange works change
 IsChange-still works change same still fits sound =
-    let opens =
-    All-any (λ work. IsOpenPhase work.phase → IsOpenPhase (change work).phase) works (λ work before. subst IsOpenPhase (sym (still work)) before) in
+    let opens = All-any works (λ work before. subst MaySucceedOrHas (sym (still work)) before) in
     record {
       same = same;
       fits = fits;
-      moves = All-weaker (λ work. ArePriorSound works work.phase work.prior) (λ work. MovesTo works change work.phase work.prior (change work).phase) works
-          (λ work is. subst (MovesTo works change work.phase work.prior) (sym (still work))
+      moves = All-weaker works (λ work is. subst (MovesTo works change work.phase work.prior) (sym (still work))
           (moves-kept works change work.phase work.prior is (λ waits. all_open works change work.prior opens))) sound;
-      stays = All-any (λ work. Succeeded work.phase → Succeeded (change work).phase) works (λ work succeeded. still work ∙ succeeded);
+      stays = All-any works (λ work succeeded. still work ∙ succeeded);
     }
 
 -- where a change brings a record goes by the phases that it gives
@@ -209,10 +168,7 @@ moves-like : (works : List Record) (one other : Record → Record) → ((work : 
     (then : Phase) → MovesTo works one p prior then → MovesTo works other p prior then
 moves-like works one other like p prior phase.Waiting moves = (
   moves.0,
-  All-weaker (StaysOpen works one) (StaysOpen works other) prior (λ number stays.
-      All-weaker (λ work. work.seq ≡ number → IsOpenPhase work.phase → IsOpenPhase (one work).phase)
-      (λ work. work.seq ≡ number → IsOpenPhase work.phase → IsOpenPhase (other work).phase) works
-      (λ work stay same opens. subst IsOpenPhase (sym (like work)) (stay same opens)) stays) moves.1,
+  All-weaker prior (λ number stays. All-weaker works (λ work stay same opens. subst MaySucceedOrHas (sym (like work)) (stay same opens)) stays) moves.1,
 )
 moves-like works one other like p prior phase.Running moves = moves
 moves-like works one other like p prior (phase.Done how.Succeeded) moves = moves
@@ -225,22 +181,12 @@ pub IsChange-like : (works : List Record) (one other : Record → Record) → Is
 IsChange-like works one other is like same fits = record {
   same = same;
   fits = fits;
-  moves = All-weaker (λ work. MovesTo works one work.phase work.prior (one work).phase) (λ work. MovesTo works other work.phase work.prior (other work).phase)
-      works (λ work moves. subst (MovesTo works other work.phase work.prior) (sym (like work))
+  moves = All-weaker works (λ work moves. subst (MovesTo works other work.phase work.prior) (sym (like work))
       (moves-like works one other like work.phase work.prior (one work).phase moves)) is.moves;
-  stays = All-weaker (λ work. Succeeded work.phase → Succeeded (one work).phase) (λ work. Succeeded work.phase → Succeeded (other work).phase) works
-      (λ work stays succeeded. like work ∙ stays succeeded) is.stays;
+  stays = All-weaker works (λ work stays succeeded. like work ∙ stays succeeded) is.stays;
 }
 
 -- ---- the records of a state
-
--- what holds of these as the records of a state
-pub record AreFine (s : State) (works : List Record) : Type 0 where
-  pub numbers : AllByRecursion (λ work. work.seq < s.next) works
-  pub few : length works ≤ 100000
-  pub records : AllByRecursion IsRecord works
-  pub in_order : AllLater IsBefore works
-  pub sound : AllByRecursion (λ work. ArePriorSound works work.phase work.prior) works
 
 same_work : (one other : Record) → IsSameRequest one other → IsSameWork one other
 same_work one other is = record {
@@ -251,22 +197,19 @@ same_work one other is = record {
 }
 
 -- the records after a change
-pub AreFine-changed : (s : State) (change : Record → Record) → Valid s → IsChange s.works change → AreFine s (map change s.works)
-AreFine-changed s change valid is =
+pub AreWorks-changed : (s : State) (change : Record → Record) → Valid s → IsChange s.works change → AreWorks s.next (map change s.works)
+AreWorks-changed s change valid is =
     let works = s.works in
     record {
-      numbers = All-map (λ w. w.seq < s.next) (λ w. w.seq < s.next) change works (λ w below. subst (λ n. n < s.next) (sym (is.same w).seq) below)
-          valid.numbers;
-      few = subst (λ n. n ≤ 100000) (sym (length-map works change)) valid.few_works;
-      records = All-map (λ w. IsRecord (change w)) IsRecord change works (λ w fine. fine) is.fits;
-      in_order = AllLater-map IsBefore IsBefore change works
-          (λ one other before. IsBefore-same one (change one) other (change other) (same_work one (change one) (is.same one))
-          (same_work other (change other) (is.same other)) before) valid.in_order;
-      sound = All-map (λ w. ArePriorSound works w.phase w.prior × MovesTo works change w.phase w.prior (change w).phase)
-          (λ w. ArePriorSound (map change works) w.phase w.prior) change works
-          (λ w both. subst (ArePriorSound (map change works) (change w).phase) (sym (is.same w).prior)
-          (sound_then works change is valid.in_order w.phase w.prior (change w).phase both.0 both.1))
-          (All-both (λ w. ArePriorSound works w.phase w.prior) (λ w. MovesTo works change w.phase w.prior (change w).phase) works valid.sound is.moves);
+      first = valid.works.first;
+      fits = valid.works.fits;
+      numbers = All-map _ change works (λ w below. subst (λ n. n < s.next) (sym (is.same w).seq) below) valid.works.numbers;
+      few = subst (λ n. n ≤ 100000) (sym (length-map works change)) valid.works.few;
+      records = All-map _ change works (λ w fine. fine) is.fits;
+      in_order = AllLater-map _ change works (λ one other before. IsBefore-same one (change one) other (change other) (same_work one (change one) (is.same one))
+          (same_work other (change other) (is.same other)) before) valid.works.in_order;
+      sound = All-map2 _ change works (λ w sound moves. subst (ArePriorSound (map change works) (change w).phase) (sym (is.same w).prior)
+          (sound_then works change is valid.works.in_order w.phase w.prior (change w).phase sound moves)) valid.works.sound is.moves;
     }
 
 -- ---- where no run begins or ends
@@ -279,8 +222,7 @@ pub record KeepsRun (one other : Record) : Type 0 where
 
 -- the work of a run is so after the change
 pub IsWorkOf-kept : (run : Run) (one other : Record) → IsSameRequest one other → KeepsRun one other → IsWorkOf run one → IsWorkOf run other
-IsWorkOf-kept run one other same keeps of =
-    record { seq = same.seq ∙ of.seq; running = keeps.runs of.running; attempt = keeps.attempt of.running ∙ of.attempt }
+IsWorkOf-kept run one other same keeps of = record { seq = same.seq ∙ of.seq; running = keeps.runs of.running; attempt = keeps.attempt of.running ∙ of.attempt }
 
 -- the records with each of them changed
 abbrev pub with_changed : State → (Record → Record) → State
@@ -291,31 +233,15 @@ pub reached-changed : (s : State) (change : Record → Record) → IsReached s �
     → AllByRecursion (λ work. KeepsRun work (change work)) s.works → IsReached (with_changed s change)
 reached-changed s change reached is keep =
     let valid = reached.valid in
-    let works = AreFine-changed s change valid is in
-    let valid_then : Valid (with_changed s change) = record {
-      numbers = works.numbers;
-      first = valid.first;
-      next = valid.next;
-      few_works = works.few;
-      records = works.records;
-      in_order = works.in_order;
-      sound = works.sound;
-      running = All-map (λ w. (w.phase ≡ phase.Running → HasOne (IsCurrentOf w.seq) s.runs) × KeepsRun w (change w))
-          (λ w. w.phase ≡ phase.Running → HasOne (IsCurrentOf w.seq) s.runs) change s.works
-          (λ w both running. subst (λ n. HasOne (IsCurrentOf n) s.runs) (sym (is.same w).seq) (both.0 (both.1.ran running)))
-          (All-both (λ w. w.phase ≡ phase.Running → HasOne (IsCurrentOf w.seq) s.runs) (λ w. KeepsRun w (change w)) s.works valid.running keep);
-      runs = All-weaker (IsValidRun s) (IsValidRun (with_changed s change)) s.runs (λ r fine. record {
-        number = fine.number;
-        turn = fine.turn;
-        input = fine.input;
-        work = λ current. HasOne-map (λ w. KeepsRun w (change w)) (IsWorkOf r) (IsWorkOf r) change s.works
-            (λ w keeps of. IsWorkOf-kept r w (change w) (is.same w) keeps of) keep (fine.work current);
-        instance = fine.instance;
-      }) valid.runs;
-      apart = valid.apart;
-      instances = valid.instances;
-      numbered = valid.numbered;
-      few_observers = valid.few_observers;
-      now = valid.now;
-    } in
-    record { valid = valid_then; narrow = record { runs = reached.narrow.runs } }
+    record {
+      valid = record {
+        works = AreWorks-changed s change valid is;
+        runs = AreRuns-beside s (map change s.works) valid
+            (All-map2 _ change s.works (λ w has keeps running. subst (λ n. HasOne (IsCurrentOf n) s.runs) (sym (is.same w).seq) (has (keeps.ran running)))
+            valid.runs.running keep) (λ r one. HasOne-map_with _ change s.works (λ w keeps of. IsWorkOf-kept r w (change w) (is.same w) keeps of) keep one);
+        instances = valid.instances;
+        few_observers = valid.few_observers;
+        now = valid.now;
+      };
+      narrow = record { runs = reached.narrow.runs };
+    }

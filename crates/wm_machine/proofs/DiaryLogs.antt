@@ -4,8 +4,7 @@ use Rattle.std.proofs.lemmas.List.{append-nil}
 use Rattle.wm_machine.specs.Diaries.{event_lines, log_lines}
 use Rattle.wm_machine.specs.Replay.{Replay}
 use Rattle.wm_machine.specs.Step.{after}
-use Rattle.wm_machine.specs.declared.event.Event.{Event}
-use Rattle.wm_machine.specs.declared.state.State.{State}
+use Rattle.wm_machine.specs.Types.{Event, State}
 
 pub log_lines-push : (number : ℕ) (first : State) (log : List Event) (last : State) (e : Event) → Replay first log last
     → log_lines number first (log ++ e ∷ []) ≡ log_lines number first log ++ event_lines number last e

@@ -2,7 +2,7 @@
 use Rattle.std.proofs.Common.{◌≡◌, ℕ, ◌+◌, ◌-◌, ◌<◌, ◌≤◌, zero, suc, cond, List, [], ◌∷◌, ◌++◌, length, Option, Some, None, Result, Ok, Err, refl, sym, ◌∙◌, ap, subst, arith, append_assoc}
 use Rattle.std.specs.List.{AllByRecursion}
 use Rattle.std.proofs.lemmas.Bool.{eq-eqb}
-use Rattle.wm_data.specs.declared.data.DataEntry.{DataEntry}
+use Rattle.wm_machine.specs.Types.{Cause, Command, DataEntry, End, Event, Instance, Record, Run, State}
 use Rattle.wm_machine.proofs.Commands.{answered}
 use Rattle.wm_machine.proofs.Firsts.{first_of-no_worker, start_refusal-no_worker}
 use Rattle.wm_machine.proofs.Inputs.{start_refusal-some}
@@ -25,17 +25,9 @@ use Rattle.wm_machine.specs.Serial.{AreInTurn, IsInTurn}
 use Rattle.wm_machine.specs.Step.{after, IsReport, Legal, role_of}
 use Rattle.wm_machine.specs.Turns.{turned}
 use Rattle.wm_machine.specs.Waiting.{left_to_drain}
-use Rattle.wm_machine.specs.declared.command.Command.{Command}
-use Rattle.wm_machine.specs.declared.event.Cause.{Cause}
 use Rattle.wm_machine.specs.declared.event.Cause.TheVariants.{NoWorker}
-use Rattle.wm_machine.specs.declared.event.End.{End}
 use Rattle.wm_machine.specs.declared.event.End.TheVariants.{Success, Failure, Retry}
-use Rattle.wm_machine.specs.declared.event.Event.{Event}
 use Rattle.wm_machine.specs.declared.event.Event.TheVariants as event
-use Rattle.wm_machine.specs.declared.record.Record.{Record}
-use Rattle.wm_machine.specs.declared.state.Instance.{Instance}
-use Rattle.wm_machine.specs.declared.state.Run.{Run}
-use Rattle.wm_machine.specs.declared.state.State.{State}
 use Rattle.wm_merge.specs.declared.fault.MergeFault.{MergeFault}
 use Rattle.wm_worker.proofs.Giving.{has_given}
 use Rattle.wm_worker.specs.Answers.{MayGive}
@@ -129,8 +121,7 @@ fails s work cause first refused = record {
 -- the first work starts, where its class has an idle instance and it has an input, and fails otherwise
 start_or_fail : (s : State) (work : Record) (found : Option Instance) (input : Result (List DataEntry) MergeFault) → first_of s ≡ Some work
     → idle_instance s.instances work.request.class ≡ found → input_of s work ≡ input → HasNext Opens s
-start_or_fail s work None input first none taken =
-    fails s work NoWorker first (start_refusal-no_worker s work (first_of-no_worker s work first none))
+start_or_fail s work None input first none taken = fails s work NoWorker first (start_refusal-no_worker s work (first_of-no_worker s work first none))
 start_or_fail s work (Some idle) (Ok input) first found taken = record {
   e = event.Start s.next_run work.seq idle.number input;
   legal = record {
@@ -160,8 +151,7 @@ reports s run gave reached one may =
 
 finishes : (s : State) (run : Run) (end : End) → IsReached s → s.runs ≡ run ∷ [] → MayGive run.kind run.input run.attempt run.turn (given_by end)
     → HasNext Closes s
-finishes s run end reached one may =
-    record { e = event.Finish run.run end; legal = reports s run (given_by end) reached one may; role_is = tt }
+finishes s run end reached one may = record { e = event.Finish run.run end; legal = reports s run (given_by end) reached one may; role_is = tt }
 
 times_out : (s : State) (run : Run) (progress : Option (List DataEntry)) → IsReached s → s.runs ≡ run ∷ []
     → MayGive run.kind run.input run.attempt run.turn (given.More progress) → run.turn ≡ 999 → HasNext Closes s
@@ -194,8 +184,7 @@ from_rest s (Some work) first recur reached no_run =
     let next = start_or_fail s work (idle_instance s.instances work.request.class) (input_of s work) first refl refl in
     let e = next.e in
     let keeps = kept s e reached next.legal in
-    let is =
-    opened (role_of e) s (frame_of s e) (left_to_drain s) (left_to_drain (after s e)) next.role_is (framed s e next.legal) keeps.left no_run in
+    let is = opened (role_of e) s (frame_of s e) (left_to_drain s) (left_to_drain (after s e)) next.role_is (framed s e next.legal) keeps.left no_run in
     GoesOn-silent s e next.legal is.turn is.silent (recur (after s e) keeps.reached is.few is.fewer)
 
 -- one run is unreturned and is over: all else follows
@@ -206,8 +195,7 @@ from_end s run next recur reached one =
     let keeps = kept s e reached next.legal in
     let is = closed (role_of e) s (frame_of s e) (left_to_drain s) (left_to_drain t) run next.role_is (framed s e next.legal) keeps.left one in
     let no_more : left_to_drain t ≤ left_to_drain s = is.no_more in
-    GoesOn-silent s e next.legal is.turn is.silent
-    (from_rest t (first_of t) refl (λ u v few fewer. recur u v few (omega arith)) keeps.reached is.none)
+    GoesOn-silent s e next.legal is.turn is.silent (from_rest t (first_of t) refl (λ u v few fewer. recur u v few (omega arith)) keeps.reached is.none)
 
 -- one run is unreturned, with so many turns left, and its worker gives this: it is over, or at its next turn gives again
 from_gave : (turns : ℕ) (s : State) (run : Run) (gave : Given) → MayGive run.kind run.input run.attempt run.turn gave → run.turn + turns ≡ 999
@@ -258,6 +246,5 @@ goes_on (asked ∷ lines) s built reached few =
     let e = event.Command 0 asked answer.0 in
     let legal : Legal t e = (built.0, answer.1) in
     let no_run : (after t e).runs ≡ [] = ap (λ (f : Frame). f.runs) owed.frame ∙ done.quiet.no_run in
-    GoesOn-then s (asked ∷ lines) done
-    (GoesOn-more t e lines legal done.quiet
+    GoesOn-then s (asked ∷ lines) done (GoesOn-more t e lines legal done.quiet
     (goes_on lines (after t e) built.1 (IsReached-after t e done.reached legal) (subst (λ (runs : List Run). length runs ≤ 1) (sym no_run) (omega arith))))

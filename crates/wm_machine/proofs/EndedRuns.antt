@@ -2,40 +2,38 @@
 use Rattle.std.proofs.Common.{◌≡◌, ◌≢◌, ℕ, Bool, map, true, false, not, eqb, Some, sym, ◌∙◌, ap, subst, inl, inr}
 use Rattle.std.specs.List.{AllByRecursion}
 use Rattle.std.proofs.lemmas.Bool.{cases_Bool, eqb-false, eqb-true, ne_eqb, not-true, true≢false}
-use Rattle.wm_machine.proofs.Changes.{AreFine-changed, IsChange, IsWorkOf-kept, KeepsRun}
-use Rattle.wm_machine.proofs.Lists.{All-any, All-both, All-filter, All-map, All-weaker, AllLater-filter, find-passes, HasOne-filter, HasOne-map, HasOne-weaker, list_any-false, list_any-filter}
+use Rattle.wm_machine.proofs.Changes.{AreWorks-changed, IsChange, IsWorkOf-kept, KeepsRun}
+use Rattle.wm_collections.proofs.Lists.{All-filter, All-map, All-weaker, All-with2, All-with3, AllLater-filter, HasOne-filter, HasOne-map_with, HasOne-weaker, find-passes, list_any-false, list_any-filter}
 use Rattle.wm_machine.proofs.Runnings.{all_of_number, AreNumberedInOrder-made, found_or_apart, found_valid, IsFoundOrApart, made, made_both, same_instance}
-use Rattle.wm_machine.specs.Narrow.{IsNarrow, IsReached}
+use Rattle.wm_machine.specs.Narrow.{IsReached}
 use Rattle.wm_machine.specs.Runs.{other_runs, run_numbered, with_out}
-use Rattle.wm_machine.specs.Valid.{AreApart, HasOne, IsCurrentOf, IsOutForRun, IsValidRun, IsWorkOf, Valid}
+use Rattle.wm_collections.specs.Lists.{HasOne}
+use Rattle.wm_machine.specs.Valid.{AreApart, IsCurrentOf, IsOutForRun, IsValidRun, Valid}
 use Rattle.wm_machine.specs.declared.record.Phase.TheVariants as phase
-use Rattle.wm_machine.specs.declared.record.Record.{Record}
-use Rattle.wm_machine.specs.declared.state.Instance.{Instance}
-use Rattle.wm_machine.specs.declared.state.Run.{Run}
-use Rattle.wm_machine.specs.declared.state.State.{State}
+use Rattle.wm_machine.specs.Types.{Instance, Record, Run, State}
 
 -- ---- the other runs
 
 -- a valid run, which is this one or apart from it
 abbrev IsTold : State → Run → Run → Type 0
-IsTold s run other = IsFoundOrApart run.run run other × IsValidRun s other
+IsTold s run other = IsFoundOrApart run.run run other × IsValidRun s.works s.instances s.next_run other
 
 -- whether a run stays
 abbrev stays : Run → Run → Bool
 stays run other = not (eqb other.run run.run)
 
 -- what holds of each run apart from this one holds of those that stay
-others : (s : State) (run : Run) (P : Run → Type 0) → AllByRecursion (IsTold s run) s.runs → ((other : Run) → AreApart run other → IsValidRun s other → P other)
-    → AllByRecursion P (other_runs run.run s.runs)
+others : (s : State) (run : Run) (P : Run → Type 0) → AllByRecursion (IsTold s run) s.runs
+    → ((other : Run) → AreApart run other → IsValidRun s.works s.instances s.next_run other → P other) → AllByRecursion P (other_runs run.run s.runs)
 others s run P told each =
-    All-filter P (stays run) s.runs (All-weaker (IsTold s run) (λ other. stays run other ≡ true → P other) s.runs (λ other is kept.
-    elim is.0 [ inl found ↦ absurd (true≢false (sym found.0 ∙ not-true (eqb other.run run.run) kept)) | inr apart ↦ each other apart.1 is.1 ]) told)
+    All-filter (stays run) s.runs (λ other kept is. elim is.0
+    [ inl found ↦ absurd (true≢false (sym found.0 ∙ not-true (eqb other.run run.run) kept)) | inr apart ↦ each other apart.1 is.1 ]) told
 
 -- a running work other than this run's keeps its run
 running_stays : (s : State) (run : Run) (seq : ℕ) → AllByRecursion (IsTold s run) s.runs → (seq ≡ run.seq → ⊥) → HasOne (IsCurrentOf seq) s.runs
     → HasOne (IsCurrentOf seq) (other_runs run.run s.runs)
 running_stays s run seq told differs one =
-    HasOne-filter (IsTold s run) (IsCurrentOf seq) (stays run) s.runs (λ r is same.
+    HasOne-filter (stays run) s.runs (λ r is same.
     elim is.0 [ inl found ↦ absurd (differs (sym same.of ∙ ap (λ (x : Run). x.seq) found.1)) | inr apart ↦ ap not apart.0 ]) told one
 
 -- an instance is out exactly where a run is on it, after this run is over
@@ -43,15 +41,12 @@ IsOutForRun-freed : (s : State) (run : Run) (i : Instance) → AllByRecursion (I
     → IsOutForRun (other_runs run.run s.runs) (made false run.instance i)
 IsOutForRun-freed s run i told out =
     let on : Run → Bool = λ r. eqb r.instance i.number in
-    made_both (IsOutForRun (other_runs run.run s.runs)) false run.instance i (λ e. sym
-    (list_any-false on (other_runs run.run s.runs)
+    made_both (IsOutForRun (other_runs run.run s.runs)) false run.instance i (λ e. sym (list_any-false on (other_runs run.run s.runs)
     (others s run (λ r. on r ≡ false) told (λ other apart is. ne_eqb other.instance i.number (λ same. apart.instances (sym (same ∙ e)))))))
-    (λ differs. out ∙ sym
-    (list_any-filter on (stays run) s.runs (All-weaker (IsTold s run) (λ r. stays run r ≡ false → on r ≡ false) s.runs (λ r is dropped.
+    (λ differs. out ∙ sym (list_any-filter on (stays run) s.runs (All-weaker s.runs (λ r is dropped.
     elim is.0 [
       | inl found ↦ ne_eqb r.instance i.number (λ same. differs (sym same ∙ ap (λ (x : Run). x.instance) found.1))
-      | inr apart ↦ absurd
-          (true≢false (sym (ap not apart.0) ∙ dropped))
+      | inr apart ↦ absurd (true≢false (sym (ap not apart.0) ∙ dropped))
     ]) told)))
 
 -- ---- the state
@@ -68,9 +63,8 @@ with_run_over s run change = record s {
 pub running_of : (s : State) (number : ℕ) (run : Run) → Valid s → run_numbered number s.runs ≡ Some run → run.current ≡ true
     → AllByRecursion (λ w. w.seq ≡ run.seq → w.phase ≡ phase.Running) s.works
 running_of s number run valid found current =
-    all_of_number (λ w. w.phase ≡ phase.Running) run.seq s.works valid.in_order
-    (HasOne-weaker (λ w. Unit {0}) (IsWorkOf run) (λ w. (w.seq ≡ run.seq) × (w.phase ≡ phase.Running)) s.works (λ w u of. (of.seq, of.running))
-    (All-any (λ w. Unit {0}) s.works (λ w. tt)) ((found_valid s number run valid found).work current))
+    all_of_number (λ w. w.phase ≡ phase.Running) run.seq s.works valid.works.in_order
+    (HasOne-weaker s.works (λ w of. (of.seq, of.running)) ((found_valid s number run valid found).work current))
 
 -- a change after which the work of a run doesn't run, and of the others just those that ran before
 pub record IsEnding (s : State) (run : Run) (change : Record → Record) : Type 0 where
@@ -84,52 +78,37 @@ pub reached-ended : (s : State) (number : ℕ) (run : Run) (change : Record → 
 reached-ended s number run change reached is found current =
     let valid = reached.valid in
     let same : run.run ≡ number = eqb-true run.run number (find-passes (λ r. eqb r.run number) s.runs run found) in
-    let told =
-    All-both (IsFoundOrApart run.run run) (IsValidRun s) s.runs
-    (found_or_apart run.run run s.runs (subst (λ n. run_numbered n s.runs ≡ Some run) (sym same) found) valid.apart) valid.runs in
-    let works = AreFine-changed s change valid is.is_change in
-    let each =
-    All-both (λ w. w.phase ≡ phase.Running → HasOne (IsCurrentOf w.seq) s.runs)
-    (λ w. (w.seq ≡ run.seq → (change w).phase ≡ phase.Running → ⊥) × (w.seq ≢ run.seq → KeepsRun w (change w))) s.works valid.running
-    (All-both (λ w. w.seq ≡ run.seq → (change w).phase ≡ phase.Running → ⊥) (λ w. w.seq ≢ run.seq → KeepsRun w (change w)) s.works is.idle is.others) in
-    let narrow : IsNarrow (with_run_over s run change) = record {
-      runs = All-filter (λ r. r.current ≡ true) (stays run) s.runs
-          (All-weaker (λ r. r.current ≡ true) (λ r. stays run r ≡ true → r.current ≡ true) s.runs (λ r is stay. is) reached.narrow.runs);
-    } in
-    let valid_then : Valid (with_run_over s run change) = record {
-      numbers = works.numbers;
-      first = valid.first;
-      next = valid.next;
-      few_works = works.few;
-      records = works.records;
-      in_order = works.in_order;
-      sound = works.sound;
-      running = All-map (λ w. (w.phase ≡ phase.Running → HasOne (IsCurrentOf w.seq) s.runs)
-          × ((w.seq ≡ run.seq → (change w).phase ≡ phase.Running → ⊥) × (w.seq ≢ run.seq → KeepsRun w (change w))))
-          (λ w. w.phase ≡ phase.Running → HasOne (IsCurrentOf w.seq) (other_runs run.run s.runs)) change s.works
-          (λ w facts running.
-          elim (cases_Bool (eqb w.seq run.seq)) [
-            | inl e ↦ absurd (facts.1.0 (eqb-true w.seq run.seq e) running)
-            | inr e ↦
-                let differs = eqb-false w.seq run.seq e in
-                subst (λ n. HasOne (IsCurrentOf n) (other_runs run.run s.runs)) (sym (is.is_change.same w).seq)
-                (running_stays s run w.seq told differs (facts.0 ((facts.1.1 differs).ran running)))
-          ]) each;
-      runs = others s run (IsValidRun (with_run_over s run change)) told (λ other apart fine. record {
-        number = fine.number;
-        turn = fine.turn;
-        input = fine.input;
-        work = λ also. HasOne-map (λ w. w.seq ≢ run.seq → KeepsRun w (change w)) (IsWorkOf other) (IsWorkOf other) change s.works
-            (λ w keeps of.
-            IsWorkOf-kept other w (change w) (is.is_change.same w) (keeps (λ e. apart.works current also (sym e ∙ of.seq))) of)
-            is.others (fine.work also);
-        instance = same_instance false run.instance s.instances other fine.instance;
-      });
-      apart = AllLater-filter AreApart (stays run) s.runs valid.apart;
-      instances = All-map (IsOutForRun s.runs) (IsOutForRun (other_runs run.run s.runs)) (made false run.instance) s.instances
-          (λ i is. IsOutForRun-freed s run i told is) valid.instances;
-      numbered = AreNumberedInOrder-made false run.instance 0 s.instances valid.numbered;
-      few_observers = valid.few_observers;
-      now = valid.now;
-    } in
-    record { valid = valid_then; narrow = narrow }
+    let told : AllByRecursion (IsTold s run) s.runs =
+    All-with2 s.runs (λ r told fine. (told, fine))
+    (found_or_apart run.run run s.runs (subst (λ n. run_numbered n s.runs ≡ Some run) (sym same) found) valid.runs.apart) valid.runs.each in
+    record {
+      valid = record {
+        works = AreWorks-changed s change valid is.is_change;
+        runs = record {
+          running = All-map _ change s.works (λ w then. then) (All-with3 s.works (λ w has idle keeps running.
+              elim (cases_Bool (eqb w.seq run.seq)) [
+                | inl e ↦ absurd (idle (eqb-true w.seq run.seq e) running)
+                | inr e ↦
+                    let differs = eqb-false w.seq run.seq e in
+                    subst (λ n. HasOne (IsCurrentOf n) (other_runs run.run s.runs)) (sym (is.is_change.same w).seq)
+                    (running_stays s run w.seq told differs (has ((keeps differs).ran running)))
+              ]) valid.runs.running is.idle is.others);
+          each = others s run (IsValidRun (map change s.works) (with_out false run.instance s.instances) s.next_run) told (λ other apart fine. record {
+            number = fine.number;
+            turn = fine.turn;
+            input = fine.input;
+            work = λ also. HasOne-map_with _ change s.works (λ w keeps of.
+                IsWorkOf-kept other w (change w) (is.is_change.same w) (keeps (λ e. apart.works current also (sym e ∙ of.seq))) of) is.others (fine.work also);
+            instance = same_instance false run.instance s.instances other fine.instance;
+          });
+          apart = AllLater-filter _ (stays run) s.runs valid.runs.apart;
+        };
+        instances = record {
+          out = All-map _ (made false run.instance) s.instances (λ i is. IsOutForRun-freed s run i told is) valid.instances.out;
+          numbered = AreNumberedInOrder-made false run.instance 0 s.instances valid.instances.numbered;
+        };
+        few_observers = valid.few_observers;
+        now = valid.now;
+      };
+      narrow = record { runs = All-filter (stays run) s.runs (λ r stay is. is) reached.narrow.runs };
+    }

@@ -4,34 +4,27 @@ use mathlib.Core.List.{reverse}
 use Rattle.std.specs.List.{AllByRecursion}
 use Rattle.std.specs.Option.{option_and_then}
 use Rattle.std.proofs.lemmas.Bool.{and_from, and_parts, cases_Bool, cond_both, eq-eqb, eqb-true, false≢true, true≢false}
-use Rattle.wm_collections.specs.Lists.{AllLater}
+use Rattle.wm_collections.specs.Lists.{AllLater, HasOne, is_among}
 use Rattle.wm_data.specs.Size.{IsData}
-use Rattle.wm_data.specs.declared.data.DataEntry.{DataEntry}
+use Rattle.wm_machine.specs.Types.{DataEntry, End, How, Period, Phase, Record, Run, State}
 use Rattle.wm_machine.proofs.Changes.{all_open, IsChange, IsChange-like, IsChange-one, IsSameRequest, KeepsRun, moves-kept, MovesTo, OfNumber, running_prior, StaysOpen, Succeeded, succeeded_each}
 use Rattle.wm_machine.proofs.Descendants.{descendant_after, descendant_by, descendant_self, is_descendant, IsReason, running_descendant}
 use Rattle.wm_machine.proofs.EndedRuns.{IsEnding}
-use Rattle.wm_machine.proofs.Lists.{All-any, All-both, All-weaker}
-use Rattle.wm_machine.proofs.Records.{IsData-output, IsRecord-again, IsRecord-ended, IsRecord-failed, IsRecord-freed, IsRecord-succeeded}
+use Rattle.wm_collections.proofs.Lists.{All-any, All-weaker, All-with2, All-with3, map-twice}
+use Rattle.wm_machine.proofs.Records.{IsData-output, IsRecord-again, IsRecord-failed, IsRecord-retried, IsRecord-freed, IsRecord-succeeded}
 use Rattle.wm_machine.proofs.Runnings.{changed, changed_both}
 use Rattle.wm_machine.proofs.Waitings.{blocked-left, IsOldLeft, left-again, left-gone, left-idle, left-kept, left-one, left-retried, met-then}
-use Rattle.wm_machine.specs.Closed.{closed, is_among, is_open, is_reached}
+use Rattle.wm_machine.specs.Closed.{closed, is_open, is_reached}
 use Rattle.wm_machine.specs.Due.{due_of}
 use Rattle.wm_machine.specs.Ends.{enqueued_again, given_by, is_freed, period_of, retried, succeeded, with_output, works_after_end, works_not_started}
 use Rattle.wm_machine.specs.First.{all_met, is_waiting}
 use Rattle.wm_machine.specs.Input.{work_numbered}
 use Rattle.wm_machine.specs.Runs.{changed_work}
 use Rattle.wm_machine.specs.Waiting.{is_left}
-use Rattle.wm_machine.specs.Valid.{ArePriorSound, HasOne, IsBefore, IsOfKind, IsOpenPhase, IsPeriodic, IsRecord, Valid}
-use Rattle.wm_machine.specs.declared.event.End.{End}
+use Rattle.wm_machine.specs.Valid.{ArePriorSound, IsBefore, IsOfKind, MaySucceedOrHas, IsPeriodic, IsRecord, Valid}
 use Rattle.wm_machine.specs.declared.event.End.TheVariants.{Success, Failure, Retry}
-use Rattle.wm_machine.specs.declared.record.How.{How}
 use Rattle.wm_machine.specs.declared.record.How.TheVariants as how
-use Rattle.wm_machine.specs.declared.record.Phase.{Phase}
 use Rattle.wm_machine.specs.declared.record.Phase.TheVariants as phase
-use Rattle.wm_machine.specs.declared.record.Record.{Record}
-use Rattle.wm_machine.specs.declared.state.Run.{Run}
-use Rattle.wm_machine.specs.declared.state.State.{State}
-use Rattle.wm_schedule.specs.declared.schedule.Period.{Period}
 use Rattle.wm_worker.specs.Answers.{GivesData}
 
 -- ---- which records are reached
@@ -116,14 +109,12 @@ module _ (s : State) (seq : ℕ) (how : How) (then : Record → Record) (keeps :
       (λ e is. record { seq = is.seq; name = is.name; request = is.request; prior = is.prior }) (λ e is. is) is
 
   -- prerequisites that aren't descendants stay open
-  each_open : (prior : List ℕ) → (HasOne (λ number. is_descendant seq s.works number ≡ true) prior → ⊥)
-      → AllByRecursion (StaysOpen s.works after_closing) prior
+  each_open : (prior : List ℕ) → (HasOne (λ number. is_descendant seq s.works number ≡ true) prior → ⊥) → AllByRecursion (StaysOpen s.works after_closing) prior
   each_open [] none = tt
   each_open (number ∷ prior) none = (
-    All-any (λ other. other.seq ≡ number → IsOpenPhase other.phase → IsOpenPhase (after_closing other).phase) s.works (λ other same opens.
-        closed_both (λ w. IsOpenPhase (then w).phase) how seq s.works other
+    All-any s.works (λ other same opens. closed_both (λ w. MaySucceedOrHas (then w).phase) how seq s.works other
         (λ e. absurd (none (inl (subst (λ n. is_descendant seq s.works n ≡ true) same (reached_parts seq s.works other e).1))))
-        (λ e. subst IsOpenPhase (sym (keeps other).phase_is) opens)),
+        (λ e. subst MaySucceedOrHas (sym (keeps other).phase_is) opens)),
     each_open prior (λ one. none (inr one)),
   )
 
@@ -146,54 +137,41 @@ module _ (s : State) (seq : ℕ) (how : How) (then : Record → Record) (keeps :
   IsChange-closing fits = record {
     same = closing-same;
     fits = fits;
-    moves = All-weaker (λ work. (HasOne (λ number. is_descendant seq s.works number ≡ true) work.prior → is_descendant seq s.works work.seq ≡ true)
-        × ArePriorSound s.works work.phase work.prior) (λ work. MovesTo s.works after_closing work.phase work.prior (after_closing work).phase) s.works
-        (λ work both. closing-moves work both.0 both.1)
-        (All-both (λ work. HasOne (λ number. is_descendant seq s.works number ≡ true) work.prior → is_descendant seq s.works work.seq ≡ true)
-        (λ work. ArePriorSound s.works work.phase work.prior) s.works (descendant_after seq s.works valid.in_order valid.records) valid.sound);
-    stays = All-any (λ work. Succeeded work.phase → Succeeded (after_closing work).phase) s.works closing-stays;
+    moves = All-with2 s.works (λ work reached sound. closing-moves work reached sound) (descendant_after seq s.works valid.works.in_order valid.works.records)
+        valid.works.sound;
+    stays = All-any s.works closing-stays;
   }
 
   -- of other works just those run that ran before
   pub closing-others : AllByRecursion (λ work. work.seq ≢ seq → KeepsRun work (after_closing work)) s.works
   closing-others =
-      All-weaker (λ work. work.phase ≡ phase.Running → is_descendant seq s.works work.seq ≡ true → work.seq ≡ seq)
-      (λ work. work.seq ≢ seq → KeepsRun work (after_closing work)) s.works
-      (λ work alone differs.
-      closed_both (λ w. KeepsRun work (then w)) how seq s.works work
-      (λ e. record {
+      All-weaker s.works (λ work alone differs. closed_both (λ w. KeepsRun work (then w)) how seq s.works work (λ e. record {
         ran = λ running. absurd (idle-done how (sym (keeps (closed how work)).phase_is ∙ running));
         runs = λ running. absurd (differs (alone running (reached_parts seq s.works work e).1));
         attempt = λ running. absurd (differs (alone running (reached_parts seq s.works work e).1));
       }) (λ e. KeepsRun-same work (then work) (keeps work).phase_is (keeps work).attempt))
-      (running_descendant seq s.works valid.in_order valid.records valid.sound not_yet)
+      (running_descendant seq s.works valid.works.in_order valid.works.records valid.works.sound not_yet)
 
   -- where the work itself was unfinished it is finished
   pub closing-idle : AllByRecursion (OfNumber seq (λ work. is_open work.phase ≡ true)) s.works
       → AllByRecursion (OfNumber seq (λ work. (after_closing work).phase ≡ phase.Done how)) s.works
   closing-idle unfinished =
-      All-weaker (λ work. OfNumber seq (λ work. is_open work.phase ≡ true) work × OfNumber seq (λ work. is_descendant seq s.works work.seq ≡ true) work)
-      (OfNumber seq (λ work. (after_closing work).phase ≡ phase.Done how)) s.works
-      (λ work both same.
-      closed_both (λ w. (then w).phase ≡ phase.Done how) how seq s.works work (λ e. (keeps (closed how work)).phase_is)
-      (λ e. absurd (not_reached seq s.works work e (both.0 same) (both.1 same))))
-      (All-both (OfNumber seq (λ work. is_open work.phase ≡ true)) (OfNumber seq (λ work. is_descendant seq s.works work.seq ≡ true)) s.works unfinished
-      (descendant_self seq s.works))
+      All-with2 s.works (λ work unfinished reached same. closed_both (λ w. (then w).phase ≡ phase.Done how) how seq s.works work
+      (λ e. (keeps (closed how work)).phase_is)
+      (λ e. absurd (not_reached seq s.works work e (unfinished same) (reached same)))) unfinished (descendant_self seq s.works)
 
   -- a work that is left was left before
   pub closing-left : IsChange s.works after_closing → AllByRecursion (IsOldLeft s.now s.works after_closing) s.works
   closing-left is =
-      All-any (IsOldLeft s.now s.works after_closing) s.works (λ work.
+      All-any s.works (λ work.
       elim (cases_Bool (is_reached seq s.works work)) [
         | inl e ↦
             let closed_is : after_closing work ≡ then (closed how work) = ap (λ b. then (cond b (closed how work) work)) e in
-            left-gone s.now s.works after_closing work
-            (left-idle s.now (map after_closing s.works) (after_closing work)
+            left-gone s.now s.works after_closing work (left-idle s.now (map after_closing s.works) (after_closing work)
             (ap is_waiting (ap (λ (w : Record). w.phase) closed_is ∙ (keeps (closed how work)).phase_is)))
         | inr e ↦
             let kept_is : after_closing work ≡ then work = ap (λ b. then (cond b (closed how work) work)) e in
-            left-kept s.now s.works after_closing is work (ap (λ (w : Record). w.phase) kept_is ∙ (keeps work).phase_is)
-            (ap due_of kept_is ∙ (keeps work).due)
+            left-kept s.now s.works after_closing is work (ap (λ (w : Record). w.phase) kept_is ∙ (keeps work).phase_is) (ap due_of kept_is ∙ (keeps work).due)
       ])
 
 -- ---- what is closed is as every record
@@ -214,21 +192,14 @@ pub fits-failed : (s : State) (seq : ℕ) (then : Record → Record) → Valid s
     → AllByRecursion (OfNumber seq (λ work. is_open work.phase ≡ true)) s.works
     → AllByRecursion (λ work. IsRecord (then (closed_in how.Failed seq s.works work))) s.works
 fits-failed s seq then valid one_time failed others unfinished =
-    All-weaker (λ work. (OfNumber seq (λ w. w.request.period ≡ None) work × IsReason seq (reverse s.works) work)
-    × (IsRecord work × (OfNumber seq (λ w. is_open w.phase ≡ true) work × OfNumber seq (λ w. is_descendant seq s.works w.seq ≡ true) work)))
-    (λ work. IsRecord (then (closed_in how.Failed seq s.works work))) s.works
-    (λ work is.
-    closed_both (λ w. IsRecord (then w)) how.Failed seq s.works work
-    (λ e. failed work is.1.0 (one_time_descendant seq s.works work is.0.0 is.0.1 is.1.0 e))
-    (λ e. others work (λ same. not_reached seq s.works work e (is.1.1.0 same) (is.1.1.1 same)) is.1.0))
-    (All-both (λ work. OfNumber seq (λ w. w.request.period ≡ None) work × IsReason seq (reverse s.works) work)
-    (λ work. IsRecord work × (OfNumber seq (λ w. is_open w.phase ≡ true) work × OfNumber seq (λ w. is_descendant seq s.works w.seq ≡ true) work)) s.works
-    (All-both (OfNumber seq (λ w. w.request.period ≡ None)) (IsReason seq (reverse s.works)) s.works one_time
-    (descendant_by seq s.works valid.in_order valid.records))
-    (All-both IsRecord (λ work. OfNumber seq (λ w. is_open w.phase ≡ true) work × OfNumber seq (λ w. is_descendant seq s.works w.seq ≡ true) work) s.works
-    valid.records
-    (All-both (OfNumber seq (λ w. is_open w.phase ≡ true)) (OfNumber seq (λ w. is_descendant seq s.works w.seq ≡ true)) s.works unfinished
-    (descendant_self seq s.works))))
+    let kind : AllByRecursion (λ work. IsRecord work → is_reached seq s.works work ≡ true → work.request.period ≡ None) s.works =
+    All-with2 s.works (λ work own reason. one_time_descendant seq s.works work own reason) one_time
+    (descendant_by seq s.works valid.works.in_order valid.works.records) in
+    let not : AllByRecursion (λ work. is_reached seq s.works work ≡ false → work.seq ≡ seq → ⊥) s.works =
+    All-with2 s.works (λ work unfinished reached e same. not_reached seq s.works work e (unfinished same) (reached same)) unfinished
+    (descendant_self seq s.works) in
+    All-with3 s.works (λ work fine kind not. closed_both (λ w. IsRecord (then w)) how.Failed seq s.works work (λ e. failed work fine (kind fine e))
+    (λ e. others work (not e) fine)) valid.works.records kind not
 
 -- ---- a success
 
@@ -238,14 +209,12 @@ freed_in now seq works work = cond (is_freed seq works work) (record work { enqu
 
 -- what holds in both cases
 freed_both : (P : Record → Type 0) (now seq : ℕ) (works : List Record) (work : Record)
-    → (is_freed seq works work ≡ true → P (record work { enqueued_at = now }))
-    → (is_freed seq works work ≡ false → P work) → P (freed_in now seq works work)
+    → (is_freed seq works work ≡ true → P (record work { enqueued_at = now })) → (is_freed seq works work ≡ false → P work) → P (freed_in now seq works work)
 freed_both P now seq works work hit miss = cond_both (is_freed seq works work) (record work { enqueued_at = now }) work P hit miss
 
 -- a work that succeeds with this output, and those that are freed by it
 abbrev pub success : ℕ → ℕ → List DataEntry → List Record → Record → Record
-success now seq output works work =
-    freed_in now seq (changed_work (succeeded output) seq works) (changed (succeeded output) seq work)
+success now seq output works work = freed_in now seq (changed_work (succeeded output) seq works) (changed (succeeded output) seq work)
 
 -- ---- the changes
 
@@ -261,11 +230,6 @@ abbrev pub not_started_by : ℕ → ℕ → Option Period → List Record → Re
 not_started_by now seq None works work = closed_in how.Failed seq works work
 not_started_by now seq (Some period) works work = changed (enqueued_again now) seq work
 
--- one change of each element after another
-map-twice : {T : Type 0} (one other : T → T) (xs : List T) → map other (map one xs) ≡ map (λ x. other (one x)) xs
-map-twice one other [] = refl
-map-twice one other (x ∷ xs) = ap (λ rest. other (one x) ∷ rest) (map-twice one other xs)
-
 pub works_after_end-map : (now seq : ℕ) (period : Option Period) (end : End) (works : List Record)
     → works_after_end now seq period end works ≡ map (end_by now seq period end works) works
 works_after_end-map now seq period Retry works = refl
@@ -273,8 +237,7 @@ works_after_end-map now seq (Some period) (Success output) works = refl
 works_after_end-map now seq (Some period) (Failure output) works = refl
 works_after_end-map now seq None (Success output) works =
     map-twice (changed (succeeded output) seq) (freed_in now seq (changed_work (succeeded output) seq works)) works
-works_after_end-map now seq None (Failure output) works =
-    map-twice (closed_in how.Failed seq works) (changed (with_output output) seq) works
+works_after_end-map now seq None (Failure output) works = map-twice (closed_in how.Failed seq works) (changed (with_output output) seq) works
 
 pub works_not_started-map : (now seq : ℕ) (period : Option Period) (works : List Record)
     → works_not_started now seq period works ≡ map (not_started_by now seq period works) works
@@ -288,15 +251,11 @@ pub same_period : (seq : ℕ) (works : List Record) → AllLater IsBefore works
     → AllByRecursion (OfNumber seq (λ work. work.request.period ≡ period_of seq works)) works
 same_period seq [] order = tt
 same_period seq (work ∷ works) order =
-    cond_both (eqb work.seq seq) (Some work) (work_numbered seq works)
-    (λ (found : Option Record).
-    AllByRecursion (OfNumber seq (λ w. w.request.period ≡ option_and_then (λ (w : Record). w.request.period) found)) (work ∷ works))
-    (λ e. (
+    cond_both (eqb work.seq seq) (Some work) (work_numbered seq works) (λ (found : Option Record).
+    AllByRecursion (OfNumber seq (λ w. w.request.period ≡ option_and_then (λ (w : Record). w.request.period) found)) (work ∷ works)) (λ e. (
       λ same. refl,
-      All-weaker (IsBefore work) (OfNumber seq (λ w. w.request.period ≡ work.request.period)) works
-          (λ w before same. let here = eqb-true work.seq seq e in let above = before.number in absurd (omega (arith, here, above, same))) order.0,
-    ))
-    (λ e. (λ same. absurd (false≢true (sym e ∙ eq-eqb work.seq seq same)), same_period seq works order.1))
+      All-weaker works (λ w before same. let here = eqb-true work.seq seq e in let above = before.number in absurd (omega (arith, here, above, same))) order.0,
+    )) (λ e. (λ same. absurd (false≢true (sym e ∙ eq-eqb work.seq seq same)), same_period seq works order.1))
 
 -- ---- what the end of a run makes of the records
 
@@ -309,8 +268,7 @@ pub record HasEnded (s : State) (run : Run) (change : Record → Record) : Type 
 others_same : (seq : ℕ) (change : Record → Record) (works : List Record)
     → AllByRecursion (λ work. work.seq ≢ seq → KeepsRun work (changed change seq work)) works
 others_same seq change works =
-    All-any (λ work. work.seq ≢ seq → KeepsRun work (changed change seq work)) works (λ work differs.
-    changed_both (KeepsRun work) change seq work (λ same. absurd (differs same)) (λ no. KeepsRun-same work work refl refl))
+    All-any works (λ work differs. changed_both (KeepsRun work) change seq work (λ same. absurd (differs same)) (λ no. KeepsRun-same work work refl refl))
 
 -- periodic work names no prerequisite
 pub no_prior : (period : Period) (work : Record) → work.request.period ≡ Some period → IsRecord work → work.prior ≡ []
@@ -345,8 +303,7 @@ success_left now seq output works is not_yet work =
                 let more = and_parts (is_among work.prior seq) (all_met then work) parts.1 in
                 blocked-left now works work seq parts.0 more.0 not_yet
             | inr f ↦
-                let kept : all work ≡ work =
-                ap (freed_in now seq then) here ∙ ap (λ b. cond b (record work { enqueued_at = now }) work) f in
+                let kept : all work ≡ work = ap (freed_in now seq then) here ∙ ap (λ b. cond b (record work { enqueued_at = now }) work) f in
                 left-kept now works all is work (ap (λ (w : Record). w.phase) kept) (ap due_of kept)
           ]
     ]
@@ -356,38 +313,30 @@ module _ (s : State) (run : Run) (valid : Valid s)
   -- a running work hasn't succeeded
   running_not_yet : AllByRecursion (OfNumber run.seq (λ work. Succeeded work.phase → ⊥)) s.works
   running_not_yet =
-      All-weaker (OfNumber run.seq (λ work. work.phase ≡ phase.Running)) (OfNumber run.seq (λ work. Succeeded work.phase → ⊥)) s.works
-      (λ work is same succeeded. let clash : phase.Running ≡ phase.Done how.Succeeded = sym (is same) ∙ succeeded in absurd (cc)) running
+      All-weaker s.works (λ work is same succeeded. let clash : phase.Running ≡ phase.Done how.Succeeded = sym (is same) ∙ succeeded in absurd (cc)) running
 
   running_open : AllByRecursion (OfNumber run.seq (λ work. is_open work.phase ≡ true)) s.works
-  running_open =
-      All-weaker (OfNumber run.seq (λ work. work.phase ≡ phase.Running)) (OfNumber run.seq (λ work. is_open work.phase ≡ true)) s.works
-      (λ work is same. ap is_open (is same)) running
+  running_open = All-weaker s.works (λ work is same. ap is_open (is same)) running
 
   -- the running work is put back, so that it isn't left
   put_back : (back : Record → Record) → ((work : Record) → IsSameRequest work (back work)) → ((work : Record) → (back work).phase ≡ phase.Waiting)
-      → AllByRecursion (OfNumber run.seq (λ work. IsRecord (back work))) s.works
-      → (IsChange s.works (changed back run.seq)
+      → AllByRecursion (OfNumber run.seq (λ work. IsRecord (back work))) s.works → (IsChange s.works (changed back run.seq)
       → AllByRecursion (OfNumber run.seq (λ work. is_left s.now (map (changed back run.seq) s.works) (back work) ≡ false)) s.works)
       → HasEnded s run (changed back run.seq)
   put_back back same waits fits gone =
       let seq = run.seq in
-      let opens =
-      All-any (OfNumber seq (λ work. IsOpenPhase (back work).phase)) s.works (λ work e. subst IsOpenPhase (sym (waits work)) tt) in
+      let opens = All-any s.works (λ work e. subst MaySucceedOrHas (sym (waits work)) tt) in
       let open_then =
-      All-any (λ work. IsOpenPhase work.phase → IsOpenPhase (changed back seq work).phase) s.works
-      (λ work before. changed_both (λ c. IsOpenPhase c.phase) back seq work (λ e. subst IsOpenPhase (sym (waits work)) tt) (λ differs. before)) in
+      All-any s.works
+      (λ work before. changed_both (λ c. MaySucceedOrHas c.phase) back seq work (λ e. subst MaySucceedOrHas (sym (waits work)) tt) (λ differs. before)) in
       let is =
-      IsChange-one s.works seq back same valid.records valid.sound fits
-      (All-weaker (OfNumber seq (λ work. is_open work.phase ≡ true))
-      (OfNumber seq (λ work. MovesTo s.works (changed back seq) work.phase work.prior (back work).phase)) s.works
-      (λ work unfinished e. subst (MovesTo s.works (changed back seq) work.phase work.prior) (sym (waits work))
+      IsChange-one s.works seq back same valid.works.records valid.works.sound fits
+      (All-weaker s.works (λ work unfinished e. subst (MovesTo s.works (changed back seq) work.phase work.prior) (sym (waits work))
       (unfinished e, all_open s.works (changed back seq) work.prior open_then)) running_open) running_not_yet opens in
       record {
         ending = record {
           is_change = is;
-          idle = All-any (λ work. work.seq ≡ seq → (changed back seq work).phase ≡ phase.Running → ⊥) s.works (λ work same.
-              changed_both (λ c. c.phase ≡ phase.Running → ⊥) back seq work
+          idle = All-any s.works (λ work same. changed_both (λ c. c.phase ≡ phase.Running → ⊥) back seq work
               (λ e runs. let clash : phase.Waiting ≡ phase.Running = sym (waits work) ∙ runs in absurd (cc)) (λ differs. absurd (differs same)));
           others = others_same seq back s.works;
         };
@@ -397,34 +346,20 @@ module _ (s : State) (run : Run) (valid : Valid s)
   -- the running work is to be retried
   has_retried : s.now < 2 ^ 53 → HasEnded s run (changed (retried s.now) run.seq)
   has_retried below =
-      let facts =
-      All-both (OfNumber run.seq (λ work. work.phase ≡ phase.Running)) (λ work. IsRecord work × ArePriorSound s.works work.phase work.prior) s.works running
-      (All-both IsRecord (λ work. ArePriorSound s.works work.phase work.prior) s.works valid.records valid.sound) in
       put_back (retried s.now) (λ work. record { seq = refl; name = λ text is. is; request = refl; prior = refl }) (λ work. refl)
-      (All-weaker (λ work. OfNumber run.seq (λ work. work.phase ≡ phase.Running) work × (IsRecord work × ArePriorSound s.works work.phase work.prior))
-      (OfNumber run.seq (λ work. IsRecord (retried s.now work))) s.works
-      (λ work is e. IsRecord-ended s.now Retry work below tt (is.0 e) is.1.0) facts)
-      (λ change.
-      All-weaker (λ work. OfNumber run.seq (λ work. work.phase ≡ phase.Running) work × (IsRecord work × ArePriorSound s.works work.phase work.prior))
-      (OfNumber run.seq (λ work. is_left s.now (map (changed (retried s.now) run.seq) s.works) (retried s.now work) ≡ false)) s.works
-      (λ work is e.
-      left-retried s.now (map (changed (retried s.now) run.seq) s.works) work (is.0 e) is.1.0
-      (met-then s.now s.works (changed (retried s.now) run.seq) change work (running_prior s.works work.phase work.prior (is.0 e) is.1.1))) facts)
+      (All-with2 s.works (λ work runs fine e. IsRecord-retried s.now work below (runs e) fine) running valid.works.records)
+      (λ change. All-with3 s.works (λ work runs fine sound e. left-retried s.now (map (changed (retried s.now) run.seq) s.works) work (runs e) fine
+      (met-then s.now s.works (changed (retried s.now) run.seq) change work (running_prior s.works work.phase work.prior (runs e) sound)))
+      running valid.works.records valid.works.sound)
 
   -- the running work is periodic, and is enqueued again
   has_again : (period : Period) → s.now < 2 ^ 53 → AllByRecursion (OfNumber run.seq (λ work. work.request.period ≡ Some period)) s.works
       → HasEnded s run (changed (enqueued_again s.now) run.seq)
   has_again period below repeats =
-      let facts = All-both (OfNumber run.seq (λ work. work.request.period ≡ Some period)) IsRecord s.works repeats valid.records in
       put_back (enqueued_again s.now) (λ work. record { seq = refl; name = λ text is. is; request = refl; prior = refl }) (λ work. refl)
-      (All-weaker (λ work. OfNumber run.seq (λ work. work.request.period ≡ Some period) work × IsRecord work)
-      (OfNumber run.seq (λ work. IsRecord (enqueued_again s.now work))) s.works
-      (λ work is e. IsRecord-again period s.now work below (is.0 e) is.1) facts)
-      (λ change.
-      All-weaker (λ work. OfNumber run.seq (λ work. work.request.period ≡ Some period) work × IsRecord work)
-      (OfNumber run.seq (λ work. is_left s.now (map (changed (enqueued_again s.now) run.seq) s.works) (enqueued_again s.now work) ≡ false)) s.works
-      (λ work is e.
-      left-again period s.now (map (changed (enqueued_again s.now) run.seq) s.works) work (is.0 e) (no_prior period work (is.0 e) is.1) is.1) facts)
+      (All-with2 s.works (λ work kind fine e. IsRecord-again period s.now work below (kind e) fine) repeats valid.works.records)
+      (λ change. All-with2 s.works (λ work kind fine e. left-again period s.now (map (changed (enqueued_again s.now) run.seq) s.works) work (kind e)
+      (no_prior period work (kind e) fine) fine) repeats valid.works.records)
 
   -- the running work is one-time, and fails
   has_failed : (output : List DataEntry) → IsData output → AllByRecursion (OfNumber run.seq (λ work. work.request.period ≡ None)) s.works
@@ -440,9 +375,7 @@ module _ (s : State) (run : Run) (valid : Valid s)
       record {
         ending = record {
           is_change = is;
-          idle = All-weaker (OfNumber run.seq (λ work. (then (closed_in how.Failed run.seq s.works work)).phase ≡ phase.Done how.Failed))
-              (λ work. work.seq ≡ run.seq → (then (closed_in how.Failed run.seq s.works work)).phase ≡ phase.Running → ⊥) s.works
-              (λ work done e runs. idle-done how.Failed (sym (done e) ∙ runs))
+          idle = All-weaker s.works (λ work done e runs. idle-done how.Failed (sym (done e) ∙ runs))
               (closing-idle s run.seq how.Failed then (KeepsShape-output output run.seq) valid running_not_yet (λ change p prior. tt) running_open);
           others = closing-others s run.seq how.Failed then (KeepsShape-output output run.seq) valid running_not_yet (λ change p prior. tt);
         };
@@ -459,40 +392,30 @@ module _ (s : State) (run : Run) (valid : Valid s)
       let all = success s.now seq output s.works in
       let phase_is : (work : Record) → (all work).phase ≡ (one work).phase =
       λ work. freed_both (λ w. w.phase ≡ (one work).phase) s.now seq then (one work) (λ e. refl) (λ e. refl) in
-      let facts =
-      All-both (OfNumber seq (λ work. work.phase ≡ phase.Running)) (λ work. OfNumber seq (λ w. w.request.period ≡ None) work × IsRecord work) s.works running
-      (All-both (OfNumber seq (λ w. w.request.period ≡ None)) IsRecord s.works one_time valid.records) in
       let first =
-      IsChange-one s.works seq (succeeded output) (λ work. record { seq = refl; name = λ text is. is; request = refl; prior = refl }) valid.records valid.sound
-      (All-weaker (λ work. OfNumber seq (λ work. work.phase ≡ phase.Running) work × (OfNumber seq (λ w. w.request.period ≡ None) work × IsRecord work))
-      (OfNumber seq (λ work. IsRecord (succeeded output work))) s.works
-      (λ work is e. IsRecord-succeeded output work gave (is.0 e) (is.1.0 e) is.1.1) facts)
-      (All-weaker (λ work. OfNumber seq (λ work. work.phase ≡ phase.Running) work × ArePriorSound s.works work.phase work.prior)
-      (OfNumber seq (λ work. MovesTo s.works one work.phase work.prior (succeeded output work).phase)) s.works
-      (λ work is e. succeeded_each s.works work.prior valid.in_order (running_prior s.works work.phase work.prior (is.0 e) is.1))
-      (All-both (OfNumber seq (λ work. work.phase ≡ phase.Running)) (λ work. ArePriorSound s.works work.phase work.prior) s.works running valid.sound))
-      running_not_yet (All-any (OfNumber seq (λ work. IsOpenPhase (succeeded output work).phase)) s.works (λ work e. tt)) in
+      IsChange-one s.works seq (succeeded output) (λ work. record { seq = refl; name = λ text is. is; request = refl; prior = refl }) valid.works.records
+      valid.works.sound
+      (All-with3 s.works (λ work runs kind fine e. IsRecord-succeeded output work gave (runs e) (kind e) fine) running one_time valid.works.records)
+      (All-with2 s.works (λ work runs sound e. succeeded_each s.works work.prior valid.works.in_order
+      (running_prior s.works work.phase work.prior (runs e) sound)) running valid.works.sound) running_not_yet (All-any s.works (λ work e. tt)) in
       let is =
-      IsChange-like s.works one all first phase_is
-      (λ work.
+      IsChange-like s.works one all first phase_is (λ work.
       let same = first.same work in
       freed_both (IsSameRequest work) s.now seq then (one work)
       (λ e. record { seq = same.seq; name = same.name; request = same.request; prior = same.prior }) (λ e. same))
-      (All-weaker (λ work. IsRecord (one work)) (λ work. IsRecord (all work)) s.works
-      (λ work fine. freed_both IsRecord s.now seq then (one work) (λ e. IsRecord-freed s.now (one work) below fine) (λ e. fine)) first.fits) in
+      (All-weaker s.works (λ work fine. freed_both IsRecord s.now seq then (one work) (λ e. IsRecord-freed s.now (one work) below fine) (λ e. fine))
+      first.fits) in
       record {
         ending = record {
           is_change = is;
-          idle = All-any (λ work. work.seq ≡ seq → (all work).phase ≡ phase.Running → ⊥) s.works (λ work same runs.
-              changed_both (λ c. c.phase ≡ phase.Running → ⊥) (succeeded output) seq work
+          idle = All-any s.works (λ work same runs. changed_both (λ c. c.phase ≡ phase.Running → ⊥) (succeeded output) seq work
               (λ e ran. idle-done how.Succeeded ran) (λ differs. absurd (differs same)) (sym (phase_is work) ∙ runs));
-          others = All-weaker (λ work. work.seq ≢ seq → KeepsRun work (one work)) (λ work. work.seq ≢ seq → KeepsRun work (all work)) s.works
-              (λ work keeps differs.
+          others = All-weaker s.works (λ work keeps differs.
               let kept = keeps differs in
               freed_both (KeepsRun work) s.now seq then (one work) (λ e. record { ran = kept.ran; runs = kept.runs; attempt = kept.attempt }) (λ e. kept))
               (others_same seq (succeeded output) s.works);
         };
-        old = All-any (IsOldLeft s.now s.works all) s.works (success_left s.now seq output s.works is running_not_yet);
+        old = All-any s.works (success_left s.now seq output s.works is running_not_yet);
       }
 
 -- the change that an end makes of each record, by the kind of its work
@@ -513,4 +436,4 @@ end_in s run end = end_by s.now run.seq (period_of run.seq s.works) end s.works
 pub HasEnded-end : (s : State) (run : Run) (end : End) → Valid s → AllByRecursion (OfNumber run.seq (λ work. work.phase ≡ phase.Running)) s.works
     → GivesData (given_by end) → HasEnded s run (end_in s run end)
 HasEnded-end s run end valid running gave =
-    has_ended s run (period_of run.seq s.works) end valid running (same_period run.seq s.works valid.in_order) gave
+    has_ended s run (period_of run.seq s.works) end valid running (same_period run.seq s.works valid.works.in_order) gave

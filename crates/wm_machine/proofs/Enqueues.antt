@@ -1,117 +1,80 @@
 -- What is owed for an enqueue.
 use Rattle.std.proofs.Common.{◌≡◌, ◌≢◌, ◌&&◌, ℕ, ◌+◌, ◌^◌, ◌<◌, ◌≤◌, Bool, true, false, cond, ltb, List, [], ◌∷◌, ◌++◌, filter, find, is_some, length, map, Option, Some, None, option_map, IfSome, refl, sym, ◌∙◌, ap, subst, arith, inl, inr, length-append}
+use Rattle.std.proofs.lemmas.List.{map-append}
 use Rattle.std.specs.List.{AllByRecursion}
 use Rattle.std.specs.Str.{bytes_eq}
 use Rattle.std.proofs.lemmas.Bool.{cases_Bool, cond_both, ltb-false, or_left, or_right, true≢false}
-use Rattle.wm_collections.specs.Lists.{AllLater}
-use Rattle.wm_machine.proofs.Changes.{Succeeded}
-use Rattle.wm_machine.proofs.Lists.{All-any, All-both, All-map, All-push, All-stored, All-weaker, AllLater-any, AllLater-push, HasOne-front, list_any-false, map-push, none_pass}
+use Rattle.wm_collections.specs.Lists.{AllLater, HasOne}
+use Rattle.wm_collections.proofs.Lists.{All-any, All-map, All-push, All-stored, All-weaker, All-with2, All-with3, AllLater-any, AllLater-push, HasOne-front, find-none, list_any-false, none_pass, option_map-none}
 use Rattle.wm_machine.proofs.Owed.{IsAnswered}
 use Rattle.wm_machine.proofs.Placings.{bytes_eq-refl, bytes_eq-same, few_named, few_others, idle-placed, IsOneTime, IsPlaceable, IsRecord-placed, placeable-naming, prior-both, sound-placed}
+use Rattle.wm_machine.proofs.Runnings.{AreRuns-beside}
 use Rattle.wm_machine.specs.Built.{AreAsked}
 use Rattle.wm_machine.specs.Cancelled.{is_stored}
 use Rattle.wm_machine.specs.Enqueued.{count_prior, enqueued, first_refusal, id_in_use, is_stored_periodic, new_record, no_such_prerequisite, numbers_spent, outcome_by, periodic_in_chain, placed_after, prior_of, refusal_of, refusal_of_placing, too_many_after, too_many_works, with_work, without}
 use Rattle.wm_machine.specs.Frame.{untouched}
 use Rattle.wm_machine.specs.Narrow.{IsReached}
 use Rattle.wm_machine.specs.Plan.{placed_freely, Placing}
-use Rattle.wm_machine.specs.Valid.{AreOfOneKind, ArePriorSound, HasOne, HasSucceeded, IsBefore, IsCurrentOf, IsPrerequisite, IsRecord, IsValidRun, IsWorkOf, Valid}
-use Rattle.wm_machine.specs.declared.command.Command.{Command}
+use Rattle.wm_machine.specs.Valid.{AreOfOneKind, ArePriorSound, IsRecord, Valid}
+use Rattle.wm_machine.specs.Types.{Command, Node, Period, Phase, Record, Refusal, State}
 use Rattle.wm_machine.specs.declared.command.Command.TheVariants as command
 use Rattle.wm_machine.specs.declared.record.How.TheVariants as how
-use Rattle.wm_machine.specs.declared.record.Phase.{Phase}
 use Rattle.wm_machine.specs.declared.record.Phase.TheVariants as phase
-use Rattle.wm_machine.specs.declared.record.Record.{Record}
-use Rattle.wm_machine.specs.declared.reply.Refusal.{Refusal}
 use Rattle.wm_machine.specs.declared.reply.Refusal.TheVariants.{IdInUse, NumbersSpent, PeriodicInChain, TooManyPrerequisites, TooManyWorks}
-use Rattle.wm_machine.specs.declared.state.State.{State}
-use Rattle.wm_request.specs.Batches.{has_id, ids_of, is_periodic, periodic_ids, AreDifferent, BatchFields, IsChained}
+use Rattle.wm_request.specs.Batches.{has_id, ids_of, is_periodic, periodic_ids, AreDifferent, BatchFields}
 use Rattle.wm_request.specs.Requests.{IsRequest, IsShortText, RequestFields}
-use Rattle.wm_request.specs.declared.request.Node.{Node}
-use Rattle.wm_schedule.specs.declared.schedule.Period.{Period}
 
 -- what is sound stays so beside a record of another number than any that is named
 sound-front : (works : List Record) (work : Record) (p : Phase) (prior : List ℕ) → AllByRecursion (λ number. number ≢ work.seq) prior
     → ArePriorSound works p prior → ArePriorSound (works ++ work ∷ []) p prior
-sound-front works work phase.Waiting prior others sound =
-    All-weaker (λ number. HasOne (IsPrerequisite number) works) (λ number. HasOne (IsPrerequisite number) (works ++ work ∷ [])) prior
-    (λ number one. HasOne-front (IsPrerequisite number) works (work ∷ []) one) sound
+sound-front works work phase.Waiting prior others sound = All-weaker prior (λ number one. HasOne-front _ works (work ∷ []) one) sound
 sound-front works work phase.Running prior others sound =
-    All-weaker (λ number. HasOne (IsPrerequisite number) works × HasOne (HasSucceeded number) works)
-    (λ number. HasOne (IsPrerequisite number) (works ++ work ∷ []) × HasOne (HasSucceeded number) (works ++ work ∷ [])) prior
-    (λ number both. (HasOne-front (IsPrerequisite number) works (work ∷ []) both.0, HasOne-front (HasSucceeded number) works (work ∷ []) both.1)) sound
+    All-weaker prior (λ number both. (HasOne-front _ works (work ∷ []) both.0, HasOne-front _ works (work ∷ []) both.1)) sound
 sound-front works work (phase.Done how.Succeeded) prior others sound =
-    All-weaker (λ number. (number ≢ work.seq) × AllByRecursion (λ other. other.seq ≡ number → Succeeded other.phase) works)
-    (λ number. AllByRecursion (λ other. other.seq ≡ number → Succeeded other.phase) (works ++ work ∷ [])) prior
-    (λ number both. All-push (λ other. other.seq ≡ number → Succeeded other.phase) works work both.1 (λ same. absurd (both.0 (sym same))))
-    (All-both (λ number. number ≢ work.seq) (λ number. AllByRecursion (λ other. other.seq ≡ number → Succeeded other.phase) works) prior others sound)
+    All-with2 prior (λ number differs succeeded. All-push _ works work succeeded (λ same. absurd (differs (sym same)))) others sound
 sound-front works work (phase.Done how.Failed) prior others sound = tt
 sound-front works work (phase.Done how.Cancelled) prior others sound = tt
 
 -- no record names the next number
 names_before : (s : State) (work : Record) → work.seq < s.next → IsRecord work → AllByRecursion (λ number. number ≢ s.next) work.prior
-names_before s work below is =
-    All-weaker (λ number. (1 ≤ number) × (number < work.seq)) (λ number. number ≢ s.next) work.prior
-    (λ number both same. let less = both.1 in absurd (omega (arith, less, below, same))) is.prior.earlier
+names_before s work below is = All-weaker work.prior (λ number both same. let less = both.1 in absurd (omega (arith, less, below, same))) is.prior.earlier
 
 -- nor does a work that is placed under it
 own_names_before : (s : State) (work : Record) → IsRecord work → AllByRecursion (λ number. number ≢ work.seq) work.prior
-own_names_before s work is =
-    All-weaker (λ number. (1 ≤ number) × (number < work.seq)) (λ number. number ≢ work.seq) work.prior
-    (λ number both same. let less = both.1 in absurd (omega (arith, less, same))) is.prior.earlier
+own_names_before s work is = All-weaker work.prior (λ number both same. let less = both.1 in absurd (omega (arith, less, same))) is.prior.earlier
 
 sound-with_work : (s : State) (work : Record) → Valid s → work.seq ≡ s.next → ArePriorSound (s.works ++ work ∷ []) work.phase work.prior
     → AllByRecursion (λ other. ArePriorSound (s.works ++ work ∷ []) other.phase other.prior) (s.works ++ work ∷ [])
 sound-with_work s work valid numbered new =
-    All-push (λ other. ArePriorSound (s.works ++ work ∷ []) other.phase other.prior) s.works work
-    (All-weaker (λ other. (other.seq < s.next) × (IsRecord other × ArePriorSound s.works other.phase other.prior))
-    (λ other. ArePriorSound (s.works ++ work ∷ []) other.phase other.prior) s.works
-    (λ other is. sound-front s.works work other.phase other.prior
-    (subst (λ n. AllByRecursion (λ number. number ≢ n) other.prior) (sym numbered) (names_before s other is.0 is.1.0)) is.1.1)
-    (All-both (λ other. other.seq < s.next) (λ other. IsRecord other × ArePriorSound s.works other.phase other.prior) s.works valid.numbers
-    (All-both IsRecord (λ other. ArePriorSound s.works other.phase other.prior) s.works valid.records valid.sound))) new
+    All-push _ s.works work (All-with3 s.works (λ other below fine sound. sound-front s.works work other.phase other.prior
+    (subst (λ n. AllByRecursion (λ number. number ≢ n) other.prior) (sym numbered) (names_before s other below fine)) sound) valid.works.numbers valid.works.records
+    valid.works.sound) new
 
 -- a record under the next number and with a new id, of one kind with those of its name, which isn't running, keeps what is valid, where there
 -- is room
 Valid-with_work : (s : State) (work : Record) → Valid s → ArePriorSound (s.works ++ work ∷ []) work.phase work.prior → work.seq ≡ s.next
     → AllByRecursion (λ other. AreOfOneKind other work) s.works → is_stored s.works work.request.id ≡ false → IsRecord work → (work.phase ≡ phase.Running → ⊥)
     → length s.works + 1 ≤ 100000 → s.next + 1 ≤ 2 ^ 53 → Valid (with_work s work)
-Valid-with_work s work valid sound numbered named new fine idle room numbers =
-    let others =
-    All-both (λ other. other.seq < s.next) (λ other. bytes_eq other.request.id work.request.id ≡ false) s.works valid.numbers
-    (none_pass (λ other. bytes_eq other.request.id work.request.id) s.works new) in
-    record {
-      numbers =
-          All-push (λ w. w.seq < s.next + 1) s.works work
-          (All-weaker (λ w. w.seq < s.next) (λ w. w.seq < s.next + 1) s.works (λ w below. omega arith) valid.numbers) (omega arith);
-      first = let first = valid.first in omega arith;
-      next = numbers;
-      few_works = omega (arith, length-append s.works (work ∷ []));
-      records = All-push IsRecord s.works work valid.records fine;
-      in_order = AllLater-push IsBefore s.works work valid.in_order
-          (All-weaker (λ other. AreOfOneKind other work × ((other.seq < s.next) × (bytes_eq other.request.id work.request.id ≡ false)))
-          (λ other. IsBefore other work) s.works
-          (λ other is. record {
-            number = let below = is.1.0 in omega arith;
-            id = λ e. true≢false (sym (ap (λ id. bytes_eq id work.request.id) e ∙ bytes_eq-refl work.request.id) ∙ is.1.1);
-            name = is.0;
-          })
-          (All-both (λ other. AreOfOneKind other work) (λ other. (other.seq < s.next) × (bytes_eq other.request.id work.request.id ≡ false)) s.works
-          named others));
-      sound = sound-with_work s work valid numbered sound;
-      running = All-push (λ w. w.phase ≡ phase.Running → HasOne (IsCurrentOf w.seq) s.runs) s.works work valid.running (λ e. absurd (idle e));
-      runs = All-weaker (IsValidRun s) (IsValidRun (with_work s work)) s.runs (λ run is. record {
-        number = is.number;
-        turn = is.turn;
-        input = is.input;
-        work = λ current. HasOne-front (IsWorkOf run) s.works (work ∷ []) (is.work current);
-        instance = is.instance;
-      }) valid.runs;
-      apart = valid.apart;
-      instances = valid.instances;
-      numbered = valid.numbered;
-      few_observers = valid.few_observers;
-      now = valid.now;
-    }
+Valid-with_work s work valid sound numbered named new fine idle room numbers = record {
+  works = record {
+    first = let first = valid.works.first in omega arith;
+    fits = numbers;
+    numbers = All-push _ s.works work (All-weaker s.works (λ w below. omega arith) valid.works.numbers) (omega arith);
+    few = omega (arith, length-append s.works (work ∷ []));
+    records = All-push _ s.works work valid.works.records fine;
+    in_order = AllLater-push _ s.works work valid.works.in_order (All-with3 s.works (λ other kind below differs. record {
+      number = omega (arith, below, numbered);
+      id = λ e. true≢false (sym (ap (λ id. bytes_eq id work.request.id) e ∙ bytes_eq-refl work.request.id) ∙ differs);
+      name = kind;
+    }) named valid.works.numbers (none_pass (λ other. bytes_eq other.request.id work.request.id) s.works new));
+    sound = sound-with_work s work valid numbered sound;
+  };
+  runs = AreRuns-beside s (s.works ++ work ∷ []) valid (All-push _ s.works work valid.runs.running (λ e. absurd (idle e)))
+      (λ run one. HasOne-front _ s.works (work ∷ []) one);
+  instances = valid.instances;
+  few_observers = valid.few_observers;
+  now = valid.now;
+}
 
 pub first_refusal-none : (check : Option Refusal) (checks : List (Option Refusal)) → first_refusal (check ∷ checks) ≡ None
     → (check ≡ None) × (first_refusal checks ≡ None)
@@ -228,10 +191,7 @@ first_placeable : (s : State) (name : Option (List ℕ)) (after : List ℕ) (nod
 first_placeable s name after node nodes valid are =
     prior-both (λ prior. IsPlaceable s prior node) s.works after node.after
     (placeable-naming s node valid are.requests.0 (few_named after node.after are.few.0) are.different.0
-    (All-weaker (λ id. AllByRecursion (IsOtherOrOneTime id) (requests_of s.works))
-    (λ id. AllByRecursion (λ work. bytes_eq work.request.id id ≡ true → work.request.period ≡ None) s.works) node.after
-    (λ id all. of_requests (IsOtherOrOneTime id) s.works all) are.one_time.0) are.alone.0)
-    (λ none. record {
+    (All-weaker node.after (λ id all. of_requests (IsOtherOrOneTime id) s.works all) are.one_time.0) are.alone.0) (λ none. record {
       request = are.requests.0;
       few = few_others after node.after are.few.0 none;
       different = are.follows.different;
@@ -243,8 +203,7 @@ first_placeable s name after node nodes valid are =
 is_stored-push : (works : List Record) (work : Record) (id : List ℕ) → is_stored works id ≡ false → work.request.id ≢ id
     → is_stored (works ++ work ∷ []) id ≡ false
 is_stored-push works work id none differs =
-    list_any-false (λ w. bytes_eq w.request.id id) (works ++ work ∷ [])
-    (All-push (λ w. bytes_eq w.request.id id ≡ false) works work (none_pass (λ w. bytes_eq w.request.id id) works none)
+    list_any-false (λ w. bytes_eq w.request.id id) (works ++ work ∷ []) (All-push _ works work (none_pass (λ w. bytes_eq w.request.id id) works none)
     (elim (cases_Bool (bytes_eq work.request.id id)) [
       | inl e ↦ absurd (differs (bytes_eq-same work.request.id id e))
       | inr e ↦ e
@@ -257,28 +216,22 @@ others_placeable works work name after node nodes same are =
     let period = ap (λ (r : RequestFields). r.period) same in
     record {
       requests = are.requests.1;
-      new = All-weaker (λ later. (is_stored works later.request.id ≡ false) × (node.request.id ≢ later.request.id))
-          (λ later. is_stored (works ++ work ∷ []) later.request.id ≡ false) nodes
-          (λ later both. is_stored-push works work later.request.id both.0 (λ e. both.1 (sym (ap (λ (r : RequestFields). r.id) same) ∙ e)))
-          (All-both (λ later. is_stored works later.request.id ≡ false) (λ later. node.request.id ≢ later.request.id) nodes are.new.1 are.differ.0);
+      new = All-with2 nodes (λ later one differs. is_stored-push works work later.request.id one
+          (λ e. differs (sym (ap (λ (r : RequestFields). r.id) same) ∙ e))) are.new.1 are.differ.0;
       differ = are.differ.1;
       few = are.few.1;
       different = are.different.1;
       alone = are.alone.1;
       one_time = subst (λ (requests : List RequestFields). NamesOneTime requests nodes)
-          (sym (map-push (λ (w : Record). w.request) works work ∙ ap (λ r. requests_of works ++ r ∷ []) same)) are.one_time.1;
+          (sym (map-append (λ (w : Record). w.request) works (work ∷ []) ∙ ap (λ r. requests_of works ++ r ∷ []) same)) are.one_time.1;
       shares = record {
-        records = All-push (λ w. AllByRecursion (IsOfItsKind name w) nodes) works work
-            (All-weaker (λ w. AllByRecursion (IsOfItsKind name w) (node ∷ nodes)) (λ w. AllByRecursion (IsOfItsKind name w) nodes) works (λ w all. all.1)
-            are.shares.records)
-            (All-weaker (AreBothOneTime name node) (IsOfItsKind name work) nodes
-            (λ later both text is has. let kinds = both text has in (period ∙ kinds.0, kinds.1)) are.shares.among.0);
+        records = All-push _ works work (All-weaker works (λ w all. all.1) are.shares.records)
+            (All-weaker nodes (λ later both text is has. let kinds = both text has in (period ∙ kinds.0, kinds.1)) are.shares.among.0);
         among = are.shares.among.1;
       };
       follows = record {
         different = are.follows.different;
-        one_time = All-weaker (λ number. HasOne (IsOneTime number) works) (λ number. HasOne (IsOneTime number) (works ++ work ∷ [])) after
-            (λ number one. HasOne-front (IsOneTime number) works (work ∷ []) one) are.follows.one_time;
+        one_time = All-weaker after (λ number one. HasOne-front _ works (work ∷ []) one) are.follows.one_time;
         alone = are.follows.alone.1;
       };
     }
@@ -298,10 +251,8 @@ reached-placed s name after (node ∷ nodes) reached short are room numbers =
     let sound = sound-placed s prior node is in
     let then = with_work s work in
     let valid =
-    Valid-with_work s work reached.valid
-    (sound-front s.works work work.phase work.prior (own_names_before s work fine) sound) refl
-    (All-weaker (λ other. AllByRecursion (IsOfItsKind name other) (node ∷ nodes)) (λ other. AreOfOneKind other work) s.works
-    (λ other kinds text has is. kinds.0 text has is) are.shares.records) are.new.0 fine
+    Valid-with_work s work reached.valid (sound-front s.works work work.phase work.prior (own_names_before s work fine) sound) refl
+    (All-weaker s.works (λ other kinds text has is. kinds.0 text has is) are.shares.records) are.new.0 fine
     (idle-placed s.works prior) (omega (arith, room)) one in
     let longer = length-append s.works (work ∷ []) in
     reached-placed then name after nodes (record { valid = valid; narrow = record { runs = reached.narrow.runs } }) short
@@ -324,12 +275,8 @@ few_each after (work ∷ works) none =
     (λ e is. absurd (cc)) (λ e is. (ltb-false 100 (count_prior after work.after) e, few_each after works is)) none
 
 -- nothing is found where each fails
-pub none_found : {T U : Type 0} (test : T → Bool) (to : T → U) (xs : List T) → option_map to (find test xs) ≡ None
-    → AllByRecursion (λ x. test x ≡ false) xs
-none_found test to [] none = tt
-none_found {T} test to (x ∷ xs) none =
-    cond_both (test x) (Some x) (find test xs) (λ (found : Option T). option_map to found ≡ None → AllByRecursion (λ x. test x ≡ false) (x ∷ xs))
-    (λ e is. absurd (cc)) (λ e is. (e, none_found test to xs is)) none
+pub none_found : {T U : Type 0} (test : T → Bool) (to : T → U) (xs : List T) → option_map to (find test xs) ≡ None → AllByRecursion (λ x. test x ≡ false) xs
+none_found test to xs none = find-none test xs (option_map-none to (find test xs) none)
 
 -- no stored record that a work names is periodic
 stored_one_time : (stored : List Record) (works : List Node) → periodic_in_chain stored works ≡ None
@@ -338,10 +285,7 @@ stored_one_time stored [] none = tt
 stored_one_time stored (work ∷ works) none =
     let first = first_refusal-none (option_map PeriodicInChain (find (is_stored_periodic stored) work.after)) (periodic_in_chain stored works ∷ []) none in
     let second = first_refusal-none (periodic_in_chain stored works) [] first.1 in (
-      All-weaker (λ id. is_stored_periodic stored id ≡ false) (λ id. AllByRecursion (IsOtherOrOneTime id) (requests_of stored)) work.after
-          (λ id no_such.
-          All-map (λ other. (bytes_eq other.request.id id && is_some other.request.period) ≡ false) (IsOtherOrOneTime id) (λ (w : Record). w.request) stored
-          (λ other fails named.
+      All-weaker work.after (λ id no_such. All-map _ (λ (w : Record). w.request) stored (λ other fails named.
           not_some other.request.period (sym (ap (λ b. b && is_some other.request.period) named) ∙ fails))
           (none_pass (λ other. bytes_eq other.request.id id && is_some other.request.period) stored no_such))
           (none_found (is_stored_periodic stored) PeriodicInChain work.after first.0),
@@ -363,11 +307,9 @@ periodic_there (first ∷ all) id node (inr one) periodic named =
 
 -- a work of a batch that another one names is one-time
 batch_one_time : (all works : List Node) (id : List ℕ) → has_id (periodic_ids all) id ≡ false
-    → AllByRecursion (λ node. HasOne (λ other. other ≡ node) all) works
-    → AllByRecursion (λ node. IsOtherOrOneTime id node.request) works
+    → AllByRecursion (λ node. HasOne (λ other. other ≡ node) all) works → AllByRecursion (λ node. IsOtherOrOneTime id node.request) works
 batch_one_time all works id none stored =
-    All-weaker (λ node. HasOne (λ other. other ≡ node) all) (λ node. IsOtherOrOneTime id node.request) works
-    (λ node there named.
+    All-weaker works (λ node there named.
     elim (cases_Bool (is_periodic node)) [
       | inl e ↦ absurd (true≢false (sym (periodic_there all id node there e named) ∙ none))
       | inr e ↦ not_some node.request.period e
@@ -382,16 +324,8 @@ names_each all requests [] stored batch there = tt
 names_each all requests (work ∷ works) stored batch there = (
   stored.0,
   names_each all (requests ++ work.request ∷ []) works
-      (All-weaker (λ node. AllByRecursion (λ id. AllByRecursion (IsOtherOrOneTime id) requests) node.after
-      × AllByRecursion (λ id. has_id (periodic_ids all) id ≡ false) node.after)
-      (λ node. AllByRecursion (λ id. AllByRecursion (IsOtherOrOneTime id) (requests ++ work.request ∷ [])) node.after) works
-      (λ node both.
-      All-weaker (λ id. AllByRecursion (IsOtherOrOneTime id) requests × (has_id (periodic_ids all) id ≡ false))
-      (λ id. AllByRecursion (IsOtherOrOneTime id) (requests ++ work.request ∷ [])) node.after
-      (λ id facts. All-push (IsOtherOrOneTime id) requests work.request facts.0 (batch_one_time all (work ∷ []) id facts.1 (there.0, tt)).0)
-      (All-both (λ id. AllByRecursion (IsOtherOrOneTime id) requests) (λ id. has_id (periodic_ids all) id ≡ false) node.after both.0 both.1))
-      (All-both (λ node. AllByRecursion (λ id. AllByRecursion (IsOtherOrOneTime id) requests) node.after)
-      (λ node. AllByRecursion (λ id. has_id (periodic_ids all) id ≡ false) node.after) works stored.1 batch.1)) batch.1 there.1,
+      (All-with2 works (λ node one_here also. All-with2 node.after (λ id one one_is. All-push _ requests work.request one
+      (batch_one_time all (work ∷ []) id one_is (there.0, tt)).0) one_here also) stored.1 batch.1) batch.1 there.1,
 )
 
 -- what holds of the requests of all stored records holds of those of all works
@@ -406,27 +340,16 @@ placeable s works name placing nodes asked checks same shares follows =
     let batch = asked.batch in
     record {
       requests = asked.requests;
-      new = All-weaker (λ node. is_stored s.works node.request.id ≡ false) (λ node. is_stored works node.request.id ≡ false) nodes
-          (λ node new.
-          list_any-false (λ w. bytes_eq w.request.id node.request.id) works
+      new = All-weaker nodes (λ node new. list_any-false (λ w. bytes_eq w.request.id node.request.id) works
           (same (λ request. bytes_eq request.id node.request.id ≡ false) (none_pass (λ w. bytes_eq w.request.id node.request.id) s.works new)))
           (new_each s nodes checks.new);
       differ = differ_each nodes batch.different;
       few = few_each placing.after nodes checks.few;
-      different = All-weaker (IsChained nodes) (λ node. AreDifferent node.after) nodes (λ node is. is.different) batch.each;
-      alone = All-weaker (IsChained nodes) (λ node. (period : Period) → node.request.period ≡ Some period → node.after ≡ []) nodes
-          (λ node is period repeats. is.alone (ap is_some repeats)) batch.each;
-      one_time = names_each nodes (requests_of works) nodes
-          (All-weaker (λ node. AllByRecursion (λ id. AllByRecursion (IsOtherOrOneTime id) (requests_of s.works)) node.after)
-          (λ node. AllByRecursion (λ id. AllByRecursion (IsOtherOrOneTime id) (requests_of works)) node.after) nodes
-          (λ node all.
-          All-weaker (λ id. AllByRecursion (IsOtherOrOneTime id) (requests_of s.works)) (λ id. AllByRecursion (IsOtherOrOneTime id) (requests_of works))
-          node.after
-          (λ id each.
+      different = All-weaker nodes (λ node is. is.different) batch.each;
+      alone = All-weaker nodes (λ node is period repeats. is.alone (ap is_some repeats)) batch.each;
+      one_time = names_each nodes (requests_of works) nodes (All-weaker nodes (λ node all. All-weaker node.after (λ id each.
           to_requests (IsOtherOrOneTime id) works (same (IsOtherOrOneTime id) (of_requests (IsOtherOrOneTime id) s.works each))) all)
-          (stored_one_time s.works nodes checks.one_time))
-          (All-weaker (IsChained nodes) (λ node. AllByRecursion (λ id. has_id (periodic_ids nodes) id ≡ false) node.after) nodes
-          (λ node is. is.of_one_time) batch.each) (All-stored nodes);
+          (stored_one_time s.works nodes checks.one_time)) (All-weaker nodes (λ node is. is.of_one_time) batch.each) (All-stored nodes);
       shares = shares;
       follows = follows;
     }
@@ -439,9 +362,8 @@ no_name text is = absurd (cc)
 -- works without a name share none
 CanShare-unnamed : (works : List Record) (nodes : List Node) → CanShare works None nodes
 CanShare-unnamed works nodes = record {
-  records = All-any (λ work. AllByRecursion (IsOfItsKind None work) nodes) works
-      (λ work. All-any (IsOfItsKind None work) nodes (λ node text has is. absurd (no_name text is)));
-  among = AllLater-any (AreBothOneTime None) nodes (λ one other text is. absurd (no_name text is));
+  records = All-any works (λ work. All-any nodes (λ node text has is. absurd (no_name text is)));
+  among = AllLater-any nodes (λ one other text is. absurd (no_name text is));
 }
 
 -- and come after no other than they name
@@ -449,7 +371,7 @@ pub CanFollow-none : (works : List Record) (nodes : List Node) → CanFollow wor
 CanFollow-none works nodes = record {
   different = tt;
   one_time = tt;
-  alone = All-any (λ node. (period : Period) → node.request.period ≡ Some period → [] ≡ []) nodes (λ node period is. refl);
+  alone = All-any nodes (λ node period is. refl);
 }
 
 reached-outcome : (s : State) (works : List Node) (found : Option Refusal) → AreAsked works → refusal_of s None works ≡ found → IsReached s

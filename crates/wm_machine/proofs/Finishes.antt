@@ -13,12 +13,9 @@ use Rattle.wm_machine.specs.Role as role
 use Rattle.wm_machine.specs.Role.{Reported, SomeMore, This}
 use Rattle.wm_machine.specs.Runs.{other_runs, run_numbered, with_out}
 use Rattle.wm_machine.specs.Step.{after, IsEnd, IsTimeout}
-use Rattle.wm_machine.specs.declared.event.End.{End}
+use Rattle.wm_machine.specs.Types.{End, Record, Run, State}
 use Rattle.wm_machine.specs.declared.event.End.TheVariants.{Retry}
 use Rattle.wm_machine.specs.declared.event.Event.TheVariants as event
-use Rattle.wm_machine.specs.declared.record.Record.{Record}
-use Rattle.wm_machine.specs.declared.state.Run.{Run}
-use Rattle.wm_machine.specs.declared.state.State.{State}
 use Rattle.wm_worker.proofs.Giving.{gives_data}
 use Rattle.wm_worker.specs.Answers.{GivesData}
 
@@ -28,13 +25,11 @@ use Rattle.wm_worker.specs.Answers.{GivesData}
 end-in : (s : State) (number : ℕ) (run : Run) (end : End) → run_numbered number s.runs ≡ Some run
     → end_of s (run_numbered number s.runs) end ≡ with_run_over s run (end_in s run end)
 end-in s number run end found =
-    ap (λ found. end_of s found end) found
-    ∙ ap (λ (works : List Record). record s {
+    ap (λ found. end_of s found end) found ∙ ap (λ (works : List Record). record s {
       works = works;
       runs = other_runs run.run s.runs;
       instances = with_out false run.instance s.instances;
-    })
-    (works_after_end-map s.now run.seq (period_of run.seq s.works) end s.works)
+    }) (works_after_end-map s.now run.seq (period_of run.seq s.works) end s.works)
 
 pub after_finish : (s : State) (number : ℕ) (end : End) → (legal : IsEnd s number end)
     → after s (event.Finish number end) ≡ with_run_over s legal.run (end_in s legal.run end)
@@ -49,8 +44,7 @@ pub finish-framed : (s : State) (number : ℕ) (end : End) → IsEnd s number en
 finish-framed s number end legal = record {
   run = legal.run;
   is_running = legal.is_running;
-  frame_is =
-      ap (λ (found : Option Run). frame_to (end_of s found end) [] (λ worker. given_lines worker found (This (given_by end)))) legal.is_running;
+  frame_is = ap (λ (found : Option Run). frame_to (end_of s found end) [] (λ worker. given_lines worker found (This (given_by end)))) legal.is_running;
 }
 
 pub timed_out-framed : (s : State) (number : ℕ) → IsTimeout s number → IsEndedIn number SomeMore s (frame_of s (event.TimedOut number))
@@ -77,12 +71,9 @@ pub finish-kept : (s : State) (number : ℕ) (end : End) → IsReached s → IsE
 finish-kept s number end reached legal =
     let run = legal.run in
     let taken = (found_valid s number run reached.valid legal.is_running).input in
-    rw (after_finish s number end legal)
-    (end-kept s number (This (given_by end)) run end reached legal.is_running legal.is_current
+    rw (after_finish s number end legal) (end-kept s number (This (given_by end)) run end reached legal.is_running legal.is_current
     (gives_data run.kind run.input run.attempt run.turn (given_by end) taken legal.may_give))
 
-pub timed_out-kept : (s : State) (number : ℕ) → IsReached s → IsTimeout s number
-    → IsKept (role.Ends number SomeMore) s (after s (event.TimedOut number))
+pub timed_out-kept : (s : State) (number : ℕ) → IsReached s → IsTimeout s number → IsKept (role.Ends number SomeMore) s (after s (event.TimedOut number))
 timed_out-kept s number reached legal =
-    rw (after_timed_out s number legal)
-    (end-kept s number SomeMore legal.report.run Retry reached legal.report.is_running legal.report.is_current tt)
+    rw (after_timed_out s number legal) (end-kept s number SomeMore legal.report.run Retry reached legal.report.is_running legal.report.is_current tt)

@@ -1,19 +1,17 @@
 -- Which work is first, and which instance is idle.
-use Rattle.std.proofs.Common.{◌≡◌, ℕ, true, false, not, ◌&&◌, cond, List, [], ◌∷◌, filter, Option, Some, None, Contains, bytes_eq, refl, ap, subst}
+use Rattle.std.proofs.Common.{◌≡◌, ℕ, true, false, not, ◌&&◌, cond, List, [], ◌∷◌, filter, Option, Some, None, bytes_eq, refl, ap, subst}
 use Rattle.std.specs.List.{AllByRecursion}
 use Rattle.std.specs.Prelude.{nat_le}
 use Rattle.std.proofs.lemmas.Bool.{cond_both, and_from, and_parts, not-true}
 use Rattle.wm_conditions.specs.Met.{met}
-use Rattle.wm_machine.proofs.Lists.{All-filter, All-stored, All-weaker, Contains-from_one, find-passes, find-stored, list_any-stored}
+use Rattle.wm_collections.proofs.Lists.{All-filter, All-stored, All-weaker, find-passes, find-stored, list_any-stored}
 use Rattle.wm_machine.specs.Due.{due_of}
 use Rattle.wm_machine.specs.First.{all_met, comes_before, earlier_of, first_of, has_room, idle_instance, is_idle, is_live, is_startable, is_waiting, least}
 use Rattle.wm_machine.specs.Input.{cause_in, input_of}
 use Rattle.wm_machine.specs.Runs.{start_refusal}
-use Rattle.wm_machine.specs.Valid.{HasOne}
+use Rattle.wm_collections.specs.Lists.{HasOne}
 use Rattle.wm_machine.specs.declared.event.Cause.TheVariants.{NoWorker}
-use Rattle.wm_machine.specs.declared.record.Record.{Record}
-use Rattle.wm_machine.specs.declared.state.Instance.{Instance}
-use Rattle.wm_machine.specs.declared.state.State.{State}
+use Rattle.wm_machine.specs.Types.{Instance, Record, State}
 
 -- ---- the work that is first
 
@@ -34,24 +32,17 @@ least-from P (first ∷ works) work is all =
 pub first_of-from : (s : State) (work : Record) (P : Record → Type 0) → first_of s ≡ Some work
     → AllByRecursion (λ other. is_startable s other ≡ true → P other) s.works → P work
 unfolding first_of
-first_of-from s work P is all = least-from P (filter (is_startable s) s.works) work is (All-filter P (is_startable s) s.works all)
+first_of-from s work P is all = least-from P (filter (is_startable s) s.works) work is (All-filter (is_startable s) s.works (λ x e gives. gives e) all)
 
 -- the first work is one of the records
 pub first_of-stored : (s : State) (work : Record) → first_of s ≡ Some work → HasOne (λ other. other ≡ work) s.works
 first_of-stored s work is =
-    first_of-from s work (λ work. HasOne (λ other. other ≡ work) s.works) is
-    (All-weaker (λ work. HasOne (λ other. other ≡ work) s.works) (λ work. is_startable s work ≡ true → HasOne (λ other. other ≡ work) s.works) s.works
-    (λ work one startable. one) (All-stored s.works))
-
-pub first_of-contained : (s : State) (work : Record) → first_of s ≡ Some work → Contains s.works work
-first_of-contained s work is = Contains-from_one s.works work (first_of-stored s work is)
+    first_of-from s work (λ work. HasOne (λ other. other ≡ work) s.works) is (All-weaker s.works (λ work one startable. one) (All-stored s.works))
 
 -- the first work is startable
 pub first_of-startable : (s : State) (work : Record) → first_of s ≡ Some work → is_startable s work ≡ true
 first_of-startable s work is =
-    first_of-from s work (λ work. is_startable s work ≡ true) is
-    (All-weaker (λ work. HasOne (λ other. other ≡ work) s.works) (λ work. is_startable s work ≡ true → is_startable s work ≡ true) s.works
-    (λ work one startable. startable) (All-stored s.works))
+    first_of-from s work (λ work. is_startable s work ≡ true) is (All-weaker s.works (λ work one startable. startable) (All-stored s.works))
 
 -- what makes a work startable
 pub record IsStartable (s : State) (work : Record) : Type 0 where
@@ -86,8 +77,7 @@ first_of-room s work is = (IsStartable-from s work (first_of-startable s work is
 -- where the class of the first work has no idle instance, it has no worker
 pub first_of-no_worker : (s : State) (work : Record) → first_of s ≡ Some work → idle_instance s.instances work.request.class ≡ None
     → is_live s.instances work.request.class ≡ false
-first_of-no_worker s work is none =
-    not-true (is_live s.instances work.request.class) (rw none at (first_of-room s work is))
+first_of-no_worker s work is none = not-true (is_live s.instances work.request.class) (rw none at (first_of-room s work is))
 
 -- work that has no worker can't start for this cause
 pub start_refusal-no_worker : (s : State) (work : Record) → is_live s.instances work.request.class ≡ false → start_refusal s work ≡ Some NoWorker

@@ -1,41 +1,33 @@
 -- What holds of a state once works are cancelled one after another, and others are let go by their name.
-use Rattle.std.proofs.Common.{◌≡◌, ◌&&◌, ◌||◌, ℕ, ◌≤◌, Bool, true, false, not, cond, eqb, List, [], ◌∷◌, map, filter, length, Option, Some, None, refl, sym, ◌∙◌, ap, arith, inl, inr}
-use mathlib.Core.List.{reverse, reverse_aux}
+use Rattle.std.proofs.Common.{reverse, map-id, ◌≡◌, ◌&&◌, ◌||◌, ℕ, ◌≤◌, Bool, true, false, not, cond, eqb, List, [], ◌∷◌, map, filter, length, Option, Some, None, refl, sym, ◌∙◌, ap, arith, inl, inr}
 use Rattle.std.specs.List.{AllByRecursion, list_any}
 use Rattle.std.proofs.lemmas.Bool.{and_from, and_parts, cases_Bool, cond_both, true≢false}
 use Rattle.std.proofs.lemmas.List.{length-map}
+use Rattle.wm_collections.specs.Lists.{is_among}
 use Rattle.wm_machine.proofs.Changes.{IsChange-still, IsSameRequest, KeepsRun, OfNumber, reached-changed, Succeeded}
 use Rattle.wm_machine.proofs.Closings.{HasNotSucceeded, reached-closed}
 use Rattle.wm_machine.proofs.Endings.{closed_both, closed_in, KeepsRun-same}
-use Rattle.wm_machine.proofs.Lists.{All-any, All-filter, All-map, All-weaker, filter-all, filter-few, list_any-before, list_any-false, map-same, none_pass}
+use Rattle.wm_collections.proofs.Lists.{All-any, All-filter, All-map, All-weaker, filter-all, filter-few, list_any-agree, list_any-before, list_any-false, map-reverse, map-same, map-twice, none_pass}
+use Rattle.wm_machine.proofs.Records.{IsRecord-kept}
 use Rattle.wm_machine.proofs.Removals.{reached-removed, without_gone}
 use Rattle.wm_machine.specs.Cancelled.{reaches_any_run, reaches_run}
-use Rattle.wm_machine.specs.Closed.{closed, descendants, is_among, is_open, is_reached, with_closed, with_each_closed}
+use Rattle.wm_machine.specs.Closed.{closed, descendants, is_open, is_reached, with_closed, with_each_closed}
 use Rattle.wm_machine.specs.Enqueued.{made_ready}
 use Rattle.wm_machine.specs.Group.{is_dropped, unnamed, with_let_go}
 use Rattle.wm_machine.specs.Narrow.{IsReached}
 use Rattle.wm_machine.specs.Plan.{Placing}
 use Rattle.wm_machine.specs.Pruned.{removable}
 use Rattle.wm_machine.specs.Valid.{IsOfKind, IsRecord}
-use Rattle.wm_machine.specs.declared.record.How.{How}
+use Rattle.wm_machine.specs.Types.{How, Period, Record, Run, State}
 use Rattle.wm_machine.specs.declared.record.How.TheVariants as how
-use Rattle.wm_machine.specs.declared.record.Record.{Record}
-use Rattle.wm_machine.specs.declared.state.Run.{Run}
-use Rattle.wm_machine.specs.declared.state.State.{State}
-use Rattle.wm_schedule.specs.declared.schedule.Period.{Period}
 
 -- ---- what a closing reaches later
-
-reverse_aux-map : {T U : Type 0} (f : T → U) (xs front : List T) → reverse_aux (map f xs) (map f front) ≡ map f (reverse_aux xs front)
-reverse_aux-map f [] front = refl
-reverse_aux-map f (x ∷ xs) front = reverse_aux-map f xs (x ∷ front)
 
 -- descendants go by numbers and prerequisites alone
 descendants-map : (seq : ℕ) (change : Record → Record) (works : List Record) → ((work : Record) → (change work).seq ≡ work.seq)
     → ((work : Record) → (change work).prior ≡ work.prior) → descendants seq (map change works) ≡ descendants seq works
 descendants-map seq change [] numbers priors = refl
-descendants-map seq change (work ∷ earlier) numbers priors =
-    rw (numbers work, priors work, descendants-map seq change earlier numbers priors) refl
+descendants-map seq change (work ∷ earlier) numbers priors = rw (numbers work, priors work, descendants-map seq change earlier numbers priors) refl
 
 -- after a closing a work reaches no other records than before, but those that are finished then
 reached-same : (how : How) (seq other : ℕ) (works : List Record) (work : Record)
@@ -46,7 +38,7 @@ reached-same how seq other works work =
     let numbers = λ (w : Record). closed_both (λ c. c.seq ≡ w.seq) how seq works w (λ e. refl) (λ e. refl) in
     let priors = λ (w : Record). closed_both (λ c. c.prior ≡ w.prior) how seq works w (λ e. refl) (λ e. refl) in
     ap (λ found. is_open work.phase && is_among found work.seq)
-    (ap (descendants other) (reverse_aux-map change works []) ∙ descendants-map other change (reverse works) numbers priors)
+    (ap (descendants other) (sym (map-reverse change works)) ∙ descendants-map other change (reverse works) numbers priors)
 
 -- what is finished isn't reached
 reached-closed_one : (how : How) (other : ℕ) (works : List Record) (work : Record) → is_reached other works (closed how work) ≡ false
@@ -72,41 +64,29 @@ none_reached how seq other works runs none =
     let before = λ (run : Run). λ (work : Record). eqb work.seq run.seq && is_reached other works work in
     let now = λ (run : Run). λ (work : Record). eqb work.seq run.seq && is_reached other (with_closed how seq works) work in
     let change = closed_in how seq works in
-    list_any-false (λ run. run.current && list_any (now run) (with_closed how seq works)) runs
-    (All-weaker (λ run. (run.current && list_any (before run) works) ≡ false)
-    (λ run. (run.current && list_any (now run) (with_closed how seq works)) ≡ false) runs
-    (λ run.
-    not_implied (run.current && list_any (before run) works) (run.current && list_any (now run) (with_closed how seq works))
-    (λ is.
+    list_any-false (λ run. run.current && list_any (now run) (with_closed how seq works)) runs (All-weaker runs (λ run.
+    not_implied (run.current && list_any (before run) works) (run.current && list_any (now run) (with_closed how seq works)) (λ is.
     let parts = and_parts run.current (list_any (now run) (with_closed how seq works)) is in
-    and_from _ _ parts.0
-    (list_any-before (before run) (now run) change works
-    (All-any (λ work. now run (change work) ≡ true → before run work ≡ true) works (λ work here.
+    and_from _ _ parts.0 (list_any-before (before run) (now run) change works (All-any works (λ work here.
     let both = and_parts (eqb (change work).seq run.seq) (is_reached other (with_closed how seq works) (change work)) here in
     and_from _ _ (closed_both (λ c. eqb c.seq run.seq ≡ true → eqb work.seq run.seq ≡ true) how seq works work (λ e is. is) (λ e is. is) both.0)
-    (reached_before how seq other works work both.1))) parts.1)))
-    (none_pass (λ run. run.current && list_any (before run) works) runs none))
+    (reached_before how seq other works work both.1))) parts.1))) (none_pass (λ run. run.current && list_any (before run) works) runs none))
 
 -- ---- cancelling one after another
 
 -- what hasn't succeeded hasn't after a cancelling
 not_yet_later : (seq : ℕ) (works : List Record) (other : ℕ) → HasNotSucceeded works other → HasNotSucceeded (with_closed how.Cancelled seq works) other
 not_yet_later seq works other not_yet =
-    All-map (OfNumber other (λ work. Succeeded work.phase → ⊥)) (OfNumber other (λ work. Succeeded work.phase → ⊥)) (closed_in how.Cancelled seq works)
-    works
-    (λ work not.
+    All-map _ (closed_in how.Cancelled seq works) works (λ work not.
     closed_both (OfNumber other (λ w. Succeeded w.phase → ⊥)) how.Cancelled seq works work (λ e same succeeded. absurd (cc)) (λ e. not)) not_yet
 
 one_by_one : (seqs : List ℕ) (s : State) → IsReached s → AllByRecursion (HasNotSucceeded s.works) seqs
-    → AllByRecursion (λ seq. reaches_run seq s.works s.runs ≡ false) seqs
-    → IsReached (record s { works = with_each_closed how.Cancelled seqs s.works })
+    → AllByRecursion (λ seq. reaches_run seq s.works s.runs ≡ false) seqs → IsReached (record s { works = with_each_closed how.Cancelled seqs s.works })
 one_by_one [] s reached not_yet none = reached
 one_by_one (seq ∷ seqs) s reached not_yet none =
     one_by_one seqs (record s { works = with_closed how.Cancelled seq s.works }) (reached-closed s seq reached not_yet.0 none.0)
-    (All-weaker (HasNotSucceeded s.works) (HasNotSucceeded (with_closed how.Cancelled seq s.works)) seqs
-    (λ other not. not_yet_later seq s.works other not) not_yet.1)
-    (All-weaker (λ other. reaches_run other s.works s.runs ≡ false) (λ other. reaches_run other (with_closed how.Cancelled seq s.works) s.runs ≡ false) seqs
-    (λ other no_run. none_reached how.Cancelled seq other s.works s.runs no_run) none.1)
+    (All-weaker seqs (λ other not. not_yet_later seq s.works other not) not_yet.1)
+    (All-weaker seqs (λ other no_run. none_reached how.Cancelled seq other s.works s.runs no_run) none.1)
 
 -- a state in which none of these has succeeded or reaches a run, once they are cancelled
 pub reached-each_closed : (seqs : List ℕ) (s : State) → IsReached s → AllByRecursion (HasNotSucceeded s.works) seqs
@@ -117,26 +97,13 @@ reached-each_closed seqs s reached not_yet none = one_by_one seqs s reached not_
 abbrev pub closed_by : How → List ℕ → List Record → Record → Record
 closed_by how seqs works work = cond (list_any (λ seq. is_reached seq works work) seqs) (closed how work) work
 
-any_same : (one other : ℕ → Bool) (numbers : List ℕ) → ((number : ℕ) → one number ≡ other number) → list_any one numbers ≡ list_any other numbers
-any_same one other [] same = refl
-any_same one other (number ∷ numbers) same = rw (same number, any_same one other numbers same) refl
-
-map-map : {A B C : Type 0} (f : A → B) (g : B → C) (xs : List A) → map g (map f xs) ≡ map (λ x. g (f x)) xs
-map-map f g [] = refl
-map-map f g (x ∷ xs) = ap (λ rest. g (f x) ∷ rest) (map-map f g xs)
-
-map-itself : {T : Type 0} (xs : List T) → map (λ x. x) xs ≡ xs
-map-itself [] = refl
-map-itself (x ∷ xs) = ap (λ rest. x ∷ rest) (map-itself xs)
-
 closed_then : (how : How) (seq : ℕ) (seqs : List ℕ) (works : List Record) (work : Record)
     → closed_by how seqs (with_closed how seq works) (closed_in how seq works work) ≡ closed_by how (seq ∷ seqs) works work
 closed_then how seq seqs works work =
     let then = with_closed how seq works in
     elim (cases_Bool (is_reached seq works work)) [
       | inl e ↦
-          let none = list_any-false (λ other. is_reached other then (closed how work)) seqs
-          (All-any (λ other. is_reached other then (closed how work) ≡ false) seqs (λ other. reached-closed_one how other then work)) in
+          let none = list_any-false (λ other. is_reached other then (closed how work)) seqs (All-any seqs (λ other. reached-closed_one how other then work)) in
           let left : closed_by how seqs then (closed_in how seq works work) ≡ closed_by how seqs then (closed how work) =
           ap (λ b. closed_by how seqs then (cond b (closed how work) work)) e in
           left ∙ ap (λ b. cond b (closed how (closed how work)) (closed how work)) none
@@ -144,20 +111,18 @@ closed_then how seq seqs works work =
       | inr e ↦
           let left : closed_by how seqs then (closed_in how seq works work) ≡ closed_by how seqs then work =
           ap (λ b. closed_by how seqs then (cond b (closed how work) work)) e in
-          left
-          ∙ ap (λ b. cond b (closed how work) work)
-          (any_same (λ other. is_reached other then work) (λ other. is_reached other works work) seqs (λ other. reached-same how seq other works work))
+          left ∙ ap (λ b. cond b (closed how work) work) (list_any-agree (λ other. is_reached other then work) (λ other. is_reached other works work) seqs
+          (All-any seqs (λ other. reached-same how seq other works work)))
           ∙ sym (ap (λ b. cond (b || list_any (λ other. is_reached other works work) seqs) (closed how work) work) e)
     ]
 
 -- works that are closed one after another are closed at once: each record that one of them reaches
 pub each_closed-at_once : (how : How) (seqs : List ℕ) (works : List Record) → with_each_closed how seqs works ≡ map (closed_by how seqs works) works
-each_closed-at_once how [] works = sym (map-itself works)
+each_closed-at_once how [] works = sym (map-id works)
 each_closed-at_once how (seq ∷ seqs) works =
     let then = with_closed how seq works in
-    each_closed-at_once how seqs then ∙ map-map (closed_in how seq works) (closed_by how seqs then) works
-    ∙ map-same (λ work. closed_by how seqs then (closed_in how seq works work)) (closed_by how (seq ∷ seqs) works) works
-    (All-any (λ work. closed_by how seqs then (closed_in how seq works work) ≡ closed_by how (seq ∷ seqs) works work) works
+    each_closed-at_once how seqs then ∙ map-twice (closed_in how seq works) (closed_by how seqs then) works
+    ∙ map-same (λ work. closed_by how seqs then (closed_in how seq works work)) (closed_by how (seq ∷ seqs) works) works (All-any works
     (λ work. closed_then how seq seqs works work))
 
 -- ---- letting go
@@ -168,47 +133,30 @@ unnamed_both P numbers work hit miss = cond_both (is_among numbers work.seq) (re
 
 kind-unnamed : (period : Option Period) (work : Record) → IsOfKind period work → IsOfKind period (record work { name = None })
 kind-unnamed None work kind = kind
-kind-unnamed (Some period) work kind =
-    record { phase_is = kind.phase_is; no_output = kind.no_output; no_prerequisite = kind.no_prerequisite }
+kind-unnamed (Some period) work kind = record { phase_is = kind.phase_is; no_output = kind.no_output; no_prerequisite = kind.no_prerequisite }
 
 IsRecord-unnamed : (work : Record) → IsRecord work → IsRecord (record work { name = None })
-IsRecord-unnamed work is = record {
-  number = is.number;
-  fits = record { seq = is.fits.seq; prior = is.fits.prior; generation = is.fits.generation; enqueued_at = is.fits.enqueued_at };
-  name = tt;
-  request = is.request;
-  prior = is.prior;
-  attempt = is.attempt;
-  started = is.started;
-  backoff_n = is.backoff_n;
-  runs = is.runs;
-  kind = kind-unnamed work.request.period work is.kind;
-  output = is.output;
-  progress = is.progress;
-}
+IsRecord-unnamed work is =
+    IsRecord-kept work (record work { name = None }) refl is tt is.fits.enqueued_at is.attempt is.started is.backoff_n is.runs
+    (kind-unnamed work.request.period work is.kind) is.output is.progress
 
 -- names are taken
 reached-unnamed : (numbers : List ℕ) (s : State) → IsReached s → IsReached (record s { works = map (unnamed numbers) s.works })
 reached-unnamed numbers s reached =
     let valid = reached.valid in
-    reached-changed s (unnamed numbers) reached
-    (IsChange-still s.works (unnamed numbers)
-    (λ work. unnamed_both (IsSameRequest work) numbers work
+    reached-changed s (unnamed numbers) reached (IsChange-still s.works (unnamed numbers) (λ work. unnamed_both (IsSameRequest work) numbers work
     (λ e. record { seq = refl; name = λ text is. absurd (cc); request = refl; prior = refl })
     (λ e. record { seq = refl; name = λ text is. is; request = refl; prior = refl }))
     (λ work. unnamed_both (λ w. w.phase ≡ work.phase) numbers work (λ e. refl) (λ e. refl))
-    (All-weaker IsRecord (λ work. IsRecord (unnamed numbers work)) s.works
-    (λ work is. unnamed_both IsRecord numbers work (λ e. IsRecord-unnamed work is) (λ e. is)) valid.records) valid.sound)
-    (All-any (λ work. KeepsRun work (unnamed numbers work)) s.works (λ work.
+    (All-weaker s.works (λ work is. unnamed_both IsRecord numbers work (λ e. IsRecord-unnamed work is) (λ e. is)) valid.works.records) valid.works.sound)
+    (All-any s.works (λ work.
     unnamed_both (KeepsRun work) numbers work (λ e. KeepsRun-same work (record work { name = None }) refl refl) (λ e. KeepsRun-same work work refl refl)))
 
 -- records are let go
 reached-let_go : (numbers : List ℕ) (s : State) → IsReached s → IsReached (record s { works = with_let_go numbers s.works })
 reached-let_go numbers s reached =
-    reached-unnamed numbers (record s { works = without_gone (is_dropped numbers s.works) s.works })
-    (reached-removed s (is_dropped numbers s.works) reached
-    (All-any (λ work. is_dropped numbers s.works work ≡ true → removable s.works work ≡ true) s.works
-    (λ work is. (and_parts (is_among numbers work.seq) (removable s.works work) is).1)))
+    reached-unnamed numbers (record s { works = without_gone (is_dropped numbers s.works) s.works }) (reached-removed s (is_dropped numbers s.works) reached
+    (All-any s.works (λ work is. (and_parts (is_among numbers work.seq) (removable s.works work) is).1)))
 
 -- a state in which none is to be cancelled that has succeeded or reaches a run is made ready
 pub reached-made_ready : (s : State) (placing : Placing) → IsReached s → AllByRecursion (HasNotSucceeded s.works) placing.cancel
@@ -224,23 +172,20 @@ All-each_closed : (P : Record → Type 0) (how : How) (seqs : List ℕ) (works :
 All-each_closed P how [] works keeps all = all
 All-each_closed P how (seq ∷ seqs) works keeps all =
     All-each_closed P how seqs (with_closed how seq works) keeps
-    (All-map P P (closed_in how seq works) works (λ work p. closed_both P how seq works work (λ e. keeps work p) (λ e. p)) all)
+    (All-map _ (closed_in how seq works) works (λ work p. closed_both P how seq works work (λ e. keeps work p) (λ e. p)) all)
 
 All-let_go : (P Q : Record → Type 0) (numbers : List ℕ) (works : List Record)
     → ((work : Record) → is_among numbers work.seq ≡ true → P work → Q (record work { name = None }))
-    → ((work : Record) → is_among numbers work.seq ≡ false → P work → Q work) → AllByRecursion P works
-    → AllByRecursion Q (with_let_go numbers works)
+    → ((work : Record) → is_among numbers work.seq ≡ false → P work → Q work) → AllByRecursion P works → AllByRecursion Q (with_let_go numbers works)
 All-let_go P Q numbers works taken left all =
-    All-map P Q (unnamed numbers) (without_gone (is_dropped numbers works) works)
+    All-map _ (unnamed numbers) (without_gone (is_dropped numbers works) works)
     (λ work p. unnamed_both Q numbers work (λ e. taken work e p) (λ e. left work e p))
-    (All-filter P (λ work. not (is_dropped numbers works work)) works
-    (All-weaker P (λ work. not (is_dropped numbers works work) ≡ true → P work) works (λ work p e. p) all))
+    (All-filter (λ work. not (is_dropped numbers works work)) works (λ work e p. p) all)
 
 -- what holds of each record of a state, and lasts where one is closed, holds of each that is made ready, or what follows from it
 pub All-made_ready : (P Q : Record → Type 0) (s : State) (placing : Placing) → ((work : Record) → P work → P (closed how.Cancelled work))
     → ((work : Record) → is_among placing.let_go work.seq ≡ true → P work → Q (record work { name = None }))
-    → ((work : Record) → is_among placing.let_go work.seq ≡ false → P work → Q work) → AllByRecursion P s.works
-    → AllByRecursion Q (made_ready s placing).works
+    → ((work : Record) → is_among placing.let_go work.seq ≡ false → P work → Q work) → AllByRecursion P s.works → AllByRecursion Q (made_ready s placing).works
 All-made_ready P Q s placing keeps taken left all =
     All-let_go P Q placing.let_go (with_each_closed how.Cancelled placing.cancel s.works) taken left
     (All-each_closed P how.Cancelled placing.cancel s.works keeps all)
@@ -262,4 +207,4 @@ length-made_ready s placing =
 -- ---- where none is let go
 
 pub with_let_go-none : (works : List Record) → with_let_go [] works ≡ works
-with_let_go-none works = map-itself (filter (λ work. true) works) ∙ filter-all (λ work. true) works (λ work. refl)
+with_let_go-none works = map-id (filter (λ work. true) works) ∙ filter-all (λ work. true) works (λ work. refl)

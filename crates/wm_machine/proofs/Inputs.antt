@@ -3,25 +3,22 @@ use Rattle.std.proofs.Common.{◌≡◌, ℕ, true, cond, eqb, List, [], ◌∷�
 use Rattle.std.proofs.lemmas.Bool.{cond_both}
 use Rattle.std.specs.List.{AllByRecursion, cons_option}
 use Rattle.wm_data.specs.Size.{size_of, IsData}
-use Rattle.wm_data.specs.declared.data.DataEntry.{DataEntry}
+use Rattle.wm_machine.specs.Types.{Cause, DataEntry, Period, Record, State}
 use Rattle.wm_data.specs.declared.merger.Merger.{Merger}
 use Rattle.wm_data.specs.declared.merger.Merger.TheVariants as merger
-use Rattle.wm_machine.proofs.Lists.{All-find, one_gives}
+use Rattle.wm_collections.proofs.Lists.{All-find, one_gives}
 use Rattle.wm_machine.proofs.Records.{IsData-output}
 use Rattle.wm_machine.specs.First.{is_live}
 use Rattle.wm_machine.specs.Input.{cause_in, input_by, input_of, outputs_for, work_numbered}
 use Rattle.wm_machine.specs.Runs.{start_refusal}
-use Rattle.wm_machine.specs.Valid.{HasOne, IsRecord}
-use Rattle.wm_machine.specs.declared.event.Cause.{Cause}
+use Rattle.wm_collections.specs.Lists.{HasOne}
+use Rattle.wm_machine.specs.Valid.{IsRecord}
 use Rattle.wm_machine.specs.declared.event.Cause.TheVariants as cause
-use Rattle.wm_machine.specs.declared.record.Record.{Record}
-use Rattle.wm_machine.specs.declared.state.State.{State}
 use Rattle.wm_merge.proofs.MergedData.{merged-data}
 use Rattle.wm_merge.specs.Merged.{answer_of, arrays, least_conflict, merged}
 use Rattle.wm_merge.specs.Overwriting.{overwritten}
 use Rattle.wm_merge.specs.declared.fault.MergeFault.{MergeFault}
 use Rattle.wm_merge.specs.declared.fault.MergeFault.TheVariants as fault
-use Rattle.wm_schedule.specs.declared.schedule.Period.{Period}
 
 -- ---- it is Data
 
@@ -35,7 +32,7 @@ outputs-data : (works : List Record) (numbers : List ℕ) → AllByRecursion IsR
     → AllByRecursion IsData (filter_map (λ seq. option_map (λ (work : Record). work.output) (work_numbered seq works)) numbers)
 outputs-data works [] records = tt
 outputs-data works (seq ∷ numbers) records =
-    output_at works (work_numbered seq works) _ (λ work found. IsData-output work (All-find IsRecord (λ w. eqb w.seq seq) works work found records))
+    output_at works (work_numbered seq works) _ (λ work found. IsData-output work (All-find _ (λ w. eqb w.seq seq) works work found records))
     (outputs-data works numbers records)
 
 input_by-data : (period : Option Period) (works : List Record) (work : Record) (input : List DataEntry) → AllByRecursion IsRecord works → IsRecord work
@@ -50,30 +47,16 @@ input_by-data (Some period) works work input records own is =
 pub input_of-data : (s : State) (work : Record) (input : List DataEntry) → AllByRecursion IsRecord s.works → HasOne (λ other. other ≡ work) s.works
     → input_of s work ≡ Ok input → IsData input
 input_of-data s work input records stored is =
-    input_by-data work.request.period s.works work input records
-    (one_gives IsRecord (λ other. other ≡ work) (IsRecord work) s.works (λ other own same. subst IsRecord same own) records stored) is
+    input_by-data work.request.period s.works work input records (one_gives s.works (λ other own same. subst IsRecord same own) records stored) is
 
 -- ---- its own input alone
-
--- one-time work that names no prerequisite takes what its merger makes of its own input
-pub input_of-alone : (s : State) (work : Record) → work.request.period ≡ None → work.prior ≡ []
-    → input_of s work ≡ merged work.request.merger (work.request.input ∷ [])
-input_of-alone s work one_time none =
-    ap (λ period. input_by period s.works work) one_time
-    ∙ ap (λ numbers. merged work.request.merger
-    (work.request.input ∷ filter_map (λ seq. option_map (λ (prior : Record). prior.output) (work_numbered seq s.works)) numbers)) none
-
--- periodic work takes its own input as it is
-pub input_of-periodic : (s : State) (work : Record) (period : Period) → work.request.period ≡ Some period → input_of s work ≡ Ok work.request.input
-input_of-periodic s work period repeats = ap (λ kind. input_by kind s.works work) repeats
 
 -- ---- there is none
 
 -- why a work with a worker can't start whose inputs don't become one
 pub start_refusal-no_input : (s : State) (work : Record) (input : Result (List DataEntry) MergeFault) → is_live s.instances work.request.class ≡ true
     → input_of s work ≡ input → start_refusal s work ≡ cause_in input
-start_refusal-no_input s work input live is =
-    ap (λ b. cond b (cause_in (input_of s work)) (Some cause.NoWorker)) live ∙ ap cause_in is
+start_refusal-no_input s work input live is = ap (λ b. cond b (cause_in (input_of s work)) (Some cause.NoWorker)) live ∙ ap cause_in is
 
 -- there is a cause
 abbrev HasCause : Option Cause → Type 0

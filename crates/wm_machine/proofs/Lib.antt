@@ -12,7 +12,6 @@ pub mod Finishes
 pub mod Firsts
 pub mod Groups
 pub mod Inputs
-pub mod Lists
 pub mod Logs
 pub mod NameLaws
 pub mod Names

@@ -4,11 +4,8 @@ use Rattle.std.proofs.lemmas.List.{append-nil}
 use Rattle.wm_machine.specs.Log.{command_in, commands_of, AreNumberedFrom}
 use Rattle.wm_machine.specs.Replay.{Replay}
 use Rattle.wm_machine.specs.Step.{Legal, after}
-use Rattle.wm_machine.specs.declared.command.Command.{Command}
-use Rattle.wm_machine.specs.declared.event.Event.{Event}
+use Rattle.wm_machine.specs.Types.{Command, Event, Reply, State}
 use Rattle.wm_machine.specs.declared.event.Event.TheVariants as event
-use Rattle.wm_machine.specs.declared.reply.Reply.{Reply}
-use Rattle.wm_machine.specs.declared.state.State.{State}
 
 pub Replay-push : (first : State) (log : List Event) (last : State) (e : Event) → Replay first log last → Legal last e
     → Replay first (log ++ e ∷ []) (after last e)
@@ -17,8 +14,7 @@ Replay-push first (d ∷ log) last e replays legal = (replays.0, Replay-push (af
 
 pub commands_of-push : (log : List Event) (e : Event) → commands_of (log ++ e ∷ []) ≡ commands_of log ++ command_in e
 commands_of-push [] e = append-nil (command_in e)
-commands_of-push (d ∷ log) e =
-    ap (λ rest. command_in d ++ rest) (commands_of-push log e) ∙ sym (append_assoc (command_in d) (commands_of log) (command_in e))
+commands_of-push (d ∷ log) e = ap (λ rest. command_in d ++ rest) (commands_of-push log e) ∙ sym (append_assoc (command_in d) (commands_of log) (command_in e))
 
 pub AreNumberedFrom-push : (line : ℕ) (log : List Event) (number : ℕ) (asked : Command) (reply : Reply) → AreNumberedFrom line log
     → number ≡ line + length (commands_of log) → AreNumberedFrom line (log ++ event.Command number asked reply ∷ [])

@@ -1,30 +1,25 @@
 -- Laws of unique names: of what kind the works of a name are, whose a name is after an enqueue, and what an enqueue leaves as it is.
 use Rattle.std.proofs.Common.{◌≡◌, ◌&&◌, ℕ, ◌≤◌, true, false, not, cond, eqb, List, [], ◌∷◌, filter, find, map, Option, Some, None, refl, sym, ◌∙◌, ap, subst, arith, inl, inr}
 use Rattle.std.specs.List.{AllByRecursion, list_any}
-use Rattle.std.proofs.lemmas.Bool.{cases_Bool, cond_both, eqb-true, or_cases, true≢false}
-use Rattle.wm_collections.specs.Lists.{AllLater}
+use Rattle.std.proofs.lemmas.Bool.{cases_Bool, cond_both, eqb-true, true≢false, or_cases}
+use Rattle.wm_collections.specs.Lists.{AllLater, HasOne, is_among}
 use Rattle.wm_machine.proofs.Endings.{reached_parts}
 use Rattle.wm_machine.proofs.Groups.{closed_by, each_closed-at_once}
-use Rattle.wm_machine.proofs.Lists.{All-any, All-both, All-filter, All-map, All-push, All-weaker, AllLater-filter, find-stored, HasOne-filter, HasOne-front, HasOne-map, list_any-false, one_gives}
-use Rattle.wm_machine.proofs.Names.{All-of_filter, HasAnotherName, name_is_free}
+use Rattle.wm_collections.proofs.Lists.{All-any, All-filter, All-kept, All-map, All-passing, All-push, All-weaker, All-with2, AllLater-filter, HasOne-filter, HasOne-front, HasOne-map, HasOne-weaker, any_passes, find-stored, list_any-false, list_any_after, one_gives}
+use Rattle.wm_machine.proofs.Names.{name_is_free}
 use Rattle.wm_machine.proofs.Placings.{bytes_eq-same}
-use Rattle.wm_machine.proofs.Runnings.{changed, changed_both, IsAlone, IsAlone-stored}
-use Rattle.wm_machine.specs.Closed.{closed, is_among, is_open, is_reached, IsDescendant, with_each_closed}
+use Rattle.wm_machine.proofs.Runnings.{changed, changed_both, IsAlone-stored}
+use Rattle.wm_machine.specs.Closed.{closed, is_reached, with_each_closed}
 use Rattle.wm_machine.specs.Enqueued.{carried_out, enqueued, made_ready, new_record, outcome_by, placed_after, plan_in, prior_of, refusal_of, updated_by, with_work}
 use Rattle.wm_machine.specs.Group.{AreAloneOrOneTime, is_dropped, is_name, IsApartFrom, leaves_of, members_of, numbers_in, unnamed, with_let_go}
 use Rattle.wm_machine.specs.Plan as plan
 use Rattle.wm_machine.specs.Plan.{appending, is_lost, is_unfinished, Placing, Plan, plan_of, replacing, updating}
 use Rattle.wm_machine.specs.Pruned.{removable}
 use Rattle.wm_machine.specs.Updated.{updated}
-use Rattle.wm_machine.specs.Valid.{HasOne, IsBefore, Valid}
-use Rattle.wm_machine.specs.declared.command.Policy.{Policy}
+use Rattle.wm_machine.specs.Valid.{IsBefore, Valid}
+use Rattle.wm_machine.specs.Types.{Node, Policy, Record, Refusal, State, UniqueName}
 use Rattle.wm_machine.specs.declared.command.Policy.TheVariants as policy
-use Rattle.wm_machine.specs.declared.command.UniqueName.{UniqueName}
 use Rattle.wm_machine.specs.declared.record.How.TheVariants as how
-use Rattle.wm_machine.specs.declared.record.Record.{Record}
-use Rattle.wm_machine.specs.declared.reply.Refusal.{Refusal}
-use Rattle.wm_machine.specs.declared.state.State.{State}
-use Rattle.wm_request.specs.declared.request.Node.{Node}
 
 -- ---- of one kind
 
@@ -41,19 +36,15 @@ of_one_kind name (work ∷ next ∷ works) order named =
     let own = name_of name work.name named.0 in
     inr (
       (order.0.0.name name own (name_of name next.name named.1.0)).0,
-      All-weaker (λ later. IsBefore work later × (is_name name later.name ≡ true)) (λ later. later.request.period ≡ None) (next ∷ works)
-          (λ later both. (both.0.name name own (name_of name later.name both.1)).1)
-          (All-both (IsBefore work) (λ later. is_name name later.name ≡ true) (next ∷ works) order.0 named.1),
+      All-with2 (next ∷ works) (λ later before named. (before.name name own (name_of name later.name named)).1) order.0 named.1,
     )
 
 members_named : (works : List Record) (name : List ℕ) → AllByRecursion (λ work. is_name name work.name ≡ true) (members_of works name)
-members_named works name =
-    All-filter (λ work. is_name name work.name ≡ true) (λ work. is_name name work.name) works
-    (All-any (λ work. is_name name work.name ≡ true → is_name name work.name ≡ true) works (λ work e. e))
+members_named works name = All-passing (λ work. is_name name work.name) works
 
 pub name_of_one_kind : (s : State) (name : List ℕ) → Valid s → AreAloneOrOneTime (members_of s.works name)
 name_of_one_kind s name valid =
-    of_one_kind name (members_of s.works name) (AllLater-filter IsBefore (λ work. is_name name work.name) s.works valid.in_order) (members_named s.works name)
+    of_one_kind name (members_of s.works name) (AllLater-filter _ (λ work. is_name name work.name) s.works valid.works.in_order) (members_named s.works name)
 
 -- ---- whose the name is
 
@@ -66,7 +57,7 @@ new_placed : (s : State) (name : List ℕ) (after : List ℕ) (nodes : List Node
 new_placed s name after [] next below all = all
 new_placed s name after (node ∷ nodes) next below all =
     let work = new_record s (Some name) (prior_of s.works after node.after) node in
-    new_placed (with_work s work) name after nodes next (omega (arith, below)) (All-push (IsNewWhereNamed name next) s.works work all (λ named. below))
+    new_placed (with_work s work) name after nodes next (omega (arith, below)) (All-push _ s.works work all (λ named. below))
 
 -- where members are replaced the name is that of new works alone
 pub name_passes : (s : State) (unique : UniqueName) (works : List Node) → plan_in s unique ≡ plan.Places (replacing (members_of s.works unique.name))
@@ -77,10 +68,8 @@ name_passes s unique works planned accepted =
     let placing = replacing (members_of s.works name) in
     let outcome : enqueued s (Some unique) works ≡ carried_out (plan.Places placing) s name works =
     ap (λ found. outcome_by found s (Some unique) works) accepted ∙ ap (λ by. carried_out by s name works) planned in
-    subst (λ o. AllByRecursion (IsNewWhereNamed name s.next) o.state.works) (sym outcome)
-    (new_placed (made_ready s placing) name [] works s.next (omega arith)
-    (All-weaker (HasAnotherName name) (IsNewWhereNamed name s.next) (made_ready s placing).works
-    (λ work other named. absurd (other name (name_of name work.name named) refl)) (name_is_free s name)))
+    subst (λ o. AllByRecursion (IsNewWhereNamed name s.next) o.state.works) (sym outcome) (new_placed (made_ready s placing) name [] works s.next (omega arith)
+    (All-weaker (made_ready s placing).works (λ work other named. absurd (other name (name_of name work.name named) refl)) (name_is_free s name)))
 
 -- ---- what stays
 
@@ -89,9 +78,7 @@ IsStored works work = HasOne (λ other. other ≡ work) works
 
 -- a record stays where it is this one and a change leaves it
 stays_changed : (change : Record → Record) (works : List Record) (work : Record) → change work ≡ work → IsStored works work → IsStored (map change works) work
-stays_changed change works work same stored =
-    HasOne-map (λ other. Unit {0}) (λ other. other ≡ work) (λ other. other ≡ work) change works (λ other u is. ap change is ∙ same)
-    (All-any (λ other. Unit {0}) works (λ other. tt)) stored
+stays_changed change works work same stored = HasOne-map _ change works (λ other is. ap change is ∙ same) stored
 
 stays_closed : (seqs : List ℕ) (works : List Record) (work : Record) → list_any (λ seq. is_reached seq works work) seqs ≡ false → IsStored works work
     → IsStored (with_each_closed how.Cancelled seqs works) work
@@ -103,33 +90,28 @@ stays_let_go : (numbers : List ℕ) (works : List Record) (work : Record) → is
     → IsStored (with_let_go numbers works) work
 stays_let_go numbers works work away stored =
     let keep = λ (other : Record). not (is_dropped numbers works other) in
-    stays_changed (unnamed numbers) (filter keep works) work (ap (λ b. cond b (record work { name = None }) work) away)
-    (HasOne-filter (λ other. Unit {0}) (λ other. other ≡ work) keep works
-    (λ other u is. ap keep is ∙ ap (λ b. not (b && removable works work)) away) (All-any (λ other. Unit {0}) works (λ other. tt)) stored)
+    stays_changed (unnamed numbers) (filter keep works) work (ap (λ b. cond b (record work { name = None }) work) away) (HasOne-filter keep works
+    (λ other u is. ap keep is ∙ ap (λ b. not (b && removable works work)) away) (All-any {P = λ other. Unit {0}} works (λ other. tt)) stored)
 
 stays_placed : (s : State) (name : Option (List ℕ)) (after : List ℕ) (nodes : List Node) (work : Record) → IsStored s.works work
     → IsStored (placed_after s name after nodes).works work
 stays_placed s name after [] work stored = stored
 stays_placed s name after (node ∷ nodes) work stored =
     let new = new_record s name (prior_of s.works after node.after) node in
-    stays_placed (with_work s new) name after nodes work (HasOne-front (λ other. other ≡ work) s.works (new ∷ []) stored)
+    stays_placed (with_work s new) name after nodes work (HasOne-front _ s.works (new ∷ []) stored)
 
 stays_placing : (s : State) (name : List ℕ) (placing : Placing) (works : List Node) (work : Record)
     → list_any (λ seq. is_reached seq s.works work) placing.cancel ≡ false → is_among placing.let_go work.seq ≡ false → IsStored s.works work
     → IsStored (carried_out (plan.Places placing) s name works).state.works work
 stays_placing s name placing works work unreached away stored =
     stays_placed (made_ready s placing) (Some name) placing.after works work
-    (stays_let_go placing.let_go (with_each_closed how.Cancelled placing.cancel s.works) work away
-    (stays_closed placing.cancel s.works work unreached stored))
+    (stays_let_go placing.let_go (with_each_closed how.Cancelled placing.cancel s.works) work away (stays_closed placing.cancel s.works work unreached stored))
 
 -- a number among those of records is one of theirs
 one_of_number : (works : List Record) (number : ℕ) → is_among (numbers_in works) number ≡ true → HasOne (λ work. work.seq ≡ number) works
-one_of_number [] number is = absurd (cc)
-one_of_number (work ∷ works) number is =
-    elim (or_cases (eqb work.seq number) (is_among (numbers_in works) number) is) [
-      | inl here ↦ inl (eqb-true work.seq number here)
-      | inr there ↦ inr (one_of_number works number there)
-    ]
+one_of_number works number is =
+    HasOne-weaker works (λ work here. eqb-true work.seq number here) (any_passes (λ (work : Record). eqb work.seq number) works
+    (sym (list_any_after (λ seq. eqb seq number) (λ (work : Record). work.seq) works) ∙ is))
 
 module _ (s : State) (name : List ℕ) (work : Record) (valid : Valid s) (stored : IsStored s.works work) (apart : IsApartFrom s.works name work) where
   -- the works that have the name
@@ -139,32 +121,24 @@ module _ (s : State) (name : List ℕ) (work : Record) (valid : Valid s) (stored
   -- no member has its number
   other_number : AllByRecursion (λ member. member.seq ≡ work.seq → ⊥) members
   other_number =
-      All-weaker (λ member. IsAlone work member × (is_name name member.name ≡ true)) (λ member. member.seq ≡ work.seq → ⊥) members
-      (λ member both same. true≢false (sym both.1 ∙ ap (λ (w : Record). is_name name w.name) (both.0 same) ∙ apart.not_named))
-      (All-both (IsAlone work) (λ member. is_name name member.name ≡ true) members
-      (All-of_filter (IsAlone work) (λ other. is_name name other.name) s.works (IsAlone-stored work s.works valid.in_order stored))
-      (members_named s.works name))
+      All-with2 members (λ member alone named same. true≢false (sym named ∙ ap (λ (w : Record). is_name name w.name) (alone same) ∙ apart.not_named))
+      (All-kept _ (λ other. is_name name other.name) s.works (IsAlone-stored work s.works valid.works.in_order stored)) (members_named s.works name)
 
   not_among : is_among (numbers_in members) work.seq ≡ false
   not_among = elim (cases_Bool (is_among (numbers_in members) work.seq)) [
-    | inl e ↦ absurd (one_gives (λ member. member.seq ≡ work.seq → ⊥) (λ member. member.seq ≡ work.seq) ⊥ members (λ member not same. not same)
-        other_number (one_of_number members work.seq e))
+    | inl e ↦ absurd (one_gives members (λ member not same. not same) other_number (one_of_number members work.seq e))
     | inr e ↦ e
   ]
 
   -- no unfinished member reaches it
   unreached : list_any (λ seq. is_reached seq s.works work) (numbers_in (filter is_unfinished members)) ≡ false
   unreached =
-      list_any-false (λ seq. is_reached seq s.works work) (numbers_in (filter is_unfinished members))
-      (All-map (λ member. is_reached member.seq s.works work ≡ false) (λ seq. is_reached seq s.works work ≡ false) (λ (member : Record). member.seq)
+      list_any-false (λ seq. is_reached seq s.works work) (numbers_in (filter is_unfinished members)) (All-map _ (λ (member : Record). member.seq)
       (filter is_unfinished members) (λ member away. away)
-      (All-filter (λ member. is_reached member.seq s.works work ≡ false) is_unfinished members
-      (All-weaker (λ member. is_open member.phase ≡ true → IsDescendant member.seq s.works work.seq → ⊥)
-      (λ member. is_unfinished member ≡ true → is_reached member.seq s.works work ≡ false) members
-      (λ member not unfinished. elim (cases_Bool (is_reached member.seq s.works work)) [
+      (All-filter is_unfinished members (λ member unfinished not. elim (cases_Bool (is_reached member.seq s.works work)) [
         | inl e ↦ absurd (not unfinished (reached_parts member.seq s.works work e).1)
         | inr e ↦ e
-      ]) apart.not_after)))
+      ]) apart.not_after))
 
   -- it stays, whatever a plan comes to
   abbrev Stays : List Node → Plan → Type 0
@@ -185,8 +159,7 @@ module _ (s : State) (name : List ℕ) (work : Record) (valid : Valid s) (stored
   updated_or_replaced : (works : List Node) (found : Option Record) → find is_unfinished members ≡ found → Stays works (updating found members)
   updated_or_replaced works None is = replaced works
   updated_or_replaced works (Some member) is =
-      stays_updated works member
-      (one_gives (λ other. other.seq ≡ work.seq → ⊥) (λ other. other ≡ member) (member.seq ≡ work.seq → ⊥) members
+      stays_updated works member (one_gives members
       (λ other not same e. not (ap (λ (w : Record). w.seq) same ∙ e)) other_number (find-stored is_unfinished members member is))
 
   stays : (by : Policy) (works : List Node) → Stays works (plan_of by members)

@@ -1,19 +1,18 @@
 -- What is owed for an enqueue under a unique name.
-use Rattle.std.proofs.Common.{◌≡◌, ◌≢◌, ◌⊎◌, ◌&&◌, ◌||◌, ℕ, ◌≤◌, Bool, true, false, not, ltb, List, [], ◌∷◌, filter, find, is_some, length, Option, Some, None, option_map, IsSomeAnd, refl, sym, ◌∙◌, ap, subst, arith, inl, inr}
+use Rattle.std.proofs.Common.{eqb, ◌≡◌, ◌⊎◌, ◌&&◌, ◌||◌, ℕ, ◌≤◌, Bool, true, false, not, ltb, List, [], ◌∷◌, filter, find, is_some, length, Option, Some, None, option_map, IsSomeAnd, refl, sym, ◌∙◌, ap, subst, arith, inl, inr}
 use Rattle.std.specs.List.{AllByRecursion, list_any}
 use Rattle.std.proofs.Math.Bool.{and-true}
-use Rattle.std.proofs.lemmas.Bool.{cond_both, eq-eqb, false≢true, ltb-false, or_left, or_parts, or_right, true≢false}
-use Rattle.wm_collections.specs.Lists.{AllLater}
+use Rattle.std.proofs.lemmas.Bool.{cond_both, eq-eqb, false≢true, ltb-false, or_parts, true≢false, or_left, or_right}
+use Rattle.wm_collections.specs.Lists.{AllLater, HasOne, is_among}
 use Rattle.wm_machine.proofs.Closings.{HasNotSucceeded, no_run_reached, not_yet_passing}
-use Rattle.wm_machine.proofs.Enqueues.{AreBothOneTime, CanFollow, CanFollow-none, CanShare, first_refusal-none, frame-placed, IsOfItsKind, none_found, not_some, passes, PassesChecks, placeable, reached-placed}
+use Rattle.wm_machine.proofs.Enqueues.{AreBothOneTime, CanFollow, CanFollow-none, CanShare, first_refusal-none, frame-placed, none_found, not_some, passes, PassesChecks, placeable, reached-placed}
 use Rattle.wm_machine.proofs.Groups.{All-made_ready, length-made_ready, reached-made_ready, with_let_go-none}
-use Rattle.wm_machine.proofs.Lists.{All-any, All-both, All-filter, All-map, All-stored, All-weaker, AllLater-filter, AllLater-map, find-stored, HasOne-weaker, one_gives}
+use Rattle.wm_collections.proofs.Lists.{All-any, All-from_filter, All-kept, All-map, All-of_one, All-stored, All-weaker, All-with2, AllLater-each, AllLater-few, AllLater-filter, AllLater-map, HasOne-weaker, find-none, find-stored, list_any-stored, list_any_after}
 use Rattle.wm_machine.proofs.Owed.{IsAnswered}
-use Rattle.wm_machine.proofs.Placings.{AllLater-few, bytes_eq-refl, IsOneTime}
+use Rattle.wm_machine.proofs.Placings.{bytes_eq-refl}
 use Rattle.wm_machine.proofs.Updates.{update-reached}
 use Rattle.wm_machine.specs.Built.{AreAsked, AreAskedUnder}
 use Rattle.wm_machine.specs.Cancelled.{reaches_any_run}
-use Rattle.wm_machine.specs.Closed.{is_among}
 use Rattle.wm_machine.specs.Enqueued.{cancelled_by, carried_out, enqueued, made_ready, outcome_by, placed_after, plan_in, refusal_by, refusal_of, refusal_of_placing, stops_run, updated_by}
 use Rattle.wm_machine.specs.Frame.{untouched}
 use Rattle.wm_machine.specs.Group.{is_name, is_prior_of, leaves_of, members_of, numbers_in}
@@ -23,20 +22,12 @@ use Rattle.wm_machine.specs.Plan.{appending, id_mismatched, is_appending, is_los
 use Rattle.wm_machine.specs.Replied.{Outcome}
 use Rattle.wm_machine.specs.Step.{state_by}
 use Rattle.wm_machine.specs.Updated.{is_same_kind}
-use Rattle.wm_machine.specs.Valid.{HasOne, IsBefore, Valid}
-use Rattle.wm_machine.specs.declared.command.Command.{Command}
+use Rattle.wm_machine.specs.Valid.{Valid}
+use Rattle.wm_machine.specs.Types.{Command, Node, Period, Policy, Record, Refusal, Reply, State, UniqueName}
 use Rattle.wm_machine.specs.declared.command.Command.TheVariants as command
-use Rattle.wm_machine.specs.declared.command.Policy.{Policy}
 use Rattle.wm_machine.specs.declared.command.Policy.TheVariants as policy
-use Rattle.wm_machine.specs.declared.command.UniqueName.{UniqueName}
-use Rattle.wm_machine.specs.declared.record.Record.{Record}
-use Rattle.wm_machine.specs.declared.reply.Refusal.{Refusal}
 use Rattle.wm_machine.specs.declared.reply.Refusal.TheVariants.{KindMismatch}
-use Rattle.wm_machine.specs.declared.reply.Reply.{Reply}
-use Rattle.wm_machine.specs.declared.state.State.{State}
 use Rattle.wm_request.specs.Batches.{BatchFields, is_periodic}
-use Rattle.wm_request.specs.declared.request.Node.{Node}
-use Rattle.wm_schedule.specs.declared.schedule.Period.{Period}
 
 -- ---- what holds where no kind mismatches
 
@@ -50,9 +41,7 @@ abbrev IsAloneOrOneTime : List Node → Type 0
 IsAloneOrOneTime works = (length works ≤ 1) ⊎ AllByRecursion (λ work. work.request.period ≡ None) works
 
 none_periodic : (works : List Node) → find is_periodic works ≡ None → AllByRecursion (λ work. work.request.period ≡ None) works
-none_periodic works none =
-    All-weaker (λ work. is_periodic work ≡ false) (λ work. work.request.period ≡ None) works (λ work fails. not_some work.request.period fails)
-    (none_found is_periodic (λ work. work) works (ap (option_map (λ work. work)) none))
+none_periodic works none = All-weaker works (λ work fails. not_some work.request.period fails) (find-none is_periodic works none)
 
 kinds_of_batch : (found : Option Node) (policy : Policy) (works : List Node) → find is_periodic works ≡ found → unfit_work found policy works ≡ None
     → IsAloneOrOneTime works
@@ -67,19 +56,13 @@ appended_one_time : (found : Option Node) (policy : Policy) (works : List Node) 
 appended_one_time None policy works is appends fits = none_periodic works is
 appended_one_time (Some periodic) policy works is appends fits =
     cond_both (ltb 1 (length works) || is_appending policy) (Some periodic) None
-    (λ (o : Option Node). o ≡ None → AllByRecursion (λ work. work.request.period ≡ None) works)
-    (λ e some. absurd (cc))
+    (λ (o : Option Node). o ≡ None → AllByRecursion (λ work. work.request.period ≡ None) works) (λ e some. absurd (cc))
     (λ e none. absurd (true≢false (sym appends ∙ (or_parts (ltb 1 (length works)) (is_appending policy) e).1))) fits
 
 -- two works of a batch are one-time
-AllLater-each : {T : Type 0} (P : T → Type 0) (R : T → T → Type 0) (xs : List T) → ((x y : T) → P x → P y → R x y) → AllByRecursion P xs → AllLater R xs
-AllLater-each P R [] both all = tt
-AllLater-each P R (x ∷ xs) both all = (All-weaker P (R x) xs (λ y p. both x y all.0 p) all.1, AllLater-each P R xs both all.1)
-
 both_one_time : (name : Option (List ℕ)) (works : List Node) → IsAloneOrOneTime works → AllLater (AreBothOneTime name) works
-both_one_time name works (inl few) = AllLater-few (AreBothOneTime name) works few
-both_one_time name works (inr all) =
-    AllLater-each (λ work. work.request.period ≡ None) (AreBothOneTime name) works (λ one other is too text has. (is, too)) all
+both_one_time name works (inl few) = AllLater-few _ works few
+both_one_time name works (inr all) = AllLater-each works (λ one other is too text has. (is, too)) all
 
 -- ---- members
 
@@ -89,30 +72,17 @@ named_member name text work has is =
     let same : text ≡ name = cc in
     ap (is_name name) (has ∙ ap Some same) ∙ bytes_eq-refl name
 
--- what holds of each that passes a test holds of each of a filter, the other way round
-All-passing : {T : Type 0} (P : T → Type 0) (test : T → Bool) (xs : List T) → AllByRecursion P (filter test xs)
-    → AllByRecursion (λ x. test x ≡ true → P x) xs
-All-passing P test [] all = tt
-All-passing {T} P test (x ∷ xs) all =
-    cond_both (test x) (x ∷ filter test xs) (filter test xs) (λ (l : List T). AllByRecursion P l → AllByRecursion (λ x. test x ≡ true → P x) (x ∷ xs))
-    (λ e both. (λ passes. both.0, All-passing P test xs both.1)) (λ e rest. (λ passes. absurd (true≢false (sym passes ∙ e)), All-passing P test xs rest)) all
-
-pub All-of_filter : {T : Type 0} (P : T → Type 0) (test : T → Bool) (xs : List T) → AllByRecursion P xs → AllByRecursion P (filter test xs)
-All-of_filter P test xs all = All-filter P test xs (All-weaker P (λ x. test x ≡ true → P x) xs (λ x p e. p) all)
-
 number_among : (members : List Record) (work : Record) → HasOne (λ other. other ≡ work) members → is_among (numbers_in members) work.seq ≡ true
-number_among [] work one = absurd one
-number_among (member ∷ members) work (inl is) = or_left _ _ (eq-eqb member.seq work.seq (ap (λ (w : Record). w.seq) is))
-number_among (member ∷ members) work (inr one) = or_right _ _ (number_among members work one)
+number_among members work one =
+    list_any_after (λ seq. eqb seq work.seq) (λ (member : Record). member.seq) members
+    ∙ list_any-stored (λ (member : Record). eqb member.seq work.seq) members work one (eq-eqb work.seq work.seq refl)
 
 -- its number is one of the members'
 member_among : (works : List Record) (name : List ℕ)
     → AllByRecursion (λ work. is_name name work.name ≡ true → is_among (numbers_in (members_of works name)) work.seq ≡ true) works
 member_among works name =
     let members = members_of works name in
-    All-passing (λ work. is_among (numbers_in members) work.seq ≡ true) (λ work. is_name name work.name) works
-    (All-weaker (λ work. HasOne (λ other. other ≡ work) members) (λ work. is_among (numbers_in members) work.seq ≡ true) members
-    (λ work there. number_among members work there) (All-stored members))
+    All-from_filter _ (λ work. is_name name work.name) works (All-weaker members (λ work there. number_among members work there) (All-stored members))
 
 -- ---- the batch is placed in place of the members, or after them
 
@@ -123,11 +93,9 @@ record AreAccepted (s : State) (name : List ℕ) (works : List Node) (placing : 
   kinds : IsAloneOrOneTime works
 
 -- unfinished members haven't succeeded
-not_yet_members : (s : State) (name : List ℕ) → Valid s
-    → AllByRecursion (HasNotSucceeded s.works) (numbers_in (filter is_unfinished (members_of s.works name)))
+not_yet_members : (s : State) (name : List ℕ) → Valid s → AllByRecursion (HasNotSucceeded s.works) (numbers_in (filter is_unfinished (members_of s.works name)))
 not_yet_members s name valid =
-    not_yet_passing s is_unfinished (members_of s.works name) valid (λ work is. is)
-    (All-of_filter (λ work. HasOne (λ other. other ≡ work) s.works) (λ work. is_name name work.name) s.works (All-stored s.works))
+    not_yet_passing s is_unfinished (members_of s.works name) valid (λ work is. is) (All-kept _ (λ work. is_name name work.name) s.works (All-stored s.works))
 
 -- once the members are let go, no record has the name
 abbrev pub HasAnotherName : List ℕ → Record → Type 0
@@ -150,12 +118,9 @@ reached-replaced s name works reached accepted none =
     let few = length-made_ready s placing in
     let room = checks.room in
     reached-placed t (Some name) [] works (reached-made_ready s placing reached (not_yet_members s name reached.valid) none) accepted.asked.name_is
-    (placeable s t.works (Some name) placing works accepted.asked.asked checks
-    (λ P all.
-    All-made_ready (λ work. P work.request) (λ work. P work.request) s placing (λ work p. p) (λ work e p. p) (λ work e p. p) all)
-    (record {
-      records = All-weaker (HasAnotherName name) (λ work. AllByRecursion (IsOfItsKind (Some name) work) works) t.works
-          (λ work other. All-any (IsOfItsKind (Some name) work) works (λ node text has is. absurd (other text has is))) (name_is_free s name);
+    (placeable s t.works (Some name) placing works accepted.asked.asked checks (λ P all.
+    All-made_ready (λ work. P work.request) (λ work. P work.request) s placing (λ work p. p) (λ work e p. p) (λ work e p. p) all) (record {
+      records = All-weaker t.works (λ work other. All-any works (λ node text has is. absurd (other text has is))) (name_is_free s name);
       among = both_one_time (Some name) works accepted.kinds;
     }) (CanFollow-none t.works works)) (omega (arith, few, room)) checks.numbers
 
@@ -166,12 +131,9 @@ record CanAppend (s : State) (name : List ℕ) (works : List Node) : Type 0 wher
 
 shares-appended : (s : State) (name : List ℕ) (works : List Node) → CanAppend s name works → CanShare s.works (Some name) works
 shares-appended s name works can = record {
-  records = All-weaker (λ work. is_name name work.name ≡ true → is_some work.request.period ≡ false)
-      (λ work. AllByRecursion (IsOfItsKind (Some name) work) works) s.works
-      (λ work member.
-      All-weaker (λ node. node.request.period ≡ None) (IsOfItsKind (Some name) work) works
-      (λ node one_time text has is. (not_some work.request.period (member (named_member name text work has is)), one_time)) can.batch)
-      (All-passing (λ work. is_some work.request.period ≡ false) (λ work. is_name name work.name) s.works can.members);
+  records = All-weaker s.works (λ work member.
+      All-weaker works (λ node one_time text has is. (not_some work.request.period (member (named_member name text work has is)), one_time)) can.batch)
+      (All-from_filter _ (λ work. is_name name work.name) s.works can.members);
   among = both_one_time (Some name) works (inr can.batch);
 }
 
@@ -182,23 +144,15 @@ follows-appended s name works valid can =
     let members = members_of s.works name in
     let is_leaf = λ (work : Record). not (is_prior_of members work) in
     record {
-      different = AllLater-map IsBefore (λ number later. number ≢ later) (λ (work : Record). work.seq) (leaves_of members)
+      different = AllLater-map _ (λ (work : Record). work.seq) (leaves_of members)
           (λ one other before same. let less = before.number in absurd (omega (arith, less, same)))
-          (AllLater-filter IsBefore is_leaf members (AllLater-filter IsBefore (λ work. is_name name work.name) s.works valid.in_order));
-      one_time = All-map (λ work. HasOne (λ other. other ≡ work) s.works × (is_some work.request.period ≡ false))
-          (λ number. HasOne (IsOneTime number) s.works) (λ (work : Record). work.seq) (leaves_of members)
-          (λ work both.
-          HasOne-weaker (λ other. Unit {0}) (λ other. other ≡ work) (IsOneTime work.seq) s.works
-          (λ other u same. (
+          (AllLater-filter _ is_leaf members (AllLater-filter _ (λ work. is_name name work.name) s.works valid.works.in_order));
+      one_time = All-map _ (λ (work : Record). work.seq) (leaves_of members) (λ work one. one) (All-kept _ is_leaf members
+          (All-with2 members (λ work there plain. HasOne-weaker s.works (λ other same. (
             ap (λ (w : Record). w.seq) same,
-            not_some other.request.period (ap (λ (w : Record). is_some w.request.period) same ∙ both.1),
-          )) (All-any (λ other. Unit {0}) s.works (λ other. tt)) both.0)
-          (All-of_filter (λ work. HasOne (λ other. other ≡ work) s.works × (is_some work.request.period ≡ false)) is_leaf members
-          (All-both (λ work. HasOne (λ other. other ≡ work) s.works) (λ work. is_some work.request.period ≡ false) members
-          (All-of_filter (λ work. HasOne (λ other. other ≡ work) s.works) (λ work. is_name name work.name) s.works (All-stored s.works)) can.members));
-      alone = All-weaker (λ node. node.request.period ≡ None)
-          (λ node. (period : Period) → node.request.period ≡ Some period → numbers_in (leaves_of members) ≡ []) works
-          (λ node none period is. absurd (true≢false (sym (ap is_some is) ∙ ap is_some none))) can.batch;
+            not_some other.request.period (ap (λ (w : Record). is_some w.request.period) same ∙ plain),
+          )) there) (All-kept _ (λ work. is_name name work.name) s.works (All-stored s.works)) can.members));
+      alone = All-weaker works (λ node none period is. absurd (true≢false (sym (ap is_some is) ∙ ap is_some none))) can.batch;
     }
 
 reached-appended : (s : State) (name : List ℕ) (works : List Node) → IsReached s → AreAccepted s name works (appending (members_of s.works name))
@@ -264,14 +218,12 @@ module _ (s : State) (name : List ℕ) (works : List Node) (asked : AreAskedUnde
         record {
           asked = asked;
           checks = passes s placing works second.0;
-          kinds = kinds_of_batch (find is_periodic works) by works refl
-              (id_mismatched-none (unfit_work (find is_periodic works) by works) by members fits).0;
+          kinds = kinds_of_batch (find is_periodic works) by works refl (id_mismatched-none (unfit_work (find is_periodic works) by works) by members fits).0;
         },
         fits,
       )
 
-  replaced : (by : Policy)
-      → IsCarriedOut s name works (mismatch by members works) (plan.Places (replacing members))
+  replaced : (by : Policy) → IsCarriedOut s name works (mismatch by members works) (plan.Places (replacing members))
   replaced by none no_run = reached-replaced s name works reached (accepted (replacing members) by none).0 no_run
 
   appended : (by : Policy) → is_appending by ≡ true → ((work : Record) → is_unfit by work ≡ false → is_some work.request.period ≡ false)
@@ -280,7 +232,7 @@ module _ (s : State) (name : List ℕ) (works : List Node) (asked : AreAskedUnde
       let both = accepted (appending members) by none in
       let fits = id_mismatched-none (unfit_work (find is_periodic works) by works) by members both.1 in
       reached-appended s name works reached both.0 (record {
-        members = All-weaker (λ work. is_unfit by work ≡ false) (λ work. is_some work.request.period ≡ false) members unfit fits.1;
+        members = All-weaker members unfit fits.1;
         batch = appended_one_time (find is_periodic works) by works refl appends fits.0;
       })
 
@@ -291,12 +243,9 @@ module _ (s : State) (name : List ℕ) (works : List Node) (asked : AreAskedUnde
       let fits = id_mismatched-none (unfit_work (find is_periodic works) policy.Update works) policy.Update members
       (none_mismatched (mismatch policy.Update members works) none) in
       let stored = find-stored is_unfinished members member is in
-      reached-updated s member works (find is_periodic works) refl fits.0
-      (one_gives (λ work. is_unfit policy.Update work ≡ false) (λ work. work ≡ member) (is_unfit policy.Update member ≡ false) members
-      (λ work fit same. subst (λ w. is_unfit policy.Update w ≡ false) same fit) fits.1 stored) asked.asked reached
-      (one_gives (λ work. HasOne (λ other. other ≡ work) s.works) (λ work. work ≡ member) (HasOne (λ other. other ≡ member) s.works)
-      members (λ work there same. subst (λ w. HasOne (λ other. other ≡ w) s.works) same there)
-      (All-of_filter (λ work. HasOne (λ other. other ≡ work) s.works) (λ work. is_name name work.name) s.works (All-stored s.works)) stored)
+      reached-updated s member works (find is_periodic works) refl fits.0 (All-of_one _ members member
+      fits.1 stored) asked.asked reached (All-of_one (λ work. HasOne (λ other. other ≡ work) s.works) members member
+      (All-kept _ (λ work. is_name name work.name) s.works (All-stored s.works)) stored)
 
   pub each_policy : (by : Policy) → IsCarriedOut s name works (mismatch by members works) (plan_of by members)
   each_policy policy.Keep =
@@ -306,8 +255,7 @@ module _ (s : State) (name : List ℕ) (works : List Node) (asked : AreAskedUnde
   each_policy policy.CancelAndReenqueue = replaced policy.CancelAndReenqueue
   each_policy policy.Append = appended policy.Append refl (λ work fit. fit)
   each_policy policy.AppendOrReplace =
-      cond_both (list_any (λ work. is_lost work.phase) (leaves_of members)) (replacing members)
-      (appending members)
+      cond_both (list_any (λ work. is_lost work.phase) (leaves_of members)) (replacing members) (appending members)
       (λ (placing : Placing). IsCarriedOut s name works (mismatch policy.AppendOrReplace members works) (plan.Places placing))
       (λ e. replaced policy.AppendOrReplace) (λ e. appended policy.AppendOrReplace refl (λ work fit. fit))
   each_policy policy.Update = updated (find is_unfinished members) refl
@@ -354,11 +302,9 @@ enqueue-named-answered s unique batch asked =
     let done = enqueued s (Some unique) batch.works in
     let refused = refusal_of s (Some unique) batch.works in
     record {
-      answered = λ can.
-          cond_both stops None (Some done) (λ (o : Option Outcome). (answer : Reply) × IsSomeAnd o (λ outcome. answer ≡ outcome.reply))
+      answered = λ can. cond_both stops None (Some done) (λ (o : Option Outcome). (answer : Reply) × IsSomeAnd o (λ outcome. answer ≡ outcome.reply))
           (λ e. absurd (true≢false (sym e ∙ no_run_stopped s (Some unique) batch.works can))) (λ e. (done.reply, refl));
-      reached = λ reached.
-          cond_both stops None (Some done) (λ (o : Option Outcome). IsReached (state_by s o)) (λ e. reached)
+      reached = λ reached. cond_both stops None (Some done) (λ (o : Option Outcome). IsReached (state_by s o)) (λ e. reached)
           (λ e. reached-named s unique batch.works refused asked reached refl e);
       frame = cond_both stops None (Some done) (λ (o : Option Outcome). untouched (state_by s o) (asked_for ∷ []) ≡ untouched s (asked_for ∷ []))
           (λ e. refl) (λ e. frame-named s (asked_for ∷ []) unique refused batch.works);

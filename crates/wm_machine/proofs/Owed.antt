@@ -6,9 +6,7 @@ use Rattle.wm_machine.specs.Quiet.{CanCome}
 use Rattle.wm_machine.specs.Role.{Role}
 use Rattle.wm_machine.specs.Step.{after_command, Answers}
 use Rattle.wm_machine.specs.Waiting.{left_to_drain, LeavesOf}
-use Rattle.wm_machine.specs.declared.command.Command.{Command}
-use Rattle.wm_machine.specs.declared.reply.Reply.{Reply}
-use Rattle.wm_machine.specs.declared.state.State.{State}
+use Rattle.wm_machine.specs.Types.{Command, Reply, State}
 
 -- of a command: where it can come it has a reply, and it keeps what holds of the states that are reached, and changes neither runs
 -- nor instances

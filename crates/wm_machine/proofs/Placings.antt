@@ -5,21 +5,17 @@ use Rattle.std.specs.Str.{bytes_eq}
 use Rattle.std.proofs.lemmas.Bool.{and_from, and_parts, cond_both, eq-eqb, eqb-true, false≢true, true≢false}
 use Rattle.std.proofs.lemmas.List.Concat.{flat_map-cons}
 use Rattle.std.proofs.lemmas.List.Elements.{All-from_recursion}
-use Rattle.wm_collections.specs.Lists.{AllLater}
-use Rattle.wm_machine.proofs.Lists.{All-any, All-both, All-filter, All-map, All-stored, All-weaker, HasOne-weaker, none_pass, one_gives}
+use Rattle.wm_collections.specs.Lists.{AllLater, HasOne}
+use Rattle.wm_collections.proofs.Lists.{All-append, All-filter, All-map, All-stored, All-weaker, All-with2, All-with3, AllLater-append, AllLater-few, HasOne-weaker, HasOne-with, none_pass, one_gives}
 use Rattle.wm_machine.proofs.Records.{IsData-empty}
 use Rattle.wm_machine.proofs.Runnings.{all_of_number}
 use Rattle.wm_machine.specs.Enqueued.{any_in, count_prior, first_phase, is_cancelled, is_failed, new_record, numbers_of, prior_of}
-use Rattle.wm_machine.specs.Valid.{ArePrior, ArePriorSound, HasOne, IsAttemptIn, IsBefore, IsOfKind, IsOpenPhase, IsOutputIn, IsPeriodicPhase, IsPrerequisite, IsProgressIn, IsRecord, Valid}
+use Rattle.wm_machine.specs.Valid.{ArePrior, ArePriorSound, IsAttemptIn, IsBefore, IsOfKind, MaySucceedOrHas, IsOutputIn, IsPeriodicPhase, IsProgressIn, IsRecord, Valid}
 use Rattle.wm_machine.specs.declared.record.How.TheVariants as how
-use Rattle.wm_machine.specs.declared.record.Phase.{Phase}
+use Rattle.wm_machine.specs.Types.{Node, Period, Phase, Record, State}
 use Rattle.wm_machine.specs.declared.record.Phase.TheVariants as phase
-use Rattle.wm_machine.specs.declared.record.Record.{Record}
-use Rattle.wm_machine.specs.declared.state.State.{State}
 use Rattle.wm_request.specs.Batches.{AreDifferent}
 use Rattle.wm_request.specs.Requests.{IsRequest, IsShortText}
-use Rattle.wm_request.specs.declared.request.Node.{Node}
-use Rattle.wm_schedule.specs.declared.schedule.Period.{Period}
 
 -- ---- texts
 
@@ -46,16 +42,11 @@ record HasNumberAndId (number : ℕ) (id : List ℕ) (work : Record) : Type 0 wh
 numbers_with_id : (works among : List Record) (id : List ℕ) → AllByRecursion (λ work. HasOne (λ other. other ≡ work) among) works
     → AllByRecursion (λ number. HasOne (HasNumberAndId number id) among) (map (λ work. work.seq) (filter (λ work. bytes_eq work.request.id id) works))
 numbers_with_id works among id stored =
-    All-map (λ work. HasOne (HasNumberAndId work.seq id) among) (λ number. HasOne (HasNumberAndId number id) among) (λ (work : Record). work.seq)
-    (filter (λ work. bytes_eq work.request.id id) works) (λ work one. one)
-    (All-filter (λ work. HasOne (HasNumberAndId work.seq id) among) (λ work. bytes_eq work.request.id id) works
-    (All-weaker (λ work. HasOne (λ other. other ≡ work) among) (λ work. bytes_eq work.request.id id ≡ true → HasOne (HasNumberAndId work.seq id) among) works
-    (λ work there passes.
-    HasOne-weaker (λ other. Unit {0}) (λ other. other ≡ work) (HasNumberAndId work.seq id) among
-    (λ other u same. record {
+    All-map _ (λ (work : Record). work.seq) (filter (λ work. bytes_eq work.request.id id) works) (λ work one. one)
+    (All-filter (λ work. bytes_eq work.request.id id) works (λ work passes there. HasOne-weaker among (λ other same. record {
       seq = ap (λ (w : Record). w.seq) same;
       id_is = ap (λ (w : Record). w.request.id) same ∙ bytes_eq-same work.request.id id passes;
-    }) (All-any (λ other. Unit {0}) among (λ other. tt)) there) stored))
+    }) there) stored)
 
 -- no later record has the id of an earlier one
 none_with_id : (work : Record) (works : List Record) (id : List ℕ) → bytes_eq work.request.id id ≡ true → AllByRecursion (IsBefore work) works
@@ -63,8 +54,7 @@ none_with_id : (work : Record) (works : List Record) (id : List ℕ) → bytes_e
 none_with_id work [] id is later = refl
 none_with_id work (other ∷ works) id is later =
     cond_both (bytes_eq other.request.id id) (other ∷ filter (λ work. bytes_eq work.request.id id) works) (filter (λ work. bytes_eq work.request.id id) works)
-    (λ (found : List Record). found ≡ [])
-    (λ e. absurd (later.0.id (bytes_eq-same work.request.id id is ∙ sym (bytes_eq-same other.request.id id e))))
+    (λ (found : List Record). found ≡ []) (λ e. absurd (later.0.id (bytes_eq-same work.request.id id is ∙ sym (bytes_eq-same other.request.id id e))))
     (λ e. none_with_id work works id is later.1)
 
 -- there is one at most
@@ -84,21 +74,6 @@ few_with_id (work ∷ works) id order =
 abbrev IsOneOf : List Record → List (List ℕ) → ℕ → Type 0
 IsOneOf works ids number = HasOne (λ id. HasOne (HasNumberAndId number id) works) ids
 
-All-append : {T : Type 0} (P : T → Type 0) (xs ys : List T) → AllByRecursion P xs → AllByRecursion P ys → AllByRecursion P (xs ++ ys)
-All-append P [] ys all more = more
-All-append P (x ∷ xs) ys all more = (all.0, All-append P xs ys all.1 more)
-
-AllLater-append : {T : Type 0} (R : T → T → Type 0) (xs ys : List T) → AllLater R xs → AllLater R ys → AllByRecursion (λ x. AllByRecursion (R x) ys) xs
-    → AllLater R (xs ++ ys)
-AllLater-append R [] ys later more between = more
-AllLater-append R (x ∷ xs) ys later more between = (All-append (R x) xs ys later.0 between.0, AllLater-append R xs ys later.1 more between.1)
-
--- one element, or none, stands before no other
-pub AllLater-few : {T : Type 0} (R : T → T → Type 0) (xs : List T) → length xs ≤ 1 → AllLater R xs
-AllLater-few R [] few = tt
-AllLater-few R (x ∷ []) few = (tt, tt)
-AllLater-few R (x ∷ y ∷ xs) few = absurd (omega (arith, few))
-
 -- the numbers of the first id, and of the others
 abbrev numbers_with : List Record → List ℕ → List ℕ
 numbers_with works id = map (λ work. work.seq) (filter (λ work. bytes_eq work.request.id id) works)
@@ -110,11 +85,9 @@ numbers_of-cons works id ids = flat_map-cons (numbers_with works) id ids
 numbers_of-each : (works : List Record) (ids : List (List ℕ)) → AllByRecursion (IsOneOf works ids) (numbers_of works ids)
 numbers_of-each works [] = tt
 numbers_of-each works (id ∷ ids) =
-    subst (AllByRecursion (IsOneOf works (id ∷ ids))) (sym (numbers_of-cons works id ids))
-    (All-append (IsOneOf works (id ∷ ids)) (numbers_with works id) (numbers_of works ids)
-    (All-weaker (λ number. HasOne (HasNumberAndId number id) works) (IsOneOf works (id ∷ ids)) (numbers_with works id) (λ number one. inl one)
-    (numbers_with_id works works id (All-stored works)))
-    (All-weaker (IsOneOf works ids) (IsOneOf works (id ∷ ids)) (numbers_of works ids) (λ number one. inr one) (numbers_of-each works ids)))
+    subst (AllByRecursion (IsOneOf works (id ∷ ids))) (sym (numbers_of-cons works id ids)) (All-append _ (numbers_with works id) (numbers_of works ids)
+    (All-weaker (numbers_with works id) (λ number one. inl one) (numbers_with_id works works id (All-stored works)))
+    (All-weaker (numbers_of works ids) (λ number one. inr one) (numbers_of-each works ids)))
 
 -- there are no more than ids
 numbers_of-few : (works : List Record) (ids : List (List ℕ)) → AllLater IsBefore works → length (numbers_of works ids) ≤ length ids
@@ -129,27 +102,17 @@ numbers_of-few works (id ∷ ids) order =
 one_id : (works : List Record) (number : ℕ) (one other : List ℕ) → AllLater IsBefore works → HasOne (HasNumberAndId number one) works
     → HasOne (HasNumberAndId number other) works → one ≡ other
 one_id works number one other order has also =
-    one_gives (λ work. work.seq ≡ number → work.request.id ≡ one) (HasNumberAndId number other) (one ≡ other) works
-    (λ work is of. sym (is of.seq) ∙ of.id_is)
-    (all_of_number (λ work. work.request.id ≡ one) number works order
-    (HasOne-weaker (λ work. Unit {0}) (HasNumberAndId number one) (λ work. (work.seq ≡ number) × (work.request.id ≡ one)) works
-    (λ work u of. (of.seq, of.id_is))
-    (All-any (λ work. Unit {0}) works (λ work. tt)) has)) also
+    one_gives works (λ work is of. sym (is of.seq) ∙ of.id_is) (all_of_number (λ work. work.request.id ≡ one) number works order
+    (HasOne-weaker works (λ work of. (of.seq, of.id_is)) has)) also
 
 -- different ids have different numbers
 numbers_of-different : (works : List Record) (ids : List (List ℕ)) → AllLater IsBefore works → AreDifferent ids
     → AllLater (λ number later. number ≢ later) (numbers_of works ids)
 numbers_of-different works [] order differ = tt
 numbers_of-different works (id ∷ ids) order differ =
-    subst (AllLater (λ number later. number ≢ later)) (sym (numbers_of-cons works id ids))
-    (AllLater-append (λ number later. number ≢ later) (numbers_with works id) (numbers_of works ids)
-    (AllLater-few (λ number later. number ≢ later) (numbers_with works id) (few_with_id works id order)) (numbers_of-different works ids order differ.1)
-    (All-weaker (λ number. HasOne (HasNumberAndId number id) works) (λ number. AllByRecursion (λ later. number ≢ later) (numbers_of works ids))
-    (numbers_with works id)
-    (λ number one.
-    All-weaker (IsOneOf works ids) (λ later. number ≢ later) (numbers_of works ids)
-    (λ later of same.
-    one_gives (λ other. id ≢ other) (λ other. HasOne (HasNumberAndId later other) works) ⊥ ids
+    subst (AllLater (λ number later. number ≢ later)) (sym (numbers_of-cons works id ids)) (AllLater-append _ (numbers_with works id) (numbers_of works ids)
+    (AllLater-few _ (numbers_with works id) (few_with_id works id order)) (numbers_of-different works ids order differ.1)
+    (All-weaker (numbers_with works id) (λ number one. All-weaker (numbers_of works ids) (λ later of same. one_gives ids
     (λ other differs has. differs (one_id works later id other order (subst (λ n. HasOne (HasNumberAndId n id) works) same one) has)) differ.0 of)
     (numbers_of-each works ids)) (numbers_with_id works works id (All-stored works))))
 
@@ -158,16 +121,13 @@ record_of : (P : Record → Type 0) (works : List Record) (ids : List (List ℕ)
     → AllByRecursion (λ id. AllByRecursion (λ work. bytes_eq work.request.id id ≡ true → P work) works) ids → IsOneOf works ids number
     → HasOne (λ work. (work.seq ≡ number) × P work) works
 record_of P works ids number each of =
-    one_gives (λ id. AllByRecursion (λ work. bytes_eq work.request.id id ≡ true → P work) works) (λ id. HasOne (HasNumberAndId number id) works)
-    (HasOne (λ work. (work.seq ≡ number) × P work) works) ids
-    (λ id all has.
-    HasOne-weaker (λ work. bytes_eq work.request.id id ≡ true → P work) (HasNumberAndId number id) (λ work. (work.seq ≡ number) × P work) works
-    (λ work is named. (named.seq, is (subst (λ text. bytes_eq text id ≡ true) (sym named.id_is) (bytes_eq-refl id)))) all has) each of
+    one_gives ids (λ id all has.
+    HasOne-with works (λ work is named. (named.seq, is (subst (λ text. bytes_eq text id ≡ true) (sym named.id_is) (bytes_eq-refl id)))) all has) each of
 
 -- ---- the phase of a new work
 
 -- what is neither failed nor cancelled can still succeed, or has
-still_open : (p : Phase) → is_failed p ≡ false → is_cancelled p ≡ false → IsOpenPhase p
+still_open : (p : Phase) → is_failed p ≡ false → is_cancelled p ≡ false → MaySucceedOrHas p
 still_open phase.Waiting failed cancelled = tt
 still_open phase.Running failed cancelled = tt
 still_open (phase.Done how.Succeeded) failed cancelled = tt
@@ -178,13 +138,9 @@ still_open (phase.Done how.Cancelled) failed cancelled = absurd (true≢false ca
 none_in : (test : Phase → Bool) (works : List Record) (numbers : List ℕ) → any_in test works numbers ≡ false
     → AllByRecursion (λ number. AllByRecursion (λ work. work.seq ≡ number → test work.phase ≡ false) works) numbers
 none_in test works numbers none =
-    All-weaker (λ number. list_any (λ work. eqb work.seq number && test work.phase) works ≡ false)
-    (λ number. AllByRecursion (λ work. work.seq ≡ number → test work.phase ≡ false) works) numbers
-    (λ number no_such.
-    All-weaker (λ work. (eqb work.seq number && test work.phase) ≡ false) (λ work. work.seq ≡ number → test work.phase ≡ false) works
-    (λ work fails same. sym (ap (λ b. b && test work.phase) (eq-eqb work.seq number same)) ∙ fails)
-    (none_pass (λ work. eqb work.seq number && test work.phase) works no_such))
-    (none_pass (λ number. list_any (λ work. eqb work.seq number && test work.phase) works) numbers none)
+    All-weaker numbers (λ number no_such. All-weaker works (λ work fails same. sym (ap (λ b. b && test work.phase) (eq-eqb work.seq number same)) ∙ fails)
+    (none_pass (λ work. eqb work.seq number && test work.phase) works no_such)) (none_pass
+    (λ number. list_any (λ work. eqb work.seq number && test work.phase) works) numbers none)
 
 -- a new work isn't running
 pub idle-placed : (works : List Record) (prior : List ℕ) → first_phase works prior ≡ phase.Running → ⊥
@@ -241,10 +197,10 @@ pub placeable-naming : (s : State) (node : Node) → Valid s → IsRequest node.
     → ((period : Period) → node.request.period ≡ Some period → node.after ≡ []) → IsPlaceable s (numbers_of s.works node.after) node
 placeable-naming s node valid request few different one_time alone = record {
   request = request;
-  few = let numbers = numbers_of-few s.works node.after valid.in_order in omega (arith, numbers, few);
-  different = numbers_of-different s.works node.after valid.in_order different;
-  one_time = All-weaker (IsOneOf s.works node.after) (λ number. HasOne (IsOneTime number) s.works) (numbers_of s.works node.after)
-      (λ number of. record_of (λ work. work.request.period ≡ None) s.works node.after number one_time of) (numbers_of-each s.works node.after);
+  few = let numbers = numbers_of-few s.works node.after valid.works.in_order in omega (arith, numbers, few);
+  different = numbers_of-different s.works node.after valid.works.in_order different;
+  one_time = All-weaker (numbers_of s.works node.after) (λ number of. record_of (λ work. work.request.period ≡ None) s.works node.after number one_time of)
+      (numbers_of-each s.works node.after);
   alone = λ period is. ap (numbers_of s.works) (alone period is);
 }
 
@@ -252,15 +208,8 @@ ArePrior-placed : (s : State) (prior : List ℕ) (node : Node) → Valid s → I
 ArePrior-placed s prior node valid is = record {
   few = is.few;
   different = is.different;
-  earlier = All-weaker (λ number. HasOne (IsOneTime number) s.works) (λ number. (1 ≤ number) × (number < s.next)) prior
-      (λ number of.
-      one_gives (λ work. (1 ≤ work.seq) × (work.seq < s.next)) (IsOneTime number) ((1 ≤ number) × (number < s.next)) s.works
-      (λ work both same. (
-        let one = both.0 in let here = same.0 in omega (arith, one, here),
-        let below = both.1 in let here = same.0 in omega (arith, below, here),
-      ))
-      (All-both (λ work. 1 ≤ work.seq) (λ work. work.seq < s.next) s.works
-      (All-weaker IsRecord (λ work. 1 ≤ work.seq) s.works (λ work fine. fine.number) valid.records) valid.numbers) of) is.one_time;
+  earlier = All-weaker prior (λ number of. one_gives s.works (λ work facts same. subst (λ n. (1 ≤ n) × (n < s.next)) same.0 facts)
+      (All-with2 s.works (λ work fine below. (fine.number, below)) valid.works.records valid.works.numbers) of) is.one_time;
 }
 
 kind-placed : (period : Option Period) (s : State) (name : Option (List ℕ)) (prior : List ℕ) (node : Node) → node.request.period ≡ period
@@ -279,12 +228,11 @@ pub IsRecord-placed : (s : State) (name : Option (List ℕ)) (prior : List ℕ) 
 IsRecord-placed s name prior node valid room short is =
     let sound = ArePrior-placed s prior node valid is in
     record {
-      number = valid.first;
+      number = valid.works.first;
       fits = record {
         seq = omega (arith, room);
         prior = All-from_recursion (λ number. number < 2 ^ 53) prior
-            (All-weaker (λ number. (1 ≤ number) × (number < s.next)) (λ number. number < 2 ^ 53) prior
-            (λ number both. let below = both.1 in omega (arith, below, room)) sound.earlier);
+            (All-weaker prior (λ number both. let below = both.1 in omega (arith, below, room)) sound.earlier);
         generation = omega arith;
         enqueued_at = valid.now;
       };
@@ -304,21 +252,10 @@ IsRecord-placed s name prior node valid room short is =
 pub sound-placed : (s : State) (prior : List ℕ) (node : Node) → IsPlaceable s prior node → ArePriorSound s.works (first_phase s.works prior) prior
 sound-placed s prior node is =
     first_phase-both (λ p. ArePriorSound s.works p prior) s.works prior tt tt (λ failed cancelled.
-    All-weaker (λ number. (AllByRecursion (λ work. work.seq ≡ number → is_failed work.phase ≡ false) s.works
-    × AllByRecursion (λ work. work.seq ≡ number → is_cancelled work.phase ≡ false) s.works) × HasOne (IsOneTime number) s.works)
-    (λ number. HasOne (IsPrerequisite number) s.works) prior
-    (λ number facts.
-    HasOne-weaker (λ work. (work.seq ≡ number → is_failed work.phase ≡ false) × (work.seq ≡ number → is_cancelled work.phase ≡ false))
-    (IsOneTime number) (IsPrerequisite number) s.works
+    All-with3 prior (λ number no_failed no_cancelled one. HasOne-with {A = λ work. work.seq ≡ number → MaySucceedOrHas work.phase} s.works
     (λ work opens of. record {
       seq = of.0;
-      open_is = still_open work.phase (opens.0 of.0) (opens.1 of.0);
+      open_is = opens of.0;
       one_time = of.1;
-    })
-    (All-both (λ work. work.seq ≡ number → is_failed work.phase ≡ false) (λ work. work.seq ≡ number → is_cancelled work.phase ≡ false) s.works
-    facts.0.0 facts.0.1) facts.1)
-    (All-both (λ number. AllByRecursion (λ work. work.seq ≡ number → is_failed work.phase ≡ false) s.works
-    × AllByRecursion (λ work. work.seq ≡ number → is_cancelled work.phase ≡ false) s.works) (λ number. HasOne (IsOneTime number) s.works) prior
-    (All-both (λ number. AllByRecursion (λ work. work.seq ≡ number → is_failed work.phase ≡ false) s.works)
-    (λ number. AllByRecursion (λ work. work.seq ≡ number → is_cancelled work.phase ≡ false) s.works) prior
-    (none_in is_failed s.works prior failed) (none_in is_cancelled s.works prior cancelled)) is.one_time))
+    }) (All-with2 s.works (λ work one other same. still_open work.phase (one same) (other same)) no_failed no_cancelled) one)
+    (none_in is_failed s.works prior failed) (none_in is_cancelled s.works prior cancelled) is.one_time)

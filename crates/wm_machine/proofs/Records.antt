@@ -1,25 +1,18 @@
 -- What a change keeps of a record.
-use Rattle.std.proofs.Common.{◌≡◌, ℕ, ◌^◌, ◌<◌, true, List, [], Option, Some, None, IfSome, refl, sym, ◌∙◌, subst, arith}
+use Rattle.std.proofs.Common.{◌≡◌, ℕ, ◌^◌, ◌<◌, ◌≤◌, ap, true, List, [], Option, Some, None, IfSome, refl, sym, ◌∙◌, subst, arith}
 use Rattle.std.proofs.lemmas.Bool.{false≢true}
 use Rattle.wm_data.specs.Size.{IsData}
-use Rattle.wm_data.specs.declared.data.DataEntry.{DataEntry}
+use Rattle.wm_machine.specs.Types.{DataEntry, Period, Phase, Record}
 use Rattle.wm_machine.specs.Closed.{closed, is_open}
-use Rattle.wm_machine.specs.Ends.{ended, ended_as, enqueued_again, given_by, not_started, not_started_as, retried, succeeded, with_output}
+use Rattle.wm_machine.specs.Ends.{enqueued_again, retried, succeeded, with_output}
 use Rattle.wm_machine.specs.First.{is_waiting}
-use Rattle.wm_machine.specs.Limits.{FitsRow}
 use Rattle.wm_machine.specs.Runs.{started}
 use Rattle.wm_machine.specs.Turns.{telling}
 use Rattle.wm_machine.specs.Updated.{is_same_kind, updated}
 use Rattle.wm_machine.specs.Valid.{IsAttemptIn, IsOfKind, IsOutputIn, IsPeriodic, IsPeriodicPhase, IsProgressIn, IsRecord}
-use Rattle.wm_machine.specs.declared.event.End.{End}
-use Rattle.wm_machine.specs.declared.event.End.TheVariants.{Success, Failure, Retry}
 use Rattle.wm_machine.specs.declared.record.How.TheVariants as how
-use Rattle.wm_machine.specs.declared.record.Phase.{Phase}
 use Rattle.wm_machine.specs.declared.record.Phase.TheVariants as phase
-use Rattle.wm_machine.specs.declared.record.Record.{Record}
-use Rattle.wm_request.specs.Requests.{IsRequest, RequestFields}
-use Rattle.wm_schedule.specs.declared.schedule.Period.{Period}
-use Rattle.wm_worker.specs.Answers.{GivesData}
+use Rattle.wm_request.specs.Requests.{IsRequest, IsShortText, RequestFields}
 
 -- no entry is Data
 pub IsData-empty : IsData []
@@ -42,15 +35,33 @@ output-waiting phase.Waiting output waits is = is
 output-waiting phase.Running output waits is = absurd (false≢true waits)
 output-waiting (phase.Done how) output waits is = absurd (false≢true waits)
 
--- a change that keeps the numbers of a record keeps them within the limits of a row
-FitsRow-kept : (work changed : Record) → changed.seq ≡ work.seq → changed.prior ≡ work.prior → changed.generation ≡ work.generation
-    → changed.enqueued_at ≡ work.enqueued_at → FitsRow work → FitsRow changed
-FitsRow-kept work changed seq prior generation enqueued_at fits = record {
-  seq = rw seq fits.seq;
-  prior = rw prior fits.prior;
-  generation = rw generation fits.generation;
-  enqueued_at = rw enqueued_at fits.enqueued_at;
-}
+-- what a run, an end or a cancel leaves of a record, its name aside
+abbrev asked_of : Record → ℕ × (RequestFields × (List ℕ × ℕ))
+asked_of work = (work.seq, (work.request, (work.prior, work.generation)))
+
+-- a change that leaves that makes a record, where the rest is within its limits
+pub IsRecord-kept : (work now : Record) → asked_of now ≡ asked_of work → IsRecord work → IfSome now.name IsShortText → now.enqueued_at < 2 ^ 53
+    → now.attempt ≤ 1000000 → IsAttemptIn now.phase now.attempt → now.backoff_n ≤ now.attempt → now.runs ≤ 1000000 → IsOfKind work.request.period now → IsOutputIn now.phase now.output
+    → IsProgressIn now.phase now.progress → IsRecord now
+IsRecord-kept work now same is name enqueued_at attempt started backoff_n runs kind output progress =
+    let seq = ap (λ l. l.0) same in
+    let request = ap (λ l. l.1.0) same in
+    let prior = ap (λ l. l.1.1.0) same in
+    let generation = ap (λ l. l.1.1.1) same in
+    record {
+      number = rw seq is.number;
+      fits = record { seq = rw seq is.fits.seq; prior = rw prior is.fits.prior; generation = rw generation is.fits.generation; enqueued_at = enqueued_at };
+      name = name;
+      request = rw request is.request;
+      prior = rw (seq, prior) is.prior;
+      attempt = attempt;
+      started = started;
+      backoff_n = backoff_n;
+      runs = runs;
+      kind = subst (λ (r : RequestFields). IsOfKind r.period now) (sym request) kind;
+      output = output;
+      progress = progress;
+    }
 
 -- what is of a kind stays so, where it is put into a phase of that kind
 IsOfKind-kept : (period : Option Period) (work changed : Record) → IsPeriodicPhase changed.phase → changed.runs ≡ work.runs → changed.output ≡ work.output
@@ -66,96 +77,43 @@ IsOfKind-one_time work changed one_time same kind =
     subst (λ period. IsOfKind period changed) (sym one_time) (same ∙ subst (λ period. IsOfKind period work) one_time kind)
 
 pub IsRecord-started : (work : Record) → is_waiting work.phase ≡ true → IsRecord work → IsRecord (started work)
-IsRecord-started work waits is = record {
-  number = is.number;
-  fits = FitsRow-kept work (started work) refl refl refl refl is.fits;
-  name = is.name;
-  request = is.request;
-  prior = is.prior;
-  attempt = omega arith;
-  started = omega arith;
-  backoff_n = let few = is.backoff_n in let most = is.attempt in omega arith;
-  runs = is.runs;
-  kind = IsOfKind-kept work.request.period work (started work) tt refl refl refl is.kind;
-  output = output-waiting work.phase work.output waits is.output;
-  progress = IsData-empty;
-}
+IsRecord-started work waits is =
+    let few = is.backoff_n in
+    let most = is.attempt in
+    IsRecord-kept work (started work) refl is is.name is.fits.enqueued_at (omega arith) (omega arith) (omega arith) is.runs
+    (IsOfKind-kept work.request.period work (started work) tt refl refl refl is.kind) (output-waiting work.phase work.output waits is.output) IsData-empty
 
 -- a work that runs may tell progress
 pub IsRecord-telling : (progress : Option (List DataEntry)) (work : Record) → IfSome progress IsData → work.phase ≡ phase.Running → IsRecord work
     → IsRecord (telling progress work)
 IsRecord-telling None work told running is = is
-IsRecord-telling (Some progress) work told running is = record {
-  number = is.number;
-  fits = FitsRow-kept work (telling (Some progress) work) refl refl refl refl is.fits;
-  name = is.name;
-  request = is.request;
-  prior = is.prior;
-  attempt = is.attempt;
-  started = is.started;
-  backoff_n = is.backoff_n;
-  runs = is.runs;
-  kind = IsOfKind-kept work.request.period work (telling (Some progress) work) (subst IsPeriodicPhase (sym running) tt) refl refl refl is.kind;
-  output = is.output;
-  progress = subst (λ phase. IsProgressIn phase progress) (sym running) told;
-}
+IsRecord-telling (Some progress) work told running is =
+    IsRecord-kept work (telling (Some progress) work) refl is is.name is.fits.enqueued_at is.attempt is.started is.backoff_n is.runs
+    (IsOfKind-kept work.request.period work (telling (Some progress) work) (subst IsPeriodicPhase (sym running) tt) refl refl refl is.kind) is.output
+    (subst (λ phase. IsProgressIn phase progress) (sym running) told)
 
 -- a work whose attempt is to be retried
-IsRecord-retried : (now : ℕ) (work : Record) → now < 2 ^ 53 → work.phase ≡ phase.Running → IsRecord work → IsRecord (retried now work)
-IsRecord-retried now work below running is = record {
-  number = is.number;
-  fits = record { seq = is.fits.seq; prior = is.fits.prior; generation = is.fits.generation; enqueued_at = below };
-  name = is.name;
-  request = is.request;
-  prior = is.prior;
-  attempt = is.attempt;
-  started = tt;
-  backoff_n = omega arith;
-  runs = is.runs;
-  kind = IsOfKind-kept work.request.period work (retried now work) tt refl refl refl is.kind;
-  output = subst (λ phase. IsOutputIn phase work.output) running is.output;
-  progress = refl;
-}
+pub IsRecord-retried : (now : ℕ) (work : Record) → now < 2 ^ 53 → work.phase ≡ phase.Running → IsRecord work → IsRecord (retried now work)
+IsRecord-retried now work below running is =
+    IsRecord-kept work (retried now work) refl is is.name below is.attempt tt (omega arith) is.runs
+    (IsOfKind-kept work.request.period work (retried now work) tt refl refl refl is.kind) (subst (λ phase. IsOutputIn phase work.output) running is.output) refl
 
 freed-kind : (period : Option Period) (now : ℕ) (work : Record) → IsOfKind period work → IsOfKind period (record work { enqueued_at = now })
 freed-kind None now work kind = kind
-freed-kind (Some period) now work kind =
-    record { phase_is = kind.phase_is; no_output = kind.no_output; no_prerequisite = kind.no_prerequisite }
+freed-kind (Some period) now work kind = record { phase_is = kind.phase_is; no_output = kind.no_output; no_prerequisite = kind.no_prerequisite }
 
 -- a work whose delay counts from another moment
 pub IsRecord-freed : (now : ℕ) (work : Record) → now < 2 ^ 53 → IsRecord work → IsRecord (record work { enqueued_at = now })
-IsRecord-freed now work below is = record {
-  number = is.number;
-  fits = record { seq = is.fits.seq; prior = is.fits.prior; generation = is.fits.generation; enqueued_at = below };
-  name = is.name;
-  request = is.request;
-  prior = is.prior;
-  attempt = is.attempt;
-  started = is.started;
-  backoff_n = is.backoff_n;
-  runs = is.runs;
-  kind = freed-kind work.request.period now work is.kind;
-  output = is.output;
-  progress = is.progress;
-}
+IsRecord-freed now work below is =
+    IsRecord-kept work (record work { enqueued_at = now }) refl is is.name below is.attempt is.started is.backoff_n is.runs
+    (freed-kind work.request.period now work is.kind) is.output is.progress
 
 -- a one-time work that fails, with what it gave
 pub IsRecord-failed : (output : List DataEntry) (work : Record) → IsData output → work.request.period ≡ None → IsRecord work
     → IsRecord (with_output output (closed how.Failed work))
-IsRecord-failed output work gave one_time is = record {
-  number = is.number;
-  fits = FitsRow-kept work (with_output output (closed how.Failed work)) refl refl refl refl is.fits;
-  name = is.name;
-  request = is.request;
-  prior = is.prior;
-  attempt = is.attempt;
-  started = tt;
-  backoff_n = is.backoff_n;
-  runs = is.runs;
-  kind = IsOfKind-one_time work (with_output output (closed how.Failed work)) one_time refl is.kind;
-  output = gave;
-  progress = refl;
-}
+IsRecord-failed output work gave one_time is =
+    IsRecord-kept work (with_output output (closed how.Failed work)) refl is is.name is.fits.enqueued_at is.attempt tt is.backoff_n is.runs
+    (IsOfKind-one_time work (with_output output (closed how.Failed work)) one_time refl is.kind) gave refl
 
 -- what is unfinished has given nothing
 output-open : (p : Phase) (output : List DataEntry) → is_open p ≡ true → IsOutputIn p output → output ≡ []
@@ -165,59 +123,24 @@ output-open (phase.Done how) output unfinished is = absurd (false≢true unfinis
 
 -- an unfinished work that is cancelled
 pub IsRecord-cancelled : (work : Record) → is_open work.phase ≡ true → IsRecord work → IsRecord (closed how.Cancelled work)
-IsRecord-cancelled work unfinished is = record {
-  number = is.number;
-  fits = FitsRow-kept work (closed how.Cancelled work) refl refl refl refl is.fits;
-  name = is.name;
-  request = is.request;
-  prior = is.prior;
-  attempt = is.attempt;
-  started = tt;
-  backoff_n = is.backoff_n;
-  runs = is.runs;
-  kind = IsOfKind-kept work.request.period work (closed how.Cancelled work) tt refl refl refl is.kind;
-  output = output-open work.phase work.output unfinished is.output;
-  progress = refl;
-}
+IsRecord-cancelled work unfinished is =
+    IsRecord-kept work (closed how.Cancelled work) refl is is.name is.fits.enqueued_at is.attempt tt is.backoff_n is.runs
+    (IsOfKind-kept work.request.period work (closed how.Cancelled work) tt refl refl refl is.kind) (output-open work.phase work.output unfinished is.output) refl
 
 -- a one-time work that succeeds
 pub IsRecord-succeeded : (output : List DataEntry) (work : Record) → IsData output → work.phase ≡ phase.Running → work.request.period ≡ None → IsRecord work
     → IsRecord (succeeded output work)
-IsRecord-succeeded output work gave running one_time is = record {
-  number = is.number;
-  fits = FitsRow-kept work (succeeded output work) refl refl refl refl is.fits;
-  name = is.name;
-  request = is.request;
-  prior = is.prior;
-  attempt = is.attempt;
-  started = subst (λ phase. IsAttemptIn phase work.attempt) running is.started;
-  backoff_n = is.backoff_n;
-  runs = is.runs;
-  kind = IsOfKind-one_time work (succeeded output work) one_time refl is.kind;
-  output = gave;
-  progress = refl;
-}
-
-IsPeriodic-again : (period : Period) (now : ℕ) (work : Record) → IsOfKind (Some period) work → IsPeriodic (enqueued_again now work)
-IsPeriodic-again period now work kind = record { phase_is = tt; no_output = refl; no_prerequisite = kind.no_prerequisite }
+IsRecord-succeeded output work gave running one_time is =
+    IsRecord-kept work (succeeded output work) refl is is.name is.fits.enqueued_at is.attempt (subst (λ phase. IsAttemptIn phase work.attempt) running is.started)
+    is.backoff_n is.runs (IsOfKind-one_time work (succeeded output work) one_time refl is.kind) gave refl
 
 pub IsRecord-again : (period : Period) (now : ℕ) (work : Record) → now < 2 ^ 53 → work.request.period ≡ Some period → IsRecord work
     → IsRecord (enqueued_again now work)
-IsRecord-again period now work below repeats is = record {
-  number = is.number;
-  fits = record { seq = is.fits.seq; prior = is.fits.prior; generation = is.fits.generation; enqueued_at = below };
-  name = is.name;
-  request = is.request;
-  prior = is.prior;
-  attempt = omega arith;
-  started = tt;
-  backoff_n = omega arith;
-  runs = omega arith;
-  kind = subst (λ kind. IsOfKind kind (enqueued_again now work)) (sym repeats)
-      (IsPeriodic-again period now work (subst (λ kind. IsOfKind kind work) repeats is.kind));
-  output = refl;
-  progress = refl;
-}
+IsRecord-again period now work below repeats is =
+    let kind : IsPeriodic work = subst (λ kind. IsOfKind kind work) repeats is.kind in
+    IsRecord-kept work (enqueued_again now work) refl is is.name below (omega arith) tt (omega arith) (omega arith)
+    (subst (λ kind. IsOfKind kind (enqueued_again now work)) (sym repeats)
+    (record { phase_is = tt; no_output = refl; no_prerequisite = kind.no_prerequisite })) refl refl
 
 updated-kind : (before now : Option Period) (request : RequestFields) (work : Record) → is_same_kind now before ≡ true → IsOfKind before work
     → IsOfKind now (updated request work)
@@ -246,25 +169,3 @@ IsRecord-updated request work asked same is = record {
 }
 
 -- ---- of either kind
-
-ended-record : (period : Option Period) (now : ℕ) (end : End) (work : Record) → work.request.period ≡ period → now < 2 ^ 53 → GivesData (given_by end)
-    → work.phase ≡ phase.Running → IsRecord work → IsRecord (ended_as period now end work)
-ended-record period now Retry work kind below gave running is = IsRecord-retried now work below running is
-ended-record None now (Success output) work kind below gave running is = IsRecord-succeeded output work gave running kind is
-ended-record None now (Failure output) work kind below gave running is = IsRecord-failed output work gave kind is
-ended-record (Some period) now (Success output) work kind below gave running is = IsRecord-again period now work below kind is
-ended-record (Some period) now (Failure output) work kind below gave running is = IsRecord-again period now work below kind is
-
--- work whose run ended
-pub IsRecord-ended : (now : ℕ) (end : End) (work : Record) → now < 2 ^ 53 → GivesData (given_by end) → work.phase ≡ phase.Running → IsRecord work
-    → IsRecord (ended now end work)
-IsRecord-ended now end work below gave running is = ended-record work.request.period now end work refl below gave running is
-
-not_started-record : (period : Option Period) (now : ℕ) (work : Record) → work.request.period ≡ period → now < 2 ^ 53 → IsRecord work
-    → IsRecord (not_started_as period now work)
-not_started-record None now work kind below is = IsRecord-failed work.output work (IsData-output work is) kind is
-not_started-record (Some period) now work kind below is = IsRecord-again period now work below kind is
-
--- work that can't start
-pub IsRecord-not_started : (now : ℕ) (work : Record) → now < 2 ^ 53 → IsRecord work → IsRecord (not_started now work)
-IsRecord-not_started now work below is = not_started-record work.request.period now work refl below is

@@ -1,18 +1,17 @@
 -- What holds of a state from which finished records that no unfinished one needs are removed.
-use Rattle.std.proofs.Common.{◌≡◌, ◌&&◌, ℕ, ◌<◌, Bool, true, false, not, eqb, List, filter, refl, sym, ◌∙◌, ap, arith}
+use Rattle.std.proofs.Common.{◌≡◌, ◌&&◌, ℕ, Bool, true, false, not, eqb, List, filter, refl, sym, ◌∙◌, ap, arith}
 use Rattle.std.specs.List.{AllByRecursion}
 use Rattle.std.proofs.lemmas.Bool.{and_from, and_parts, eq-eqb, false≢true, false_from_ne_true, not-true, not_from_false}
-use Rattle.wm_machine.proofs.Lists.{All-both, All-filter, All-stored, All-weaker, AllLater-filter, filter-few, HasOne-filter, list_any-stored}
-use Rattle.wm_machine.specs.Closed.{is_among, is_open}
+use Rattle.wm_collections.proofs.Lists.{All-filter, All-stored, All-weaker, All-with2, AllLater-filter, HasOne-filter, filter-few, list_any-stored}
+use Rattle.wm_machine.proofs.Runnings.{AreRuns-beside}
+use Rattle.wm_machine.specs.Closed.{is_open}
 use Rattle.wm_machine.specs.Narrow.{IsReached}
 use Rattle.wm_machine.specs.Pruned.{is_needed, removable}
-use Rattle.wm_machine.specs.Valid.{ArePriorSound, HasOne, HasSucceeded, IsBefore, IsCurrentOf, IsPrerequisite, IsRecord, IsValidRun, IsWorkOf, Valid}
+use Rattle.wm_collections.specs.Lists.{HasOne, is_among}
+use Rattle.wm_machine.specs.Valid.{ArePriorSound, HasSucceeded, IsPrerequisite, IsWorkOf}
 use Rattle.wm_machine.specs.declared.record.How.TheVariants as how
-use Rattle.wm_machine.specs.declared.record.Phase.{Phase}
+use Rattle.wm_machine.specs.Types.{Phase, Record, Run, State}
 use Rattle.wm_machine.specs.declared.record.Phase.TheVariants as phase
-use Rattle.wm_machine.specs.declared.record.Record.{Record}
-use Rattle.wm_machine.specs.declared.state.Run.{Run}
-use Rattle.wm_machine.specs.declared.state.State.{State}
 
 -- the records but for those that are gone
 abbrev pub without_gone : (Record → Bool) → List Record → List Record
@@ -24,8 +23,7 @@ AreRemovable gone works = AllByRecursion (λ work. gone work ≡ true → remova
 
 -- what holds of all records holds of those that stay
 stay_all : (P : Record → Type 0) (gone : Record → Bool) (works : List Record) → AllByRecursion P works → AllByRecursion P (without_gone gone works)
-stay_all P gone works all =
-    All-filter P (λ work. not (gone work)) works (All-weaker P (λ work. not (gone work) ≡ true → P work) works (λ work is stays. is) all)
+stay_all P gone works all = All-filter (λ work. not (gone work)) works (λ work stays is. is) all
 
 -- ---- what is needed
 
@@ -34,14 +32,11 @@ pub needed_prior : (works : List Record) (work : Record) → HasOne (λ other. o
     → AllByRecursion (λ number. is_needed works number ≡ true) work.prior
 unfolding is_needed
 needed_prior works work stored unfinished =
-    All-weaker (λ number. HasOne (λ other. other ≡ number) work.prior) (λ number. is_needed works number ≡ true) work.prior
-    (λ number among.
-    list_any-stored (λ other. is_open other.phase && is_among other.prior number) works work stored
+    All-weaker work.prior (λ number among. list_any-stored (λ other. is_open other.phase && is_among other.prior number) works work stored
     (and_from _ _ unfinished (list_any-stored (λ one. eqb one number) work.prior number among (eq-eqb number number refl)))) (All-stored work.prior)
 
 -- what is removable is finished, and isn't needed
-pub removable_parts : (works : List Record) (work : Record) → removable works work ≡ true
-    → (is_open work.phase ≡ false) × (is_needed works work.seq ≡ false)
+pub removable_parts : (works : List Record) (work : Record) → removable works work ≡ true → (is_open work.phase ≡ false) × (is_needed works work.seq ≡ false)
 unfolding removable
 removable_parts works work is =
     let parts = and_parts (not (is_open work.phase)) (not (is_needed works work.seq)) is in
@@ -51,84 +46,60 @@ removable_parts works work is =
 
 module _ (gone : Record → Bool) (works : List Record) (may : AreRemovable gone works) where
   -- what isn't removable stays
-  one_stays : (P : Record → Type 0) → ((work : Record) → P work → removable works work ≡ true → ⊥) → HasOne P works
-      → HasOne P (without_gone gone works)
+  one_stays : (P : Record → Type 0) → ((work : Record) → P work → removable works work ≡ true → ⊥) → HasOne P works → HasOne P (without_gone gone works)
   one_stays P holds one =
-      HasOne-filter (λ work. gone work ≡ true → removable works work ≡ true) P (λ work. not (gone work)) works
+      HasOne-filter (λ work. not (gone work)) works
       (λ work removes is. not_from_false (gone work) (false_from_ne_true (gone work) (λ e. holds work is (removes e)))) may one
 
   -- as a prerequisite of an unfinished record
   prerequisite_stays : (number : ℕ) → is_needed works number ≡ true → HasOne (IsPrerequisite number) works
       → HasOne (IsPrerequisite number) (without_gone gone works)
   prerequisite_stays number needed =
-      one_stays (IsPrerequisite number) (λ work is removes.
-      false≢true (sym (removable_parts works work removes).1 ∙ ap (is_needed works) is.seq ∙ needed))
+      one_stays (IsPrerequisite number) (λ work is removes. false≢true (sym (removable_parts works work removes).1 ∙ ap (is_needed works) is.seq ∙ needed))
 
-  success_stays : (number : ℕ) → is_needed works number ≡ true → HasOne (HasSucceeded number) works
-      → HasOne (HasSucceeded number) (without_gone gone works)
+  success_stays : (number : ℕ) → is_needed works number ≡ true → HasOne (HasSucceeded number) works → HasOne (HasSucceeded number) (without_gone gone works)
   success_stays number needed =
-      one_stays (HasSucceeded number) (λ work is removes.
-      false≢true (sym (removable_parts works work removes).1 ∙ ap (is_needed works) is.seq ∙ needed))
+      one_stays (HasSucceeded number) (λ work is removes. false≢true (sym (removable_parts works work removes).1 ∙ ap (is_needed works) is.seq ∙ needed))
 
   -- and as the work of a run
   work_stays : (run : Run) → HasOne (IsWorkOf run) works → HasOne (IsWorkOf run) (without_gone gone works)
-  work_stays run =
-      one_stays (IsWorkOf run) (λ work is removes. false≢true (sym (removable_parts works work removes).0 ∙ ap is_open is.running))
+  work_stays run = one_stays (IsWorkOf run) (λ work is removes. false≢true (sym (removable_parts works work removes).0 ∙ ap is_open is.running))
 
   -- the prerequisites of a record that is there are as sound as before
   sound_then : (p : Phase) (prior : List ℕ) → (is_open p ≡ true → AllByRecursion (λ number. is_needed works number ≡ true) prior)
       → ArePriorSound works p prior → ArePriorSound (without_gone gone works) p prior
-  sound_then phase.Waiting prior needed sound =
-      All-weaker (λ number. (is_needed works number ≡ true) × HasOne (IsPrerequisite number) works)
-      (λ number. HasOne (IsPrerequisite number) (without_gone gone works)) prior (λ number both. prerequisite_stays number both.0 both.1)
-      (All-both (λ number. is_needed works number ≡ true) (λ number. HasOne (IsPrerequisite number) works) prior (needed refl) sound)
+  sound_then phase.Waiting prior needed sound = All-with2 prior (λ number needs one. prerequisite_stays number needs one) (needed refl) sound
   sound_then phase.Running prior needed sound =
-      All-weaker (λ number. (is_needed works number ≡ true) × (HasOne (IsPrerequisite number) works × HasOne (HasSucceeded number) works))
-      (λ number. HasOne (IsPrerequisite number) (without_gone gone works) × HasOne (HasSucceeded number) (without_gone gone works)) prior
-      (λ number both. (prerequisite_stays number both.0 both.1.0, success_stays number both.0 both.1.1))
-      (All-both (λ number. is_needed works number ≡ true) (λ number. HasOne (IsPrerequisite number) works × HasOne (HasSucceeded number) works) prior
-      (needed refl) sound)
-  sound_then (phase.Done how.Succeeded) prior needed sound =
-      All-weaker (λ number. AllByRecursion (λ work. work.seq ≡ number → work.phase ≡ phase.Done how.Succeeded) works)
-      (λ number. AllByRecursion (λ work. work.seq ≡ number → work.phase ≡ phase.Done how.Succeeded) (without_gone gone works)) prior
-      (λ number all. stay_all (λ work. work.seq ≡ number → work.phase ≡ phase.Done how.Succeeded) gone works all) sound
+      All-with2 prior (λ number needs both. (prerequisite_stays number needs both.0, success_stays number needs both.1)) (needed refl) sound
+  sound_then (phase.Done how.Succeeded) prior needed sound = All-weaker prior (λ number all. stay_all _ gone works all) sound
   sound_then (phase.Done how.Failed) prior needed sound = tt
   sound_then (phase.Done how.Cancelled) prior needed sound = tt
 
 -- ---- the state
 
 -- where removable records are removed, all that holds of the states that are reached still does
-pub reached-removed : (s : State) (gone : Record → Bool) → IsReached s → AreRemovable gone s.works
-    → IsReached (record s { works = without_gone gone s.works })
+pub reached-removed : (s : State) (gone : Record → Bool) → IsReached s → AreRemovable gone s.works → IsReached (record s { works = without_gone gone s.works })
 reached-removed s gone reached may =
     let valid = reached.valid in
     let works = s.works in
-    let t : State = record s { works = without_gone gone works } in
-    let valid_then : Valid t = record {
-      numbers = stay_all (λ work. work.seq < s.next) gone works valid.numbers;
-      first = valid.first;
-      next = valid.next;
-      few_works = let few = filter-few (λ work. not (gone work)) works in let all = valid.few_works in omega (arith, few, all);
-      records = stay_all IsRecord gone works valid.records;
-      in_order = AllLater-filter IsBefore (λ work. not (gone work)) works valid.in_order;
-      sound = stay_all (λ work. ArePriorSound t.works work.phase work.prior) gone works
-          (All-weaker (λ work. HasOne (λ other. other ≡ work) works × ArePriorSound works work.phase work.prior)
-          (λ work. ArePriorSound t.works work.phase work.prior) works
-          (λ work both. sound_then gone works may work.phase work.prior (needed_prior works work both.0) both.1)
-          (All-both (λ work. HasOne (λ other. other ≡ work) works) (λ work. ArePriorSound works work.phase work.prior) works (All-stored works)
-          valid.sound));
-      running = stay_all (λ work. work.phase ≡ phase.Running → HasOne (IsCurrentOf work.seq) s.runs) gone works valid.running;
-      runs = All-weaker (IsValidRun s) (IsValidRun t) s.runs (λ run is. record {
-        number = is.number;
-        turn = is.turn;
-        input = is.input;
-        work = λ current. work_stays gone works may run (is.work current);
-        instance = is.instance;
-      }) valid.runs;
-      apart = valid.apart;
-      instances = valid.instances;
-      numbered = valid.numbered;
-      few_observers = valid.few_observers;
-      now = valid.now;
-    } in
-    record { valid = valid_then; narrow = record { runs = reached.narrow.runs } }
+    let left = without_gone gone works in
+    record {
+      valid = record {
+        works = record {
+          first = valid.works.first;
+          fits = valid.works.fits;
+          numbers = stay_all _ gone works valid.works.numbers;
+          few = let few = valid.works.few in omega (arith, filter-few (λ work. not (gone work)) works, few);
+          records = stay_all _ gone works valid.works.records;
+          in_order = AllLater-filter _ (λ work. not (gone work)) works valid.works.in_order;
+          sound = stay_all _ gone works
+              (All-with2 works (λ work there sound. sound_then gone works may work.phase work.prior (needed_prior works work there) sound) (All-stored works)
+              valid.works.sound);
+        };
+        runs = AreRuns-beside s left valid (stay_all _ gone works valid.runs.running) (work_stays gone works may);
+        instances = valid.instances;
+        few_observers = valid.few_observers;
+        now = valid.now;
+      };
+      narrow = record { runs = reached.narrow.runs };
+    }

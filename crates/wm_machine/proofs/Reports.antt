@@ -1,10 +1,10 @@
 -- That each run is reported once.
-use Rattle.std.proofs.Common.{◌≡◌, ℕ, ◌+◌, ◌≤◌, ◌<◌, Bool, true, false, eqb, not, List, [], ◌∷◌, ◌++◌, Option, Some, refl, sym, ◌∙◌, ap, subst, arith, inl, inr}
+use Rattle.std.proofs.Common.{◌≡◌, ℕ, ◌+◌, ◌≤◌, ◌<◌, Bool, false, eqb, not, List, [], ◌∷◌, ◌++◌, Option, Some, refl, sym, ◌∙◌, ap, subst, arith, inl, inr}
 use Rattle.std.specs.Prelude.{count_by}
 use Rattle.std.proofs.lemmas.Bool.{cases_Bool, cond_both, eq-eqb, eqb-true, ne_eqb, not-false, not-true}
 use Rattle.wm_collections.specs.Lists.{AllLater}
-use Rattle.wm_data.specs.declared.data.DataEntry.{DataEntry}
-use Rattle.wm_machine.proofs.Lists.{All-any, All-filter, All-weaker, count-cons, count-failing, count-filter, count-none, count-push, count-same, find-passes, weight}
+use Rattle.wm_machine.specs.Types.{Command, DataEntry, Event, Run, State}
+use Rattle.wm_collections.proofs.Lists.{All-any, All-passing, All-weaker, count-cons, count-failing, count-filter, count-none, count-push, count-same, find-passes, weight}
 use Rattle.wm_machine.proofs.Runnings.{found_valid}
 use Rattle.wm_machine.proofs.Steps.{framed, IsReached-after}
 use Rattle.wm_machine.proofs.Turns.{turned_at, turned_both}
@@ -18,12 +18,8 @@ use Rattle.wm_machine.specs.Role.{Reported, SomeMore, This}
 use Rattle.wm_machine.specs.Runs.{other_runs, run_numbered}
 use Rattle.wm_machine.specs.Step.{after, Legal}
 use Rattle.wm_machine.specs.Turns.{with_turned}
-use Rattle.wm_machine.specs.Valid.{AreApart, IsValidRun, Valid}
-use Rattle.wm_machine.specs.declared.command.Command.{Command}
-use Rattle.wm_machine.specs.declared.event.Event.{Event}
+use Rattle.wm_machine.specs.Valid.{AreApart, Valid}
 use Rattle.wm_machine.specs.declared.event.Event.TheVariants as event
-use Rattle.wm_machine.specs.declared.state.Run.{Run}
-use Rattle.wm_machine.specs.declared.state.State.{State}
 
 -- ---- how many runs have a number
 
@@ -38,13 +34,10 @@ one_found : (number : ℕ) (run : Run) (runs : List Run) → run_numbered number
 one_found number run [] found apart = absurd (cc)
 one_found number run (first ∷ runs) found apart =
     let then = count-cons (has_number number) first runs in
-    cond_both (eqb first.run number) (Some first) (run_numbered number runs) (λ (o : Option Run). o ≡ Some run → runs_with number (first ∷ runs) ≡ 1)
-    (λ e is.
+    cond_both (eqb first.run number) (Some first) (run_numbered number runs) (λ (o : Option Run). o ≡ Some run → runs_with number (first ∷ runs) ≡ 1) (λ e is.
     let here : weight (has_number number first) ≡ 1 = ap weight e in
     let others =
-    count-none (has_number number) runs
-    (All-weaker (AreApart first) (λ r. has_number number r ≡ false) runs
-    (λ r a. ne_eqb r.run number (λ same. a.runs (eqb-true first.run number e ∙ sym same))) apart.0) in
+    count-none (has_number number) runs (All-weaker runs (λ r a. ne_eqb r.run number (λ same. a.runs (eqb-true first.run number e ∙ sym same))) apart.0) in
     omega (arith, then, here, others)) (λ e is.
     let here : weight (has_number number first) ≡ 0 = ap weight e in
     let others = one_found number run runs is apart.1 in
@@ -54,8 +47,7 @@ one_found number run (first ∷ runs) found apart =
 none_other : (number : ℕ) (runs : List Run) → runs_with number (other_runs number runs) ≡ 0
 none_other number runs =
     count-none (has_number number) (other_runs number runs)
-    (All-filter (λ r. has_number number r ≡ false) (λ r. not (eqb r.run number)) runs
-    (All-any (λ r. not (eqb r.run number) ≡ true → has_number number r ≡ false) runs (λ r differs. not-true (eqb r.run number) differs)))
+    (All-weaker (other_runs number runs) (λ r differs. not-true (eqb r.run number) differs) (All-passing (λ r. not (eqb r.run number)) runs))
 
 -- the runs of a number, once one is over
 ended_count : (number ended : ℕ) (run : Run) (runs : List Run) → run_numbered ended runs ≡ Some run → AllLater AreApart runs
@@ -72,8 +64,7 @@ ended_count number ended run runs found apart =
       | inr e ↦
           let here : weight (eqb ended number) ≡ 0 = ap weight e in
           let rest =
-          count-filter (has_number number) (λ r. not (eqb r.run ended)) runs
-          (All-any (λ r. not (eqb r.run ended) ≡ false → has_number number r ≡ false) runs (λ r dropped.
+          count-filter (has_number number) (λ r. not (eqb r.run ended)) runs (All-any runs (λ r dropped.
           ap (λ n. eqb n number) (eqb-true r.run ended (not-false (eqb r.run ended) dropped)) ∙ e)) in
           omega (arith, here, rest)
     ])
@@ -82,8 +73,7 @@ ended_count number ended run runs found apart =
 none_later : (number : ℕ) (s : State) → Valid s → s.next_run ≤ number → runs_with number s.runs ≡ 0
 none_later number s valid later =
     count-none (has_number number) s.runs
-    (All-weaker (IsValidRun s) (λ r. has_number number r ≡ false) s.runs
-    (λ r is. ne_eqb r.run number (λ e. let below = is.number in absurd (omega (arith, below, later, e)))) valid.runs)
+    (All-weaker s.runs (λ r is. ne_eqb r.run number (λ e. let below = is.number in absurd (omega (arith, below, later, e)))) valid.runs.each)
 
 -- a run that is found has an earlier number than the next
 found_earlier : (number : ℕ) (s : State) (run : Run) → Valid s → run_numbered number s.runs ≡ Some run → number < s.next_run
@@ -109,12 +99,10 @@ record LeavesRuns (s t : State) : Type 0 where
   runs_are : t.runs ≡ s.runs
   next_is : t.next_run ≡ s.next_run
 
-untouched_runs : (s t : State) (commands : List Command) (lines : ℕ → List DiaryLine) → frame_to t commands lines ≡ untouched s commands
-    → LeavesRuns s t
+untouched_runs : (s t : State) (commands : List Command) (lines : ℕ → List DiaryLine) → frame_to t commands lines ≡ untouched s commands → LeavesRuns s t
 untouched_runs s t commands lines same = record { runs_are = ap (λ (f : Frame). f.runs) same; next_is = ap (λ (f : Frame). f.next_run) same }
 
-early_untouched : (number : ℕ) (s t : State) (e : Event) → LeavesRuns s t → is_start_of number e ≡ false → is_report_of number e ≡ false
-    → IsEarly number s e t
+early_untouched : (number : ℕ) (s t : State) (e : Event) → LeavesRuns s t → is_start_of number e ≡ false → is_report_of number e ≡ false → IsEarly number s e t
 early_untouched number s t e same start report =
     let next = same.next_is in record { grows = omega (arith, next); no_start = λ later. start; no_report = λ later. report }
 
@@ -139,7 +127,7 @@ counted_ended : (number ended : ℕ) (told : Reported) (s : State) (e : Event) �
     → is_report_of number e ≡ eqb ended number → IsEndedIn ended told s (frame_of s e) → IsCounted number s e (after s e)
 counted_ended number ended told s e valid start report is =
     let runs : (after s e).runs ≡ other_runs is.run.run s.runs = ap (λ (f : Frame). f.runs) is.frame_is in
-    let count = ended_count number ended is.run s.runs is.is_running valid.apart in
+    let count = ended_count number ended is.run s.runs is.is_running valid.runs.apart in
     let one : weight (is_report_of number e) ≡ weight (eqb ended number) = ap weight report in
     record { no_start = start; left = rw runs (omega (arith, count, one)) }
 
@@ -166,8 +154,7 @@ early number s (event.Turn run progress) valid legal =
     record { grows = omega (arith, next); no_start = λ later. refl; no_report = λ later. refl }
 early number s (event.Finish run end) valid legal =
     early_ended number run (This (given_by end)) s (event.Finish run end) valid refl refl (framed s (event.Finish run end) legal)
-early number s (event.TimedOut run) valid legal =
-    early_ended number run SomeMore s (event.TimedOut run) valid refl refl (framed s (event.TimedOut run) legal)
+early number s (event.TimedOut run) valid legal = early_ended number run SomeMore s (event.TimedOut run) valid refl refl (framed s (event.TimedOut run) legal)
 early number s (event.Late run) valid legal = absurd legal
 
 counted : (number : ℕ) (s : State) (e : Event) → Valid s → Legal s e → number < s.next_run → IsCounted number s e (after s e)
@@ -225,10 +212,8 @@ record IsBeforeStart (number : ℕ) (first : State) (log : List Event) (last : S
   no_start : last.next_run ≤ number → starts_in log number ≡ 0
   no_report : last.next_run ≤ number → reports_in log number ≡ 0
 
-before_start : (number : ℕ) (first : State) (log : List Event) (last : State) → IsReached first → Replay first log last
-    → IsBeforeStart number first log last
-before_start number first [] last reached replays =
-    record { grows = rw replays (omega arith); no_start = λ later. refl; no_report = λ later. refl }
+before_start : (number : ℕ) (first : State) (log : List Event) (last : State) → IsReached first → Replay first log last → IsBeforeStart number first log last
+before_start number first [] last reached replays = record { grows = rw replays (omega arith); no_start = λ later. refl; no_report = λ later. refl }
 before_start number first (e ∷ log) last reached replays =
     let t = after first e in
     let here = early number first e reached.valid replays.0 in

@@ -1,7 +1,7 @@
 -- What follows from an event's role alone.
 use Rattle.std.proofs.Common.{◌≡◌, ℕ, ◌<◌, ◌≤◌, cond, eqb, not, List, [], ◌∷◌, length, Some, refl, sym, ◌∙◌, ap, subst, arith}
 use Rattle.std.proofs.lemmas.Bool.{eq-eqb}
-use Rattle.wm_machine.proofs.Lists.{All-find}
+use Rattle.wm_collections.proofs.Lists.{All-find}
 use Rattle.wm_machine.specs.Frame.{Frame, IsFramed}
 use Rattle.wm_machine.specs.Role as role
 use Rattle.wm_machine.specs.Role.{Role}
@@ -9,8 +9,7 @@ use Rattle.wm_machine.specs.Runs.{other_runs, run_numbered}
 use Rattle.wm_machine.specs.Serial.{IsTurnOf}
 use Rattle.wm_machine.specs.Turns.{turned, with_turned}
 use Rattle.wm_machine.specs.Waiting.{LeavesOf}
-use Rattle.wm_machine.specs.declared.state.Run.{Run}
-use Rattle.wm_machine.specs.declared.state.State.{State}
+use Rattle.wm_machine.specs.Types.{Run, State}
 
 -- a run begins, or can't
 abbrev pub Opens : Role → Type 0
@@ -64,7 +63,7 @@ pub record IsClosed (role : Role) (s : State) (frame : Frame) (before left : ℕ
 -- the one run is found
 the_one : (number : ℕ) (run found : Run) (runs : List Run) → runs ≡ run ∷ [] → run_numbered number runs ≡ Some found → found ≡ run
 the_one number run found runs one is =
-    All-find (λ r. r ≡ run) (λ (r : Run). eqb r.run number) (run ∷ []) found (subst (λ runs. run_numbered number runs ≡ Some found) one is) (refl, tt)
+    All-find (λ r. r ≡ run) (λ r. eqb r.run number) (run ∷ []) found (subst (λ runs. run_numbered number runs ≡ Some found) one is) (refl, tt)
 
 -- no other run is left
 none_left : (number : ℕ) (run found : Run) (runs : List Run) → runs ≡ run ∷ [] → run_numbered number runs ≡ Some found → other_runs found.run runs ≡ []

@@ -2,9 +2,8 @@
 use Rattle.std.proofs.Common.{ℕ, ◌<◌, pos, List, [], ◌∷◌, map, rules}
 use Rattle.std.specs.List.{AllByRecursion}
 use Rattle.std.specs.Prelude.{◌<ℤ◌}
-use Rattle.wm_keeper.specs.declared.row.Row.{Row}
+use Rattle.wm_machine.specs.Types.{Record, Row}
 use Rattle.wm_machine.specs.Rows.{row_of}
-use Rattle.wm_machine.specs.declared.record.Record.{Record}
 
 -- the number of each row is below the next one
 pub rows_below : (works : List Record) (next : ℕ) → AllByRecursion (λ w. w.seq < next) works

@@ -2,18 +2,14 @@
 use Rattle.std.proofs.Common.{◌≡◌, ◌⊎◌, ℕ, ◌+◌, ◌<◌, Bool, true, false, cond, eqb, List, [], ◌∷◌, find, Option, Some, None, is_some, refl, sym, ◌∙◌, ap, subst, inl, inr, arith}
 use Rattle.std.specs.List.{AllByRecursion}
 use Rattle.std.proofs.lemmas.Bool.{cases_Bool, cond-false, cond_both, eqb-true, eqb-false, ne_eqb, true≢false}
-use Rattle.wm_collections.specs.Lists.{AllLater}
-use Rattle.wm_machine.proofs.Lists.{All-any, All-find, All-map, All-weaker, AllLater-map, AllLater-weaker, HasOne-map, HasOne-weaker, one_gives}
+use Rattle.wm_collections.specs.Lists.{AllLater, HasOne}
+use Rattle.wm_collections.proofs.Lists.{All-find, All-weaker, AllLater-weaker, HasOne-map, HasOne-map_with, HasOne-weaker, one_gives}
 use Rattle.wm_machine.specs.First.{is_waiting}
 use Rattle.wm_machine.specs.Narrow.{IsNarrow}
 use Rattle.wm_machine.specs.Runs.{changed_work, made_out, run_numbered, with_out}
-use Rattle.wm_machine.specs.Valid.{AreApart, AreNumberedInOrder, HasOne, IsBefore, IsInstanceOf, IsValidRun, IsWorkOf, Valid}
+use Rattle.wm_machine.specs.Valid.{AreApart, AreNumberedInOrder, AreRuns, IsBefore, IsCurrentOf, IsInstanceOf, IsValidRun, IsWorkOf, Valid}
 use Rattle.wm_machine.specs.declared.record.Phase.TheVariants as phase
-use Rattle.wm_machine.specs.declared.record.Record.{Record}
-use Rattle.wm_machine.specs.declared.state.Instance.{Instance}
-use Rattle.wm_machine.specs.declared.state.Run.{Run}
-use Rattle.wm_machine.specs.declared.state.State.{State}
-use Rattle.wm_schedule.specs.declared.schedule.Period.{Period}
+use Rattle.wm_machine.specs.Types.{Instance, Period, Record, Run, State}
 
 -- ---- records
 
@@ -39,21 +35,12 @@ changed-same change other seq work same =
       | inr e ↦ cond-false (eqb work.seq seq) (change work) work e ∙ sym (cond-false (eqb work.seq seq) (other work) work e)
     ]
 
-pub seq-changed : (change : Record → Record) (seq : ℕ) (work : Record) → KeepsSeq change → (changed change seq work).seq ≡ work.seq
-seq-changed change seq work keeps = changed_both (λ w. w.seq ≡ work.seq) change seq work (λ e. keeps work) (λ e. refl)
-
-pub numbers-changed : (next : ℕ) (change : Record → Record) (seq : ℕ) (works : List Record) → KeepsSeq change → AllByRecursion (λ work. work.seq < next) works
-    → AllByRecursion (λ work. work.seq < next) (changed_work change seq works)
-numbers-changed next change seq works keeps all =
-    All-map (λ work. work.seq < next) (λ work. work.seq < next) (changed change seq) works
-    (λ work below. subst (λ n. n < next) (sym (seq-changed change seq work keeps)) below) all
-
 -- records in strictly ascending number
 abbrev pub WorksAscend : List Record → Type 0
 WorksAscend works = AllLater (λ one other. one.seq < other.seq) works
 
 pub WorksAscend-in_order : (works : List Record) → AllLater IsBefore works → WorksAscend works
-WorksAscend-in_order works in_order = AllLater-weaker IsBefore (λ one other. one.seq < other.seq) works (λ one other before. before.number) in_order
+WorksAscend-in_order works in_order = AllLater-weaker works (λ one other before. before.number) in_order
 
 -- a work has no other name than before
 abbrev pub HasNoOtherName : Option (List ℕ) → Option (List ℕ) → Type 0
@@ -71,9 +58,6 @@ pub still_one_time : (before now : Option Period) → is_some now ≡ is_some be
 still_one_time before None same none = refl
 still_one_time before (Some period) same none = absurd (true≢false (same ∙ ap is_some none))
 
-abbrev pub KeepsWork : (Record → Record) → Type 0
-KeepsWork change = (work : Record) → IsSameWork work (change work)
-
 pub IsBefore-same : (one now other then : Record) → IsSameWork one now → IsSameWork other then → IsBefore one other → IsBefore now then
 IsBefore-same one now other then same also before = record {
   number = let here = same.seq in let there = also.seq in let below = before.number in omega arith;
@@ -85,40 +69,19 @@ IsBefore-same one now other then same also before = record {
       );
 }
 
-same-changed : (change : Record → Record) (seq : ℕ) (work : Record) → KeepsWork change → IsSameWork work (changed change seq work)
-same-changed change seq work keeps =
-    changed_both (IsSameWork work) change seq work (λ e. keeps work) (λ e. record { seq = refl; id = refl; name = λ text is. is; kind = refl })
-
-pub in_order-changed : (change : Record → Record) (seq : ℕ) (works : List Record) → KeepsWork change → AllLater IsBefore works
-    → AllLater IsBefore (changed_work change seq works)
-in_order-changed change seq works keeps in_order =
-    AllLater-map IsBefore IsBefore (changed change seq) works (λ one other before.
-    IsBefore-same one (changed change seq one) other (changed change seq other) (same-changed change seq one keeps)
-    (same-changed change seq other keeps) before)
-    in_order
-
--- what holds of each record still does, where the change keeps it of the one that it is made to
-pub records-changed : (A P : Record → Type 0) (change : Record → Record) (seq : ℕ) (works : List Record)
-    → ((work : Record) → work.seq ≡ seq → A work → P (change work)) → ((work : Record) → A work → P work)
-    → AllByRecursion A works → AllByRecursion P (changed_work change seq works)
-records-changed A P change seq works hit miss all =
-    All-map A P (changed change seq) works (λ work a. changed_both P change seq work (λ e. hit work e a) (λ e. miss work a)) all
-
 -- no two records share a number: what holds of one of this number holds of each
 pub all_of_number : (P : Record → Type 0) (seq : ℕ) (works : List Record) → AllLater IsBefore works → HasOne (λ work. (work.seq ≡ seq) × P work) works
     → AllByRecursion (λ work. work.seq ≡ seq → P work) works
 all_of_number P seq [] in_order one = tt
 all_of_number P seq (work ∷ works) in_order (inl is) = (
   λ e. is.1,
-  All-weaker (IsBefore work) (λ later. later.seq ≡ seq → P later) works (λ later before e.
+  All-weaker works (λ later before e.
       let here = is.0 in
       let below = before.number in
       absurd (omega arith)) in_order.0,
 )
 all_of_number P seq (work ∷ works) in_order (inr one) = (
-  λ e. absurd
-      (one_gives (IsBefore work) (λ later. (later.seq ≡ seq) × P later) ⊥ works
-      (λ later before is. let there = is.0 in let below = before.number in absurd (omega arith)) in_order.0 one),
+  λ e. absurd (one_gives works (λ later before is. let there = is.0 in let below = before.number in absurd (omega arith)) in_order.0 one),
   all_of_number P seq works in_order.1 one,
 )
 
@@ -129,9 +92,7 @@ IsAlone work other = other.seq ≡ work.seq → other ≡ work
 pub IsAlone-stored : (work : Record) (works : List Record) → AllLater IsBefore works → HasOne (λ other. other ≡ work) works
     → AllByRecursion (IsAlone work) works
 IsAlone-stored work works in_order one =
-    all_of_number (λ other. other ≡ work) work.seq works in_order
-    (HasOne-weaker (λ other. Unit {0}) (λ other. other ≡ work) (λ other. (other.seq ≡ work.seq) × (other ≡ work)) works
-    (λ other u is. (ap (λ (w : Record). w.seq) is, is)) (All-any (λ other. Unit {0}) works (λ other. tt)) one)
+    all_of_number (λ other. other ≡ work) work.seq works in_order (HasOne-weaker works (λ other is. (ap (λ (w : Record). w.seq) is, is)) one)
 
 -- waiting work isn't running
 pub not_running : (work : Record) → is_waiting work.phase ≡ true → work.phase ≡ phase.Running → ⊥
@@ -141,7 +102,7 @@ not_running work waiting running = true≢false (sym waiting ∙ ap is_waiting r
 pub old_work : (change : Record → Record) (work : Record) (works : List Record) (run : Run) → is_waiting work.phase ≡ true → AllByRecursion (IsAlone work) works
     → HasOne (IsWorkOf run) works → HasOne (IsWorkOf run) (changed_work change work.seq works)
 old_work change work works run waiting alone one =
-    HasOne-map (IsAlone work) (IsWorkOf run) (IsWorkOf run) (changed change work.seq) works (λ other same is.
+    HasOne-map_with _ (changed change work.seq) works (λ other same is.
     changed_both (IsWorkOf run) change work.seq other (λ e. absurd (not_running work waiting (sym (ap (λ (w : Record). w.phase) (same e)) ∙ is.running)))
     (λ e. is)) alone one
 
@@ -149,23 +110,14 @@ old_work change work works run waiting alone one =
 pub other_number : (work : Record) (works : List Record) (run : Run) → is_waiting work.phase ≡ true → AllByRecursion (IsAlone work) works
     → HasOne (IsWorkOf run) works → run.seq ≡ work.seq → ⊥
 other_number work works run waiting alone one same =
-    one_gives (IsAlone work) (IsWorkOf run) ⊥ works (λ other alone is.
-    not_running work waiting (sym (ap (λ (w : Record). w.phase) (alone (is.seq ∙ same))) ∙ is.running)) alone one
-
--- the work of a run stays, where a work of another number is changed
-pub other_work : (change : Record → Record) (seq : ℕ) (works : List Record) (run : Run) → (run.seq ≡ seq → ⊥) → HasOne (IsWorkOf run) works
-    → HasOne (IsWorkOf run) (changed_work change seq works)
-other_work change seq works run other one =
-    HasOne-map (λ work. Unit {0}) (IsWorkOf run) (IsWorkOf run) (changed change seq) works (λ work u is.
-    changed_both (IsWorkOf run) change seq work (λ e. absurd (other (sym is.seq ∙ e))) (λ e. is)) (All-any (λ work. Unit {0}) works (λ work. tt)) one
+    one_gives works (λ other alone is. not_running work waiting (sym (ap (λ (w : Record). w.phase) (alone (is.seq ∙ same))) ∙ is.running)) alone one
 
 -- the changed work is there
 pub changed_there : (P : Record → Type 0) (change : Record → Record) (work : Record) (works : List Record) → P (change work)
     → HasOne (λ other. other ≡ work) works → HasOne P (changed_work change work.seq works)
 changed_there P change work works p one =
-    HasOne-map (λ other. Unit {0}) (λ other. other ≡ work) P (changed change work.seq) works (λ other u is.
-    changed_both P change work.seq other (λ e. subst (λ w. P (change w)) (sym is) p) (λ no. absurd (no (ap (λ (w : Record). w.seq) is)))) (All-any
-    (λ other. Unit {0}) works (λ other. tt)) one
+    HasOne-map _ (changed change work.seq) works (λ other is. changed_both P change work.seq other (λ e. subst (λ w. P (change w)) (sym is) p)
+    (λ no. absurd (no (ap (λ (w : Record). w.seq) is)))) one
 
 -- ---- instances
 
@@ -192,16 +144,15 @@ AreNumberedInOrder-made out number first (instance ∷ instances) ordered = (
 pub same_instance : (out : Bool) (number : ℕ) (instances : List Instance) (run : Run) → HasOne (IsInstanceOf run) instances
     → HasOne (IsInstanceOf run) (with_out out number instances)
 same_instance out number instances run one =
-    HasOne-map (λ i. Unit {0}) (IsInstanceOf run) (IsInstanceOf run) (made out number) instances (λ i u is.
-    made_both (IsInstanceOf run) out number i (λ e. record { number = is.number; kind = is.kind }) (λ e. is)) (All-any (λ i. Unit {0}) instances (λ i. tt)) one
+    HasOne-map _ (made out number) instances (λ i is. made_both (IsInstanceOf run) out number i (λ e. record { number = is.number; kind = is.kind }) (λ e. is))
+    one
 
 -- the instance that is made out is there
 pub made_there : (P : Instance → Type 0) (out : Bool) (idle : Instance) (instances : List Instance) → P (made_out out idle)
     → HasOne (λ other. other ≡ idle) instances → HasOne P (with_out out idle.number instances)
 made_there P out idle instances p one =
-    HasOne-map (λ other. Unit {0}) (λ other. other ≡ idle) P (made out idle.number) instances (λ other u is.
-    made_both P out idle.number other (λ e. subst (λ i. P (made_out out i)) (sym is) p) (λ no. absurd (no (ap (λ (i : Instance). i.number) is)))) (All-any
-    (λ other. Unit {0}) instances (λ other. tt)) one
+    HasOne-map _ (made out idle.number) instances (λ other is. made_both P out idle.number other (λ e. subst (λ i. P (made_out out i)) (sym is) p)
+    (λ no. absurd (no (ap (λ (i : Instance). i.number) is)))) one
 
 -- ---- runs
 
@@ -224,17 +175,34 @@ found_or_apart number run (first ∷ runs) found apart =
     (λ (o : Option Run). o ≡ Some run → AllByRecursion (IsFoundOrApart number run) (first ∷ runs)) (λ e is.
     let same : first ≡ run = cc in (
       inl (e, same),
-      All-weaker (AreApart first) (IsFoundOrApart number run) runs
-          (λ other a. inr (ne_eqb other.run number (λ named. a.runs (eqb-true first.run number e ∙ sym named)), subst (λ r. AreApart r other) same a)) apart.0,
+      All-weaker runs (λ other a. inr (
+        ne_eqb other.run number (λ named. a.runs (eqb-true first.run number e ∙ sym named)),
+        subst (λ r. AreApart r other) same a,
+      )) apart.0,
     )) (λ e is. (
-      inr (e, apart_sym first run (All-find (AreApart first) (λ r. eqb r.run number) runs run is apart.0)),
+      inr (e, apart_sym first run (All-find _ (λ r. eqb r.run number) runs run is apart.0)),
       found_or_apart number run runs is apart.1,
     )) found
 
 -- a run that was found is valid
-pub found_valid : (s : State) (number : ℕ) (run : Run) → Valid s → run_numbered number s.runs ≡ Some run → IsValidRun s run
-found_valid s number run valid found = All-find (IsValidRun s) (λ r. eqb r.run number) s.runs run found valid.runs
+pub found_valid : (s : State) (number : ℕ) (run : Run) → Valid s → run_numbered number s.runs ≡ Some run → IsValidRun s.works s.instances s.next_run run
+found_valid s number run valid found = All-find _ (λ r. eqb r.run number) s.runs run found valid.runs.each
 
 -- and current
 pub found_narrow : (s : State) (number : ℕ) (run : Run) → IsNarrow s → run_numbered number s.runs ≡ Some run → run.current ≡ true
-found_narrow s number run narrow found = All-find (λ r. r.current ≡ true) (λ r. eqb r.run number) s.runs run found narrow.runs
+found_narrow s number run narrow found = All-find _ (λ r. eqb r.run number) s.runs run found narrow.runs
+
+-- runs stay valid beside other works, where a running work has its run and the work of a run is among them
+pub AreRuns-beside : (s : State) (works : List Record) → Valid s → AllByRecursion (λ w. w.phase ≡ phase.Running → HasOne (IsCurrentOf w.seq) s.runs) works
+    → ((run : Run) → HasOne (IsWorkOf run) s.works → HasOne (IsWorkOf run) works) → AreRuns works s.instances s.next_run s.runs
+AreRuns-beside s works valid running stays = record {
+  running = running;
+  each = All-weaker s.runs (λ r is. record {
+    number = is.number;
+    turn = is.turn;
+    input = is.input;
+    work = λ current. stays r (is.work current);
+    instance = is.instance;
+  }) valid.runs.each;
+  apart = valid.runs.apart;
+}

@@ -14,13 +14,9 @@ use Rattle.wm_machine.specs.Replay.{Replay}
 use Rattle.wm_machine.specs.Serial.{AreInOrder, AreInOrderBy, AreInTurn, BeginsByLine, BeginsSerial, drains_first, IsInTurn, MayGoOn}
 use Rattle.wm_machine.specs.Step.{after, Answers, Legal}
 use Rattle.wm_machine.specs.Valid.{Valid}
-use Rattle.wm_machine.specs.declared.command.Command.{Command}
+use Rattle.wm_machine.specs.Types.{Command, Event, Reply, Run, State}
 use Rattle.wm_machine.specs.declared.command.Command.TheVariants as command
-use Rattle.wm_machine.specs.declared.event.Event.{Event}
 use Rattle.wm_machine.specs.declared.event.Event.TheVariants as event
-use Rattle.wm_machine.specs.declared.reply.Reply.{Reply}
-use Rattle.wm_machine.specs.declared.state.Run.{Run}
-use Rattle.wm_machine.specs.declared.state.State.{State}
 
 -- where the first event is a line, and there is one
 by_line-append : (first : State) (e : Event) (log : List Event) (last : State) (more : List Event) → BeginsByLine first (e ∷ log)
@@ -94,8 +90,7 @@ unbegun : (asked : Command) (lines : List Command) (first : State) → drains_fi
     → IsReached first → first.runs ≡ [] → BeginsSerial (asked ∷ lines) first []
 unbegun asked lines first drains built reached no_run =
     let owed = answered first asked built.0 in
-    let answer =
-    owed.answered (can-come asked first no_run (λ settles. absurd (false≢true (sym drains ∙ ap (λ a. drains_first (a ∷ lines)) settles)))) in
+    let answer = owed.answered (can-come asked first no_run (λ settles. absurd (false≢true (sym drains ∙ ap (λ a. drains_first (a ∷ lines)) settles)))) in
     let e = event.Command 0 asked answer.0 in
     let legal : Legal first e = (built.0, answer.1) in
     let rest =

@@ -2,19 +2,16 @@
 use Rattle.std.proofs.Common.{◌≡◌, ℕ, ◌^◌, ◌<◌, Bool, true, false, cond, ltb, List, [], ◌∷◌, Option, Some, None, refl}
 use Rattle.std.specs.List.{list_any}
 use Rattle.wm_conditions.specs.declared.conditions.Conditions.{Conditions}
-use Rattle.wm_machine.proofs.Lists.{All-weaker}
 use Rattle.wm_machine.proofs.Owed.{IsAnswered}
 use Rattle.wm_machine.specs.Frame.{untouched}
 use Rattle.wm_machine.specs.Narrow.{IsReached}
 use Rattle.wm_machine.specs.Replied.{Outcome, unchanged}
 use Rattle.wm_machine.specs.Settings.{is_stopped_by, moved}
 use Rattle.wm_machine.specs.Step.{Answers, state_by}
-use Rattle.wm_machine.specs.Valid.{IsValidRun, Valid}
-use Rattle.wm_machine.specs.declared.command.Command.{Command}
+use Rattle.wm_machine.specs.Types.{Command, State}
 use Rattle.wm_machine.specs.declared.command.Command.TheVariants as command
 use Rattle.wm_machine.specs.declared.reply.Refusal.TheVariants.{MomentBack}
 use Rattle.wm_machine.specs.declared.reply.Reply.TheVariants as reply
-use Rattle.wm_machine.specs.declared.state.State.{State}
 
 -- another moment and other conditions, hushed or not
 abbrev set_to : State → ℕ → Conditions → Bool → State
@@ -23,30 +20,8 @@ set_to s at conditions hushed = record s { now = at; conditions = conditions; hu
 reached-set : (s : State) (at : ℕ) (conditions : Conditions) (hushed : Bool) → at < 2 ^ 53 → IsReached s → IsReached (set_to s at conditions hushed)
 reached-set s at conditions hushed below reached =
     let valid = reached.valid in
-    let valid_then : Valid (set_to s at conditions hushed) = record {
-      numbers = valid.numbers;
-      first = valid.first;
-      next = valid.next;
-      few_works = valid.few_works;
-      records = valid.records;
-      in_order = valid.in_order;
-      sound = valid.sound;
-      running = valid.running;
-      runs = All-weaker (IsValidRun s) (IsValidRun (set_to s at conditions hushed)) s.runs (λ r is. record {
-        number = is.number;
-        turn = is.turn;
-        input = is.input;
-        work = is.work;
-        instance = is.instance;
-      }) valid.runs;
-      apart = valid.apart;
-      instances = valid.instances;
-      numbered = valid.numbered;
-      few_observers = valid.few_observers;
-      now = below;
-    } in
     record {
-      valid = valid_then;
+      valid = record { works = valid.works; runs = valid.runs; instances = valid.instances; few_observers = valid.few_observers; now = below };
       narrow = record { runs = reached.narrow.runs };
     }
 

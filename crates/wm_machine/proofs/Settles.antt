@@ -8,13 +8,9 @@ use Rattle.wm_machine.specs.Outcome.{outcome}
 use Rattle.wm_machine.specs.Quiet.{settled_by, CanCome, IsQuiet}
 use Rattle.wm_machine.specs.Replied.{Outcome, unchanged}
 use Rattle.wm_machine.specs.Step.{state_by, Answers}
-use Rattle.wm_machine.specs.declared.command.Command.{Command}
+use Rattle.wm_machine.specs.Types.{Command, Record, Reply, Run, State}
 use Rattle.wm_machine.specs.declared.command.Command.TheVariants as command
-use Rattle.wm_machine.specs.declared.record.Record.{Record}
-use Rattle.wm_machine.specs.declared.reply.Reply.{Reply}
 use Rattle.wm_machine.specs.declared.reply.Reply.TheVariants as reply
-use Rattle.wm_machine.specs.declared.state.Run.{Run}
-use Rattle.wm_machine.specs.declared.state.State.{State}
 
 -- where nothing is startable and no run is unreturned it is answered, and changes nothing
 settled-is : (s : State) (first : Option Record) (runs : List Run) → first ≡ None → runs ≡ [] → settled_by s first runs ≡ Some (unchanged s reply.Settled)
@@ -51,11 +47,6 @@ quiet-settled s answer answers =
     let both = quiet-by s answer (first_of s) s.runs answers in record { nothing_startable = both.0; no_run = both.1 }
 
 -- ---- where a command can come
-
--- no run is unreturned there
-pub can-no_run : (asked : Command) (s : State) → CanCome asked s → s.runs ≡ []
-can-no_run command.Settle s can = can.no_run
-can-no_run _ s can = can
 
 -- it can come where none is, and where it settles nothing is startable either
 pub can-come : (asked : Command) (s : State) → s.runs ≡ [] → (asked ≡ command.Settle → first_of s ≡ None) → CanCome asked s

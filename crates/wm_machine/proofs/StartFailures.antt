@@ -1,14 +1,14 @@
 -- A start that fails.
-use Rattle.std.proofs.Common.{◌≡◌, ◌≢◌, ℕ, true, false, cond, eqb, List, map, Option, Some, None, refl, sym, ◌∙◌, ap, subst, inl, inr}
+use Rattle.std.proofs.Common.{◌≡◌, ℕ, true, false, cond, eqb, List, map, Option, Some, None, refl, sym, ◌∙◌, ap, inl, inr}
 use Rattle.std.specs.List.{AllByRecursion}
 use Rattle.std.proofs.lemmas.Bool.{cases_Bool, eq-eqb, eqb-false, eqb-true}
-use Rattle.wm_machine.proofs.Changes.{all_open, IsChange, IsChange-one, KeepsRun, MovesTo, OfNumber, reached-changed, Succeeded, with_changed}
+use Rattle.wm_machine.proofs.Changes.{all_open, IsChange, IsChange-one, KeepsRun, OfNumber, reached-changed, Succeeded, with_changed}
 use Rattle.wm_machine.proofs.Endings.{closed_in, closing-idle, closing-left, closing-others, fits-failed, idle-done, IsChange-closing, KeepsRun-same, KeepsShape, no_prior, not_started_by, open-waiting, same_period, waiting-succeeded, works_not_started-map}
 use Rattle.wm_machine.proofs.Firsts.{first_of-stored, first_of-waiting}
-use Rattle.wm_machine.proofs.Lists.{All-any, All-both, All-weaker, one_gives}
+use Rattle.wm_collections.proofs.Lists.{All-any, All-of_one, All-weaker, All-with2, All-with3}
 use Rattle.wm_machine.proofs.Owed.{IsKept}
 use Rattle.wm_machine.proofs.Records.{IsData-output, IsRecord-again, IsRecord-failed}
-use Rattle.wm_machine.proofs.Runnings.{changed, changed_both, IsAlone, IsAlone-stored, not_running}
+use Rattle.wm_machine.proofs.Runnings.{changed, changed_both, IsAlone-stored, not_running}
 use Rattle.wm_machine.proofs.Waitings.{IsOldLeft, left-again, left-idle, left-one, left_to_drain-started}
 use Rattle.wm_machine.specs.Closed.{is_open}
 use Rattle.wm_machine.specs.Ends.{enqueued_again, period_of, with_start_failed}
@@ -16,15 +16,12 @@ use Rattle.wm_machine.specs.First.{first_of, is_waiting}
 use Rattle.wm_machine.specs.Narrow.{IsReached}
 use Rattle.wm_machine.specs.Role as role
 use Rattle.wm_machine.specs.Step.{after, IsStartFailure}
-use Rattle.wm_machine.specs.Valid.{HasOne, IsOpenPhase, IsRecord, Valid}
+use Rattle.wm_machine.specs.Valid.{MaySucceedOrHas, Valid}
 use Rattle.wm_machine.specs.Waiting.{is_left}
-use Rattle.wm_machine.specs.declared.event.Cause.{Cause}
+use Rattle.wm_machine.specs.Types.{Cause, Period, Record, State}
 use Rattle.wm_machine.specs.declared.event.Event.TheVariants as event
 use Rattle.wm_machine.specs.declared.record.How.TheVariants as how
 use Rattle.wm_machine.specs.declared.record.Phase.TheVariants as phase
-use Rattle.wm_machine.specs.declared.record.Record.{Record}
-use Rattle.wm_machine.specs.declared.state.State.{State}
-use Rattle.wm_schedule.specs.declared.schedule.Period.{Period}
 
 -- the change that a failed start of a work makes of each record
 abbrev pub not_started_in : State → Record → Record → Record
@@ -45,10 +42,6 @@ record HasNotStarted (s : State) (work : Record) (change : Record → Record) : 
   old : AllByRecursion (IsOldLeft s.now s.works change) s.works
   gone : is_left s.now (map change s.works) (change work) ≡ false
 
--- what holds of each record holds of one that is there
-of_stored : (P : Record → Type 0) (work : Record) (works : List Record) → AllByRecursion P works → HasOne (λ other. other ≡ work) works → P work
-of_stored P work works all stored = one_gives P (λ other. other ≡ work) (P work) works (λ other p same. subst P same p) all stored
-
 -- a waiting work that is no longer a running one keeps no run
 keeps_none : (one other : Record) → is_waiting one.phase ≡ true → (other.phase ≡ phase.Running → ⊥) → KeepsRun one other
 keeps_none one other waits idle = record {
@@ -60,19 +53,14 @@ keeps_none one other waits idle = record {
 module _ (s : State) (work : Record) (valid : Valid s) (first : first_of s ≡ Some work) where
   waits : AllByRecursion (OfNumber work.seq (λ other. is_waiting other.phase ≡ true)) s.works
   waits =
-      All-weaker (IsAlone work) (OfNumber work.seq (λ other. is_waiting other.phase ≡ true)) s.works
-      (λ other same e. ap (λ (w : Record). is_waiting w.phase) (same e) ∙ first_of-waiting s work first)
-      (IsAlone-stored work s.works valid.in_order (first_of-stored s work first))
+      All-weaker s.works (λ other same e. ap (λ (w : Record). is_waiting w.phase) (same e) ∙ first_of-waiting s work first)
+      (IsAlone-stored work s.works valid.works.in_order (first_of-stored s work first))
 
   not_yet : AllByRecursion (OfNumber work.seq (λ other. Succeeded other.phase → ⊥)) s.works
-  not_yet =
-      All-weaker (OfNumber work.seq (λ other. is_waiting other.phase ≡ true)) (OfNumber work.seq (λ other. Succeeded other.phase → ⊥)) s.works
-      (λ other is e succeeded. waiting-succeeded other.phase (is e) succeeded) waits
+  not_yet = All-weaker s.works (λ other is e succeeded. waiting-succeeded other.phase (is e) succeeded) waits
 
   unfinished : AllByRecursion (OfNumber work.seq (λ other. is_open other.phase ≡ true)) s.works
-  unfinished =
-      All-weaker (OfNumber work.seq (λ other. is_waiting other.phase ≡ true)) (OfNumber work.seq (λ other. is_open other.phase ≡ true)) s.works
-      (λ other is e. open-waiting other.phase (is e)) waits
+  unfinished = All-weaker s.works (λ other is e. open-waiting other.phase (is e)) waits
 
   -- a periodic work is enqueued again
   again : (period : Period) → AllByRecursion (OfNumber work.seq (λ other. other.request.period ≡ Some period)) s.works
@@ -81,32 +69,22 @@ module _ (s : State) (work : Record) (valid : Valid s) (first : first_of s ≡ S
       let back = enqueued_again s.now in
       let change = changed back work.seq in
       let then = map change s.works in
-      let open_then =
-      All-any (λ other. IsOpenPhase other.phase → IsOpenPhase (change other).phase) s.works
-      (λ other before. changed_both (λ c. IsOpenPhase c.phase) back work.seq other (λ e. tt) (λ differs. before)) in
-      let facts = All-both (OfNumber work.seq (λ other. other.request.period ≡ Some period)) IsRecord s.works repeats valid.records in
-      let gone =
-      All-weaker (λ other. OfNumber work.seq (λ other. other.request.period ≡ Some period) other × IsRecord other)
-      (OfNumber work.seq (λ other. is_left s.now then (back other) ≡ false)) s.works
-      (λ other is e. left-again period s.now then other (is.0 e) (no_prior period other (is.0 e) is.1) is.1) facts in
+      let open_then = All-any s.works (λ other before. changed_both (λ c. MaySucceedOrHas c.phase) back work.seq other (λ e. tt) (λ differs. before)) in
+      let gone : AllByRecursion (OfNumber work.seq (λ other. is_left s.now then (back other) ≡ false)) s.works =
+      All-with2 s.works (λ other kind fine e. left-again period s.now then other (kind e) (no_prior period other (kind e) fine) fine) repeats valid.works.records in
       let is =
-      IsChange-one s.works work.seq back (λ other. record { seq = refl; name = λ text is. is; request = refl; prior = refl }) valid.records valid.sound
-      (All-weaker (λ other. OfNumber work.seq (λ other. other.request.period ≡ Some period) other × IsRecord other)
-      (OfNumber work.seq (λ other. IsRecord (back other))) s.works (λ other is e. IsRecord-again period s.now other valid.now (is.0 e) is.1) facts)
-      (All-weaker (OfNumber work.seq (λ other. is_open other.phase ≡ true))
-      (OfNumber work.seq (λ other. MovesTo s.works change other.phase other.prior phase.Waiting)) s.works
-      (λ other is e. (is e, all_open s.works change other.prior open_then)) unfinished) not_yet
-      (All-any (OfNumber work.seq (λ other. IsOpenPhase phase.Waiting)) s.works (λ other e. tt)) in
+      IsChange-one s.works work.seq back (λ other. record { seq = refl; name = λ text is. is; request = refl; prior = refl }) valid.works.records valid.works.sound
+      (All-with2 s.works (λ other kind fine e. IsRecord-again period s.now other valid.now (kind e) fine) repeats valid.works.records)
+      (All-weaker s.works (λ other is e. (is e, all_open s.works change other.prior open_then)) unfinished) not_yet (All-any s.works (λ other e. tt)) in
       let here : change work ≡ back work = ap (λ b. cond b (back work) work) (eq-eqb work.seq work.seq refl) in
       record {
         is_change = is;
-        keep = All-weaker (OfNumber work.seq (λ other. is_waiting other.phase ≡ true)) (λ other. KeepsRun other (change other)) s.works
-            (λ other waiting. changed_both (KeepsRun other) back work.seq other
+        keep = All-weaker s.works (λ other waiting. changed_both (KeepsRun other) back work.seq other
             (λ e. keeps_none other (back other) (waiting e) (λ running. let clash : phase.Waiting ≡ phase.Running = running in absurd (cc)))
             (λ differs. KeepsRun-same other other refl refl)) waits;
         old = left-one s.now work.seq back s.works is gone;
         gone = ap (is_left s.now then) here
-            ∙ of_stored (OfNumber work.seq (λ other. is_left s.now then (back other) ≡ false)) work s.works gone (first_of-stored s work first) refl;
+            ∙ All-of_one (OfNumber work.seq (λ other. is_left s.now then (back other) ≡ false)) s.works work gone (first_of-stored s work first) refl;
       }
 
   -- a one-time work fails, and with it its unfinished descendants
@@ -122,25 +100,15 @@ module _ (s : State) (work : Record) (valid : Valid s) (first : first_of s ≡ S
       let done = closing-idle s work.seq how.Failed then keeps valid not_yet (λ change p prior. tt) unfinished in
       record {
         is_change = is;
-        keep = All-weaker (λ other. OfNumber work.seq (λ other. is_waiting other.phase ≡ true) other
-            × (OfNumber work.seq (λ other. (change other).phase ≡ phase.Done how.Failed) other × (other.seq ≢ work.seq → KeepsRun other (change other))))
-            (λ other. KeepsRun other (change other)) s.works
-            (λ other facts. elim (cases_Bool (eqb other.seq work.seq)) [
-              | inl e ↦
-                  let same = eqb-true other.seq work.seq e in
-                  keeps_none other (change other) (facts.0 same) (λ running. idle-done how.Failed (sym (facts.1.0 same) ∙ running))
-              | inr e ↦ facts.1.1 (eqb-false other.seq work.seq e)
-            ])
-            (All-both (OfNumber work.seq (λ other. is_waiting other.phase ≡ true))
-            (λ other. OfNumber work.seq (λ other. (change other).phase ≡ phase.Done how.Failed) other × (other.seq ≢ work.seq → KeepsRun other (change other)))
-            s.works waits
-            (All-both (OfNumber work.seq (λ other. (change other).phase ≡ phase.Done how.Failed))
-            (λ other. other.seq ≢ work.seq → KeepsRun other (change other)) s.works done
-            (closing-others s work.seq how.Failed then keeps valid not_yet (λ change p prior. tt))));
+        keep = All-with3 s.works (λ other waits done keeps. elim (cases_Bool (eqb other.seq work.seq)) [
+          | inl e ↦
+              let same = eqb-true other.seq work.seq e in
+              keeps_none other (change other) (waits same) (λ running. idle-done how.Failed (sym (done same) ∙ running))
+          | inr e ↦ keeps (eqb-false other.seq work.seq e)
+        ]) waits done (closing-others s work.seq how.Failed then keeps valid not_yet (λ change p prior. tt));
         old = closing-left s work.seq how.Failed then keeps valid not_yet (λ change p prior. tt) is;
-        gone = left-idle s.now (map change s.works) (change work)
-            (ap is_waiting
-            (of_stored (OfNumber work.seq (λ other. (change other).phase ≡ phase.Done how.Failed)) work s.works done (first_of-stored s work first) refl));
+        gone = left-idle s.now (map change s.works) (change work) (ap is_waiting
+            (All-of_one (OfNumber work.seq (λ other. (change other).phase ≡ phase.Done how.Failed)) s.works work done (first_of-stored s work first) refl));
       }
 
   has_not_started : (period : Option Period) → AllByRecursion (OfNumber work.seq (λ other. other.request.period ≡ period)) s.works
@@ -153,8 +121,7 @@ pub start_failed-kept : (s : State) (seq : ℕ) (cause : Cause) → IsReached s 
 start_failed-kept s seq cause reached legal =
     let work = legal.work in
     let change = not_started_in s work in
-    let has =
-    has_not_started s work reached.valid legal.is_first (period_of work.seq s.works) (same_period work.seq s.works reached.valid.in_order) in
+    let has = has_not_started s work reached.valid legal.is_first (period_of work.seq s.works) (same_period work.seq s.works reached.valid.works.in_order) in
     rw (after_start_failed s seq cause legal) record {
       reached = reached-changed s change reached has.is_change has.keep;
       left = left_to_drain-started s work change legal.is_first has.is_change has.old has.gone;

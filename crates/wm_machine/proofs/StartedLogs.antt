@@ -1,15 +1,13 @@
 -- What each start of a log had.
 use Rattle.std.proofs.Common.{ℕ, List, ◌∷◌, ◌++◌}
-use Rattle.wm_data.specs.declared.data.DataEntry.{DataEntry}
+use Rattle.wm_machine.specs.Types.{DataEntry, Event, State}
 use Rattle.wm_machine.proofs.Firsts.{first_of-startable, first_of-stored, IsStartable-from}
 use Rattle.wm_machine.proofs.Reports.{middle_of}
 use Rattle.wm_machine.proofs.Waitings.{met-succeeded}
 use Rattle.wm_machine.specs.Replay.{Replay}
 use Rattle.wm_machine.specs.Started.{HadItsPrerequisites}
 use Rattle.wm_machine.specs.Step.{IsStart}
-use Rattle.wm_machine.specs.declared.event.Event.{Event}
 use Rattle.wm_machine.specs.declared.event.Event.TheVariants as event
-use Rattle.wm_machine.specs.declared.state.State.{State}
 
 pub had_its_prerequisites : (first last : State) (before later : List Event) (run seq instance : ℕ) (input : List DataEntry)
     → Replay first (before ++ event.Start run seq instance input ∷ later) last → HadItsPrerequisites first before seq input

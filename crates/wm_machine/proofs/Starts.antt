@@ -1,42 +1,38 @@
 -- The start of a run.
 use Rattle.std.proofs.Common.{◌≡◌, ℕ, ◌+◌, Bool, true, false, eqb, cond, ◌||◌, List, [], ◌∷◌, ◌++◌, map, Some, refl, sym, ◌∙◌, ap, subst, arith}
-use Rattle.std.specs.List.{AllByRecursion, list_any}
+use Rattle.std.specs.List.{AllByRecursion}
 use Rattle.std.proofs.lemmas.Bool.{eq-eqb, ne_eqb, eqb-false, or_left, or_right}
 use Rattle.std.proofs.lemmas.List.Folds.{list_any-append}
 use Rattle.wm_data.specs.Size.{IsData}
-use Rattle.wm_data.specs.declared.data.DataEntry.{DataEntry}
-use Rattle.wm_machine.proofs.Changes.{AreFine-changed, IsChange, IsChange-one, MovesTo, OfNumber, Succeeded}
+use Rattle.wm_machine.specs.Types.{DataEntry, Instance, Record, Run, State}
+use Rattle.wm_machine.proofs.Changes.{AreWorks-changed, IsChange, IsChange-one, MovesTo}
 use Rattle.wm_machine.proofs.Endings.{open-waiting, waiting-succeeded}
 use Rattle.wm_machine.proofs.Firsts.{first_of-startable, first_of-stored, first_of-waiting, idle_instance-idle, idle_instance-stored, IsStartable-from}
 use Rattle.wm_machine.proofs.Inputs.{input_of-data}
-use Rattle.wm_machine.proofs.Lists.{All-any, All-both, All-map, All-push, All-weaker, AllLater-push, HasOne-front, HasOne-last, none_pass, one_gives}
+use Rattle.wm_collections.proofs.Lists.{All-any, All-map, All-push, All-weaker, All-with2, AllLater-push, HasOne-front, HasOne-last, none_pass, one_gives}
 use Rattle.wm_machine.proofs.Owed.{IsKept}
 use Rattle.wm_machine.proofs.Records.{IsRecord-started}
-use Rattle.wm_machine.proofs.Runnings.{AreNumberedInOrder-made, changed, changed_both, changed_there, IsAlone, IsAlone-stored, made, made_both, made_there, old_work, other_number, same_instance}
+use Rattle.wm_machine.proofs.Runnings.{AreNumberedInOrder-made, changed, changed_both, changed_there, IsAlone-stored, made, made_both, made_there, old_work, other_number, same_instance}
 use Rattle.wm_machine.proofs.Waitings.{left-idle, left-one, left_to_drain-started, met-succeeded}
 use Rattle.wm_machine.specs.First.{first_of, idle_instance, is_waiting}
 use Rattle.wm_machine.specs.Diaries.{Began}
 use Rattle.wm_machine.specs.Frame.{begun_frame, Frame, frame_of, frame_to, IsBegunIn}
-use Rattle.wm_machine.specs.Narrow.{IsNarrow, IsReached}
+use Rattle.wm_machine.specs.Narrow.{IsReached}
 use Rattle.wm_machine.specs.Role as role
 use Rattle.wm_machine.specs.Runs.{run_on, start_on, started, with_out, with_start}
 use Rattle.wm_machine.specs.Step.{after, IsStart, start_of}
-use Rattle.wm_machine.specs.Valid.{AreApart, HasOne, IsCurrentOf, IsInstanceOf, IsOpenPhase, IsOutForRun, IsRecord, IsValidRun, IsWorkOf, Valid}
+use Rattle.wm_collections.specs.Lists.{HasOne}
+use Rattle.wm_machine.specs.Valid.{IsCurrentOf, IsInstanceOf, IsOutForRun, IsWorkOf, Valid}
 use Rattle.wm_machine.specs.Waiting.{is_left}
 use Rattle.wm_machine.specs.declared.event.Event.TheVariants as event
 use Rattle.wm_machine.specs.declared.record.Phase.TheVariants as phase
-use Rattle.wm_machine.specs.declared.record.Record.{Record}
-use Rattle.wm_machine.specs.declared.state.Instance.{Instance}
-use Rattle.wm_machine.specs.declared.state.Run.{Run}
-use Rattle.wm_machine.specs.declared.state.State.{State}
 
 -- ---- the state after it, and its frame
 
 -- a start leads to the state with its run
 pub after_start : (s : State) (run seq instance : ℕ) (input : List DataEntry) (legal : IsStart s run seq instance input)
     → after s (event.Start run seq instance input) ≡ with_start s legal.work legal.idle input
-after_start s run seq instance input legal =
-    ap (λ found. start_of s found input) legal.is_first ∙ ap (λ found. start_on s legal.work found input) legal.is_idle
+after_start s run seq instance input legal = ap (λ found. start_of s found input) legal.is_first ∙ ap (λ found. start_on s legal.work found input) legal.is_idle
 
 -- a start brings its run, whose instance is out, and its worker writes that it began
 pub frame-start : (s : State) (run seq instance : ℕ) (input : List DataEntry) (legal : IsStart s run seq instance input)
@@ -67,9 +63,8 @@ start-framed s run seq instance input legal = record {
 free_instance : (s : State) (idle : Instance) → Valid s → idle.out ≡ false → HasOne (λ other. other ≡ idle) s.instances
     → AllByRecursion (λ run. eqb run.instance idle.number ≡ false) s.runs
 free_instance s idle valid is_in stored =
-    none_pass (λ run. eqb run.instance idle.number) s.runs
-    (one_gives (IsOutForRun s.runs) (λ other. other ≡ idle) (list_any (λ run. eqb run.instance idle.number) s.runs ≡ false) s.instances
-    (λ other is same. sym (subst (IsOutForRun s.runs) same is) ∙ is_in) valid.instances stored)
+    none_pass (λ run. eqb run.instance idle.number) s.runs (one_gives s.instances
+    (λ other is same. sym (subst (IsOutForRun s.runs) same is) ∙ is_in) valid.instances.out stored)
 
 -- what doesn't pass makes no difference
 or_neither : (x b : Bool) → b ≡ false → (x || (b || false)) ≡ x
@@ -89,20 +84,14 @@ IsOutForRun-made runs run other out =
 IsChange-started : (s : State) (work : Record) → Valid s → first_of s ≡ Some work → IsChange s.works (changed started work.seq)
 IsChange-started s work valid first =
     let startable = IsStartable-from s work (first_of-startable s work first) in
-    let alone = IsAlone-stored work s.works valid.in_order (first_of-stored s work first) in
+    let alone = IsAlone-stored work s.works valid.works.in_order (first_of-stored s work first) in
     let met = met-succeeded s.works work startable.prerequisites in
-    let facts = All-both (IsAlone work) IsRecord s.works alone valid.records in
-    IsChange-one s.works work.seq started (λ other. record { seq = refl; name = λ text is. is; request = refl; prior = refl }) valid.records valid.sound
-    (All-weaker (λ other. IsAlone work other × IsRecord other) (OfNumber work.seq (λ other. IsRecord (started other))) s.works
-    (λ other is e. IsRecord-started other (ap (λ (w : Record). is_waiting w.phase) (is.0 e) ∙ startable.waiting) is.1) facts)
-    (All-weaker (IsAlone work) (OfNumber work.seq (λ other. MovesTo s.works (changed started work.seq) other.phase other.prior phase.Running)) s.works
-    (λ other same e.
-    subst (λ (w : Record). MovesTo s.works (changed started work.seq) w.phase w.prior phase.Running) (sym (same e))
-    (open-waiting work.phase startable.waiting, met)) alone)
-    (All-weaker (IsAlone work) (OfNumber work.seq (λ other. Succeeded other.phase → ⊥)) s.works
-    (λ other same e succeeded.
-    waiting-succeeded work.phase startable.waiting (sym (ap (λ (w : Record). w.phase) (same e)) ∙ succeeded)) alone)
-    (All-any (OfNumber work.seq (λ other. IsOpenPhase phase.Running)) s.works (λ other e. tt))
+    IsChange-one s.works work.seq started (λ other. record { seq = refl; name = λ text is. is; request = refl; prior = refl }) valid.works.records valid.works.sound
+    (All-with2 s.works (λ other same fine e. IsRecord-started other (ap (λ (w : Record). is_waiting w.phase) (same e) ∙ startable.waiting) fine) alone
+    valid.works.records)
+    (All-weaker s.works (λ other same e. subst (λ (w : Record). MovesTo s.works (changed started work.seq) w.phase w.prior phase.Running) (sym (same e))
+    (open-waiting work.phase startable.waiting, met)) alone) (All-weaker s.works (λ other same e succeeded.
+    waiting-succeeded work.phase startable.waiting (sym (ap (λ (w : Record). w.phase) (same e)) ∙ succeeded)) alone) (All-any s.works (λ other e. tt))
 
 reached-start : (s : State) (work : Record) (idle : Instance) (input : List DataEntry) → IsReached s → first_of s ≡ Some work
     → idle_instance s.instances work.request.class ≡ Some idle → IsData input → IsReached (with_start s work idle input)
@@ -110,69 +99,58 @@ reached-start s work idle input reached first found data_is =
     let valid = reached.valid in
     let stored = first_of-stored s work first in
     let waiting = first_of-waiting s work first in
-    let alone = IsAlone-stored work s.works valid.in_order stored in
+    let alone = IsAlone-stored work s.works valid.works.in_order stored in
     let there = idle_instance-stored s.instances work.request.class idle found in
     let free = free_instance s idle valid (idle_instance-idle s.instances work.request.class idle found).is_in there in
     let run = run_on s work idle input in
-    let works = AreFine-changed s (changed started work.seq) valid (IsChange-started s work valid first) in
-    let narrow : IsNarrow (with_start s work idle input) = record {
-      runs = All-push (λ r. r.current ≡ true) s.runs run reached.narrow.runs refl;
-    } in
-    let valid_then : Valid (with_start s work idle input) = record {
-      numbers = works.numbers;
-      first = valid.first;
-      next = valid.next;
-      few_works = works.few;
-      records = works.records;
-      in_order = works.in_order;
-      sound = works.sound;
-      running = All-map (λ w. w.phase ≡ phase.Running → HasOne (IsCurrentOf w.seq) s.runs)
-          (λ w. w.phase ≡ phase.Running → HasOne (IsCurrentOf w.seq) (s.runs ++ run ∷ [])) (changed started work.seq) s.works (λ w has.
-          changed_both (λ c. c.phase ≡ phase.Running → HasOne (IsCurrentOf c.seq) (s.runs ++ run ∷ [])) started work.seq w
-          (λ e running. HasOne-last (IsCurrentOf w.seq) s.runs run (record { of = sym e; current = refl }))
-          (λ e running. HasOne-front (IsCurrentOf w.seq) s.runs (run ∷ []) (has running))) valid.running;
-      runs = All-push (IsValidRun (with_start s work idle input)) s.runs run
-          (All-weaker (IsValidRun s) (IsValidRun (with_start s work idle input)) s.runs (λ r is. let below = is.number in record {
+    record {
+      valid = record {
+        works = AreWorks-changed s (changed started work.seq) valid (IsChange-started s work valid first);
+        runs = record {
+          running = All-map _ (changed started work.seq) s.works (λ w has.
+              changed_both (λ c. c.phase ≡ phase.Running → HasOne (IsCurrentOf c.seq) (s.runs ++ run ∷ [])) started work.seq w
+              (λ e running. HasOne-last _ s.runs run (record { of = sym e; current = refl }))
+              (λ e running. HasOne-front _ s.runs (run ∷ []) (has running))) valid.runs.running;
+          each = All-push _ s.runs run (All-weaker s.runs (λ r is. let below = is.number in record {
             number = omega arith;
             turn = is.turn;
             input = is.input;
             work = λ current. old_work started work s.works r waiting alone (is.work current);
             instance = same_instance true idle.number s.instances r is.instance;
-          }) valid.runs) (record {
+          }) valid.runs.each) (record {
             number = omega arith;
             turn = omega arith;
             input = data_is;
             work = λ current. changed_there (IsWorkOf run) started work s.works (record { seq = refl; running = refl; attempt = refl }) stored;
             instance = made_there (IsInstanceOf run) true idle s.instances (record { number = refl; kind = refl }) there;
           });
-      apart = AllLater-push AreApart s.runs run valid.apart
-          (All-weaker (λ r. IsValidRun s r × (eqb r.instance idle.number ≡ false)) (λ r. AreApart r run) s.runs (λ r both. let below = both.0.number in record {
+          apart = AllLater-push _ s.runs run valid.runs.apart (All-with2 s.runs (λ r is differs. let below = is.number in record {
             runs = λ e. absurd (omega arith);
-            works = λ current also. other_number work s.works r waiting alone (both.0.work current);
-            instances = eqb-false r.instance idle.number both.1;
-          }) (All-both (IsValidRun s) (λ r. eqb r.instance idle.number ≡ false) s.runs valid.runs free));
-      instances = All-map (IsOutForRun s.runs) (IsOutForRun (s.runs ++ run ∷ [])) (made true idle.number) s.instances
-          (IsOutForRun-made s.runs run) valid.instances;
-      numbered = AreNumberedInOrder-made true idle.number 0 s.instances valid.numbered;
-      few_observers = valid.few_observers;
-      now = valid.now;
-    } in
-    record { valid = valid_then; narrow = narrow }
+            works = λ current also. other_number work s.works r waiting alone (is.work current);
+            instances = eqb-false r.instance idle.number differs;
+          }) valid.runs.each free);
+        };
+        instances = record {
+          out = All-map _ (made true idle.number) s.instances (IsOutForRun-made s.runs run) valid.instances.out;
+          numbered = AreNumberedInOrder-made true idle.number 0 s.instances valid.instances.numbered;
+        };
+        few_observers = valid.few_observers;
+        now = valid.now;
+      };
+      narrow = record { runs = All-push _ s.runs run reached.narrow.runs refl };
+    }
 
 pub start-kept : (s : State) (run seq instance : ℕ) (input : List DataEntry) → IsReached s → IsStart s run seq instance input
     → IsKept (role.Begins run instance) s (after s (event.Start run seq instance input))
 start-kept s run seq instance input reached legal =
     let stored = first_of-stored s legal.work legal.is_first in
-    let taken = input_of-data s legal.work input reached.valid.records stored legal.input_is in
+    let taken = input_of-data s legal.work input reached.valid.works.records stored legal.input_is in
     let change = changed started legal.work.seq in
     let is = IsChange-started s legal.work reached.valid legal.is_first in
     let idle = λ (w : Record). left-idle s.now (map change s.works) (started w) refl in
-    let here : change legal.work ≡ started legal.work =
-    ap (λ b. cond b (started legal.work) legal.work) (eq-eqb legal.work.seq legal.work.seq refl) in
+    let here : change legal.work ≡ started legal.work = ap (λ b. cond b (started legal.work) legal.work) (eq-eqb legal.work.seq legal.work.seq refl) in
     rw (after_start s run seq instance input legal) record {
       reached = reached-start s legal.work legal.idle input reached legal.is_first legal.is_idle taken;
-      left = left_to_drain-started s legal.work change legal.is_first is
-          (left-one s.now legal.work.seq started s.works is
-          (All-any (OfNumber legal.work.seq (λ w. is_left s.now (map change s.works) (started w) ≡ false)) s.works (λ w e. idle w)))
+      left = left_to_drain-started s legal.work change legal.is_first is (left-one s.now legal.work.seq started s.works is (All-any s.works (λ w e. idle w)))
           (ap (is_left s.now (map change s.works)) here ∙ idle legal.work);
     }

@@ -10,9 +10,8 @@ use Rattle.wm_machine.specs.Frame.{frame_of, IsFramed}
 use Rattle.wm_machine.specs.Narrow.{IsNarrow, IsReached}
 use Rattle.wm_machine.specs.Step.{after, Legal, role_of}
 use Rattle.wm_machine.specs.Valid.{Valid}
-use Rattle.wm_machine.specs.declared.event.Event.{Event}
+use Rattle.wm_machine.specs.Types.{Event, State}
 use Rattle.wm_machine.specs.declared.event.Event.TheVariants as event
-use Rattle.wm_machine.specs.declared.state.State.{State}
 
 -- what it makes of all but the records
 pub framed : (s : State) (e : Event) → Legal s e → IsFramed (role_of e) s (frame_of s e)

@@ -1,34 +1,30 @@
 -- A turn after which its run goes on.
-use Rattle.std.proofs.Common.{◌≡◌, ℕ, ◌+◌, ◌<◌, ◌≤◌, true, false, eqb, cond, List, [], Option, Some, None, IfSome, refl, sym, ◌∙◌, ap, subst, arith, inl, inr, map}
+use Rattle.std.proofs.Common.{◌≡◌, ℕ, ◌+◌, ◌<◌, ◌≤◌, true, eqb, cond, List, [], Option, Some, None, IfSome, refl, sym, ◌∙◌, ap, subst, arith, inl, inr, map}
 use Rattle.std.specs.List.{AllByRecursion}
 use Rattle.std.proofs.lemmas.Bool.{cond_both, eq-eqb, eqb-false, eqb-true, true≢false}
 use Rattle.wm_data.specs.Size.{IsData}
-use Rattle.wm_data.specs.declared.data.DataEntry.{DataEntry}
-use Rattle.wm_machine.proofs.Changes.{all_open, AreFine-changed, IsChange, IsChange-one, IsSameRequest, moves-kept, MovesTo, OfNumber, Succeeded}
+use Rattle.wm_machine.specs.Types.{DataEntry, Instance, Record, Run, State}
+use Rattle.wm_machine.proofs.Changes.{all_open, AreWorks-changed, IsChange, IsChange-one, IsSameRequest, moves-kept, MovesTo, OfNumber}
 use Rattle.wm_machine.proofs.EndedRuns.{running_of}
-use Rattle.wm_machine.proofs.Lists.{All-any, All-both, All-map, All-weaker, AllLater-map, find-passes, HasOne-map, HasOne-weaker, list_any-same}
+use Rattle.wm_collections.proofs.Lists.{All-any, All-map, All-map2, All-weaker, All-with2, AllLater-map, HasOne-map, HasOne-weaker, find-passes, list_any-same}
 use Rattle.wm_machine.proofs.Owed.{IsKept}
 use Rattle.wm_machine.proofs.Records.{IsRecord-telling}
 use Rattle.wm_machine.proofs.Runnings.{changed, changed_both, found_or_apart, found_valid, IsFoundOrApart}
 use Rattle.wm_machine.proofs.Waitings.{left-idle, left-one, left_among-changed}
 use Rattle.wm_machine.specs.Diaries.{given_lines}
 use Rattle.wm_machine.specs.Frame.{frame_of, frame_to, IsTurnedIn}
-use Rattle.wm_machine.specs.Narrow.{IsNarrow, IsReached}
+use Rattle.wm_machine.specs.Narrow.{IsReached}
 use Rattle.wm_machine.specs.Role as role
 use Rattle.wm_machine.specs.Role.{This}
 use Rattle.wm_machine.specs.Runs.{changed_work, run_numbered}
 use Rattle.wm_machine.specs.Step.{after, IsTurn}
 use Rattle.wm_machine.specs.Turns.{telling, turn_of, turned, with_turn, with_turned}
-use Rattle.wm_machine.specs.Waiting.{is_left}
 use Rattle.wm_machine.specs.First.{is_waiting}
-use Rattle.wm_machine.specs.Valid.{AreApart, ArePriorSound, HasOne, IsCurrentOf, IsInstanceOf, IsOpenPhase, IsOutForRun, IsRecord, IsValidRun, IsWorkOf, Valid}
+use Rattle.wm_collections.specs.Lists.{HasOne}
+use Rattle.wm_machine.specs.Valid.{AreApart, IsCurrentOf, IsInstanceOf, MaySucceedOrHas, IsOutForRun, IsValidRun, IsWorkOf, Valid}
 use Rattle.wm_machine.specs.declared.event.Event.TheVariants as event
 use Rattle.wm_machine.specs.declared.record.How.TheVariants as how
 use Rattle.wm_machine.specs.declared.record.Phase.TheVariants as phase
-use Rattle.wm_machine.specs.declared.record.Record.{Record}
-use Rattle.wm_machine.specs.declared.state.Instance.{Instance}
-use Rattle.wm_machine.specs.declared.state.Run.{Run}
-use Rattle.wm_machine.specs.declared.state.State.{State}
 use Rattle.wm_worker.proofs.Giving.{gives_data}
 use Rattle.wm_worker.specs.declared.answer.Given.TheVariants.{More}
 
@@ -57,8 +53,7 @@ record IsToldOnly (one other : Record) : Type 0 where
 
 telling-only : (progress : Option (List DataEntry)) (work : Record) → IsToldOnly work (telling progress work)
 telling-only None work = record { same = record { seq = refl; name = λ text is. is; request = refl; prior = refl }; phase_is = refl; attempt = refl }
-telling-only (Some progress) work =
-    record { same = record { seq = refl; name = λ text is. is; request = refl; prior = refl }; phase_is = refl; attempt = refl }
+telling-only (Some progress) work = record { same = record { seq = refl; name = λ text is. is; request = refl; prior = refl }; phase_is = refl; attempt = refl }
 
 -- so it is a change of the running work
 IsChange-telling : (s : State) (run : Run) (progress : Option (List DataEntry)) → IfSome progress IsData → Valid s
@@ -66,27 +61,17 @@ IsChange-telling : (s : State) (run : Run) (progress : Option (List DataEntry)) 
 IsChange-telling s run progress told valid running =
     let change = changed (telling progress) run.seq in
     let kept =
-    All-any (λ work. IsOpenPhase work.phase → IsOpenPhase (change work).phase) s.works
-    (λ work before. changed_both (λ c. IsOpenPhase c.phase) (telling progress) run.seq work
-    (λ e. subst IsOpenPhase (sym (telling-only progress work).phase_is) before) (λ differs. before)) in
-    let facts =
-    All-both (OfNumber run.seq (λ work. work.phase ≡ phase.Running)) (λ work. IsRecord work × ArePriorSound s.works work.phase work.prior) s.works running
-    (All-both IsRecord (λ work. ArePriorSound s.works work.phase work.prior) s.works valid.records valid.sound) in
-    IsChange-one s.works run.seq (telling progress) (λ work. (telling-only progress work).same) valid.records valid.sound
-    (All-weaker (λ work. OfNumber run.seq (λ work. work.phase ≡ phase.Running) work × (IsRecord work × ArePriorSound s.works work.phase work.prior))
-    (OfNumber run.seq (λ work. IsRecord (telling progress work))) s.works (λ work is e. IsRecord-telling progress work told (is.0 e) is.1.0) facts)
-    (All-weaker (λ work. OfNumber run.seq (λ work. work.phase ≡ phase.Running) work × (IsRecord work × ArePriorSound s.works work.phase work.prior))
-    (OfNumber run.seq (λ work. MovesTo s.works change work.phase work.prior (telling progress work).phase)) s.works
-    (λ work is e. subst (MovesTo s.works change work.phase work.prior) (sym (telling-only progress work).phase_is)
-    (moves-kept s.works change work.phase work.prior is.1.1 (λ waits. all_open s.works change work.prior kept))) facts)
-    (All-weaker (OfNumber run.seq (λ work. work.phase ≡ phase.Running)) (OfNumber run.seq (λ work. Succeeded work.phase → ⊥)) s.works
-    (λ work is e succeeded. let clash : phase.Running ≡ phase.Done how.Succeeded = sym (is e) ∙ succeeded in absurd (cc)) running)
-    (All-weaker (OfNumber run.seq (λ work. work.phase ≡ phase.Running)) (OfNumber run.seq (λ work. IsOpenPhase (telling progress work).phase)) s.works
-    (λ work is e. subst IsOpenPhase (sym ((telling-only progress work).phase_is ∙ is e)) tt) running)
+    All-any s.works (λ work before. changed_both (λ c. MaySucceedOrHas c.phase) (telling progress) run.seq work
+    (λ e. subst MaySucceedOrHas (sym (telling-only progress work).phase_is) before) (λ differs. before)) in
+    IsChange-one s.works run.seq (telling progress) (λ work. (telling-only progress work).same) valid.works.records valid.works.sound
+    (All-with2 s.works (λ work runs fine e. IsRecord-telling progress work told (runs e) fine) running valid.works.records)
+    (All-weaker s.works (λ work sound e. subst (MovesTo s.works change work.phase work.prior) (sym (telling-only progress work).phase_is)
+    (moves-kept s.works change work.phase work.prior sound (λ waits. all_open s.works change work.prior kept))) valid.works.sound)
+    (All-weaker s.works (λ work is e succeeded. let clash : phase.Running ≡ phase.Done how.Succeeded = sym (is e) ∙ succeeded in absurd (cc)) running)
+    (All-weaker s.works (λ work is e. subst MaySucceedOrHas (sym ((telling-only progress work).phase_is ∙ is e)) tt) running)
 
 IsWorkOf-told : (run : Run) (one other : Record) → IsToldOnly one other → IsWorkOf run one → IsWorkOf run other
-IsWorkOf-told run one other told of =
-    record { seq = told.same.seq ∙ of.seq; running = told.phase_is ∙ of.running; attempt = told.attempt ∙ of.attempt }
+IsWorkOf-told run one other told of = record { seq = told.same.seq ∙ of.seq; running = told.phase_is ∙ of.running; attempt = told.attempt ∙ of.attempt }
 
 -- ---- runs
 
@@ -102,8 +87,7 @@ turned_both P number run hit miss =
 
 AreApart-turned : (number : ℕ) (one other : Run) → AreApart one other → AreApart (turned_at number one) (turned_at number other)
 AreApart-turned number one other apart =
-    turned_both (λ r. AreApart r (turned_at number other)) number one
-    (λ e. turned_both (AreApart (turned one)) number other
+    turned_both (λ r. AreApart r (turned_at number other)) number one (λ e. turned_both (AreApart (turned one)) number other
     (λ e. record { runs = apart.runs; works = apart.works; instances = apart.instances })
     (λ e. record { runs = apart.runs; works = apart.works; instances = apart.instances }))
     (λ e. turned_both (AreApart one) number other (λ e. record { runs = apart.runs; works = apart.works; instances = apart.instances }) (λ e. apart))
@@ -111,33 +95,26 @@ AreApart-turned number one other apart =
 -- a work keeps its run
 current_stays : (number seq : ℕ) (runs : List Run) → HasOne (IsCurrentOf seq) runs → HasOne (IsCurrentOf seq) (with_turned number runs)
 current_stays number seq runs one =
-    HasOne-map (λ r. Unit {0}) (IsCurrentOf seq) (IsCurrentOf seq) (turned_at number) runs (λ r u is.
-    turned_both (IsCurrentOf seq) number r (λ e. record { of = is.of; current = is.current }) (λ e. is)) (All-any (λ r. Unit {0}) runs (λ r. tt)) one
+    HasOne-map _ (turned_at number) runs (λ r is. turned_both (IsCurrentOf seq) number r (λ e. record { of = is.of; current = is.current }) (λ e. is)) one
 
 -- a run keeps its work
 work_stays : (progress : Option (List DataEntry)) (seq : ℕ) (works : List Record) (run : Run) → HasOne (IsWorkOf run) works
     → HasOne (IsWorkOf run) (changed_work (telling progress) seq works)
 work_stays progress seq works run one =
-    HasOne-map (λ w. Unit {0}) (IsWorkOf run) (IsWorkOf run) (changed (telling progress) seq) works (λ w u is.
-    changed_both (IsWorkOf run) (telling progress) seq w (λ e. IsWorkOf-told run w (telling progress w) (telling-only progress w) is) (λ e. is))
-    (All-any (λ w. Unit {0}) works (λ w. tt)) one
+    HasOne-map _ (changed (telling progress) seq) works (λ w is. changed_both (IsWorkOf run) (telling progress) seq w
+    (λ e. IsWorkOf-told run w (telling progress w) (telling-only progress w) is) (λ e. is)) one
 
 -- and at its next turn it has the same work and the same instance
 work_of-turned : (run : Run) (works : List Record) → HasOne (IsWorkOf run) works → HasOne (IsWorkOf (turned run)) works
-work_of-turned run works one =
-    HasOne-weaker (λ w. Unit {0}) (IsWorkOf run) (IsWorkOf (turned run)) works
-    (λ w u of. record { seq = of.seq; running = of.running; attempt = of.attempt }) (All-any (λ w. Unit {0}) works (λ w. tt)) one
+work_of-turned run works one = HasOne-weaker works (λ w of. record { seq = of.seq; running = of.running; attempt = of.attempt }) one
 
 instance_of-turned : (run : Run) (instances : List Instance) → HasOne (IsInstanceOf run) instances → HasOne (IsInstanceOf (turned run)) instances
-instance_of-turned run instances one =
-    HasOne-weaker (λ i. Unit {0}) (IsInstanceOf run) (IsInstanceOf (turned run)) instances (λ i u of. record { number = of.number; kind = of.kind })
-    (All-any (λ i. Unit {0}) instances (λ i. tt)) one
+instance_of-turned run instances one = HasOne-weaker instances (λ i of. record { number = of.number; kind = of.kind }) one
 
 -- an instance is out as before
 IsOutForRun-turned : (number : ℕ) (runs : List Run) (i : Instance) → IsOutForRun runs i → IsOutForRun (with_turned number runs) i
 IsOutForRun-turned number runs i out =
-    out ∙ sym
-    (list_any-same (λ r. eqb r.instance i.number) (turned_at number) runs
+    out ∙ sym (list_any-same (λ r. eqb r.instance i.number) (turned_at number) runs
     (λ r. turned_both (λ (x : Run). eqb x.instance i.number ≡ eqb r.instance i.number) number r (λ e. refl) (λ e. refl)))
 
 -- ---- the state
@@ -153,12 +130,12 @@ running_stays progress number seq runs w has =
     (current_stays number w.seq runs (has (sym told.phase_is ∙ running)))) (λ e running. current_stays number w.seq runs (has running))
 
 -- a valid run stays valid, whether it is the one that is turned or apart from it
-IsValidRun-turned : (s : State) (run r : Run) (progress : Option (List DataEntry)) → run.turn < 999 → IsFoundOrApart run.run run r → IsValidRun s r
-    → IsValidRun (with_turn s run progress) (turned_at run.run r)
+IsValidRun-turned : (s : State) (run r : Run) (progress : Option (List DataEntry)) → run.turn < 999 → IsFoundOrApart run.run run r
+    → IsValidRun s.works s.instances s.next_run r → IsValidRun (changed_work (telling progress) run.seq s.works) s.instances s.next_run (turned_at run.run r)
 IsValidRun-turned s run r progress early told is =
     let works = changed_work (telling progress) run.seq s.works in
     let work : r.current ≡ true → HasOne (IsWorkOf r) works = λ current. work_stays progress run.seq s.works r (is.work current) in
-    turned_both (IsValidRun (with_turn s run progress)) run.run r (λ e. record {
+    turned_both (IsValidRun works s.instances s.next_run) run.run r (λ e. record {
       number = is.number;
       turn = elim told [
         | inl found ↦ subst (λ (x : Run). x.turn + 1 ≤ 999) (sym found.1) (omega (arith, early))
@@ -174,36 +151,27 @@ reached-turned : (s : State) (number : ℕ) (run : Run) (progress : Option (List
 reached-turned s number run progress told early reached found current =
     let valid = reached.valid in
     let same : run.run ≡ number = eqb-true run.run number (find-passes (λ r. eqb r.run number) s.runs run found) in
-    let each =
-    All-both (IsFoundOrApart run.run run) (IsValidRun s) s.runs
-    (found_or_apart run.run run s.runs (subst (λ n. run_numbered n s.runs ≡ Some run) (sym same) found) valid.apart) valid.runs in
-    let works =
-    AreFine-changed s (changed (telling progress) run.seq) valid
-    (IsChange-telling s run progress told valid (running_of s number run valid found current)) in
-    let narrow : IsNarrow (with_turn s run progress) = record {
-      runs = All-map (λ r. r.current ≡ true) (λ r. r.current ≡ true) (turned_at run.run) s.runs
-          (λ r is. turned_both (λ r. r.current ≡ true) run.run r (λ e. is) (λ e. is)) reached.narrow.runs;
-    } in
-    let valid_then : Valid (with_turn s run progress) = record {
-      numbers = works.numbers;
-      first = valid.first;
-      next = valid.next;
-      few_works = works.few;
-      records = works.records;
-      in_order = works.in_order;
-      sound = works.sound;
-      running = All-map (λ w. w.phase ≡ phase.Running → HasOne (IsCurrentOf w.seq) s.runs)
-          (λ w. w.phase ≡ phase.Running → HasOne (IsCurrentOf w.seq) (with_turned run.run s.runs)) (changed (telling progress) run.seq) s.works
-          (λ w has. running_stays progress run.run run.seq s.runs w has) valid.running;
-      runs = All-map (λ r. IsFoundOrApart run.run run r × IsValidRun s r) (IsValidRun (with_turn s run progress)) (turned_at run.run) s.runs
-          (λ r is. IsValidRun-turned s run r progress early is.0 is.1) each;
-      apart = AllLater-map AreApart AreApart (turned_at run.run) s.runs (AreApart-turned run.run) valid.apart;
-      instances = All-weaker (IsOutForRun s.runs) (IsOutForRun (with_turned run.run s.runs)) s.instances (IsOutForRun-turned run.run s.runs) valid.instances;
-      numbered = valid.numbered;
-      few_observers = valid.few_observers;
-      now = valid.now;
-    } in
-    record { valid = valid_then; narrow = narrow }
+    let is = IsChange-telling s run progress told valid (running_of s number run valid found current) in
+    record {
+      valid = record {
+        works = AreWorks-changed s (changed (telling progress) run.seq) valid is;
+        runs = record {
+          running = All-map _ (changed (telling progress) run.seq) s.works (λ w has. running_stays progress run.run run.seq s.runs w has) valid.runs.running;
+          each = All-map2 _ (turned_at run.run) s.runs (λ r told fine. IsValidRun-turned s run r progress early told fine)
+              (found_or_apart run.run run s.runs (subst (λ n. run_numbered n s.runs ≡ Some run) (sym same) found) valid.runs.apart) valid.runs.each;
+          apart = AllLater-map _ (turned_at run.run) s.runs (AreApart-turned run.run) valid.runs.apart;
+        };
+        instances = record {
+          out = All-weaker s.instances (IsOutForRun-turned run.run s.runs) valid.instances.out;
+          numbered = valid.instances.numbered;
+        };
+        few_observers = valid.few_observers;
+        now = valid.now;
+      };
+      narrow = record {
+        runs = All-map _ (turned_at run.run) s.runs (λ r is. turned_both (λ r. r.current ≡ true) run.run r (λ e. is) (λ e. is)) reached.narrow.runs;
+      };
+    }
 
 -- ---- what it keeps
 
@@ -219,9 +187,7 @@ turn-kept s number progress reached legal =
     let then = map (changed (telling progress) run.seq) s.works in
     rw (after_turn s number progress legal) record {
       reached = reached-turned s number run progress told legal.turns_left reached report.is_running report.is_current;
-      left = left_among-changed s.now s.works (changed (telling progress) run.seq) is
-          (left-one s.now run.seq (telling progress) s.works is
-          (All-weaker (OfNumber run.seq (λ work. work.phase ≡ phase.Running))
-          (OfNumber run.seq (λ work. is_left s.now then (telling progress work) ≡ false)) s.works
-          (λ work runs e. left-idle s.now then (telling progress work) (ap is_waiting ((telling-only progress work).phase_is ∙ runs e))) running));
+      left = left_among-changed s.now s.works (changed (telling progress) run.seq) is (left-one s.now run.seq (telling progress) s.works is
+          (All-weaker s.works (λ work runs e. left-idle s.now then (telling progress work) (ap is_waiting ((telling-only progress work).phase_is ∙ runs e)))
+          running));
     }

@@ -4,26 +4,24 @@ use Rattle.std.specs.Str.{bytes_eq}
 use Rattle.std.proofs.lemmas.Bool.{cond-true, cond_both, false≢true}
 use Rattle.wm_machine.proofs.Changes.{IsChange-still, IsSameRequest, KeepsRun, reached-changed}
 use Rattle.wm_machine.proofs.Endings.{KeepsRun-same}
-use Rattle.wm_machine.proofs.Lists.{All-any, All-weaker, find-stored, map-same}
+use Rattle.wm_collections.proofs.Lists.{All-any, All-weaker, find-stored, map-same}
 use Rattle.wm_machine.proofs.Owed.{IsAnswered}
 use Rattle.wm_machine.proofs.Records.{IsRecord-updated}
-use Rattle.wm_machine.proofs.Runnings.{changed, changed-same, changed_both, IsAlone, IsAlone-stored}
+use Rattle.wm_machine.proofs.Runnings.{changed, changed-same, changed_both, IsAlone-stored}
 use Rattle.wm_machine.specs.Cancelled.{work_with_id}
 use Rattle.wm_machine.specs.Closed.{is_open}
 use Rattle.wm_machine.specs.Frame.{untouched}
 use Rattle.wm_machine.specs.Narrow.{IsReached}
 use Rattle.wm_machine.specs.Replied.{Outcome, unchanged}
 use Rattle.wm_machine.specs.Updated.{is_same_kind, update, update_by, update_found, update_of, updated}
-use Rattle.wm_machine.specs.Valid.{HasOne, IsRecord}
-use Rattle.wm_machine.specs.declared.command.Command.{Command}
+use Rattle.wm_collections.specs.Lists.{HasOne}
+use Rattle.wm_machine.specs.Valid.{IsRecord}
+use Rattle.wm_machine.specs.Types.{Command, Period, Record, State}
 use Rattle.wm_machine.specs.declared.command.Command.TheVariants as command
-use Rattle.wm_machine.specs.declared.record.Record.{Record}
 use Rattle.wm_machine.specs.declared.reply.Applied.TheVariants.{NotApplied}
 use Rattle.wm_machine.specs.declared.reply.Refusal.TheVariants.{KindMismatch}
 use Rattle.wm_machine.specs.declared.reply.Reply.TheVariants as reply
-use Rattle.wm_machine.specs.declared.state.State.{State}
 use Rattle.wm_request.specs.Requests.{IsRequest, RequestFields}
-use Rattle.wm_schedule.specs.declared.schedule.Period.{Period}
 
 -- ---- the change
 
@@ -40,8 +38,7 @@ updated_in_kind request work = cond (is_same_kind request.period work.request.pe
 -- what holds in both cases
 kind_both : (P : Record → Type 0) (request : RequestFields) (work : Record)
     → (is_same_kind request.period work.request.period ≡ true → P (updated request work)) → P work → P (updated_in_kind request work)
-kind_both P request work hit miss =
-    cond_both (is_same_kind request.period work.request.period) (updated request work) work P hit (λ e. miss)
+kind_both P request work hit miss = cond_both (is_same_kind request.period work.request.period) (updated request work) work P hit (λ e. miss)
 
 -- the record of this number, updated where it is of the request's kind
 abbrev change_by : RequestFields → ℕ → Record → Record
@@ -49,13 +46,11 @@ change_by request seq work = changed (updated_in_kind request) seq work
 
 change_both : (P : Record → Type 0) (request : RequestFields) (seq : ℕ) (work : Record)
     → (is_same_kind request.period work.request.period ≡ true → P (updated request work)) → P work → P (change_by request seq work)
-change_both P request seq work hit miss =
-    changed_both P (updated_in_kind request) seq work (λ e. kind_both P request work hit miss) (λ differs. miss)
+change_both P request seq work hit miss = changed_both P (updated_in_kind request) seq work (λ e. kind_both P request work hit miss) (λ differs. miss)
 
 change-same : (request : RequestFields) (seq : ℕ) (work : Record) → IsSameRequest work (change_by request seq work)
 change-same request seq work =
-    change_both (IsSameRequest work) request seq work
-    (λ same. record {
+    change_both (IsSameRequest work) request seq work (λ same. record {
       seq = refl;
       name = λ text is. is;
       request = ap (λ kind. (work.request.id, kind)) (same_kind request.period work.request.period same);
@@ -66,28 +61,22 @@ change-same request seq work =
 
 -- an update of a record by a request of its kind keeps what holds of the states that are reached
 pub update-reached : (s : State) (request : RequestFields) (work : Record) → IsRequest request
-    → is_same_kind request.period work.request.period ≡ true → IsReached s → HasOne (λ other. other ≡ work) s.works
-    → IsReached (update_of s request work).state
+    → is_same_kind request.period work.request.period ≡ true → IsReached s → HasOne (λ other. other ≡ work) s.works → IsReached (update_of s request work).state
 update-reached s request work asked same reached stored =
     let valid = reached.valid in
     let seq = work.seq in
     let change = change_by request seq in
     let is =
-    IsChange-still s.works change (change-same request seq)
-    (λ other. change_both (λ w. w.phase ≡ other.phase) request seq other (λ e. refl) refl)
-    (All-weaker IsRecord (λ other. IsRecord (change other)) s.works
-    (λ other fine. change_both IsRecord request seq other (λ e. IsRecord-updated request other asked e fine) fine) valid.records) valid.sound in
+    IsChange-still s.works change (change-same request seq) (λ other. change_both (λ w. w.phase ≡ other.phase) request seq other (λ e. refl) refl)
+    (All-weaker s.works (λ other fine. change_both IsRecord request seq other (λ e. IsRecord-updated request other asked e fine) fine) valid.works.records)
+    valid.works.sound in
     let keeps =
-    All-any (λ other. KeepsRun other (change other)) s.works (λ other.
-    change_both (KeepsRun other) request seq other (λ e. KeepsRun-same other (updated request other) refl refl)
+    All-any s.works (λ other. change_both (KeepsRun other) request seq other (λ e. KeepsRun-same other (updated request other) refl refl)
     (KeepsRun-same other other refl refl)) in
     let each =
-    All-weaker (IsAlone work) (λ other. change other ≡ changed (updated request) seq other) s.works
-    (λ other alone.
-    changed-same (updated_in_kind request) (updated request) seq other
+    All-weaker s.works (λ other alone. changed-same (updated_in_kind request) (updated request) seq other
     (λ e. cond-true (is_same_kind request.period other.request.period) (updated request other) other
-    (ap (λ (w : Record). is_same_kind request.period w.request.period) (alone e) ∙ same)))
-    (IsAlone-stored work s.works valid.in_order stored) in
+    (ap (λ (w : Record). is_same_kind request.period w.request.period) (alone e) ∙ same))) (IsAlone-stored work s.works valid.works.in_order stored) in
     subst (λ works. IsReached (record s { works = works })) (map-same change (changed (updated request) seq) s.works each)
     (reached-changed s change reached is keeps)
 
@@ -96,8 +85,7 @@ update-reached s request work asked same reached stored =
 -- the outcome for the record that was found, by its cases
 found_both : (P : Outcome → Type 0) (s : State) (request : RequestFields) (work : Record)
     → (is_same_kind request.period work.request.period ≡ true → P (update_of s request work))
-    → P (unchanged s (reply.Refused (KindMismatch request.id))) → P (unchanged s (reply.Updated NotApplied work.generation))
-    → P (update_found s request work)
+    → P (unchanged s (reply.Refused (KindMismatch request.id))) → P (unchanged s (reply.Updated NotApplied work.generation)) → P (update_found s request work)
 found_both P s request work one other finished =
     let refused = unchanged s (reply.Refused (KindMismatch request.id)) in
     let same = is_same_kind request.period work.request.period in

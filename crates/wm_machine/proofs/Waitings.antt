@@ -7,24 +7,21 @@ use Rattle.std.proofs.lemmas.Nat.{pow_pos}
 use Rattle.wm_machine.proofs.Changes.{IsChange, OfNumber, Succeeded}
 use Rattle.wm_machine.proofs.Runnings.{changed}
 use Rattle.wm_machine.proofs.Firsts.{first_of-startable, first_of-stored, IsStartable-from}
-use Rattle.wm_machine.proofs.Lists.{All-any, All-weaker, count-fewer, count-map, HasOne-weaker, list_all-weaker, list_any-false, list_any-map}
-use Rattle.wm_machine.specs.Closed.{is_among}
+use Rattle.wm_collections.proofs.Lists.{All-weaker, HasOne-weaker, all_pass, any_passes, count-fewer, count-map, list_all-each, list_all-weaker, list_any-false, list_any-map, list_any-one}
 use Rattle.wm_machine.specs.Due.{due_of}
 use Rattle.wm_machine.specs.Ends.{enqueued_again, retried}
 use Rattle.wm_machine.specs.First.{all_met, first_of, has_succeeded, is_succeeded, is_waiting}
-use Rattle.wm_machine.specs.Valid.{HasOne, HasSucceeded, IsAttemptIn, IsRecord}
+use Rattle.wm_collections.specs.Lists.{HasOne, is_among}
+use Rattle.wm_machine.specs.Valid.{HasSucceeded, IsAttemptIn, IsRecord}
 use Rattle.wm_machine.specs.Waiting.{is_left, left_among, left_to_drain}
 use Rattle.wm_machine.specs.declared.record.How.TheVariants as how
-use Rattle.wm_machine.specs.declared.record.Phase.{Phase}
+use Rattle.wm_machine.specs.Types.{Period, Phase, Record, State}
 use Rattle.wm_machine.specs.declared.record.Phase.TheVariants as phase
-use Rattle.wm_machine.specs.declared.record.Record.{Record}
-use Rattle.wm_machine.specs.declared.state.State.{State}
 use Rattle.wm_schedule.specs.Clamped.{IsPeriod}
 use Rattle.wm_schedule.specs.Due.{due_at, wait_after}
 use Rattle.wm_schedule.specs.Moments.{IsDelay}
 use Rattle.wm_schedule.specs.declared.schedule.BackoffPolicy.{BackoffPolicy}
 use Rattle.wm_schedule.specs.declared.schedule.BackoffPolicy.TheVariants.{Linear, Exponential}
-use Rattle.wm_schedule.specs.declared.schedule.Period.{Period}
 
 -- ---- what has succeeded
 
@@ -37,48 +34,34 @@ succeeded_is (phase.Done how.Cancelled) is = absurd (false≢true is)
 
 -- a record of the number has succeeded
 has_succeeded-one : (number : ℕ) (works : List Record) → has_succeeded works number ≡ true → HasOne (HasSucceeded number) works
-has_succeeded-one number [] is = absurd (false≢true is)
-has_succeeded-one number (work ∷ works) is =
-    elim (or_cases (eqb work.seq number && is_succeeded work.phase) (has_succeeded works number) is) [
-      | inl here ↦
-          let parts = and_parts (eqb work.seq number) (is_succeeded work.phase) here in
-          inl (record { seq = eqb-true work.seq number parts.0; succeeded = succeeded_is work.phase parts.1 })
-      | inr there ↦ inr (has_succeeded-one number works there)
-    ]
+has_succeeded-one number works is =
+    HasOne-weaker works (λ work here.
+    let parts = and_parts (eqb work.seq number) (is_succeeded work.phase) here in
+    record { seq = eqb-true work.seq number parts.0; succeeded = succeeded_is work.phase parts.1 })
+    (any_passes (λ work. eqb work.seq number && is_succeeded work.phase) works is)
 
 one-has_succeeded : (number : ℕ) (works : List Record) → HasOne (HasSucceeded number) works → has_succeeded works number ≡ true
-one-has_succeeded number [] one = absurd one
-one-has_succeeded number (work ∷ works) (inl is) =
-    or_left _ _ (and_from _ _ (eq-eqb work.seq number is.seq) (ap is_succeeded is.succeeded))
-one-has_succeeded number (work ∷ works) (inr one) = or_right _ _ (one-has_succeeded number works one)
+one-has_succeeded number works one =
+    list_any-one (λ work. eqb work.seq number && is_succeeded work.phase) works
+    (HasOne-weaker works (λ work is. and_from _ _ (eq-eqb work.seq number is.seq) (ap is_succeeded is.succeeded)) one)
 
 -- no record of the number has
 none-has_succeeded : (number : ℕ) (works : List Record) → AllByRecursion (λ work. work.seq ≡ number → Succeeded work.phase → ⊥) works
     → has_succeeded works number ≡ false
 none-has_succeeded number works none =
-    list_any-false (λ work. eqb work.seq number && is_succeeded work.phase) works
-    (All-weaker (λ work. work.seq ≡ number → Succeeded work.phase → ⊥) (λ work. (eqb work.seq number && is_succeeded work.phase) ≡ false) works
-    (λ work not. elim (cases_Bool (is_succeeded work.phase)) [
+    list_any-false (λ work. eqb work.seq number && is_succeeded work.phase) works (All-weaker works (λ work not. elim (cases_Bool (is_succeeded work.phase)) [
       | inl has ↦ and_left _ _ (ne_eqb work.seq number (λ same. not same (succeeded_is work.phase has)))
       | inr hasnt ↦ and_right _ _ hasnt
     ]) none)
 
 -- every prerequisite of a work has succeeded
-met-each : (works : List Record) (prior : List ℕ) → list_all (has_succeeded works) prior ≡ true
-    → AllByRecursion (λ number. HasOne (HasSucceeded number) works) prior
-met-each works [] met = tt
-met-each works (number ∷ prior) met =
-    let parts = and_parts (has_succeeded works number) (list_all (has_succeeded works) prior) met in
-    (has_succeeded-one number works parts.0, met-each works prior parts.1)
-
 pub met-succeeded : (works : List Record) (work : Record) → all_met works work ≡ true → AllByRecursion (λ number. HasOne (HasSucceeded number) works) work.prior
 unfolding all_met
-met-succeeded works work met = met-each works work.prior met
+met-succeeded works work met = All-weaker work.prior (λ number is. has_succeeded-one number works is) (all_pass (has_succeeded works) work.prior met)
 
 each-met : (works : List Record) (prior : List ℕ) → AllByRecursion (λ number. HasOne (HasSucceeded number) works) prior
     → list_all (has_succeeded works) prior ≡ true
-each-met works [] all = refl
-each-met works (number ∷ prior) all = and_from _ _ (one-has_succeeded number works all.0) (each-met works prior all.1)
+each-met works prior all = list_all-each (has_succeeded works) prior (All-weaker prior (λ number one. one-has_succeeded number works one) all)
 
 -- a prerequisite that hasn't blocks a work
 one_fails : (works : List Record) (prior : List ℕ) (number : ℕ) → is_among prior number ≡ true → has_succeeded works number ≡ false
@@ -124,9 +107,7 @@ module _ (now : ℕ) (works : List Record) (change : Record → Record) (is : Is
   still_succeeded : (number : ℕ) → has_succeeded works number ≡ true → has_succeeded (map change works) number ≡ true
   still_succeeded number =
       list_any-map (λ work. eqb work.seq number && is_succeeded work.phase) (λ work. eqb work.seq number && is_succeeded work.phase) change works
-      (All-weaker (λ work. Succeeded work.phase → Succeeded (change work).phase)
-      (λ work. (eqb work.seq number && is_succeeded work.phase) ≡ true → (eqb (change work).seq number && is_succeeded (change work).phase) ≡ true) works
-      (λ work stays passes.
+      (All-weaker works (λ work stays passes.
       let parts = and_parts (eqb work.seq number) (is_succeeded work.phase) passes in
       and_from _ _ (ap (λ n. eqb n number) (is.same work).seq ∙ parts.0) (ap is_succeeded (stays (succeeded_is work.phase parts.1)))) is.stays)
 
@@ -165,12 +146,10 @@ pub left-one : (now seq : ℕ) (change : Record → Record) (works : List Record
     → AllByRecursion (OfNumber seq (λ work. is_left now (map (changed change seq) works) (change work) ≡ false)) works
     → AllByRecursion (IsOldLeft now works (changed change seq)) works
 left-one now seq change works is gone =
-    All-weaker (OfNumber seq (λ work. is_left now (map (changed change seq) works) (change work) ≡ false)) (IsOldLeft now works (changed change seq)) works
-    (λ work away. elim (cases_Bool (eqb work.seq seq)) [
+    All-weaker works (λ work away. elim (cases_Bool (eqb work.seq seq)) [
       | inl e ↦
           let here : changed change seq work ≡ change work = ap (λ b. cond b (change work) work) e in
-          left-gone now works (changed change seq) work
-          (ap (is_left now (map (changed change seq) works)) here ∙ away (eqb-true work.seq seq e))
+          left-gone now works (changed change seq) work (ap (is_left now (map (changed change seq) works)) here ∙ away (eqb-true work.seq seq e))
       | inr e ↦
           let here : changed change seq work ≡ work = ap (λ b. cond b (change work) work) e in
           left-kept now works (changed change seq) is work (ap (λ (w : Record). w.phase) here) (ap due_of here)
@@ -194,10 +173,8 @@ left_to_drain-started s work change first is old gone =
     let startable = IsStartable-from s work (first_of-startable s work first) in
     let left : is_left s.now s.works work ≡ true = and_from _ _ startable.waiting (or_left _ _ startable.due) in
     left_among-fewer s.now s.works change is old
-    (HasOne-weaker (λ other. Unit {0}) (λ other. other ≡ work)
-    (λ other. (is_left s.now s.works other ≡ true) × (is_left s.now (map change s.works) (change other) ≡ false)) s.works
-    (λ other u same. (ap (is_left s.now s.works) same ∙ left, ap (λ w. is_left s.now (map change s.works) (change w)) same ∙ gone))
-    (All-any (λ other. Unit {0}) s.works (λ other. tt)) (first_of-stored s work first))
+    (HasOne-weaker s.works (λ other same. (ap (is_left s.now s.works) same ∙ left, ap (λ w. is_left s.now (map change s.works) (change w)) same ∙ gone))
+    (first_of-stored s work first))
 
 -- ---- work that is put back
 

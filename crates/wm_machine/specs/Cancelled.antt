@@ -5,6 +5,7 @@ use Rattle.std.specs.List.{list_any}
 use Rattle.std.specs.Str.{bytes_eq}
 use Rattle.wm_machine.specs.Closed.{is_open, is_reached, with_each_closed}
 use Rattle.wm_machine.specs.Group.{is_name, numbers_in}
+use Rattle.wm_machine.specs.Queried.{has_tag}
 use Rattle.wm_machine.specs.Replied.{Outcome, unchanged}
 use Rattle.wm_machine.specs.declared.command.Target.{Target}
 use Rattle.wm_machine.specs.declared.command.Target.TheVariants as target
@@ -28,7 +29,7 @@ is_stored works id = list_any (λ work. bytes_eq work.request.id id) works
 -- whether a target is for a work
 abbrev pub is_for : Target → Record → Bool
 is_for (target.Id id) work = bytes_eq work.request.id id
-is_for (target.Tag tag) work = list_any (λ own. bytes_eq own tag) work.request.tags
+is_for (target.Tag tag) work = has_tag work.request.tags tag
 is_for (target.Name name) work = is_name name work.name
 is_for target.All work = true
 

@@ -1,14 +1,11 @@
 -- What the failure or the cancelling of a work reaches. After the guide's page "Chaining work".
 use Rattle.std.specs.Prelude.{◌≡◌, ◌⊎◌, ◌↔◌, ℕ, ◌==◌, ◌&&◌, ◌||◌, Bool, true, false, List, [], ◌∷◌, map, reverse, if◌then◌else◌}
 use Rattle.std.specs.List.{list_any}
-use Rattle.wm_machine.specs.Valid.{HasOne}
+use Rattle.wm_collections.specs.Lists.{HasOne, is_among}
 use Rattle.wm_machine.specs.declared.record.How.{How}
 use Rattle.wm_machine.specs.declared.record.Phase.{Phase}
 use Rattle.wm_machine.specs.declared.record.Phase.TheVariants as phase
 use Rattle.wm_machine.specs.declared.record.Record.{Record}
-
-abbrev pub is_among : List ℕ → ℕ → Bool
-is_among numbers number = list_any (λ one. one == number) numbers
 
 -- The numbers of the descendants of a work among these records, which stand in descending number: the work itself, and each record that
 -- has a descendant as a prerequisite. Prerequisites have smaller numbers.

@@ -1,4 +1,4 @@
--- What the workers of a run write down. This project's own choice.
+-- What the workers of a run write down.
 use Rattle.std.specs.Prelude.{◌≡◌, ℕ, ◌+◌, ◌==◌, List, [], ◌∷◌, ◌++◌, if◌then◌else◌, Option, Some, None}
 use Rattle.wm_machine.specs.Role as role
 use Rattle.wm_machine.specs.Role.{HasGiven, Reported, Role, This}

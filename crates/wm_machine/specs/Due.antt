@@ -1,4 +1,4 @@
--- When a work is due, by its times. This project's own choice.
+-- When a work is due, by its times.
 use Rattle.std.specs.Prelude.{ℕ}
 use Rattle.wm_machine.specs.declared.record.Record.{Record}
 use Rattle.wm_schedule.specs.Due.{due_at}

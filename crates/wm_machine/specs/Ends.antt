@@ -2,8 +2,9 @@
 -- backoff, periodic work) and "Chaining work"; the moments, and counts that stand still, are this project's own choice.
 use Rattle.std.specs.Prelude.{ℕ, ◌+◌, ◌&&◌, Bool, false, List, [], map, min, if◌then◌else◌, Option, Some, None}
 use Rattle.std.specs.Option.{option_and_then}
+use Rattle.wm_collections.specs.Lists.{is_among}
 use Rattle.wm_data.specs.declared.data.DataEntry.{DataEntry}
-use Rattle.wm_machine.specs.Closed.{closed, is_among, with_closed}
+use Rattle.wm_machine.specs.Closed.{closed, with_closed}
 use Rattle.wm_machine.specs.First.{all_met, is_waiting}
 use Rattle.wm_machine.specs.Input.{work_numbered}
 use Rattle.wm_machine.specs.Runs.{changed_work, other_runs, with_out}

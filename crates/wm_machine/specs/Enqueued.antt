@@ -5,8 +5,9 @@
 use Rattle.std.specs.Prelude.{ℕ, ◌+◌, ◌^◌, ◌==◌, ◌&&◌, ◌||◌, Bool, true, false, not, find, is_some, List, [], ◌∷◌, ◌++◌, length, map, filter, flat_map, nat_lt, if◌then◌else◌, Option, Some, None, option_map}
 use Rattle.std.specs.List.{list_any}
 use Rattle.std.specs.Str.{bytes_eq}
+use Rattle.wm_collections.specs.Lists.{is_among}
 use Rattle.wm_machine.specs.Cancelled.{is_stored, reaches_any_run}
-use Rattle.wm_machine.specs.Closed.{is_among, with_each_closed}
+use Rattle.wm_machine.specs.Closed.{with_each_closed}
 use Rattle.wm_machine.specs.Group.{members_of, with_let_go}
 use Rattle.wm_machine.specs.Plan as plan
 use Rattle.wm_machine.specs.Plan.{mismatch, placed_freely, Placing, Plan, plan_of}

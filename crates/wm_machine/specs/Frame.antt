@@ -1,4 +1,4 @@
--- What an event makes of all but the records, by what it is to the runs. This project's own choice.
+-- What an event makes of all but the records, by what it is to the runs.
 use Rattle.std.specs.Prelude.{◌≡◌, ℕ, ◌+◌, ◌==◌, true, false, List, [], ◌∷◌, ◌++◌, Some, if◌then◌else◌}
 use Rattle.wm_machine.specs.Diaries.{event_lines, given_lines, DiaryLine, Began}
 use Rattle.wm_machine.specs.Log.{command_in}

@@ -3,7 +3,8 @@
 use Rattle.std.specs.Prelude.{◌≡◌, ◌⊎◌, ℕ, ◌≤◌, ◌&&◌, Bool, true, false, not, List, length, map, filter, if◌then◌else◌, Option, Some, None}
 use Rattle.std.specs.List.{AllByRecursion, list_any}
 use Rattle.std.specs.Str.{bytes_eq}
-use Rattle.wm_machine.specs.Closed.{is_among, is_open, IsDescendant}
+use Rattle.wm_collections.specs.Lists.{is_among}
+use Rattle.wm_machine.specs.Closed.{is_open, IsDescendant}
 use Rattle.wm_machine.specs.Pruned.{removable}
 use Rattle.wm_machine.specs.declared.record.Record.{Record}
 

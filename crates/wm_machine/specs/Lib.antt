@@ -1,3 +1,4 @@
+-- What no head of these files takes from a page of the guide is this project's own choice.
 pub mod Built
 pub mod Cancelled
 pub mod Closed
@@ -31,6 +32,7 @@ pub mod Started
 pub mod Step
 pub mod Summarized
 pub mod Turns
+pub mod Types
 pub mod Updated
 pub mod Valid
 pub mod Waiting

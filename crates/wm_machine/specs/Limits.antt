@@ -1,4 +1,4 @@
--- The limits of a record's numbers, within which its row has them. This project's own choice.
+-- The limits of a record's numbers, within which its row has them.
 use Rattle.std.specs.Prelude.{◌^◌, ◌<◌, All}
 use Rattle.wm_machine.specs.declared.record.Record.{Record}
 

@@ -1,4 +1,4 @@
--- What a log of events tells of the script. This project's own choice.
+-- What a log of events tells of the script.
 use Rattle.std.specs.Prelude.{◌≡◌, ℕ, ◌+◌, List, [], ◌∷◌, ◌++◌}
 use Rattle.wm_machine.specs.declared.command.Command.{Command}
 use Rattle.wm_machine.specs.declared.event.Event.{Event}

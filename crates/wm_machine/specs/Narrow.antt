@@ -1,5 +1,4 @@
 -- What is narrower for now than the rules allow, because little is built. Each step of the work takes facts away here, and none is added.
--- This project's own choice.
 use Rattle.std.specs.Prelude.{◌≡◌, true}
 use Rattle.std.specs.List.{AllByRecursion}
 use Rattle.wm_machine.specs.Valid.{Valid}

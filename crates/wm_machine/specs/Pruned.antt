@@ -2,7 +2,8 @@
 -- project's own choice.
 use Rattle.std.specs.Prelude.{ℕ, ◌&&◌, Bool, not, List, filter, count_by}
 use Rattle.std.specs.List.{list_any}
-use Rattle.wm_machine.specs.Closed.{is_among, is_open}
+use Rattle.wm_collections.specs.Lists.{is_among}
+use Rattle.wm_machine.specs.Closed.{is_open}
 use Rattle.wm_machine.specs.Replied.{Outcome}
 use Rattle.wm_machine.specs.declared.record.Record.{Record}
 use Rattle.wm_machine.specs.declared.reply.Reply.TheVariants as reply

@@ -1,4 +1,4 @@
--- When there is nothing left to do, and the line that waits for it. This project's own choice.
+-- When there is nothing left to do, and the line that waits for it.
 use Rattle.std.specs.Prelude.{◌≡◌, List, [], Option, Some, None}
 use Rattle.wm_machine.specs.First.{first_of}
 use Rattle.wm_machine.specs.Replied.{Outcome, unchanged}

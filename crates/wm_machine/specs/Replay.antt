@@ -1,4 +1,4 @@
--- What a log of events gives: the fold of the machine's steps. This project's own choice.
+-- What a log of events gives: the fold of the machine's steps.
 use Rattle.std.specs.Prelude.{◌≡◌, List, [], ◌∷◌}
 use Rattle.wm_machine.specs.Step.{Legal, after}
 use Rattle.wm_machine.specs.declared.event.Event.{Event}

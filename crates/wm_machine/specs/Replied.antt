@@ -1,4 +1,4 @@
--- The form of a command's outcome. This project's own choice.
+-- The form of a command's outcome.
 use Rattle.wm_machine.specs.declared.reply.Reply.{Reply}
 use Rattle.wm_machine.specs.declared.state.State.{State}
 

@@ -1,4 +1,4 @@
--- That each run is reported once: how often a log starts a run and how often it reports that run's end. This project's own choice.
+-- That each run is reported once: how often a log starts a run and how often it reports that run's end.
 use Rattle.std.specs.Prelude.{◌≡◌, ℕ, ◌==◌, ◌≤◌, Bool, false, List, count_by}
 use Rattle.wm_machine.specs.Quiet.{IsQuiet}
 use Rattle.wm_machine.specs.declared.event.Event.{Event}

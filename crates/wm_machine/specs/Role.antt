@@ -1,4 +1,4 @@
--- What an event is to the runs. This project's own choice.
+-- What an event is to the runs.
 use Rattle.std.specs.Prelude.{◌≡◌, ℕ, List, Option}
 use Rattle.wm_data.specs.declared.data.DataEntry.{DataEntry}
 use Rattle.wm_machine.specs.declared.command.Command.{Command}

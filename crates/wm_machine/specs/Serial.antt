@@ -1,5 +1,5 @@
 -- The log of a serial run: after each line all that is startable is started and driven to its end, until there is nothing left to do;
--- where there is no line, or the first one settles, that is done once before. This project's own choice.
+-- where there is no line, or the first one settles, that is done once before.
 use Rattle.std.specs.Prelude.{◌≡◌, Bool, true, false, List, [], ◌∷◌, ◌++◌}
 use Rattle.wm_machine.specs.Log.{commands_of}
 use Rattle.wm_machine.specs.Quiet.{IsQuiet}

@@ -1,4 +1,4 @@
--- What a summary counts. This project's own choice.
+-- What a summary counts.
 use Rattle.std.specs.Prelude.{ℕ, map, count_by}
 use Rattle.std.specs.List.{sum}
 use Rattle.wm_machine.specs.Queried.{is_state}

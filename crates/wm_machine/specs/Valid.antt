@@ -1,7 +1,7 @@
--- What holds of every state that the machine reaches. This project's own choice.
-use Rattle.std.specs.Prelude.{◌≡◌, ◌≢◌, ◌⊎◌, ℕ, ◌+◌, ◌^◌, ◌==◌, ◌<◌, ◌≤◌, true, List, [], ◌∷◌, length, Option, Some, None, IfSome}
+-- What holds of every state that the machine reaches.
+use Rattle.std.specs.Prelude.{◌≡◌, ◌≢◌, ℕ, ◌+◌, ◌^◌, ◌==◌, ◌<◌, ◌≤◌, true, List, [], ◌∷◌, length, Option, Some, None, IfSome}
 use Rattle.std.specs.List.{AllByRecursion, list_any}
-use Rattle.wm_collections.specs.Lists.{AllLater}
+use Rattle.wm_collections.specs.Lists.{AllLater, HasOne}
 use Rattle.wm_data.specs.Size.{IsData}
 use Rattle.wm_data.specs.declared.data.DataEntry.{DataEntry}
 use Rattle.wm_machine.specs.Limits.{FitsRow}
@@ -73,11 +73,6 @@ pub record IsRecord (work : Record) : Type 0 where
 
 -- ---- a record among the others
 
--- one of these has this fact
-abbrev pub HasOne : {T : Type 0} → (T → Type 0) → List T → Type 0
-HasOne P [] = ⊥
-HasOne P (x ∷ xs) = P x ⊎ HasOne P xs
-
 -- works of one unique name are all one-time, or there is one alone
 abbrev pub AreOfOneKind : Record → Record → Type 0
 AreOfOneKind one other =
@@ -89,16 +84,16 @@ pub record IsBefore (one other : Record) : Type 0 where
   pub id : one.request.id ≢ other.request.id
   pub name : AreOfOneKind one other
 
--- unfinished work still waits for a prerequisite, or can use its output
-abbrev pub IsOpenPhase : Phase → Type 0
-IsOpenPhase (phase.Done how.Failed) = ⊥
-IsOpenPhase (phase.Done how.Cancelled) = ⊥
-IsOpenPhase _ = Unit {0}
+-- work in this phase can still succeed, or has
+abbrev pub MaySucceedOrHas : Phase → Type 0
+MaySucceedOrHas (phase.Done how.Failed) = ⊥
+MaySucceedOrHas (phase.Done how.Cancelled) = ⊥
+MaySucceedOrHas _ = Unit {0}
 
 -- the record of this number can still succeed, or has, and is one-time
 pub record IsPrerequisite (number : ℕ) (work : Record) : Type 0 where
   pub seq : work.seq ≡ number
-  pub open_is : IsOpenPhase work.phase
+  pub open_is : MaySucceedOrHas work.phase
   pub one_time : work.request.period ≡ None
 
 -- the record of this number has succeeded
@@ -144,13 +139,14 @@ pub record IsInstanceOf (run : Run) (instance : Instance) : Type 0 where
   pub number : instance.number ≡ run.instance
   pub kind : instance.kind ≡ run.kind
 
--- a run is numbered, in one of its 1,000 turns, with Data as its input, on an instance of its kind, and where it is current of a running work
-pub record IsValidRun (s : State) (run : Run) : Type 0 where
-  pub number : run.run < s.next_run
+-- a run is numbered below the next one, in one of its 1,000 turns, with Data as its input, on an instance of its kind, and where it is current of
+-- a running work
+pub record IsValidRun (works : List Record) (instances : List Instance) (next : ℕ) (run : Run) : Type 0 where
+  pub number : run.run < next
   pub turn : run.turn ≤ 999
   pub input : IsData run.input
-  pub work : run.current ≡ true → HasOne (IsWorkOf run) s.works
-  pub instance : HasOne (IsInstanceOf run) s.instances
+  pub work : run.current ≡ true → HasOne (IsWorkOf run) works
+  pub instance : HasOne (IsInstanceOf run) instances
 
 -- an instance is out exactly where a run is on it
 abbrev pub IsOutForRun : List Run → Instance → Type 0
@@ -158,20 +154,30 @@ IsOutForRun runs instance = instance.out ≡ list_any (λ run. run.instance == i
 
 -- ---- a state
 
+-- the works of a state: few, each within its limits, in order, sound by what they come after, and numbered below the next one
+pub record AreWorks (next : ℕ) (works : List Record) : Type 0 where
+  pub first : 1 ≤ next
+  pub fits : next ≤ 2 ^ 53
+  pub numbers : AllByRecursion (λ work. work.seq < next) works
+  pub few : length works ≤ 100000
+  pub records : AllByRecursion IsRecord works
+  pub in_order : AllLater IsBefore works
+  pub sound : AllByRecursion (λ work. ArePriorSound works work.phase work.prior) works
+
+-- the runs beside these works and instances: each is valid, they are apart, and a running work has its run
+pub record AreRuns (works : List Record) (instances : List Instance) (next : ℕ) (runs : List Run) : Type 0 where
+  pub running : AllByRecursion (λ work. work.phase ≡ phase.Running → HasOne (IsCurrentOf work.seq) runs) works
+  pub each : AllByRecursion (IsValidRun works instances next) runs
+  pub apart : AllLater AreApart runs
+
+-- the instances beside these runs: numbered in order, and out exactly where a run is on them
+pub record AreInstances (runs : List Run) (instances : List Instance) : Type 0 where
+  pub out : AllByRecursion (IsOutForRun runs) instances
+  pub numbered : AreNumberedInOrder 0 instances
+
 pub record Valid (s : State) : Type 0 where
-  -- every number is below the next one
-  pub numbers : AllByRecursion (λ work. work.seq < s.next) s.works
-  pub first : 1 ≤ s.next
-  pub next : s.next ≤ 2 ^ 53
-  pub few_works : length s.works ≤ 100000
-  pub records : AllByRecursion IsRecord s.works
-  pub in_order : AllLater IsBefore s.works
-  pub sound : AllByRecursion (λ work. ArePriorSound s.works work.phase work.prior) s.works
-  -- a running work has its run
-  pub running : AllByRecursion (λ work. work.phase ≡ phase.Running → HasOne (IsCurrentOf work.seq) s.runs) s.works
-  pub runs : AllByRecursion (IsValidRun s) s.runs
-  pub apart : AllLater AreApart s.runs
-  pub instances : AllByRecursion (IsOutForRun s.runs) s.instances
-  pub numbered : AreNumberedInOrder 0 s.instances
+  pub works : AreWorks s.next s.works
+  pub runs : AreRuns s.works s.instances s.next_run s.runs
+  pub instances : AreInstances s.runs s.instances
   pub few_observers : length s.observers ≤ 100
   pub now : s.now < 2 ^ 53

@@ -1,5 +1,5 @@
 -- How many works a drain may still start, by which it ends: each start leaves one fewer, and no end of a run leaves one more, since a work
--- that is put back is due later, and one that is freed was blocked. This project's own choice.
+-- that is put back is due later, and one that is freed was blocked.
 use Rattle.std.specs.Prelude.{ℕ, ◌<◌, ◌≤◌, ◌&&◌, ◌||◌, Bool, not, List, count_by, nat_le}
 use Rattle.wm_machine.specs.Due.{due_of}
 use Rattle.wm_machine.specs.First.{all_met, is_waiting}

@@ -1,10 +1,9 @@
 //! The state machine: its types, and in `specs/` its definitions.
 //!
 //! A [`State`] holds the records of all works and what they run under. An [`Event`] is one change
-//! of it. The definitions say which events are legal in a state and which state they give, what a log
-//! of events gives and what is written for it, which rows are kept for a state, and which commands
-//! the lines of a script are. They follow the rules of WorkManager as `docs/DEFINITIONS.md`
-//! restates them.
+//! of it. The definitions say what holds of every state, which events are legal in a state and which
+//! state they give, what a log of events gives, and which rows are kept for a state. They follow the
+//! rules of WorkManager as `docs/DEFINITIONS.md` restates them; [`laws`] says what follows from them.
 #![tactic(auto)]
 
 pub mod command;

@@ -1,3 +1,7 @@
+ghost use Rattle.std.specs.Prelude.{◌≡◌};
+ghost use Rattle.wm_machine.specs.Closed.{is_open};
+ghost use Rattle.wm_machine.specs.First.{is_succeeded, is_waiting};
+
 use std::alloc::{AllocError, Global};
 use wm_collections::{Items, Replica, Text};
 use wm_data::Data;
@@ -17,6 +21,29 @@ pub enum Phase {
     Waiting,
     Running,
     Done(How),
+}
+
+impl Phase {
+    /// Whether the work isn't finished.
+    pub fn is_open(self) -> bool
+        ensures { result ≡ is_open self }
+    {
+        !matches!(self, Phase::Done(_))
+    }
+
+    /// Whether the work waits to be started.
+    pub fn is_waiting(self) -> bool
+        ensures { result ≡ is_waiting self }
+    {
+        matches!(self, Phase::Waiting)
+    }
+
+    /// Whether the work has succeeded.
+    pub fn is_succeeded(self) -> bool
+        ensures { result ≡ is_succeeded self }
+    {
+        matches!(self, Phase::Done(How::Succeeded))
+    }
 }
 
 /// The state that is shown of a work, after `androidx.work.WorkInfo.State`.

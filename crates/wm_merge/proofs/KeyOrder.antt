@@ -7,10 +7,11 @@ use Rattle.std.specs.Cmp.Lexicographic.{slice_cmp}
 use Rattle.std.specs.List.{AllByRecursion, cons_option}
 use Rattle.std.specs.Option.{option_or}
 use Rattle.std.specs.Ordering.{ordering_reverse}
+use Rattle.wm_collections.proofs.Lists.{All-weaker, filter-each, filter-none, filter_map-same, find-same, map-filter}
 use Rattle.wm_collections.specs.Lists.{AscendByBytes}
 use Rattle.wm_data.specs.Entries.{is_after, is_at, is_before, with_entry}
 use Rattle.wm_data.specs.declared.data.DataEntry.{DataEntry}
-use Rattle.wm_data.proofs.Places.{all_weaker, filter_all, filter_none, keys, same_key}
+use Rattle.wm_data.proofs.Places.{keys, same_key}
 use Rattle.wm_merge.specs.Growing.{least_of, noted}
 use Rattle.wm_merge.specs.Inputs.{with_key}
 
@@ -37,22 +38,6 @@ find_dropped p x ys false h e = e
 find_filter_none : {X : Type 0} (p q : X → Bool) → ((x : X) → p x ≡ true → q x ≡ false) → (xs : List X) → find p (filter q xs) ≡ None
 find_filter_none p q h [] = refl
 find_filter_none p q h (x ∷ xs) = find_dropped p x (filter q xs) (q x) (h x) (find_filter_none p q h xs)
-
-find_same : {X : Type 0} (p q : X → Bool) (xs : List X) → AllByRecursion (λ x. p x ≡ q x) xs → find p xs ≡ find q xs
-find_same p q [] all = refl
-find_same p q (x ∷ xs) all = rw all.0 (ap (cond (q x) (Some x)) (find_same p q xs all.1))
-
-pub filter_map_same : {X Y : Type 0} (g h : X → Option Y) (xs : List X) → AllByRecursion (λ x. g x ≡ h x) xs → filter_map g xs ≡ filter_map h xs
-filter_map_same g h [] all = refl
-filter_map_same g h (x ∷ xs) all = rw all.0 (ap (cons_option (h x)) (filter_map_same g h xs all.1))
-
-map_cond : {X Y : Type 0} (f : X → Y) (b : Bool) (x : X) (ys : List X) (zs : List Y) → map f ys ≡ zs → map f (cond b (x ∷ ys) ys) ≡ cond b (f x ∷ zs) zs
-map_cond f true x ys zs e = ap (λ rest. f x ∷ rest) e
-map_cond f false x ys zs e = e
-
-map_filter : {X Y : Type 0} (f : X → Y) (q : Y → Bool) (xs : List X) → map f (filter (λ x. q (f x)) xs) ≡ filter q (map f xs)
-map_filter f q [] = refl
-map_filter f q (x ∷ xs) = map_cond f (q (f x)) x (filter (λ y. q (f y)) xs) (filter q (map f xs)) (map_filter f q xs)
 
 option_or_none : {X : Type 0} (o : Option X) → option_or o None ≡ o
 option_or_none None = refl
@@ -103,20 +88,17 @@ pub keys-with_entry : (entry : DataEntry) (entries : List DataEntry) → keys (w
 keys-with_entry entry entries =
     map-append (λ e. e.key) (filter (is_before entry.key) entries) (entry ∷ filter (is_after entry.key) entries)
     ∙ ap (λ front. front ++ entry.key ∷ keys (filter (is_after entry.key) entries))
-    (map_filter (λ e. e.key) (λ k. is_lt (slice_cmp nat_cmp k entry.key)) entries)
+    (map-filter (λ e. e.key) (λ k. is_lt (slice_cmp nat_cmp k entry.key)) entries)
     ∙ ap (λ back. filter (λ k. is_lt (slice_cmp nat_cmp k entry.key)) (keys entries) ++ entry.key ∷ back)
-    (map_filter (λ e. e.key) (λ k. is_gt (slice_cmp nat_cmp k entry.key)) entries)
+    (map-filter (λ e. e.key) (λ k. is_gt (slice_cmp nat_cmp k entry.key)) entries)
 
 -- entries whose keys ascend are what is found under their keys
 pub found_by_keys : (entries : List DataEntry) → AscendByBytes (keys entries) → filter_map (λ key. find (is_at key) entries) (keys entries) ≡ entries
 found_by_keys [] up = refl
 found_by_keys (entry ∷ entries) up =
-    rw (tied_itself nat_list_cmp_total entry.key)
-    (ap (λ rest. entry ∷ rest)
-    (filter_map_same (λ key. find (is_at key) (entry ∷ entries)) (λ key. find (is_at key) entries) (keys entries)
-    (all_weaker (λ key. slice_cmp nat_cmp entry.key key ≡ Less) (λ key. find (is_at key) (entry ∷ entries) ≡ find (is_at key) entries)
-    (λ key less. rw less refl) (keys entries) up.0)
-    ∙ found_by_keys entries up.1))
+    rw (tied_itself nat_list_cmp_total entry.key) (ap (λ rest. entry ∷ rest)
+    (filter_map-same (λ key. find (is_at key) (entry ∷ entries)) (λ key. find (is_at key) entries) (keys entries)
+    (All-weaker (keys entries) (λ key less. rw less refl) up.0) ∙ found_by_keys entries up.1))
 
 -- ---- the least key
 
@@ -128,8 +110,8 @@ reversed key other o e = nat_list_cmp_total.antisymm key other ∙ ap ordering_r
 
 with_key-before : (key : List ℕ) (ks : List (List ℕ)) → AllAfter key ks → with_key key ks ≡ key ∷ ks
 with_key-before key ks after = rw (
-  filter_none (λ k. is_lt (slice_cmp nat_cmp k key)) ks (all_weaker _ (λ k. is_lt (slice_cmp nat_cmp k key) ≡ false) (λ k e. ap is_lt e) ks after),
-  filter_all (λ k. is_gt (slice_cmp nat_cmp k key)) ks (all_weaker _ (λ k. is_gt (slice_cmp nat_cmp k key) ≡ true) (λ k e. ap is_gt e) ks after),
+  filter-none (λ k. is_lt (slice_cmp nat_cmp k key)) ks (All-weaker ks (λ k e. ap is_lt e) after),
+  filter-each (λ k. is_gt (slice_cmp nat_cmp k key)) ks (All-weaker ks (λ k e. ap is_gt e) after),
 ) refl
 
 least_cond : (key k : List ℕ) (b : Bool) (rest : Option (List ℕ)) → slice_cmp nat_cmp key k ≡ Less → least_of key rest ≡ Some key
@@ -160,14 +142,13 @@ find_before key p q mixed ks changed after none =
     rw (
       changed.at,
       none,
-      find_same q p ks (all_weaker _ (λ k. q k ≡ p k) (λ k e. changed.off k (ap is_eq (reversed key k Greater e))) ks after),
+      find-same q p ks (All-weaker ks (λ k e. changed.off k (ap is_eq (reversed key k Greater e))) after),
     ) (noted-before mixed key (find p ks) (least_of-before key p ks after))
 
 -- the first key is the key itself
 find_here : (key : List ℕ) (p q : List ℕ → Bool) (mixed : Bool) (ks : List (List ℕ)) → IsChanged key p q mixed → AllAfter key ks → (b : Bool) → p key ≡ b
     → find q (key ∷ ks) ≡ noted mixed key (cond b (Some key) (find p ks))
-find_here key p q mixed ks changed after true e =
-    rw (changed.at, e) (sym (noted-after mixed key key (ap is_lt (tied_itself nat_list_cmp_total key))))
+find_here key p q mixed ks changed after true e = rw (changed.at, e) (sym (noted-after mixed key key (ap is_lt (tied_itself nat_list_cmp_total key))))
 find_here key p q mixed ks changed after false e = find_before key p q mixed ks changed after e
 
 -- the first key is before the key
@@ -188,19 +169,14 @@ find_by_first key p q mixed k ks Less e changed up there later =
     rw (e, changed.off k (ap is_eq after), later (λ all. there (ap is_eq e, all))) (find_past key k mixed (p k) (find p ks) after)
 find_by_first key p q mixed k ks Equal e changed up there later =
     let same = same_key k key e in
-    let after : AllAfter key ks =
-    all_weaker (λ x. slice_cmp nat_cmp k x ≡ Less) (λ x. slice_cmp nat_cmp x key ≡ Greater)
-    (λ x less. ap (λ y. slice_cmp nat_cmp x y) (sym same) ∙ reversed x k Less less) ks up.0 in
+    let after : AllAfter key ks = All-weaker ks (λ x less. ap (λ y. slice_cmp nat_cmp x y) (sym same) ∙ reversed x k Less less) up.0 in
     rw (e, with_key-before key ks after, same) (find_here key p q mixed ks changed after (p key) refl)
 find_by_first key p q mixed k ks Greater e changed up there later =
     let after : AllAfter key (k ∷ ks) = (
       e,
-      all_weaker (λ x. slice_cmp nat_cmp k x ≡ Less) (λ x. slice_cmp nat_cmp x key ≡ Greater)
-          (λ x less. reversed x key Less (nat_list_cmp_total.trans key k x (reversed key k Greater e) less)) ks up.0,
+      All-weaker ks (λ x less. reversed x key Less (nat_list_cmp_total.trans key k x (reversed key k Greater e) less)) up.0,
     ) in
-    rw (with_key-before key (k ∷ ks) after)
-    (find_before key p q mixed (k ∷ ks) changed after
-    (there (all_weaker _ (λ x. is_eq (slice_cmp nat_cmp x key) ≡ false) (λ x e. ap is_eq e) (k ∷ ks) after)))
+    rw (with_key-before key (k ∷ ks) after) (find_before key p q mixed (k ∷ ks) changed after (there (All-weaker (k ∷ ks) (λ x e. ap is_eq e) after)))
 
 -- the least key that passes, with a key more
 pub find-with_key : (key : List ℕ) (p q : List ℕ → Bool) (mixed : Bool) (ks : List (List ℕ)) → IsChanged key p q mixed → AscendByBytes ks

@@ -36,8 +36,7 @@ fold-ordered : (how : Merger) (grown : Grown) (entries : List DataEntry) → All
     → AreOrdered (fold (grown_with how) grown entries).entries
 fold-ordered how grown [] named ordered = ordered
 fold-ordered how grown (entry ∷ entries) named ordered =
-    fold-ordered how (grown_with how grown entry) entries named.1
-    (beside-ordered how grown entry (find (is_at entry.key) grown.entries) named.0 ordered)
+    fold-ordered how (grown_with how grown entry) entries named.1 (beside-ordered how grown entry (find (is_at entry.key) grown.entries) named.0 ordered)
 
 -- ---- all entries
 

@@ -1,6 +1,7 @@
 -- What has grown of all entries is what the inputs become, and the code leaves what has grown.
 use Rattle.std.proofs.Common.{◌≡◌, ℕ, zero, suc, ◌<◌, ◌≤◌, Bool, true, false, cond, Option, None, is_some, unwrap_or, true≢false, List, [], ◌∷◌, ◌++◌, append_assoc, append-nil, length, filter_map, find, fold, get_or, set, insert, Some, slice_get, refl, sym, ap, ◌∙◌, subst, arith}
 use Rattle.std.specs.List.{AllByRecursion}
+use Rattle.wm_collections.proofs.Lists.{All-any, filter_map-same}
 use Rattle.wm_data.specs.Entries.{is_at, with_entry, IsFoundAt, IsMissingAt}
 use Rattle.wm_data.specs.declared.data.DataEntry.{DataEntry}
 use Rattle.wm_data.specs.declared.merger.Merger.{Merger}
@@ -11,7 +12,7 @@ use Rattle.wm_data.proofs.Puts.{all_with_entry, ascend_with_entry, with_entry-in
 use Rattle.wm_merge.specs.Growing.{differs, grown_beside, grown_with, next_value, noted, nothing_grown, AreOrdered, Grown}
 use Rattle.wm_merge.specs.Inputs.{all_entries, by_key, entry_of, keys_of, values_of}
 use Rattle.wm_merge.specs.Merged.{answer_of, merged}
-use Rattle.wm_merge.proofs.KeyOrder.{filter_map_same, found_by_keys, key_at, keys-set, named-set}
+use Rattle.wm_merge.proofs.KeyOrder.{found_by_keys, key_at, keys-set, named-set}
 use Rattle.wm_merge.proofs.Steps.{first_conflict, nothing, step, IsMerging}
 use Rattle.wm_merge.proofs.Values.{merged_value}
 
@@ -23,16 +24,11 @@ steps how done (entry ∷ rest) grown is =
     subst (λ all. IsMerging how all (fold (grown_with how) (grown_with how grown entry) rest)) (append_assoc done (entry ∷ []) rest)
     (steps how (done ++ entry ∷ []) rest (grown_with how grown entry) (step how done grown entry is))
 
-all_by : {X : Type 0} (P : X → Type 0) → ((x : X) → P x) → (xs : List X) → AllByRecursion P xs
-all_by P h [] = tt
-all_by P h (x ∷ xs) = (h x, all_by P h xs)
-
 entries_are : (how : Merger) (done : List DataEntry) (grown : Grown) → IsMerging how done grown → grown.entries ≡ by_key (merged_value how) done
 entries_are how done grown is =
     sym (found_by_keys grown.entries is.ascending)
-    ∙ filter_map_same (λ key. find (is_at key) grown.entries) (λ key. entry_of key (merged_value how (values_of key done))) (keys grown.entries)
-    (all_by _ is.found (keys grown.entries))
-    ∙ ap (filter_map (λ key. entry_of key (merged_value how (values_of key done)))) is.keys_are
+    ∙ filter_map-same (λ key. find (is_at key) grown.entries) (λ key. entry_of key (merged_value how (values_of key done))) (keys grown.entries)
+    (All-any (keys grown.entries) is.found) ∙ ap (filter_map (λ key. entry_of key (merged_value how (values_of key done)))) is.keys_are
 
 find_never : (keys : List (List ℕ)) → find (λ key. false) keys ≡ None
 find_never [] = refl
@@ -79,11 +75,9 @@ get-here (x ∷ xs) (suc i) d h = get-here xs i d (omega arith)
 pub grown_with-set : (how : Merger) (grown : Grown) (entry read written now : DataEntry) (index : ℕ) (conflicts : Bool) (least : Option (List ℕ))
     → IsFoundAt entry.key grown.entries index → read ≡ get_or grown.entries index read → written ≡ get_or grown.entries index written
     → conflicts ≡ differs how read.value entry.value → least ≡ noted conflicts entry.key grown.conflict
-    → now.key ≡ written.key → now.value ≡ next_value how written.value entry.value
-    → grown_of least (set grown.entries index now) ≡ grown_with how grown entry
+    → now.key ≡ written.key → now.value ≡ next_value how written.value entry.value → grown_of least (set grown.entries index now) ≡ grown_with how grown entry
 grown_with-set how grown entry read written now index conflicts least found reads writes conflicts_are least_is key value =
-    let at_read : find (is_at entry.key) grown.entries ≡ Some read =
-    sym found.here ∙ get-here grown.entries index read found.within ∙ ap Some (sym reads) in
+    let at_read : find (is_at entry.key) grown.entries ≡ Some read = sym found.here ∙ get-here grown.entries index read found.within ∙ ap Some (sym reads) in
     let at_written : find (is_at entry.key) grown.entries ≡ Some written =
     sym found.here ∙ get-here grown.entries index written found.within ∙ ap Some (sym writes) in
     let one : written ≡ read = ap (λ o. unwrap_or o read) (sym at_written ∙ at_read) in

@@ -6,12 +6,13 @@ use Rattle.std.proofs.lemmas.List.Elements.{filter-append}
 use Rattle.std.proofs.lemmas.List.Sums.{fold_push}
 use Rattle.std.specs.Cmp.Lexicographic.{slice_cmp}
 use Rattle.std.specs.List.{AllByRecursion}
+use Rattle.wm_collections.proofs.Lists.{All-unmap, find-fails}
 use Rattle.wm_collections.specs.Lists.{AscendByBytes}
 use Rattle.wm_data.specs.Entries.{is_at, with_entry}
 use Rattle.wm_data.specs.declared.data.DataEntry.{DataEntry}
 use Rattle.wm_data.specs.declared.merger.Merger.{Merger}
 use Rattle.wm_data.specs.declared.value.Value.{Value}
-use Rattle.wm_data.proofs.Places.{all_of_mapped, find_none, keys}
+use Rattle.wm_data.proofs.Places.{keys}
 use Rattle.wm_data.proofs.Puts.{ascend_with_entry}
 use Rattle.wm_merge.specs.Growing.{differs, first_value, grown_beside, grown_with, next_value, noted, nothing_grown, Grown}
 use Rattle.wm_merge.specs.Inputs.{entry_of, keys_of, values_of, with_key}
@@ -26,8 +27,7 @@ values_of-same key done entry e =
     ap (map (λ x. x.value)) (filter-append (is_at key) done (entry ∷ []) ∙ rw e refl) ∙ map-append (λ x. x.value) (filter (is_at key) done) (entry ∷ [])
 
 values_of-other : (key : List ℕ) (done : List DataEntry) (entry : DataEntry) → is_at key entry ≡ false → values_of key (done ++ entry ∷ []) ≡ values_of key done
-values_of-other key done entry e =
-    ap (map (λ x. x.value)) (filter-append (is_at key) done (entry ∷ []) ∙ rw e (append-nil (filter (is_at key) done)))
+values_of-other key done entry e = ap (map (λ x. x.value)) (filter-append (is_at key) done (entry ∷ []) ∙ rw e (append-nil (filter (is_at key) done)))
 
 entry_of-none : (key : List ℕ) (o : Option Value) → entry_of key o ≡ None → o ≡ None
 entry_of-none key None e = refl
@@ -77,12 +77,10 @@ more how done grown entry v mixed is value at there =
     record { at = at; off = λ k e. ap (conflict how) (values_of-other k done entry e) } in
     record {
       ascending = ascend_with_entry (record { key = entry.key; value = v }) grown.entries is.ascending;
-      keys_are =
-          keys-with_entry (record { key = entry.key; value = v }) grown.entries ∙ ap (with_key entry.key) is.keys_are ∙ sym (keys_of-more done entry);
+      keys_are = keys-with_entry (record { key = entry.key; value = v }) grown.entries ∙ ap (with_key entry.key) is.keys_are ∙ sym (keys_of-more done entry);
       found = λ key. found_more how done grown entry v is value key (is_at key entry) refl;
       noted =
-          ap (noted mixed entry.key) is.noted
-          ∙ sym (ap (find (λ k. conflict how (values_of k (done ++ entry ∷ [])))) (keys_of-more done entry)
+          ap (noted mixed entry.key) is.noted ∙ sym (ap (find (λ k. conflict how (values_of k (done ++ entry ∷ [])))) (keys_of-more done entry)
           ∙ find-with_key entry.key _ _ mixed (keys_of done) changed (subst AscendByBytes is.keys_are is.ascending) there);
     }
 
@@ -103,8 +101,7 @@ step_beside how done grown entry (Some there) is e =
     more how done grown entry (next_value how there.value entry.value) (differs how there.value entry.value) is
     (ap (merged_value how) now ∙ merged_value-next how (values_of entry.key done) there.value entry.value value)
     (ap (conflict how) now ∙ conflict-next how (values_of entry.key done) there.value entry.value value)
-    (λ all. absurd (true≢false (ap is_some (sym e ∙ find_none (is_at entry.key) grown.entries
-    (all_of_mapped (λ x. x.key) (λ k. is_eq (slice_cmp nat_cmp k entry.key) ≡ false) grown.entries
+    (λ all. absurd (true≢false (ap is_some (sym e ∙ find-fails (is_at entry.key) grown.entries (All-unmap _ (λ x. x.key) grown.entries
     (subst (AllByRecursion (λ k. is_eq (slice_cmp nat_cmp k entry.key) ≡ false)) (sym is.keys_are) all))))))
 
 pub step : (how : Merger) (done : List DataEntry) (grown : Grown) (entry : DataEntry) → IsMerging how done grown

@@ -6,9 +6,9 @@ use Rattle.wm_machine.specs.Queried.{is_state}
 use Rattle.wm_machine.specs.Shown.{shown_of}
 use Rattle.wm_machine.specs.Summarized.{count_in}
 use Rattle.wm_machine.specs.declared.record.Record.{Record}
+use Rattle.wm_machine.specs.declared.state.State.{State}
 use Rattle.wm_machine.specs.declared.record.Shown.{Shown}
 use Rattle.wm_machine.specs.declared.reply.Counts.{Counts}
-use Rattle.wm_machine.specs.declared.state.State.{State}
 
 -- how many of the first works are in this shown state
 abbrev pub count_among : Shown → List Record → ℕ → ℕ

@@ -16,8 +16,7 @@ drop-at works i j work next below is = let e = drop_more works i work below in c
 -- with a startable work more, the first is the earlier of it and the first so far
 pub first_from-startable : (s : State) (i j : ℕ) (work : Record) → j ≡ i + 1 → i < length s.works → work ≡ get_or s.works i work → is_startable s work ≡ true
     → first_from s i ≡ Some (earlier_of work (first_from s j))
-first_from-startable s i j work next below is startable =
-    rw (drop-at s.works i j work next below is) (rw startable refl)
+first_from-startable s i j work next below is startable = rw (drop-at s.works i j work next below is) (rw startable refl)
 
 -- the first work from the beginning on is the first of all
 pub first_of-at : (s : State) (index : ℕ) (first : Option ℕ) → index ≤ 0 → first_from s index ≡ option_and_then (slice_get s.works) first

@@ -13,5 +13,5 @@ mod scan;
 
 pub use counts::counts_of;
 pub use infos::info;
-pub use queries::{answer, answer_to, matches};
-pub use scan::{all_met, due, first_index, idle_in, is_waiting};
+pub use queries::{answer, answer_to, has_tag, is_name, matches};
+pub use scan::{all_met, due, first_index, idle_in};

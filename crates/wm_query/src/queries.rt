@@ -2,7 +2,8 @@
 ghost use Rattle.std.specs.List.{list_any};
 ghost use Rattle.std.specs.Prelude.{◌≡◌, ◌&&◌, filter, IfOk};
 ghost use Rattle.std.specs.Str.{bytes_eq};
-ghost use Rattle.wm_machine.specs.Queried.{answer_to, any_or_empty, is_named, is_state, matches};
+ghost use Rattle.wm_machine.specs.Queried.{answer_to, any_or_empty, has_tag, is_state, matches};
+ghost use Rattle.wm_machine.specs.Group.{is_name};
 ghost use Rattle.wm_machine.specs.Shown.{info_in};
 ghost use Rattle.wm_machine.specs.Valid.{Valid};
 
@@ -20,12 +21,12 @@ fn any_id(asked: &[Uuid], id: Uuid) -> bool
     asked.is_empty() || asked.iter().any(|one| id == *one)
 }
 
-/// Whether a work has this name.
-fn is_named(name: &Option<Text>, other: &Text) -> bool
-    ensures { result ≡ is_named name.now other.now }
+/// Whether a unique name, where there is one, is this.
+pub fn is_name(name: &Text, own: &Option<Text>) -> bool
+    ensures { result ≡ is_name name.now own.now }
 {
-    match name {
-        Some(own) => *own == *other,
+    match own {
+        Some(own) => *own == *name,
         None => false,
     }
 }
@@ -33,9 +34,9 @@ fn is_named(name: &Option<Text>, other: &Text) -> bool
 /// Whether the name that a work has is one of those asked for, or none is.
 #[tactic(auto, using(crate::proofs::Groups::any_or_empty_is))]
 fn any_name(asked: &[Text], name: &Option<Text>) -> bool
-    ensures { result ≡ any_or_empty (is_named name.now) asked.now }
+    ensures { result ≡ any_or_empty (λ one. is_name one name.now) asked.now }
 {
-    asked.is_empty() || asked.iter().any(|one| is_named(name, one))
+    asked.is_empty() || asked.iter().any(|one| is_name(one, name))
 }
 
 /// Whether two shown states are the same.
@@ -53,17 +54,17 @@ fn any_state(asked: &[Shown], state: Shown) -> bool
     asked.is_empty() || asked.iter().any(|one| is_state(state, *one))
 }
 
-/// Whether a work of these tags has the tag.
-fn has_tag(tags: &[Text], tag: &Text) -> bool
-    ensures { result ≡ list_any (bytes_eq tag.now) tags.now }
+/// Whether a tag is one of these.
+pub fn has_tag(tags: &[Text], tag: &Text) -> bool
+    ensures { result ≡ has_tag tags.now tag.now }
 {
-    tags.iter().any(|own| *tag == *own)
+    tags.iter().any(|own| *own == *tag)
 }
 
 /// Whether one of these tags is among those asked for, or none is asked for.
 #[tactic(auto, using(crate::proofs::Groups::any_or_empty_is))]
 fn any_tag(asked: &[Text], tags: &[Text]) -> bool
-    ensures { result ≡ any_or_empty (λ tag. list_any (bytes_eq tag) tags.now) asked.now }
+    ensures { result ≡ any_or_empty (has_tag tags.now) asked.now }
 {
     asked.is_empty() || asked.iter().any(|tag| has_tag(tags, tag))
 }
@@ -77,9 +78,9 @@ fn matches_parts(
     tags: &[Text],
 ) -> bool
     ensures { result ≡ (any_or_empty (λ one. bytes_eq id one) query.now.ids
-        && any_or_empty (is_named name.now) query.now.names
+        && any_or_empty (λ one. is_name one name.now) query.now.names
         && any_or_empty (is_state state) query.now.states
-        && any_or_empty (λ tag. list_any (bytes_eq tag) tags.now) query.now.tags) }
+        && any_or_empty (has_tag tags.now) query.now.tags) }
 {
     any_id(query.ids.as_slice(), id)
         && any_name(query.names.as_slice(), name)

@@ -5,12 +5,12 @@ ghost use Rattle.std.specs.Option.{option_copied};
 ghost use Rattle.std.specs.Prelude.{◌≡◌, ◌<◌, length, Some, None, slice_get, option_and_then, IfSome, MatchOption};
 ghost use Rattle.wm_collections.specs.Lists.{AllLater};
 ghost use Rattle.wm_machine.specs.Due.{due_of, times_of};
-ghost use Rattle.wm_machine.specs.First.{all_met, comes_before, earlier_of, first_of, has_room, has_succeeded, idle_instance, is_idle, is_live, is_startable, is_succeeded, is_waiting};
+ghost use Rattle.wm_machine.specs.First.{all_met, comes_before, earlier_of, first_of, has_room, has_succeeded, idle_instance, is_idle, is_live, is_startable};
 ghost use Rattle.wm_machine.specs.Valid.{Valid, IsBefore, IsRecord};
 ghost use Rattle.wm_machine.specs.declared.record.Record.{Record};
 
 use wm_conditions::met;
-use wm_machine::{How, Instance, Phase, Record, State, work_numbered};
+use wm_machine::{Instance, Record, State, work_numbered};
 use wm_schedule::Times;
 
 /// What the moment from which on a work may start depends on.
@@ -36,26 +36,13 @@ pub fn due(work: &Record) -> u64
     wm_schedule::due(&times_of(work))
 }
 
-/// Whether a phase is that of work that waits to start.
-pub fn is_waiting(phase: Phase) -> bool
-    ensures { result ≡ is_waiting phase }
-{
-    matches!(phase, Phase::Waiting)
-}
-
-fn is_succeeded(phase: Phase) -> bool
-    ensures { result ≡ is_succeeded phase }
-{
-    matches!(phase, Phase::Done(How::Succeeded))
-}
-
 /// Whether the record of this number has succeeded.
 pub fn has_succeeded(works: &[Record], number: u64) -> bool
     requires { AllLater IsBefore works.now }
     ensures { result ≡ has_succeeded works.now number }
 {
     match work_numbered(works, number) {
-        Some(work) => is_succeeded(work.phase),
+        Some(work) => work.phase.is_succeeded(),
         None => false,
     }
 }
@@ -108,7 +95,7 @@ fn is_startable(state: &State, work: &Record) -> bool
     requires record { IsRecord work.now }
     ensures { result ≡ is_startable state.entry.now work.now }
 {
-    is_waiting(work.phase)
+    work.phase.is_waiting()
         && all_met(state.works.as_slice(), work)
         && due(work) <= state.now
         && met(&work.request.constraints(), &state.conditions)

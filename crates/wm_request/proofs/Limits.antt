@@ -54,8 +54,7 @@ module _ (P : Result RequestFields RequestFault → Type 0) (asked : RequestFiel
   cases_by false many long class_is tags_are delay_is = no_class
   cases_by true true long class_is tags_are delay_is = many_tags
   cases_by true false true class_is tags_are delay_is = long_delay
-  cases_by true false false class_is tags_are delay_is =
-      built (IsWithin-building asked building class_is (ltb-false 32 (length asked.tags) tags_are) delay_is)
+  cases_by true false false class_is tags_are delay_is = built (IsWithin-building asked building class_is (ltb-false 32 (length asked.tags) tags_are) delay_is)
 
   -- what holds of each fault, and of a request within its limits, holds of what a build answers
   pub built_of-cases : P (built_of asked)

@@ -22,8 +22,7 @@ All-placed_by P tag other tags Greater h all later = (all.0, later)
 -- what holds of a tag and of each of the others holds of them all
 All-with_tag : (P : List ℕ → Type 0) (tag : List ℕ) (tags : List (List ℕ)) → P tag → AllByRecursion P tags → AllByRecursion P (with_tag tag tags)
 All-with_tag P tag [] h all = (h, tt)
-All-with_tag P tag (other ∷ tags) h all =
-    All-placed_by P tag other tags (slice_cmp nat_cmp tag other) h all (All-with_tag P tag tags h all.1)
+All-with_tag P tag (other ∷ tags) h all = All-placed_by P tag other tags (slice_cmp nat_cmp tag other) h all (All-with_tag P tag tags h all.1)
 
 -- a tag comes before the other, and so before all that come after that one
 ComesBefore : List ℕ → List ℕ → Type 0
@@ -46,8 +45,7 @@ ascend-placed_by tag other tags Greater is up later =
 
 ascend-with_tag : (tag : List ℕ) (tags : List (List ℕ)) → AscendByBytes tags → AscendByBytes (with_tag tag tags)
 ascend-with_tag tag [] up = (tt, tt)
-ascend-with_tag tag (other ∷ tags) up =
-    ascend-placed_by tag other tags (slice_cmp nat_cmp tag other) refl up (ascend-with_tag tag tags up.1)
+ascend-with_tag tag (other ∷ tags) up = ascend-placed_by tag other tags (slice_cmp nat_cmp tag other) refl up (ascend-with_tag tag tags up.1)
 
 pub AreSortedTags-with_tag : (tag : List ℕ) (tags : List (List ℕ)) → IsShortText tag → AreSortedTags tags → AreSortedTags (with_tag tag tags)
 AreSortedTags-with_tag tag tags short sorted = record {
@@ -65,24 +63,3 @@ module _ (tag : List ℕ) (tags : List (List ℕ)) (index : ℕ) (here : List �
     (goes : GoesOn tag tags index) where
   rest : drop index tags ≡ here ∷ drop (index + 1) tags
   rest = drop_more tags index here within ∙ ap (λ first. first ∷ drop (index + 1) tags) (sym is)
-
-  at_here : (order : Ordering) → slice_cmp nat_cmp tag here ≡ order
-      → with_tag tag tags ≡ take index tags ++ placed_by tag here (drop (index + 1) tags) order
-  at_here order compared = goes ∙ ap (λ xs. take index tags ++ with_tag tag xs) rest
-      ∙ ap (λ o. take index tags ++ placed_by tag here (drop (index + 1) tags) o) compared
-
-  pub place-less : slice_cmp nat_cmp tag here ≡ Less → with_tag tag tags ≡ insert tags index tag
-  place-less compared = at_here Less compared ∙ ap (λ xs. take index tags ++ tag ∷ xs) (sym rest)
-
-  pub place-equal : slice_cmp nat_cmp tag here ≡ Equal → with_tag tag tags ≡ tags
-  place-equal compared = at_here Equal compared ∙ ap (λ xs. take index tags ++ xs) (sym rest) ∙ take-append-drop index tags
-
-  pub place-greater : slice_cmp nat_cmp tag here ≡ Greater → GoesOn tag tags (index + 1)
-  place-greater compared =
-      at_here Greater compared ∙ sym (append_assoc (take index tags) (here ∷ []) (with_tag tag (drop (index + 1) tags)))
-      ∙ ap (λ front. front ++ with_tag tag (drop (index + 1) tags)) (ap (λ last. take index tags ++ last ∷ []) is ∙ sym (take_more tags index here within))
-
-pub place-last : (tag : List ℕ) (tags : List (List ℕ)) (index : ℕ) → length tags ≤ index → GoesOn tag tags index → with_tag tag tags ≡ insert tags index tag
-place-last tag tags index past goes =
-    let none : drop index tags ≡ [] = drop_all index tags past in
-    goes ∙ ap (λ xs. take index tags ++ with_tag tag xs) none ∙ ap (λ xs. take index tags ++ tag ∷ xs) (sym none)

@@ -1,29 +1,30 @@
 -- What is touched where a work comes to an end, and that the machine changes just that.
-use Rattle.std.proofs.Common.{◌≡◌, ℕ, ◌&&◌, Bool, true, false, cond, eqb, List, Option, Some, None, refl, sym, ◌∙◌, ap, subst}
+use Rattle.std.proofs.Common.{◌≡◌, ℕ, ◌&&◌, Bool, true, false, cond, eqb, List, [], ◌∷◌, Option, Some, None, refl, sym, ◌∙◌, ap, subst}
 use Rattle.std.specs.List.{AllByRecursion}
 use Rattle.std.proofs.lemmas.Bool.{and_parts, cond_both, eq-eqb, eqb-false, eqb-true, ne_eqb}
-use Rattle.wm_collections.specs.Lists.{AllLater}
+use Rattle.wm_collections.specs.Lists.{AllLater, HasOne, is_among}
 use Rattle.wm_data.specs.declared.data.DataEntry.{DataEntry}
+use Rattle.wm_machine.specs.declared.event.End.{End}
+use Rattle.wm_machine.specs.declared.record.How.{How}
+use Rattle.wm_schedule.specs.declared.schedule.Period.{Period}
+use Rattle.wm_machine.specs.declared.record.Record.{Record}
 use Rattle.wm_graph.specs.Marks.{freed_by}
 use Rattle.wm_machine.proofs.Endings.{closed_in, end_by, freed_in, not_started_by, success}
-use Rattle.wm_machine.proofs.Lists.{All-any, All-both, All-weaker}
-use Rattle.wm_machine.proofs.Runnings.{changed, IsAlone, IsAlone-stored}
-use Rattle.wm_machine.specs.Closed.{closed, is_among, is_open, is_reached}
+use Rattle.wm_collections.proofs.Lists.{All-any, All-weaker, All-with2}
+use Rattle.wm_machine.proofs.Runnings.{changed, IsAlone-stored}
+use Rattle.wm_machine.specs.Closed.{closed, is_open, is_reached}
 use Rattle.wm_machine.specs.Ends.{ended_as, enqueued_again, is_freed, not_started_as, retried, succeeded, with_output}
 use Rattle.wm_machine.specs.First.{is_waiting}
 use Rattle.wm_machine.specs.Runs.{changed_work}
-use Rattle.wm_machine.specs.Valid.{ArePriorSound, HasOne, IsBefore}
-use Rattle.wm_machine.specs.declared.event.End.{End}
+use Rattle.wm_machine.specs.Valid.{ArePriorSound, IsBefore}
 use Rattle.wm_machine.specs.declared.event.End.TheVariants.{Success, Failure, Retry}
-use Rattle.wm_machine.specs.declared.record.How.{How}
 use Rattle.wm_machine.specs.declared.record.How.TheVariants as how
-use Rattle.wm_machine.specs.declared.record.Record.{Record}
 use Rattle.wm_runs.specs.Reached.{change_by, end_reach, not_started_reach, reached_by}
 use Rattle.wm_runs.specs.declared.reach.Reach.{Reach}
 use Rattle.wm_runs.specs.declared.reach.Reach.TheVariants as reach
-use Rattle.wm_schedule.specs.declared.schedule.Period.{Period}
 use Rattle.wm_steps.proofs.ManyRows.{after_change}
-use Rattle.wm_steps.proofs.Nodes.{freed-nodes, itself_reached, open_not_succeeded, reached-test}
+use Rattle.wm_steps.proofs.Nodes.{freed-nodes, itself_reached, open_not_succeeded}
+use Rattle.wm_steps.proofs.ReachedNodes.{reached-test}
 use Rattle.wm_steps.specs.Nodes.{nodes_of, KeepsNode, reached_from}
 use Rattle.wm_steps.specs.Replacements.{or_same}
 
@@ -49,14 +50,11 @@ reached-keeps (reach.Frees numbers now) work =
 -- What holds of the record that is stored under a number, and of those of other numbers, holds of each. The record may have been changed.
 itself-or-other : (P : Record → Option Record → Type 0) (itself work : Record) (to : Reach) (works : List Record) → AllLater IsBefore works
     → HasOne (λ other. other ≡ work) works → itself.seq ≡ work.seq → P work (Some itself)
-    → AllByRecursion (λ w. (w.seq ≡ work.seq → ⊥) → P w (reached_by to w)) works
-    → AllByRecursion (λ w. P w (change_by itself to w)) works
+    → AllByRecursion (λ w. (w.seq ≡ work.seq → ⊥) → P w (reached_by to w)) works → AllByRecursion (λ w. P w (change_by itself to w)) works
 itself-or-other P itself work to works order stored same here others =
-    All-weaker (λ w. IsAlone work w × ((w.seq ≡ work.seq → ⊥) → P w (reached_by to w))) (λ w. P w (change_by itself to w)) works
-    (λ w facts. cond_both (eqb w.seq itself.seq) (Some itself) (reached_by to w) (P w)
-    (λ e. subst (λ w. P w (Some itself)) (sym (facts.0 (eqb-true w.seq itself.seq e ∙ same))) here)
-    (λ e. facts.1 (λ also. eqb-false w.seq itself.seq e (also ∙ sym same))))
-    (All-both (IsAlone work) (λ w. (w.seq ≡ work.seq → ⊥) → P w (reached_by to w)) works (IsAlone-stored work works order stored) others)
+    All-with2 works (λ w alone one. cond_both (eqb w.seq itself.seq) (Some itself) (reached_by to w) (P w)
+    (λ e. subst (λ w. P w (Some itself)) (sym (alone (eqb-true w.seq itself.seq e ∙ same))) here)
+    (λ e. one (λ also. eqb-false w.seq itself.seq e (also ∙ sym same)))) (IsAlone-stored work works order stored) others
 
 -- the work that comes to an end keeps its node, as all others do
 pub change-keeps : (itself work : Record) (to : Reach) (works : List Record) → AllLater IsBefore works → HasOne (λ other. other ≡ work) works
@@ -65,7 +63,7 @@ pub change-keeps : (itself work : Record) (to : Reach) (works : List Record) →
 change-keeps itself work to works order stored unfinished same prior =
     itself-or-other (λ w o. KeepsNode w (or_same w o)) itself work to works order stored same
     (record { seq = same; prior = prior; succeeded = λ is. absurd (open_not_succeeded work.phase unfinished is) })
-    (All-any (λ w. (w.seq ≡ work.seq → ⊥) → KeepsNode w (or_same w (reached_by to w))) works (λ w differs. reached-keeps to w))
+    (All-any works (λ w differs. reached-keeps to w))
 
 -- a change of one record leaves those of other numbers
 changed-miss : (change : Record → Record) (seq : ℕ) (work : Record) → (work.seq ≡ seq → ⊥) → changed change seq work ≡ work
@@ -77,35 +75,30 @@ changed-hit change seq work same = ap (λ b. cond b (change work) work) (eq-eqb 
 -- ---- one record alone
 
 pub stays-agree : (change : Record → Record) (itself work : Record) (works : List Record) → AllLater IsBefore works → HasOne (λ other. other ≡ work) works
-    → itself.seq ≡ work.seq → itself ≡ change work
-    → AllByRecursion (λ w. after_change (change_by itself reach.Stays) w ≡ changed change work.seq w) works
+    → itself.seq ≡ work.seq → itself ≡ change work → AllByRecursion (λ w. after_change (change_by itself reach.Stays) w ≡ changed change work.seq w) works
 stays-agree change itself work works order stored same is =
     itself-or-other (λ w o. or_same w o ≡ changed change work.seq w) itself work reach.Stays works order stored same
-    (is ∙ sym (changed-hit change work.seq work refl))
-    (All-any (λ w. (w.seq ≡ work.seq → ⊥) → w ≡ changed change work.seq w) works (λ w differs. sym (changed-miss change work.seq w differs)))
+    (is ∙ sym (changed-hit change work.seq work refl)) (All-any works (λ w differs. sym (changed-miss change work.seq w differs)))
 
 -- ---- the descendants
 
 closes-other : (way : How) (seq : ℕ) (works : List Record) (work : Record)
-    → or_same work (reached_by (reach.Closes way (reached_from seq (nodes_of works))) work) ≡ closed_in way seq works work
+    → or_same work (reached_by (reach.Closes way (reached_from (seq ∷ []) (nodes_of works))) work) ≡ closed_in way seq works work
 closes-other way seq works work =
-    or_same-cond (is_open work.phase && is_among (reached_from seq (nodes_of works)) work.seq) work (closed way work)
+    or_same-cond (is_open work.phase && is_among (reached_from (seq ∷ []) (nodes_of works)) work.seq) work (closed way work)
     ∙ ap (λ b. cond b (closed way work) work) (reached-test seq works work)
 
 -- a work is closed with its unfinished descendants, and then it may get an output
 pub closes-agree : (way : How) (then : Record → Record) (itself work : Record) (works : List Record) → AllLater IsBefore works
     → HasOne (λ other. other ≡ work) works → is_open work.phase ≡ true → itself.seq ≡ work.seq → itself ≡ then (closed way work)
     → ((other : Record) → (other.seq ≡ work.seq → ⊥) → then other ≡ other)
-    → AllByRecursion (λ w. after_change (change_by itself (reach.Closes way (reached_from work.seq (nodes_of works)))) w
+    → AllByRecursion (λ w. after_change (change_by itself (reach.Closes way (reached_from (work.seq ∷ []) (nodes_of works)))) w
     ≡ then (closed_in way work.seq works w)) works
 closes-agree way then itself work works order stored unfinished same is others =
-    let to = reach.Closes way (reached_from work.seq (nodes_of works)) in
+    let to = reach.Closes way (reached_from (work.seq ∷ []) (nodes_of works)) in
     itself-or-other (λ w o. or_same w o ≡ then (closed_in way work.seq works w)) itself work to works order stored same
-    (is ∙ ap (λ b. then (cond b (closed way work) work)) (sym (itself_reached work works stored unfinished)))
-    (All-any (λ w. (w.seq ≡ work.seq → ⊥) → or_same w (reached_by to w) ≡ then (closed_in way work.seq works w)) works
-    (λ w differs.
-    closes-other way work.seq works w
-    ∙ sym (others (closed_in way work.seq works w)
+    (is ∙ ap (λ b. then (cond b (closed way work) work)) (sym (itself_reached work works stored unfinished))) (All-any works (λ w differs.
+    closes-other way work.seq works w ∙ sym (others (closed_in way work.seq works w)
     (λ e. differs (cond_both (is_reached work.seq works w) (closed way w) w (λ c. c.seq ≡ work.seq → w.seq ≡ work.seq) (λ r s. s) (λ r s. s) e)))))
 
 -- ---- a success
@@ -116,8 +109,7 @@ frees-other : (now seq : ℕ) (output : List DataEntry) (works : List Record) (w
 frees-other now seq output works work test differs =
     let then = changed_work (succeeded output) seq works in
     let free : Record = record work { enqueued_at = now } in
-    or_same-cond (is_waiting work.phase && is_among (freed_by (nodes_of works) seq) work.seq) work free
-    ∙ ap (λ b. cond b free work) test
+    or_same-cond (is_waiting work.phase && is_among (freed_by (nodes_of works) seq) work.seq) work free ∙ ap (λ b. cond b free work) test
     ∙ ap (freed_in now seq then) (sym (changed-miss (succeeded output) seq work differs))
 
 pub frees-agree : (now : ℕ) (output : List DataEntry) (work : Record) (works : List Record) → AllLater IsBefore works
@@ -129,9 +121,7 @@ frees-agree now output work works order sound stored =
     let then = changed_work (succeeded output) work.seq works in
     itself-or-other (λ w o. or_same w o ≡ success now work.seq output works w) (succeeded output work) work to works order stored refl
     (ap (freed_in now work.seq then) (sym (changed-hit (succeeded output) work.seq work refl)))
-    (All-weaker (λ w. (is_waiting w.phase && is_among (freed_by (nodes_of works) work.seq) w.seq) ≡ is_freed work.seq then w)
-    (λ w. (w.seq ≡ work.seq → ⊥) → or_same w (reached_by to w) ≡ success now work.seq output works w) works
-    (λ w test differs. frees-other now work.seq output works w test differs) (freed-nodes work.seq output works order sound))
+    (All-weaker works (λ w test differs. frees-other now work.seq output works w test differs) (freed-nodes work.seq output works order sound))
 
 -- ---- the ends
 
@@ -157,8 +147,7 @@ pub end-agree : (period : Option Period) (now : ℕ) (end : End) (work : Record)
     → AllByRecursion (λ w. after_change (change_by (ended_as period now end work) (end_reach period now work.seq end (nodes_of works))) w
     ≡ end_by now work.seq period end works w) works
 end-agree None now Retry work works order sound stored unfinished = stays-agree (retried now) (retried now work) work works order stored refl refl
-end-agree (Some period) now Retry work works order sound stored unfinished =
-    stays-agree (retried now) (retried now work) work works order stored refl refl
+end-agree (Some period) now Retry work works order sound stored unfinished = stays-agree (retried now) (retried now work) work works order stored refl refl
 end-agree (Some period) now (Success output) work works order sound stored unfinished =
     stays-agree (enqueued_again now) (enqueued_again now work) work works order stored refl refl
 end-agree (Some period) now (Failure output) work works order sound stored unfinished =
@@ -166,8 +155,7 @@ end-agree (Some period) now (Failure output) work works order sound stored unfin
 end-agree None now (Success output) work works order sound stored unfinished = frees-agree now output work works order sound stored
 end-agree None now (Failure output) work works order sound stored unfinished =
     closes-agree how.Failed (changed (with_output output) work.seq) (with_output output (closed how.Failed work)) work works order stored unfinished refl
-    (sym (changed-hit (with_output output) work.seq (closed how.Failed work) refl))
-    (λ other differs. changed-miss (with_output output) work.seq other differs)
+    (sym (changed-hit (with_output output) work.seq (closed how.Failed work) refl)) (λ other differs. changed-miss (with_output output) work.seq other differs)
 
 -- and so does a failed start
 pub no_start-agree : (period : Option Period) (now : ℕ) (work : Record) (works : List Record) → AllLater IsBefore works

@@ -5,6 +5,7 @@ use Rattle.std.proofs.lemmas.Option.{none-some, same_Some}
 use Rattle.wm_machine.specs.Runs.{run_numbered}
 use Rattle.wm_machine.specs.declared.state.Run.{Run}
 use Rattle.wm_machine.specs.declared.state.State.{State}
+use Rattle.wm_worker.specs.declared.kind.Kind.{Kind}
 use Rattle.wm_runs.specs.Reports.{Counts, CountsIn}
 use Rattle.wm_worker.specs.Answers.{given_of, MayAnswer, MayGive}
 use Rattle.wm_worker.specs.Told.{task_of, IsAllowed, Report}
@@ -12,7 +13,6 @@ use Rattle.wm_worker.specs.declared.answer.Answer.{Answer}
 use Rattle.wm_worker.specs.declared.answer.Answer.TheVariants as answer
 use Rattle.wm_worker.specs.declared.answer.Given.{Given}
 use Rattle.wm_worker.specs.declared.answer.Given.TheVariants as given
-use Rattle.wm_worker.specs.declared.kind.Kind.{Kind}
 use Rattle.wm_worker.specs.declared.task.Task.{Task}
 
 -- a report that counts in a state counts for the run that is found

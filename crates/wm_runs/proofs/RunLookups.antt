@@ -1,19 +1,21 @@
 -- The work of a run, and the run of a number.
-use Rattle.std.proofs.Common.{◌≡◌, ℕ, ◌<◌, true, eqb, List, [], ◌∷◌, ◌++◌, length, find, slice_get, Option, Some, None, MatchOption, refl, sym, ap, subst, arith, inl, inr}
-use Rattle.std.specs.Prelude.{IfSome, IsSomeAnd}
-use Rattle.std.specs.List.{AllByRecursion, position}
+use Rattle.std.proofs.Common.{◌≡◌, ℕ, ◌<◌, eqb, List, [], ◌∷◌, ◌++◌, find, slice_get, Option, Some, refl, ◌∙◌, ap, subst, arith, inl, inr}
+use Rattle.std.specs.Prelude.{IsSomeAnd}
+use Rattle.std.specs.List.{AllByRecursion}
 use Rattle.std.proofs.lemmas.Bool.{cases_Bool, eq-eqb, eqb-true, ne_eqb}
 use Rattle.std.proofs.lemmas.Option.{none-some, same_Some}
-use Rattle.wm_machine.proofs.Lists.{find-passes, one_gives}
+use Rattle.wm_collections.proofs.Lists.{find-passes, one_gives}
 use Rattle.wm_machine.proofs.Runnings.{found_narrow, found_valid, WorksAscend, WorksAscend-in_order}
-use Rattle.wm_machine.specs.Narrow.{IsNarrow}
+use Rattle.wm_machine.specs.Input.{work_numbered}
+use Rattle.wm_machine.specs.Narrow.{IsReached}
 use Rattle.wm_machine.specs.Runs.{run_numbered}
 use Rattle.wm_machine.specs.Turns.{turned, with_turned}
-use Rattle.wm_machine.specs.Valid.{HasOne, IsValidRun, IsWorkOf, Valid}
+use Rattle.wm_collections.specs.Lists.{HasOne}
+use Rattle.wm_machine.specs.Valid.{IsWorkOf}
 use Rattle.wm_machine.specs.declared.record.Record.{Record}
 use Rattle.wm_machine.specs.declared.state.Run.{Run}
 use Rattle.wm_machine.specs.declared.state.State.{State}
-use Rattle.wm_steps.proofs.Lookups.{searched}
+use Rattle.wm_runs.specs.Reports.{IsFoundRun}
 
 -- the first record of a run's work number is the run's work
 pub find-work : (run : Run) (works : List Record) → WorksAscend works → HasOne (IsWorkOf run) works
@@ -23,24 +25,27 @@ find-work run (first ∷ works) ascend (inl is) =
     let hit = eq-eqb first.seq run.seq is.seq in
     rw hit is
 find-work run (first ∷ works) ascend (inr one) =
-    let above : first.seq < run.seq =
-    one_gives (λ later. first.seq < later.seq) (IsWorkOf run) (first.seq < run.seq) works
-    (λ later above is. subst (λ n. first.seq < n) is.seq above) ascend.0 one in
+    let above : first.seq < run.seq = one_gives works (λ later above is. subst (λ n. first.seq < n) is.seq above) ascend.0 one in
     let miss = ne_eqb first.seq run.seq (λ e. absurd (omega arith)) in
     rw miss (find-work run works ascend.1 one)
 
--- a search by a run's work number gives the run's work
-pub work-searched : (s : State) (run : Run) (found : Option ℕ) → Valid s → IsValidRun s run → run.current ≡ true
-    → found ≡ position (λ w. eqb w.seq run.seq) s.works → MatchOption found ⊥ (λ i. (i < length s.works) × IsSomeAnd (slice_get s.works i) (IsWorkOf run))
-work-searched s run None valid is current at =
-    subst (λ (o : Option Record). IsSomeAnd o (IsWorkOf run)) (searched (λ w. eqb w.seq run.seq) s.works None at)
-    (find-work run s.works (WorksAscend-in_order s.works valid.in_order) (is.work current))
-work-searched s run (Some i) valid is current at =
-    let there = searched (λ (w : Record). eqb w.seq run.seq) s.works (Some i) at in (
-      there.0,
-      subst (λ (o : Option Record). IsSomeAnd o (IsWorkOf run)) there.1
-          (find-work run s.works (WorksAscend-in_order s.works valid.in_order) (is.work current)),
-    )
+-- the record of a run's work number is the run's work
+pub work-found : (s : State) (number : ℕ) (run : Run) → IsReached s → run_numbered number s.runs ≡ Some run
+    → IsSomeAnd (work_numbered run.seq s.works) (IsWorkOf run)
+work-found s number run reached found =
+    let valid = reached.valid in
+    find-work run s.works (WorksAscend-in_order s.works valid.works.in_order)
+    ((found_valid s number run valid found).work (found_narrow s number run reached.narrow found))
+
+-- and so is the one at the index of that number
+pub found-at : (s : State) (number i : ℕ) (run : Run) (work : Record) → IsReached s → run_numbered number s.runs ≡ Some run
+    → slice_get s.works i ≡ Some work → work_numbered run.seq s.works ≡ slice_get s.works i → IsFoundRun s number i run work
+found-at s number i run work reached found at same = record {
+  reached = reached;
+  found = found;
+  at = at;
+  of = subst (λ (o : Option Record). IsSomeAnd o (IsWorkOf run)) (same ∙ at) (work-found s number run reached found);
+}
 
 -- ---- runs
 
@@ -66,9 +71,3 @@ run_numbered-turned number (first ∷ runs) run found = elim (cases_Bool (eqb fi
       rw (hit, hit) (ap (λ (r : Run). Some (turned r)) same)
   | inr miss ↦ rw (miss, miss) (run_numbered-turned number runs run (rw miss at found))
 ]
-
--- a run that is found is as all are
-pub found-fine : (s : State) (number : ℕ) (found : Option Run) → Valid s → IsNarrow s → found ≡ run_numbered number s.runs
-    → IfSome found (λ run. IsValidRun s run × (run.current ≡ true))
-found-fine s number None valid narrow is = tt
-found-fine s number (Some run) valid narrow is = (found_valid s number run valid (sym is), found_narrow s number run narrow (sym is))

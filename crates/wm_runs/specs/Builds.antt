@@ -1,4 +1,4 @@
--- What is built for an event of a run: the change of its step, and what is answered. This project's own choice.
+-- What is built for an event of a run: the change of its step, and what is answered.
 use Rattle.std.specs.Prelude.{◌≡◌, ℕ, Bool, true, List, [], Option, Some, None, IsSomeAnd, Result, Ok, Err, slice_get}
 use Rattle.wm_data.specs.declared.data.DataEntry.{DataEntry}
 use Rattle.wm_machine.specs.Ends.{given_by}

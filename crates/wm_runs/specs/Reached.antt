@@ -1,8 +1,9 @@
--- What the end of a work makes of the records: of the work itself, and of those that it reaches. This project's own choice.
-use Rattle.std.specs.Prelude.{ℕ, ◌==◌, ◌&&◌, List, if◌then◌else◌, Option, Some, None}
+-- What the end of a work makes of the records: of the work itself, and of those that it reaches.
+use Rattle.std.specs.Prelude.{ℕ, ◌==◌, ◌&&◌, List, [], ◌∷◌, if◌then◌else◌, Option, Some, None}
+use Rattle.wm_collections.specs.Lists.{is_among}
 use Rattle.wm_graph.specs.Marks.{freed_by}
 use Rattle.wm_graph.specs.Nodes.{NodeFields}
-use Rattle.wm_machine.specs.Closed.{closed, is_among, is_open}
+use Rattle.wm_machine.specs.Closed.{closed, is_open}
 use Rattle.wm_machine.specs.Ends.{ended, not_started}
 use Rattle.wm_machine.specs.First.{is_waiting}
 use Rattle.wm_machine.specs.declared.event.End.{End}
@@ -40,14 +41,14 @@ abbrev pub end_reach : Option Period → ℕ → ℕ → End → List NodeFields
 end_reach period now seq Retry nodes = reach.Stays
 end_reach (Some period) now seq _ nodes = reach.Stays
 end_reach None now seq (Success output) nodes = reach.Frees (freed_by nodes seq) now
-end_reach None now seq (Failure output) nodes = reach.Closes how.Failed (reached_from seq nodes)
+end_reach None now seq (Failure output) nodes = reach.Closes how.Failed (reached_from (seq ∷ []) nodes)
 
 abbrev pub replaced_by_end : State → Record → End → List Replacement
 replaced_by_end s work end = replaced_by (ended s.now end work) (end_reach work.request.period s.now work.seq end (nodes_of s.works)) s.works
 
 -- what a failed start reaches: that of one-time work closes its descendants
 abbrev pub not_started_reach : Option Period → ℕ → List NodeFields → Reach
-not_started_reach None seq nodes = reach.Closes how.Failed (reached_from seq nodes)
+not_started_reach None seq nodes = reach.Closes how.Failed (reached_from (seq ∷ []) nodes)
 not_started_reach (Some period) seq nodes = reach.Stays
 
 abbrev pub replaced_by_no_start : State → Record → List Replacement

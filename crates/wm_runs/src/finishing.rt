@@ -1,8 +1,6 @@
 //! How a run ends by the report of its worker.
 ghost use Rattle.std.specs.Prelude.{◌≡◌, true, false, IfOk, IsSome};
 ghost use Rattle.wm_machine.specs.Ends.{retried};
-ghost use Rattle.wm_machine.specs.Narrow.{IsNarrow};
-ghost use Rattle.wm_machine.specs.Valid.{Valid};
 ghost use Rattle.wm_runs.specs.Builds.{over, IsEndOf, IsFinish};
 ghost use Rattle.wm_runs.specs.Reached.{replaced_by, replaced_by_end};
 ghost use Rattle.wm_runs.specs.Reports.{goes_on, CountsIn};
@@ -11,13 +9,12 @@ ghost use Rattle.wm_steps.specs.StepChanges.{replacing_all};
 ghost use Rattle.wm_worker.specs.Answers.{given_of};
 
 use crate::reach::{Reach, end_reach, replaced_by};
-use crate::reports::{run_of, work_index};
+use crate::reports::{FoundRun, found_run};
 use std::alloc::{AllocError, Global};
 use wm_collections::{Items, Replica};
-use wm_graph::Graph;
 use wm_lifecycle::{ended, timed_out};
-use wm_machine::{End, Event, Record, Run, State};
-use wm_steps::{Replacement, RunChange, StepChange, at, with};
+use wm_machine::{End, Event, Record, Run};
+use wm_steps::{Replacement, RunChange, StepChange, View, both};
 use wm_worker::{Answer, Told};
 
 /// The change of the step by which a run is over.
@@ -29,31 +26,16 @@ pub struct Ending {
 }
 
 /// The end of the run of this number, for which the report counts, and which doesn't go on.
-pub fn finish(
-    alloc: Global,
-    state: &State,
-    graph: &Graph,
-    number: u64,
-    told: &Told,
-) -> Result<Ending, AllocError>
-    requires valid { Valid state.now }
-    requires narrow { IsNarrow state.now }
-    requires nodes { graph.now ≡ nodes_of state.now.works }
-    requires counts { CountsIn state.now number told.now }
+pub fn finish(alloc: Global, view: &View, number: u64, told: &Told) -> Result<Ending, AllocError>
+    requires counts { CountsIn view.now number told.now }
     requires over { goes_on told.now ≡ false }
     ensures { IfOk result (λ ending.
-        IsFinish state.entry.now number told.now ending.timed_out ending.change) }
+        IsFinish view.entry.now number told.now ending.timed_out ending.change) }
 {
-    let Some(run) = run_of(state, number) else {
-        unreachable!();
-    };
-    let Some(index) = work_index(state, run) else {
-        unreachable!();
-    };
-    let work = at(state.works.as_slice(), index);
+    let FoundRun { run, work, .. } = found_run(view, number);
     match end_of(alloc, told.answer())? {
-        Some(end) => finish_by(alloc, state, graph, work, run, end),
-        None => time_out(alloc, state, work, run),
+        Some(end) => finish_by(alloc, view, work, run, end),
+        None => time_out(alloc, view, work, run),
     }
 }
 
@@ -74,21 +56,19 @@ fn end_of(alloc: Global, answer: &Answer) -> Result<Option<End>, AllocError>
 /// The end of a run of a work by this end.
 fn finish_by(
     alloc: Global,
-    state: &State,
-    graph: &Graph,
+    view: &View,
     work: &Record,
     run: &Run,
     end: End,
 ) -> Result<Ending, AllocError>
-    requires nodes { graph.now ≡ nodes_of state.now.works }
-    requires unmarked { IsUnmarked graph.now work.now.seq }
+    requires { IsUnmarked (nodes_of view.now.works) work.now.seq }
     ensures { IfOk result (λ ending. ending ≡ record {
-      change = replacing_all (replaced_by_end state.entry.now work.entry.now end) (over run.entry.now) (Event.Finish run.entry.now.run end);
+      change = replacing_all (replaced_by_end view.entry.now work.entry.now end) (over run.entry.now) (Event.Finish run.entry.now.run end);
       timed_out = false;
     }) }
 {
-    let replaced = replaced_by_end(alloc, state, graph, work, &end);
-    let (end, replaced) = with(end, replaced)?;
+    let replaced = replaced_by_end(alloc, view, work, &end);
+    let (end, replaced) = both(end, replaced)?;
     let event = Event::Finish { run: run.run, end };
     Ok(Ending {
         change: StepChange::replacing_all(alloc, replaced, over(run), event),
@@ -99,31 +79,29 @@ fn finish_by(
 /// The records that take the place of others where a run of a work ended so.
 fn replaced_by_end(
     alloc: Global,
-    state: &State,
-    graph: &Graph,
+    view: &View,
     work: &Record,
     end: &End,
 ) -> Result<Items<Replacement>, AllocError>
-    requires nodes { graph.now ≡ nodes_of state.now.works }
-    requires unmarked { IsUnmarked graph.now work.now.seq }
+    requires { IsUnmarked (nodes_of view.now.works) work.now.seq }
     ensures { IfOk result (λ replaced. replaced
-        ≡ replaced_by_end state.entry.now work.entry.now end.now) }
+        ≡ replaced_by_end view.entry.now work.entry.now end.now) }
 {
-    let itself = ended(alloc, work, end, state.now)?;
-    let (itself, reach) = with(itself, end_reach(graph, state, work, end))?;
-    replaced_by(alloc, &itself, &reach, state.works.as_slice())
+    let itself = ended(alloc, work, end, view.state.now)?;
+    let (itself, reach) = both(itself, end_reach(view, work, end))?;
+    replaced_by(alloc, &itself, &reach, view.state.works.as_slice())
 }
 
 /// The end of a run of a work that has no turn left.
-fn time_out(alloc: Global, state: &State, work: &Record, run: &Run) -> Result<Ending, AllocError>
+fn time_out(alloc: Global, view: &View, work: &Record, run: &Run) -> Result<Ending, AllocError>
     ensures { IfOk result (λ ending. ending ≡ record {
-      change = replacing_all (replaced_by (retried state.entry.now.now work.entry.now) Reach.Stays state.entry.now.works)
+      change = replacing_all (replaced_by (retried view.entry.now.now work.entry.now) Reach.Stays view.entry.now.works)
           (over run.entry.now) (Event.TimedOut run.entry.now.run);
       timed_out = true;
     }) }
 {
-    let itself = timed_out(alloc, work, state.now)?;
-    let replaced = replaced_by(alloc, &itself, &Reach::Stays, state.works.as_slice())?;
+    let itself = timed_out(alloc, work, view.state.now)?;
+    let replaced = replaced_by(alloc, &itself, &Reach::Stays, view.state.works.as_slice())?;
     let event = Event::TimedOut { run: run.run };
     Ok(Ending {
         change: StepChange::replacing_all(alloc, replaced, over(run), event),

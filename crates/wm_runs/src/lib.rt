@@ -1,5 +1,5 @@
-//! What each event of a run comes to: the change of its step, built from the state and the graph of
-//! its records alone, with all of it in memory.
+//! What each event of a run comes to: the change of its step, built from a view of the state alone,
+//! with all of it in memory.
 //!
 //! [`claim_first`] builds that of the start of the work that is first, [`next_turn`] that of a run
 //! that goes on, and [`finish`] that of a run's end. Nothing here changes a state.

@@ -1,19 +1,18 @@
 //! What the end of a work makes of the records: of the work itself, and of those that it reaches.
 //!
 //! After the guide's page "Chaining work". Which those are is asked of the graph of the records.
-ghost use Rattle.std.specs.Prelude.{◌≡◌, IfOk};
+ghost use Rattle.std.specs.Prelude.{◌≡◌, ◌∷◌, [], IfOk};
 ghost use Rattle.wm_graph.specs.Marks.{freed_by};
 ghost use Rattle.wm_graph.specs.Nodes.{HasNode};
 ghost use Rattle.wm_runs.specs.Reached.{change_by, end_reach, not_started_reach, reached_by, replaced_by};
-ghost use Rattle.wm_steps.specs.Nodes.{IsUnmarked, reached_from};
+ghost use Rattle.wm_steps.specs.Nodes.{nodes_of, reached_from, IsUnmarked};
 
 use std::alloc::{AllocError, Global};
-use wm_collections::{Items, Replica};
+use wm_collections::{Items, Replica, is_among};
 use wm_graph::Graph;
 use wm_lifecycle::{closed, freed};
-use wm_machine::{End, How, Record, State};
-use wm_query::is_waiting;
-use wm_steps::{Replacement, is_among, is_open, put_at};
+use wm_machine::{End, How, Record};
+use wm_steps::{Replacement, View, put_at};
 
 /// What the end of a work makes of the other records.
 #[derive(Drop)]
@@ -27,34 +26,30 @@ pub enum Reach {
 }
 
 /// What the end of a run of a work reaches.
-pub fn end_reach(
-    graph: &Graph,
-    state: &State,
-    work: &Record,
-    end: &End,
-) -> Result<Reach, AllocError>
-    requires { IsUnmarked graph.now work.now.seq }
+pub fn end_reach(view: &View, work: &Record, end: &End) -> Result<Reach, AllocError>
+    requires { IsUnmarked (nodes_of view.now.works) work.now.seq }
     ensures { IfOk result (λ reach. reach
-        ≡ end_reach work.entry.now.request.period state.entry.now.now work.entry.now.seq end.now graph.entry.now) }
+        ≡ end_reach work.entry.now.request.period view.entry.now.now work.entry.now.seq end.now
+        (nodes_of view.entry.now.works)) }
 {
     match end {
         End::Retry => Ok(Reach::Stays),
         End::Success(_) | End::Failure(_) if work.request.period().is_some() => Ok(Reach::Stays),
-        End::Success(_) => freeing(graph, work.seq, state.now),
-        End::Failure(_) => closing(graph, work.seq, How::Failed),
+        End::Success(_) => freeing(&view.graph, work.seq, view.state.now),
+        End::Failure(_) => closing(&view.graph, work.seq, How::Failed),
     }
 }
 
 /// What a failed start of a work reaches.
-pub fn not_started_reach(graph: &Graph, work: &Record) -> Result<Reach, AllocError>
-    requires { HasNode graph.now work.now.seq }
+pub fn not_started_reach(view: &View, work: &Record) -> Result<Reach, AllocError>
+    requires { HasNode (nodes_of view.now.works) work.now.seq }
     ensures { IfOk result (λ reach. reach
-        ≡ not_started_reach work.entry.now.request.period work.entry.now.seq graph.entry.now) }
+        ≡ not_started_reach work.entry.now.request.period work.entry.now.seq (nodes_of view.entry.now.works)) }
 {
     if work.request.period().is_some() {
         Ok(Reach::Stays)
     } else {
-        closing(graph, work.seq, How::Failed)
+        closing(&view.graph, work.seq, How::Failed)
     }
 }
 
@@ -62,7 +57,7 @@ pub fn not_started_reach(graph: &Graph, work: &Record) -> Result<Reach, AllocErr
 pub fn closing(graph: &Graph, seq: u64, how: How) -> Result<Reach, AllocError>
     requires { HasNode graph.now seq }
     ensures { IfOk result (λ reach. reach
-        ≡ Reach.Closes how (reached_from seq graph.entry.now)) }
+        ≡ Reach.Closes how (reached_from (seq ∷ []) graph.entry.now)) }
 {
     let numbers = Items::from_vec(graph.descendants(seq)?);
     Ok(Reach::Closes { how, numbers })
@@ -120,14 +115,14 @@ fn reached_by(alloc: Global, reach: &Reach, work: &Record) -> Result<Option<Reco
     match reach {
         Reach::Stays => Ok(None),
         Reach::Closes { how, numbers } => {
-            if is_open(work.phase) && is_among(numbers.as_slice(), work.seq) {
+            if work.phase.is_open() && is_among(numbers.as_slice(), work.seq) {
                 Ok(Some(closed(alloc, work, *how)?))
             } else {
                 Ok(None)
             }
         }
         Reach::Frees { numbers, now } => {
-            if is_waiting(work.phase) && is_among(numbers.as_slice(), work.seq) {
+            if work.phase.is_waiting() && is_among(numbers.as_slice(), work.seq) {
                 Ok(Some(freed(alloc, work, *now)?))
             } else {
                 Ok(None)

@@ -1,17 +1,24 @@
 //! Which run the report of a worker is about, and whether it counts.
-ghost use Rattle.std.specs.Prelude.{◌≡◌, ◌↔◌, ◌==◌, ◌<◌, true, None, length, slice_get, IfSome, IsSome, IsSomeAnd, IsTrue, MatchOption};
+ghost use Rattle.std.specs.Prelude.{◌≡◌, ◌↔◌, IsSome, IsTrue};
 ghost use Rattle.std.specs.Option.{option_copied};
-ghost use Rattle.wm_machine.specs.Narrow.{IsNarrow};
 ghost use Rattle.wm_machine.specs.Runs.{run_numbered};
-ghost use Rattle.wm_machine.specs.Valid.{IsValidRun, IsWorkOf, Valid};
-ghost use Rattle.wm_runs.specs.Reports.{goes_on, Counts, CountsIn};
+ghost use Rattle.wm_runs.specs.Reports.{goes_on, Counts, CountsIn, IsFoundRun};
 ghost use Rattle.wm_worker.specs.Answers.{given_of};
 
-use wm_machine::{Run, State};
+use wm_machine::{Record, Run, index_numbered};
+use wm_steps::{View, at};
 use wm_worker::{Answer, Told};
 
 /// The last turn of a run, which has 1,000 of them.
 const LAST_TURN: u32 = 999;
+
+/// A run, with the record of its work and the index at which that stands.
+#[derive(Clone, Copy)]
+pub struct FoundRun<'v> {
+    pub run: &'v Run,
+    pub index: usize,
+    pub work: &'v Record,
+}
 
 /// The run of this number.
 pub fn run_numbered(runs: &[Run], number: u64) -> Option<&Run>
@@ -20,28 +27,23 @@ pub fn run_numbered(runs: &[Run], number: u64) -> Option<&Run>
     runs.iter().find(|run| run.run == number)
 }
 
-/// The run of this number, which is as all of a state are.
-pub fn run_of(state: &State, number: u64) -> Option<&Run>
-    requires valid { Valid state.now }
-    requires narrow { IsNarrow state.now }
-    ensures found { option_copied result ≡ run_numbered number state.entry.now.runs }
-    ensures run { IfSome (option_copied result)
-        (λ run. IsValidRun state.entry.now run × (run.current ≡ true)) }
+/// The run of this number, which is out, with its work.
+pub fn found_run(view: &View, number: u64) -> FoundRun<'_>
+    requires { IsSome (run_numbered number view.now.runs) }
+    ensures { IsFoundRun view.entry.now number result.index result.run.now result.work.now }
 {
-    run_numbered(state.runs.as_slice(), number)
-}
-
-/// The index of a run's work, which is there.
-pub fn work_index(state: &State, run: &Run) -> Option<usize>
-    requires valid { Valid state.now }
-    requires run { IsValidRun state.now run.now }
-    requires current { run.now.current ≡ true }
-    ensures { MatchOption result ⊥
-        (λ index. (index < length state.entry.now.works)
-        × IsSomeAnd (slice_get state.entry.now.works index) (IsWorkOf run.entry.now)) }
-{
-    let works = state.works.as_slice();
-    works.iter().position(|work| work.seq == run.seq)
+    let works = view.state.works.as_slice();
+    let Some(run) = run_numbered(view.state.runs.as_slice(), number) else {
+        unreachable!();
+    };
+    let Some(index) = index_numbered(works, run.seq) else {
+        unreachable!();
+    };
+    FoundRun {
+        run,
+        index,
+        work: at(works, index),
+    }
 }
 
 /// Whether a worker came to an answer by itself.
@@ -64,12 +66,10 @@ fn counts(run: &Run, told: &Told) -> bool
 }
 
 /// Whether a report counts for the run of this number.
-pub fn counts_in(state: &State, number: u64, told: &Told) -> bool
-    requires valid { Valid state.now }
-    requires narrow { IsNarrow state.now }
-    ensures { IsTrue result ↔ CountsIn state.entry.now number told.now }
+pub fn counts_in(view: &View, number: u64, told: &Told) -> bool
+    ensures { IsTrue result ↔ CountsIn view.entry.now number told.now }
 {
-    match run_of(state, number) {
+    match run_numbered(view.state.runs.as_slice(), number) {
         Some(run) => counts(run, told),
         None => false,
     }

@@ -4,9 +4,8 @@ ghost use Rattle.wm_collections.specs.Lists.{AllLater};
 ghost use Rattle.wm_graph.specs.Nodes.{HasNode};
 ghost use Rattle.wm_machine.specs.First.{first_of, idle_instance};
 ghost use Rattle.wm_machine.specs.Input.{cause_in, input_of, outputs_for};
-ghost use Rattle.wm_machine.specs.Narrow.{IsNarrow};
 ghost use Rattle.wm_machine.specs.Runs.{one_attempt_more, run_on, start_refusal};
-ghost use Rattle.wm_machine.specs.Valid.{IsBefore, Valid};
+ghost use Rattle.wm_machine.specs.Valid.{IsBefore};
 ghost use Rattle.wm_merge.specs.Merged.{merged};
 ghost use Rattle.wm_runs.specs.Builds.{IsClaiming, IsFirstAt, IsTaken};
 ghost use Rattle.wm_runs.specs.Reached.{replaced_by_no_start};
@@ -16,12 +15,11 @@ use crate::reach::{not_started_reach, replaced_by};
 use std::alloc::{AllocError, Global};
 use wm_collections::{Items, Replica};
 use wm_data::Data;
-use wm_graph::Graph;
 use wm_lifecycle::{not_started, started};
 use wm_machine::{Cause, Event, Instance, Record, Run, State, work_numbered};
 use wm_merge::{MergeFault, merge};
 use wm_query::{first_index, idle_in};
-use wm_steps::{Replacement, RunChange, StepChange, at, copied, one, with};
+use wm_steps::{Replacement, RunChange, StepChange, View, at, both, copied, one};
 
 /// What becomes of the work that is first.
 #[derive(Drop)]
@@ -40,89 +38,72 @@ pub struct Claiming {
 }
 
 /// The start of the work that is first; none where nothing is startable.
-pub fn claim_first(
-    alloc: Global,
-    state: &State,
-    graph: &Graph,
-) -> Result<Option<Claiming>, AllocError>
-    requires valid { Valid state.now }
-    requires narrow { IsNarrow state.now }
-    requires nodes { graph.now ≡ nodes_of state.now.works }
-    ensures { IfOk result (λ found. MatchOption found (first_of state.entry.now ≡ None) (IsClaiming state.entry.now)) }
+pub fn claim_first(alloc: Global, view: &View) -> Result<Option<Claiming>, AllocError>
+    ensures { IfOk result (λ found. MatchOption found (first_of view.entry.now ≡ None) (IsClaiming view.entry.now)) }
 {
-    let Some(index) = first_index(state) else {
+    let Some(index) = first_index(&view.state) else {
         return Ok(None);
     };
-    let work = at(state.works.as_slice(), index);
-    match idle_in(state.instances.as_slice(), work.request.class().as_str()) {
-        Some(idle) => Ok(Some(start_merged(alloc, state, graph, index, work, idle)?)),
-        None => Ok(Some(fail(alloc, state, graph, work, Cause::NoWorker)?)),
+    let work = at(view.state.works.as_slice(), index);
+    match idle_in(
+        view.state.instances.as_slice(),
+        work.request.class().as_str(),
+    ) {
+        Some(idle) => Ok(Some(start_merged(alloc, view, index, work, idle)?)),
+        None => Ok(Some(fail(alloc, view, work, Cause::NoWorker)?)),
     }
 }
 
 /// The start of a work on an instance, or its failure where its inputs don't become one.
 fn start_merged(
     alloc: Global,
-    state: &State,
-    graph: &Graph,
+    view: &View,
     index: usize,
     work: &Record,
     idle: &Instance,
 ) -> Result<Claiming, AllocError>
-    requires valid { Valid state.now }
-    requires narrow { IsNarrow state.now }
-    requires nodes { graph.now ≡ nodes_of state.now.works }
-    requires first { IsFirstAt state.now index work.now }
-    requires idle { idle_instance state.now.instances work.now.request.class ≡ Some idle.now }
-    ensures { IfOk result (IsClaiming state.entry.now) }
+    requires first { IsFirstAt view.now index work.now }
+    requires idle { idle_instance view.now.instances work.now.request.class ≡ Some idle.now }
+    ensures { IfOk result (IsClaiming view.entry.now) }
 {
-    match taken_by(alloc, state, work)? {
-        Ok(input) => start(alloc, state, index, work, idle, input),
-        Err(cause) => fail(alloc, state, graph, work, cause),
+    match taken_by(alloc, view, work)? {
+        Ok(input) => start(alloc, view, index, work, idle, input),
+        Err(cause) => fail(alloc, view, work, cause),
     }
 }
 
 /// The start of a work on an instance, with this input.
 fn start(
     alloc: Global,
-    state: &State,
+    view: &View,
     index: usize,
     work: &Record,
     idle: &Instance,
     input: Data,
 ) -> Result<Claiming, AllocError>
-    requires valid { Valid state.now }
-    requires narrow { IsNarrow state.now }
-    requires first { IsFirstAt state.now index work.now }
-    requires idle { idle_instance state.now.instances work.now.request.class ≡ Some idle.now }
-    requires input { input_of state.now work.now ≡ Ok input }
-    ensures { IfOk result (IsClaiming state.entry.now) }
+    requires first { IsFirstAt view.now index work.now }
+    requires idle { idle_instance view.now.instances work.now.request.class ≡ Some idle.now }
+    requires input { input_of view.now work.now ≡ Ok input }
+    ensures { IfOk result (IsClaiming view.entry.now) }
 {
-    let (input, changed) = with(input, started(alloc, work))?;
-    let run = run_on(state, work, changed.attempt, idle, input);
+    let (input, changed) = both(input, started(alloc, work))?;
+    let run = run_on(&view.state, work, changed.attempt, idle, input);
     let said = said_of(alloc, &run);
-    let ((changed, run), (event, claimed)) = with((changed, run), said)?;
+    let ((changed, run), (event, claimed)) = both((changed, run), said)?;
     let change = StepChange::replacing(alloc, index, changed, RunChange::Begin(run), event);
-    let (claimed, change) = with(claimed, change)?;
+    let (claimed, change) = both(claimed, change)?;
     Ok(Claiming { change, claimed })
 }
 
 /// The failure of a work that can't start for this cause.
-fn fail(
-    alloc: Global,
-    state: &State,
-    graph: &Graph,
-    work: &Record,
-    cause: Cause,
-) -> Result<Claiming, AllocError>
-    requires valid { Valid state.now }
-    requires narrow { IsNarrow state.now }
-    requires nodes { graph.now ≡ nodes_of state.now.works }
-    requires first { first_of state.now ≡ Some work.now }
-    requires refused { start_refusal state.now work.now ≡ Some cause }
-    ensures { IfOk result (IsClaiming state.entry.now) }
+fn fail(alloc: Global, view: &View, work: &Record, cause: Cause) -> Result<Claiming, AllocError>
+    requires first { first_of view.now ≡ Some work.now }
+    requires refused { start_refusal view.now work.now ≡ Some cause }
+    ensures { IfOk result (IsClaiming view.entry.now) }
 {
-    let (cause, replaced) = with(cause, replaced_by_no_start(alloc, state, graph, work))?;
+    // what the type of a view keeps is known where a field of it is read
+    let _reached = &view.state;
+    let (cause, replaced) = both(cause, replaced_by_no_start(alloc, view, work))?;
     let (cause, logged, replaced) = copied(alloc, cause, replaced)?;
     let event = Event::StartFailed {
         seq: work.seq,
@@ -139,30 +120,27 @@ fn fail(
 /// The records that take the place of others where a work can't start.
 fn replaced_by_no_start(
     alloc: Global,
-    state: &State,
-    graph: &Graph,
+    view: &View,
     work: &Record,
 ) -> Result<Items<Replacement>, AllocError>
-    requires nodes { graph.now ≡ nodes_of state.now.works }
-    requires there { HasNode graph.now work.now.seq }
+    requires { HasNode (nodes_of view.now.works) work.now.seq }
     ensures { IfOk result (λ replaced. replaced
-        ≡ replaced_by_no_start state.entry.now work.entry.now) }
+        ≡ replaced_by_no_start view.entry.now work.entry.now) }
 {
-    let itself = not_started(alloc, work, state.now)?;
-    let (itself, reach) = with(itself, not_started_reach(graph, work))?;
-    replaced_by(alloc, &itself, &reach, state.works.as_slice())
+    let itself = not_started(alloc, work, view.state.now)?;
+    let (itself, reach) = both(itself, not_started_reach(view, work))?;
+    replaced_by(alloc, &itself, &reach, view.state.works.as_slice())
 }
 
 /// What a run of a work takes, or why it takes nothing: of periodic work its own input, and of
 /// one-time work what its merger makes of that and of what its prerequisites gave.
-fn taken_by(alloc: Global, state: &State, work: &Record) -> Result<Result<Data, Cause>, AllocError>
-    requires { AllLater IsBefore state.now.works }
-    ensures { IfOk result (IsTaken (input_of state.entry.now work.entry.now)) }
+fn taken_by(alloc: Global, view: &View, work: &Record) -> Result<Result<Data, Cause>, AllocError>
+    ensures { IfOk result (IsTaken (input_of view.entry.now work.entry.now)) }
 {
     if work.request.period().is_some() {
         Ok(Ok(work.request.input().replica(alloc)?))
     } else {
-        merged_by(alloc, state.works.as_slice(), work)
+        merged_by(alloc, view.state.works.as_slice(), work)
     }
 }
 
@@ -239,7 +217,7 @@ fn said_of(alloc: Global, run: &Run) -> Result<(Event, Claimed), AllocError>
         run: run.run,
         input: run.input.replica(alloc)?,
     };
-    let (claimed, input) = with(claimed, run.input.replica(alloc))?;
+    let (claimed, input) = both(claimed, run.input.replica(alloc))?;
     let event = Event::Start {
         run: run.run,
         seq: run.seq,

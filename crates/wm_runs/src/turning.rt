@@ -1,44 +1,34 @@
 //! How a run goes on by the report of its worker.
 ghost use Rattle.std.specs.Prelude.{◌≡◌, true, Some, IfOk};
-ghost use Rattle.wm_machine.specs.Narrow.{IsNarrow};
 ghost use Rattle.wm_machine.specs.Turns.{telling};
-ghost use Rattle.wm_machine.specs.Valid.{Valid};
 ghost use Rattle.wm_runs.specs.Builds.{IsTurning};
 ghost use Rattle.wm_runs.specs.Reports.{goes_on, wants_more, CountsIn};
 ghost use Rattle.wm_worker.specs.Answers.{given_of};
 ghost use Rattle.wm_worker.specs.declared.answer.Given.TheVariants as given;
 
-use crate::reports::{run_of, work_index};
+use crate::reports::{FoundRun, found_run};
 use std::alloc::{AllocError, Global};
 use wm_collections::Replica;
 use wm_data::Data;
-use wm_machine::{Event, Record, State};
-use wm_steps::{RunChange, StepChange, at, with};
+use wm_machine::{Event, Record};
+use wm_steps::{RunChange, StepChange, View, both};
 use wm_worker::{Answer, Told};
 
 /// The next turn of the run of this number, for which the report counts, and which goes on.
 pub fn next_turn(
     alloc: Global,
-    state: &State,
+    view: &View,
     number: u64,
     told: &Told,
 ) -> Result<StepChange, AllocError>
-    requires valid { Valid state.now }
-    requires narrow { IsNarrow state.now }
-    requires counts { CountsIn state.now number told.now }
+    requires counts { CountsIn view.now number told.now }
     requires goes_on { goes_on told.now ≡ true }
-    ensures { IfOk result (IsTurning state.entry.now number told.now) }
+    ensures { IfOk result (IsTurning view.entry.now number told.now) }
 {
-    let Some(run) = run_of(state, number) else {
-        unreachable!();
-    };
-    let Some(index) = work_index(state, run) else {
-        unreachable!();
-    };
-    let work = at(state.works.as_slice(), index);
+    let FoundRun { run, index, work } = found_run(view, number);
     let progress = progress_in(told.answer()).replica(alloc)?;
     let changed = telling(alloc, work, &progress);
-    let (progress, changed) = with(progress, changed)?;
+    let (progress, changed) = both(progress, changed)?;
     let event = Event::Turn {
         run: number,
         progress,

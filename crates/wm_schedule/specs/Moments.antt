@@ -1,4 +1,4 @@
--- The limits of moments and delays, in milliseconds. This project's own choice.
+-- The limits of moments and delays, in milliseconds.
 use Rattle.std.specs.Prelude.{ℕ, ◌^◌, ◌<◌, ◌≤◌, IfSome}
 use Rattle.wm_schedule.specs.Clamped.{IsBackoffDelay, IsPeriod}
 use Rattle.wm_schedule.specs.declared.schedule.Times.{Times}

@@ -1,8 +1,6 @@
 pub mod BatchesLemmas
 pub mod BuiltCommands
-pub mod BuiltForms
-pub mod EnqueuesLemmas
+pub mod BuiltRequests
 pub mod LinesLemmas
-pub mod ObjectsLemmas
 pub mod Options
-pub mod ValuesLemmas
+pub mod PartsLemmas

@@ -20,8 +20,7 @@ pub then_of : {A B : Type 0} (Q : A → Type 0) (P : B → Type 0) (f : A → Op
 then_of Q P f None q h = tt
 then_of Q P f (Some x) q h = h x q
 
-pub map_of : {A B : Type 0} (Q : A → Type 0) (P : B → Type 0) (f : A → B) (o : Option A) → IfSome o Q → ((x : A) → Q x → P (f x))
-    → IfSome (option_map f o) P
+pub map_of : {A B : Type 0} (Q : A → Type 0) (P : B → Type 0) (f : A → B) (o : Option A) → IfSome o Q → ((x : A) → Q x → P (f x)) → IfSome (option_map f o) P
 map_of Q P f None q h = tt
 map_of Q P f (Some x) q h = h x q
 

@@ -1,4 +1,4 @@
--- The limits of a script, and which one it passes. This project's own choice.
+-- The limits of a script, and which one it passes.
 use Rattle.std.specs.Prelude.{◌≡◌, ℕ, ◌<◌, Bool, List, length, nat_lt, if◌then◌else◌, Option, Some, None}
 use Rattle.std.specs.List.{list_any}
 use Rattle.wm_script.specs.Lines.{cut}

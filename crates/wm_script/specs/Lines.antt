@@ -1,6 +1,6 @@
 -- The commands that the lines of a script are. The grammar is this project's own choice; which value
 -- the bytes of a line have is `serde_json`'s reading.
-use Rattle.std.specs.Prelude.{ℕ, ◌==◌, Bool, false, List, [], ◌∷◌, map, codes, if◌then◌else◌, Option, Some, None, Result, Ok, Err, option_map, unwrap_or}
+use Rattle.std.specs.Prelude.{ℕ, ◌==◌, Bool, false, List, [], ◌∷◌, map, codes, if◌then◌else◌, Option, Some, None, Result, Ok, Err, option_and_then, option_map, unwrap_or}
 use Rattle.std.specs.Map.{lookup}
 use Rattle.std.specs.Option.{option_or}
 use Rattle.std.specs.Str.{bytes_eq, is_utf8}
@@ -12,14 +12,16 @@ use Rattle.wm_machine.specs.declared.command.Command.TheVariants.{Cancel, Condit
 use Rattle.wm_machine.specs.declared.command.LineFault.TheVariants as fault
 use Rattle.wm_machine.specs.declared.command.Target.{Target}
 use Rattle.wm_machine.specs.declared.command.Target.TheVariants.{All, Id, Name, Tag}
-use Rattle.wm_script.specs.Batches.{batch_in, request_in}
-use Rattle.wm_script.specs.Enqueues.{enqueued_form}
+use Rattle.wm_script.specs.Batches.{batch_in}
+use Rattle.wm_script.specs.Conditions.{conditions_in}
+use Rattle.wm_script.specs.Names.{named_by}
 use Rattle.wm_script.specs.Objects.{has_only}
+use Rattle.wm_script.specs.Parts.{◌>>=◌, formed}
 use Rattle.wm_script.specs.Queries.{query_in}
-use Rattle.wm_script.specs.Values.{◌>>=◌, flag_at, id_in, short_in, whole_in}
-use Rattle.wm_script.specs.Works.{lone_in, WorkForm}
-use Rattle.wm_script.specs.declared.batches.BatchFault.{BatchFault}
-use Rattle.wm_script.specs.declared.batches.BatchFault.TheVariants as batch_fault
+use Rattle.wm_script.specs.Requests.{request_in}
+use Rattle.wm_script.specs.Values.{id_in, short_in, whole_in}
+use Rattle.wm_script.specs.declared.parts.Unread.{Unread}
+use Rattle.wm_script.specs.declared.parts.Unread.TheVariants.{Form, Fault}
 
 -- ---- the cut
 
@@ -37,8 +39,8 @@ cut (byte ∷ bytes) = if byte == 10 then [] ∷ cut bytes else onto_first byte 
 -- ---- no further key, or one
 
 -- a command that has no further key
-abbrev pub alone : Command → json.Data → Option Command
-alone command d = if has_only (codes "cmd" ∷ []) d then Some command else None
+abbrev pub alone : Command → json.Data → Result Command Unread
+alone command d = if has_only (codes "cmd" ∷ []) d then Ok command else Err Form
 
 -- the value of the one further key that a command has
 unfoldable pub one_key : List ℕ → json.Data → Option json.Data
@@ -46,35 +48,33 @@ one_key key d = if has_only (codes "cmd" ∷ key ∷ []) d then get key d else N
 
 -- an id under the one further key
 unfoldable pub id_under : List ℕ → json.Data → Option (List ℕ)
-id_under key d = do
-  value ← one_key key d
-  id_in value
+id_under key d = option_and_then id_in (one_key key d)
 
 -- a text of 1 to 200 bytes under the one further key
 unfoldable pub text_under : List ℕ → json.Data → Option (List ℕ)
-text_under key d = do
-  value ← one_key key d
-  short_in value
+text_under key d = option_and_then short_in (one_key key d)
+
+-- a number of milliseconds under the one further key
+unfoldable pub whole_under : List ℕ → json.Data → Option ℕ
+whole_under key d = option_and_then whole_in (one_key key d)
 
 -- ---- an enqueue and an update
 
--- the command for what is read, or that of its fault: no reading answers want of memory
-abbrev pub command_with : {T : Type 0} → (T → Command) → Result T BatchFault → Command
-command_with command (Ok x) = command x
-command_with command (Err (batch_fault.Line found)) = Faulty found
-command_with command (Err batch_fault.Memory) = Faulty fault.NotBuilt
+abbrev pub enqueue_keys : List (List ℕ)
+enqueue_keys = codes "cmd" ∷ codes "layers" ∷ codes "name" ∷ codes "policy" ∷ codes "works" ∷ []
 
-unfoldable pub enqueue_of : json.Data → Option Command
-enqueue_of d = option_map (λ form. command_with (Enqueue form.named) (batch_in form.works)) (enqueued_form d)
+unfoldable pub enqueue_of : json.Data → Result Command Unread
+enqueue_of d = if has_only enqueue_keys d then (do
+  named ← named_by (get (codes "name") d) (get (codes "policy") d)
+  batch ← batch_in (get (codes "works") d) (get (codes "layers") d)
+  Ok (Enqueue named batch)) else Err Form
 
--- the work of an update, which names none that it is after
-unfoldable pub updated_in : json.Data → Option WorkForm
-updated_in d = do
-  value ← one_key (codes "work") d
-  lone_in value
-
-unfoldable pub update_of : json.Data → Option Command
-update_of d = option_map (λ work. command_with Update (request_in work)) (updated_in d)
+-- the work of an update has the id of the one that it is for
+unfoldable pub update_of : json.Data → Result Command Unread
+update_of d = do
+  work ← formed (one_key (codes "work") d)
+  request ← request_in work
+  Ok (Update request)
 
 -- ---- a cancel
 
@@ -90,7 +90,7 @@ by_name d = option_map Name (text_under (codes "name") d)
 
 -- of all: the one further key is `all`, which is true
 unfoldable pub is_of_all : json.Data → Bool
-is_of_all d = unwrap_or (one_key (codes "all") d >>= as_bool) false
+is_of_all d = unwrap_or (option_and_then as_bool (one_key (codes "all") d)) false
 
 abbrev pub of_all : json.Data → Option Target
 of_all d = if is_of_all d then Some All else None
@@ -99,46 +99,39 @@ of_all d = if is_of_all d then Some All else None
 unfoldable pub target_of : json.Data → Option Target
 target_of d = option_or (by_id d) (option_or (by_tag d) (option_or (by_name d) (of_all d)))
 
-abbrev pub cancel_of : json.Data → Option Command
-cancel_of d = option_map Cancel (target_of d)
+abbrev pub cancel_of : json.Data → Result Command Unread
+cancel_of d = do
+  target ← formed (target_of d)
+  Ok (Cancel target)
 
--- ---- the moment and the conditions
+-- ---- the moment, the conditions and a query
 
-unfoldable pub moment_of : json.Data → Option Command
+abbrev pub moment_of : json.Data → Result Command Unread
 moment_of d = do
-  value ← one_key (codes "at") d
-  at ← whole_in value
-  Some (Moment at)
+  at ← formed (whole_under (codes "at") d)
+  Ok (Moment at)
 
-abbrev pub condition_keys : List (List ℕ)
-condition_keys =
-    codes "battery_low" ∷ codes "charging" ∷ codes "cmd" ∷ codes "connected" ∷ codes "idle" ∷ codes "metered" ∷ codes "roaming"
-    ∷ codes "storage_low" ∷ []
+abbrev pub conditions_of : json.Data → Result Command Unread
+conditions_of d = do
+  conditions ← formed (conditions_in d)
+  Ok (Conditions conditions)
 
--- all seven conditions, each false where it is absent
-unfoldable pub conditions_of : json.Data → Option Command
-conditions_of d = if has_only condition_keys d then (do
-  connected ← flag_at (get (codes "connected") d)
-  metered ← flag_at (get (codes "metered") d)
-  roaming ← flag_at (get (codes "roaming") d)
-  charging ← flag_at (get (codes "charging") d)
-  idle ← flag_at (get (codes "idle") d)
-  battery_low ← flag_at (get (codes "battery_low") d)
-  storage_low ← flag_at (get (codes "storage_low") d)
-  Some (Conditions (record {
-    connected = connected;
-    metered = metered;
-    roaming = roaming;
-    charging = charging;
-    idle = idle;
-    battery_low = battery_low;
-    storage_low = storage_low;
-  }))) else None
+abbrev pub query_of : json.Data → Result Command Unread
+query_of d = do
+  query ← query_in d
+  Ok (Query query)
 
--- ---- a query
+-- ---- what is in the grammar, and not built yet
 
-abbrev pub query_of : json.Data → Option Command
-query_of d = option_map Query (query_in d)
+abbrev pub observe_of : json.Data → Result Command Unread
+observe_of d = do
+  query ← query_in d
+  Ok (Faulty fault.NotBuilt)
+
+abbrev pub retire_of : json.Data → Result Command Unread
+retire_of d = do
+  class ← formed (text_under (codes "class") d)
+  Ok (Faulty fault.NotBuilt)
 
 -- ---- a line
 
@@ -147,7 +140,7 @@ abbrev pub value_of : List ℕ → Option json.Data
 value_of line = if is_utf8 line then read line else None
 
 -- the commands by their names, each with its reader
-abbrev pub readers : List (List ℕ × (json.Data → Option Command))
+abbrev pub readers : List (List ℕ × (json.Data → Result Command Unread))
 readers =
     (codes "enqueue", enqueue_of) ∷
     (codes "cancel", cancel_of) ∷
@@ -158,19 +151,37 @@ readers =
     (codes "settle", alone Settle) ∷
     (codes "hush", alone Hush) ∷
     (codes "summary", alone Summary) ∷
-    (codes "query", query_of) ∷ []
+    (codes "query", query_of) ∷
+    (codes "observe", observe_of) ∷
+    (codes "retire", retire_of) ∷ []
+
+-- what a value of this name asks for
+abbrev pub named_command : List ℕ → json.Data → Result Command Unread
+named_command name d = do
+  reader ← formed (lookup (bytes_eq name) readers)
+  reader d
 
 -- what a value asks for
-unfoldable pub asked_by : json.Data → Option Command
+unfoldable pub asked_by : json.Data → Result Command Unread
 asked_by d = do
-  value ← get (codes "cmd") d
-  name ← as_str value
-  reader ← lookup (bytes_eq name) readers
-  reader d
+  name ← formed (option_and_then as_str (get (codes "cmd") d))
+  named_command name d
+
+-- what a line asks for
+abbrev pub asked_in : List ℕ → Result Command Unread
+asked_in line = do
+  d ← formed (value_of line)
+  asked_by d
+
+-- the command that is asked for, or that of its fault; no reading answers want of memory
+abbrev pub or_faulty : Result Command Unread → Command
+or_faulty (Ok command) = command
+or_faulty (Err (Fault found)) = Faulty found
+or_faulty (Err _) = Faulty fault.Bad
 
 -- the command of a line
 unfoldable pub command_of : List ℕ → Command
-command_of line = unwrap_or (value_of line >>= asked_by) (Faulty fault.NotBuilt)
+command_of line = or_faulty (asked_in line)
 
 -- the commands of a script
 abbrev pub commands_in : List ℕ → List Command

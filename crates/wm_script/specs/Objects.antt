@@ -1,5 +1,5 @@
 -- How an object is read by its keys: each key has a reader of its own, which is given the value of the key, or none where the key is absent.
--- Which members an object has is `serde_json`'s reading. This project's own choice.
+-- Which members an object has is `serde_json`'s reading.
 use Rattle.std.specs.Prelude.{ℕ, Bool, false, List, option_map, unwrap_or}
 use Rattle.std.specs.List.{list_all, list_any}
 use Rattle.std.specs.Str.{bytes_eq}

@@ -1,24 +1,20 @@
 -- What a line says of a work. The grammar is this project's own choice.
-use Rattle.std.specs.Prelude.{ℕ, List, [], ◌∷◌, codes, is_none, if◌then◌else◌, Option, Some, None, option_map}
+use Rattle.std.specs.Prelude.{ℕ, List, [], ◌∷◌, codes, if◌then◌else◌, Option, Some, None, option_map}
 use Rattle.serde_json.specs.Data as json
 use Rattle.serde_json.specs.Find.{as_str, get}
-use Rattle.serde_json.specs.View.{items_view, view}
+use Rattle.serde_json.specs.View.{view}
 use Rattle.wm_conditions.specs.declared.conditions.Constraints.{Constraints}
 use Rattle.wm_conditions.specs.declared.conditions.Network.{Network}
 use Rattle.wm_conditions.specs.declared.conditions.Network.TheVariants as network
 use Rattle.wm_conditions.specs.declared.conditions.TheConstants.Constraints.{NONE}
-use Rattle.wm_data.specs.declared.data.DataEntry.{DataEntry}
 use Rattle.wm_data.specs.declared.merger.Merger.{Merger}
 use Rattle.wm_data.specs.declared.merger.Merger.TheVariants.{Overwriting, ArrayCreating}
-use Rattle.wm_request.specs.Building.{backoff_of, with_tag}
-use Rattle.wm_request.specs.Requests.{RequestFields}
-use Rattle.wm_schedule.specs.Clamped.{clamped_period}
 use Rattle.wm_schedule.specs.declared.schedule.Backoff.{Backoff}
 use Rattle.wm_schedule.specs.declared.schedule.BackoffPolicy.{BackoffPolicy}
 use Rattle.wm_schedule.specs.declared.schedule.BackoffPolicy.TheVariants.{Linear, Exponential}
 use Rattle.wm_schedule.specs.declared.schedule.TheConstants.Backoff.{DEFAULT}
 use Rattle.wm_script.specs.Objects.{has_only}
-use Rattle.wm_script.specs.Values.{◌>>=◌, flag_at, id_in, ids_at, ids_of, named_at, texts_at, texts_of, whole_at, whole_in}
+use Rattle.wm_script.specs.Values.{◌>>=◌, flag_at, id_in, named_at, whole_at, whole_in}
 use Rattle.wm_script.specs.declared.works.PeriodForm.{PeriodForm as ReadPeriod}
 use Rattle.wm_script.specs.declared.works.WorkForm.{WorkForm as ReadWork}
 
@@ -117,18 +113,16 @@ work_keys =
     codes "after" ∷ codes "backoff" ∷ codes "class" ∷ codes "constraints" ∷ codes "delay" ∷ codes "flex" ∷ codes "id" ∷ codes "input"
     ∷ codes "merger" ∷ codes "period" ∷ codes "tags" ∷ []
 
--- a work as it stands in a line, where its input may be anything, with the ids of the works that it is after, where it names any
+-- a work as it stands in a line, where its input may be anything; its tags and the works that it is after stand in lists beside it
 pub record WorkForm : Type 0 where
   pub id : List ℕ
   pub class : List ℕ
   pub input : Option json.Data
   pub merger : Merger
-  pub tags : List (List ℕ)
   pub constraints : Constraints
   pub backoff : Backoff
   pub delay : ℕ
   pub period : Option PeriodForm
-  pub after : Option (List (List ℕ))
 
 abbrev pub period_of : Option ReadPeriod → Option PeriodForm
 period_of period = option_map (λ p. record { period = p.period; flex = p.flex }) period
@@ -140,62 +134,29 @@ form_of work = record {
   class = work.class.now;
   input = option_map (λ input. view input.now) work.input;
   merger = work.merger;
-  tags = texts_of (items_view work.tags.now);
   constraints = work.constraints;
   backoff = work.backoff;
   delay = work.delay;
   period = period_of work.period;
-  after = option_map (λ after. ids_of (items_view after.now)) work.after;
 }
 
--- the work that an object is, which has no other key than these
+-- the work that an object is, which has no other key than these, without its lists
 unfoldable pub work_of : json.Data → Option WorkForm
 work_of d = if has_only work_keys d then (do
   id ← id_at (get (codes "id") d)
   class ← class_at (get (codes "class") d)
   merger ← merger_at (get (codes "merger") d)
-  tags ← texts_at (get (codes "tags") d)
   constraints ← constraints_at (get (codes "constraints") d)
   backoff ← backoff_at (get (codes "backoff") d)
   delay ← whole_at 0 (get (codes "delay") d)
   period ← period_at (get (codes "period") d) (get (codes "flex") d)
-  after ← ids_at (get (codes "after") d)
   Some (record {
     id = id;
     class = class;
     input = get (codes "input") d;
     merger = merger;
-    tags = tags;
     constraints = constraints;
     backoff = backoff;
     delay = delay;
     period = period;
-    after = after;
   })) else None
-
--- a work without the key `after`
-unfoldable pub lone_in : json.Data → Option WorkForm
-lone_in d = do
-  work ← work_of d
-  if is_none work.after then Some work else None
-
--- ---- its request
-
--- tags with more of them, one after another
-abbrev pub with_tags : List (List ℕ) → List (List ℕ) → List (List ℕ)
-with_tags [] tags = tags
-with_tags (tag ∷ more) tags = with_tags more (with_tag tag tags)
-
--- what is asked for by a work with this input
-abbrev pub asked_for : WorkForm → List DataEntry → RequestFields
-asked_for work input = record {
-  id = work.id;
-  class = work.class;
-  input = input;
-  merger = work.merger;
-  tags = with_tags work.tags [];
-  constraints = work.constraints;
-  backoff = backoff_of work.backoff.policy work.backoff.delay;
-  initial_delay = work.delay;
-  period = option_map (λ p. clamped_period p.period p.flex) work.period;
-}

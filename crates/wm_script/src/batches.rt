@@ -1,214 +1,149 @@
 //! The batch that the works of an enqueue are.
-ghost use Rattle.std.specs.Prelude.{◌≡◌, ◌≤◌, length, option_map, IfErr, IfOk, Ok};
+ghost use Rattle.std.specs.Prelude.{◌≡◌, ◌≤◌, length, nat_le, option_map, IfErr, IfOk, None, Ok, Some};
 ghost use Rattle.std.specs.List.{AllByRecursion};
 ghost use Rattle.serde_json.specs.View.{items_view, view};
 ghost use Rattle.wm_chain.specs.Layers.{no_layer};
-ghost use Rattle.wm_data.specs.Entries.{IsFaultOf as IsDataFaultOf};
-ghost use Rattle.wm_script.specs.Batches.{batch_in, chain_from, each_of, input_in, IsFaultOf, node_in, request_in};
-ghost use Rattle.wm_script.specs.Enqueues.{HasWorks, layer_of, layers_of, Layers, Works, works_form, works_of};
-ghost use Rattle.wm_script.specs.Works.{form_of};
+ghost use Rattle.wm_data.specs.DataRead.{item_list};
+ghost use Rattle.wm_script.specs.Batches.{are_few, batch_in, chained, count_in, layers_in, total, works_in};
+ghost use Rattle.wm_script.specs.Parts.{IsFaultOf};
 
-use crate::enqueues::{WorksForm, layer_in};
-use crate::requests::request_of;
-use crate::values::given_ids;
-use crate::works::{WorkForm, work_of};
+use crate::parts::{Part, Unread, some_in};
 use serde_json::Value;
-use std::alloc::{AllocError, AllocFailed, Global};
-use wm_chain::{ChainFault, Continuation, batch_of};
+use std::alloc::{AllocError, Global};
+use wm_chain::{Continuation, batch_of};
 use wm_collections::Items;
-use wm_data::{Data, DataFault};
-use wm_machine::LineFault;
-use wm_request::{Batch, Node, Request, RequestFault};
+use wm_request::{Batch, Node, Request};
 
-/// Why the works of a line are no batch.
-#[derive(Debug, Drop)]
-pub enum BatchFault {
-    /// The fault of the line.
-    Line(LineFault),
-    /// Memory was refused.
-    Memory,
-}
+/// The most works of an enqueue.
+const MAX_WORKS: usize = 1_000;
 
-impl From<AllocError> for BatchFault {
-    ghost use Rattle.wm_script.specs.declared.batches.BatchFault.TheVariants.{Memory};
+/// A layer: a list of 1 to 1,000 works without the key `after`.
+impl Part for Items<Request> {
+    ghost use Rattle.wm_script.specs.Batches.{layer_in};
 
-    ghost from_gives = { λ _ fault. fault ≡ Memory };
+    ghost reading = { layer_in };
 
-    fn from(_refused: AllocError) -> BatchFault {
-        BatchFault::Memory
+    #[tactic(auto, unfolding(crate::specs::Batches::layer_in))]
+    fn read(alloc: Global, value: &Value) -> Result<Items<Request>, Unread> {
+        some_in(alloc, value)
     }
 }
 
-impl<T: Drop> From<AllocFailed<T>> for BatchFault {
-    ghost use Rattle.wm_script.specs.declared.batches.BatchFault.TheVariants.{Memory};
-
-    ghost from_gives = { λ _ fault. fault ≡ Memory };
-
-    fn from(_refused: AllocFailed<T>) -> BatchFault {
-        BatchFault::Memory
-    }
-}
-
-impl From<DataFault> for BatchFault {
-    ghost use Rattle.wm_script.specs.Batches.{of_data};
-
-    ghost from_gives = { λ found fault. fault ≡ of_data found };
-
-    fn from(found: DataFault) -> BatchFault {
-        match found {
-            DataFault::EmptyKey => BatchFault::Line(LineFault::EmptyKey),
-            DataFault::BadData { key } => BatchFault::Line(LineFault::BadData { key }),
-            DataFault::TooLarge { size } => BatchFault::Line(LineFault::TooLarge { size }),
-            DataFault::Memory => BatchFault::Memory,
-        }
-    }
-}
-
-impl From<RequestFault> for BatchFault {
-    ghost use Rattle.wm_script.specs.Batches.{of_request};
-
-    ghost from_gives = { λ found fault. fault ≡ of_request found };
-
-    fn from(found: RequestFault) -> BatchFault {
-        match found {
-            RequestFault::NoClass => BatchFault::Line(LineFault::NoClass),
-            RequestFault::TooManyTags => BatchFault::Line(LineFault::TooManyTags),
-            RequestFault::DelayTooLong => BatchFault::Line(LineFault::DelayTooLong),
-            RequestFault::Memory => BatchFault::Memory,
-        }
-    }
-}
-
-impl From<ChainFault> for BatchFault {
-    ghost use Rattle.wm_script.specs.Batches.{of_chain};
-
-    ghost from_gives = { λ found fault. fault ≡ of_chain found };
-
-    fn from(found: ChainFault) -> BatchFault {
-        match found {
-            ChainFault::IdTwice { id } => BatchFault::Line(LineFault::IdTwice { id }),
-            ChainFault::PeriodicInChain { id } => {
-                BatchFault::Line(LineFault::PeriodicInChain { id })
-            }
-            ChainFault::Memory => BatchFault::Memory,
-        }
-    }
-}
-
-/// The batch of an enqueue, or its first fault: that of its works, and then that of the batch.
-pub fn batch_in(alloc: Global, form: &WorksForm<'_>) -> Result<Batch, BatchFault>
-    requires { HasWorks (works_form form.now) }
-    ensures ok { IfOk result (λ batch. batch_in (works_form form.entry.now) ≡ Ok batch) }
-    ensures err { IfErr result (IsFaultOf (batch_in (works_form form.entry.now))) }
+/// The batch of works, each after those that it names, or of layers, each after the one before;
+/// exactly one of the two stands there. Else its first fault: that of its works, and then that of
+/// the batch.
+#[tactic(auto, unfolding(crate::specs::Batches::batch_in))]
+pub fn batch_in(
+    alloc: Global,
+    works: Option<&Value>,
+    layers: Option<&Value>,
+) -> Result<Batch, Unread>
+    ensures ok { IfOk result (λ batch. batch_in (option_map (λ found. view found.now) works.entry)
+        (option_map (λ found. view found.now) layers.entry) ≡ Ok batch) }
+    ensures err { IfErr result (IsFaultOf (batch_in (option_map (λ found. view found.now) works.entry)
+        (option_map (λ found. view found.now) layers.entry))) }
 {
-    match form {
-        WorksForm::Works(works) => batch_of_works(alloc, works),
-        WorksForm::Layers(layers) => batch_of_layers(alloc, layers),
+    match (works, layers) {
+        (Some(works), None) => batch_of_works(alloc, works),
+        (None, Some(layers)) => batch_of_layers(alloc, layers),
+        _ => Err(Unread::Form),
     }
 }
 
 /// The batch of works, each after those that it names.
-fn batch_of_works(alloc: Global, works: &[Value]) -> Result<Batch, BatchFault>
-    requires { 1 ≤ length (works_of (items_view works.now)) }
-    ensures ok { IfOk result (λ batch. batch_in (Works (works_of (items_view works.now))) ≡ Ok batch) }
-    ensures err { IfErr result (IsFaultOf (batch_in (Works (works_of (items_view works.now))))) }
+#[tactic(auto, unfolding(crate::specs::Batches::batch_in))]
+fn batch_of_works(alloc: Global, works: &Value) -> Result<Batch, Unread>
+    ensures ok { IfOk result (λ batch. batch_in (Some (view works.now)) None ≡ Ok batch) }
+    ensures err { IfErr result (IsFaultOf (batch_in (Some (view works.now)) None)) }
 {
-    let nodes = nodes_of(alloc, works)?;
+    let nodes = works_in(alloc, works)?;
     Ok(batch_of(alloc, nodes)?)
 }
 
 /// The batch of layers, each after the one before.
-fn batch_of_layers(alloc: Global, layers: &[Value]) -> Result<Batch, BatchFault>
-    requires some { 1 ≤ length (layers_of (items_view layers.now)) }
-    requires full { AllByRecursion (λ layer. 1 ≤ length layer) (layers_of (items_view layers.now)) }
-    ensures ok { IfOk result (λ batch. batch_in (Layers (layers_of (items_view layers.now))) ≡ Ok batch) }
-    ensures err { IfErr result (IsFaultOf (batch_in (Layers (layers_of (items_view layers.now))))) }
+#[tactic(auto, unfolding(crate::specs::Batches::batch_in), using(crate::proofs::BatchesLemmas::fault_of_layers))]
+fn batch_of_layers(alloc: Global, layers: &Value) -> Result<Batch, Unread>
+    ensures ok { IfOk result (λ batch. batch_in None (Some (view layers.now)) ≡ Ok batch) }
+    ensures err { IfErr result (IsFaultOf (batch_in None (Some (view layers.now)))) }
 {
+    let layers = layers_in(alloc, layers)?;
     let chain = chain_of(alloc, layers)?;
     Ok(chain.batch()?)
 }
 
-/// Works one after another.
-fn nodes_of(alloc: Global, works: &[Value]) -> Result<Items<Node>, BatchFault>
-    ensures ok { IfOk result (λ nodes. each_of node_in (works_of (items_view works.now)) ≡ Ok nodes) }
-    ensures err { IfErr result (IsFaultOf (each_of node_in (works_of (items_view works.now)))) }
+/// A list of 1 to 1,000 works.
+#[tactic(auto, unfolding(crate::specs::Batches::works_in))]
+fn works_in(alloc: Global, value: &Value) -> Result<Items<Node>, Unread>
+    ensures ok { IfOk result (λ nodes. works_in (view value.now) ≡ Ok nodes) }
+    ensures err { IfErr result (IsFaultOf (works_in (view value.now))) }
+    ensures some { IfOk result (λ nodes. 1 ≤ length nodes) }
 {
-    let mut nodes = Items::new(alloc);
-    for item in works {
-        if let Some(work) = work_of(item) {
-            nodes.push(node_in(alloc, &work)?)?;
-        }
+    some_in(alloc, value)
+}
+
+/// A list of 1 to 1,000 layers, of at most 1,000 works together.
+#[tactic(auto, unfolding(crate::specs::Batches::layers_in))]
+fn layers_in(alloc: Global, value: &Value) -> Result<Items<Items<Request>>, Unread>
+    ensures ok { IfOk result (λ layers. layers_in (view value.now) ≡ Ok layers) }
+    ensures err { IfErr result (IsFaultOf (layers_in (view value.now))) }
+    ensures some { IfOk result (λ layers. 1 ≤ length layers) }
+    ensures full { IfOk result (λ layers. AllByRecursion (λ layer. 1 ≤ length layer) layers) }
+{
+    if are_few(value) {
+        some_in(alloc, value)
+    } else {
+        Err(Unread::Form)
     }
-    Ok(nodes)
 }
 
-/// A work after those that it names.
-fn node_in(alloc: Global, work: &WorkForm<'_>) -> Result<Node, BatchFault>
-    ensures ok { IfOk result (λ node. node_in (form_of work.entry.now) ≡ Ok node) }
-    ensures err { IfErr result (IsFaultOf (node_in (form_of work.entry.now))) }
+/// Whether the lists of a list have at most 1,000 items together.
+#[tactic(auto, unfolding(crate::specs::Batches::are_few))]
+fn are_few(value: &Value) -> bool
+    ensures { result ≡ are_few (view value.now) }
 {
-    let request = request_in(alloc, work)?;
-    let after = given_ids(alloc, work.after)?;
-    Ok(Node { request, after })
+    match value.as_array() {
+        Some(items) => have_room(items.as_slice()),
+        None => true,
+    }
 }
 
-/// The request of a work, or its first fault: that of its input, and then its own.
-pub fn request_in(alloc: Global, work: &WorkForm<'_>) -> Result<Request, BatchFault>
-    ensures ok { IfOk result (λ request. request_in (form_of work.entry.now) ≡ Ok request) }
-    ensures err { IfErr result (IsFaultOf (request_in (form_of work.entry.now))) }
+/// Whether lists have at most 1,000 items together.
+fn have_room(items: &[Value]) -> bool
+    ensures { result ≡ nat_le (total (item_list (items_view items.now))) 1000 }
 {
-    let input = input_in(alloc, work.input)?;
-    Ok(request_of(alloc, work, input)?)
+    let mut room = MAX_WORKS;
+    for item in items {
+        let count = count_in(item);
+        if count > room {
+            return false;
+        }
+        room -= count;
+    }
+    true
 }
 
-/// The Data of an input, which is empty where there is none.
-fn input_in(alloc: Global, input: Option<&Value>) -> Result<Data, DataFault>
-    ensures ok { IfOk result (λ read. input_in (option_map (λ found. view found.now) input.entry) ≡ Ok read) }
-    ensures err { IfErr result (IsDataFaultOf (input_in (option_map (λ found. view found.now) input.entry))) }
+/// How many items a list has; none where it is no list.
+#[tactic(auto, using(crate::proofs::PartsLemmas::count_items))]
+fn count_in(value: &Value) -> usize
+    ensures { result ≡ count_in (view value.now) }
 {
-    match input {
-        Some(json) => Data::from_json(alloc, json),
-        None => Ok(Data::empty(alloc)),
+    match value.as_array() {
+        Some(items) => items.len(),
+        None => 0,
     }
 }
 
 /// The chain of layers, each after the one before.
-fn chain_of(alloc: Global, layers: &[Value]) -> Result<Continuation, BatchFault>
-    requires some { 1 ≤ length (layers_of (items_view layers.now)) }
-    requires full { AllByRecursion (λ layer. 1 ≤ length layer) (layers_of (items_view layers.now)) }
-    ensures ok { IfOk result (λ chain. chain_from no_layer (layers_of (items_view layers.now)) ≡ Ok chain) }
-    ensures err { IfErr result (IsFaultOf (chain_from no_layer (layers_of (items_view layers.now)))) }
+fn chain_of(alloc: Global, layers: Items<Items<Request>>) -> Result<Continuation, AllocError>
+    requires some { 1 ≤ length layers }
+    requires full { AllByRecursion (λ layer. 1 ≤ length layer) layers }
+    ensures { IfOk result (λ chain. chain ≡ chained no_layer layers) }
 {
-    let first = layer_requests(alloc, &layers[0])?;
-    let mut chain = Continuation::begin_with(alloc, first)?;
-    for layer in &layers[1..] {
-        let requests = layer_requests(alloc, layer)?;
-        chain = chain.then(requests)?;
+    let mut layers = layers.into_vec();
+    let first = layers.remove(0);
+    let mut chain = Continuation::begin_with(alloc, first.into_vec())?;
+    for layer in layers {
+        chain = chain.then(layer.into_vec())?;
     }
     Ok(chain)
-}
-
-/// The requests of the works of a layer; none where it is none.
-fn layer_requests(alloc: Global, layer: &Value) -> Result<Vec<Request>, BatchFault>
-    ensures ok { IfOk result (λ requests. each_of request_in (layer_of (view layer.now)) ≡ Ok requests.items) }
-    ensures err { IfErr result (IsFaultOf (each_of request_in (layer_of (view layer.now)))) }
-{
-    match layer_in(layer) {
-        Some(works) => requests_of(alloc, works),
-        None => Ok(Vec::new(alloc)),
-    }
-}
-
-/// The requests of works one after another.
-fn requests_of(alloc: Global, works: &[Value]) -> Result<Vec<Request>, BatchFault>
-    ensures ok { IfOk result (λ requests. each_of request_in (works_of (items_view works.now)) ≡ Ok requests.items) }
-    ensures err { IfErr result (IsFaultOf (each_of request_in (works_of (items_view works.now)))) }
-{
-    let mut requests = Items::new(alloc);
-    for item in works {
-        if let Some(work) = work_of(item) {
-            requests.push(request_in(alloc, &work)?)?;
-        }
-    }
-    Ok(requests.into_vec())
 }

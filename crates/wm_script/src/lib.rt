@@ -1,15 +1,17 @@
 //! The lines of a script.
 //!
 //! [`read_lines`] reads the commands of a script's bytes. Their definition is `specs/Lines.antt`, with
-//! `Limits`, `Enqueues`, `Names`, `Batches`, `Works`, `Queries`, `Objects` and `Values`.
+//! `Limits`, `Batches`, `Requests`, `Works`, `Names`, `Conditions`, `Queries`, `Objects`, `Parts` and
+//! `Values`; `Onto` says how a list is read item by item.
 #![tactic(auto)]
 
 mod batches;
-mod enqueues;
+mod conditions;
 pub mod limits;
 pub mod lines;
 mod names;
 mod objects;
+mod parts;
 mod queries;
 mod requests;
 mod values;

@@ -1,37 +1,33 @@
 //! The lines of a script as commands.
-ghost use Rattle.std.specs.Prelude.{◌≡◌, ◌==◌, position, ◌∷◌, ◌<◌, ◌≤◌, length, option_map, option_and_then, Err, IfOk, IfErr, None, OnOk, Some};
+ghost use Rattle.std.specs.Prelude.{◌≡◌, ◌==◌, position, ◌∷◌, ◌<◌, ◌≤◌, length, option_map, Err, IfOk, IfErr, None, Ok, OnOk, Some};
 ghost use Rattle.std.specs.List.{AllByRecursion};
-ghost use Rattle.std.specs.Map.{lookup};
-ghost use Rattle.std.specs.Str.{bytes_eq};
 ghost use Rattle.serde_json.specs.View.{view};
 ghost use Rattle.wm_machine.specs.Outcome.{IsBuilt};
-ghost use Rattle.wm_machine.specs.declared.command.Command.TheVariants.{Enqueue, Update};
-ghost use Rattle.wm_script.specs.Batches.{batch_in, request_in};
-ghost use Rattle.wm_script.specs.Enqueues.{enqueue_form, HasWorks};
-ghost use Rattle.wm_script.specs.Limits.{first_limit, IsFaultOf};
-ghost use Rattle.wm_script.specs.Lines.{alone, asked_by, cancel_of, command_of, command_with, commands_in, conditions_of, cut, enqueue_of, id_under, is_of_all, moment_of, one_key, query_of, readers, target_of, text_under, update_of, updated_in, value_of};
-ghost use Rattle.wm_script.specs.Works.{form_of};
+ghost use Rattle.wm_script.specs.Limits.{first_limit, IsFaultOf as IsScriptFaultOf};
+ghost use Rattle.wm_script.specs.Lines.{alone, asked_by, asked_in, cancel_of, command_of, commands_in, conditions_of, cut, enqueue_of, id_under, is_of_all, moment_of, named_command, observe_of, one_key, query_of, retire_of, target_of, text_under, update_of, value_of, whole_under};
+ghost use Rattle.wm_script.specs.Parts.{IsFaultOf};
 
-use crate::batches::{BatchFault, batch_in, request_in};
-use crate::enqueues::{EnqueueForm, enqueued_form};
+use crate::batches::batch_in;
+use crate::conditions::conditions_in;
 use crate::limits::{Limit, ScriptFault, first_limit};
-use crate::names::named_of;
+use crate::names::named_by;
 use crate::objects::has_only;
+use crate::parts::{Unread, formed};
 use crate::queries::query_in;
-use crate::values::{flag_at, id_in, short_in, whole_in};
-use crate::works::{WorkForm, lone_in};
+use crate::requests::request_in;
+use crate::values::{id_in, short_in, whole_in};
 use serde_json::Value;
 use std::alloc::{AllocError, Global};
 use uuid::Uuid;
 use wm_collections::{Items, Text};
-use wm_conditions::Conditions;
 use wm_machine::{Command, LineFault, Target};
 
 /// The byte that ends a line.
 const LF: u8 = b'\n';
 
-/// The commands of a script's lines, in their order: one for each line, and a line that isn't in
-/// the grammar, or whose Data isn't Data, gives a [`Command::Faulty`].
+/// The commands of a script's lines, in their order: one for each line. A line that isn't in the
+/// grammar, whose works have a fault, or that asks for what isn't built gives a
+/// [`Command::Faulty`].
 ///
 /// `TooLong` with the first limit that the script passes, and nothing of it is read. The empty
 /// script has no line, and takes no memory.
@@ -40,7 +36,7 @@ pub fn read_lines(alloc: Global, bytes: &[u8]) -> Result<Items<Command>, ScriptF
     ensures within { OnOk result (first_limit bytes.now ≡ None) }
     ensures too_long { (limit : Limit) → first_limit bytes.now ≡ Some limit
         → result ≡ Err (ScriptFault.TooLong limit) }
-    ensures fault { IfErr result (IsFaultOf bytes.now) }
+    ensures fault { IfErr result (IsScriptFaultOf bytes.now) }
 
     // What follows of the commands.
     ensures built { IfOk result (λ commands. AllByRecursion IsBuilt commands) }
@@ -79,17 +75,27 @@ fn find_lf(bytes: &[u8]) -> Option<usize>
     bytes.iter().position(|byte| *byte == LF)
 }
 
-/// The command of a line.
+/// The command of a line, or that of its fault.
 #[tactic(auto, unfolding(crate::specs::Lines::command_of))]
 fn command_of(alloc: Global, line: &[u8]) -> Result<Command, AllocError>
     ensures { IfOk result (λ command. command ≡ command_of line.now) }
 {
-    let Some(value) = value_of(alloc, line)? else {
-        return Ok(Command::Faulty(LineFault::NotBuilt));
-    };
-    match asked_by(alloc, &value)? {
-        Some(command) => Ok(command),
-        None => Ok(Command::Faulty(LineFault::NotBuilt)),
+    match asked_in(alloc, line) {
+        Ok(command) => Ok(command),
+        Err(Unread::Form) => Ok(Command::Faulty(LineFault::Bad)),
+        Err(Unread::Fault(fault)) => Ok(Command::Faulty(fault)),
+        Err(Unread::Memory) => Err(AllocError),
+    }
+}
+
+/// What a line asks for.
+fn asked_in(alloc: Global, line: &[u8]) -> Result<Command, Unread>
+    ensures ok { IfOk result (λ command. asked_in line.now ≡ Ok command) }
+    ensures err { IfErr result (IsFaultOf (asked_in line.now)) }
+{
+    match value_of(alloc, line)? {
+        Some(value) => asked_by(alloc, &value),
+        None => Err(Unread::Form),
     }
 }
 
@@ -110,42 +116,45 @@ fn value_of(alloc: Global, line: &[u8]) -> Result<Option<Value>, AllocError>
     }
 }
 
-/// The command that a value asks for, if it is one that is built.
+/// The command that a value asks for.
 #[tactic(auto, unfolding(crate::specs::Lines::asked_by))]
-fn asked_by(alloc: Global, value: &Value) -> Result<Option<Command>, AllocError>
-    ensures { IfOk result (λ command. command ≡ asked_by (view value.now)) }
+fn asked_by(alloc: Global, value: &Value) -> Result<Command, Unread>
+    ensures ok { IfOk result (λ command. asked_by (view value.now) ≡ Ok command) }
+    ensures err { IfErr result (IsFaultOf (asked_by (view value.now))) }
 {
     match value.get("cmd").and_then(Value::as_str) {
-        Some(name) => command_named(alloc, name, value),
-        None => Ok(None),
+        Some(name) => named_command(alloc, name, value),
+        None => Err(Unread::Form),
     }
 }
 
 /// The command of this name that a value asks for, by the reader of that command.
-fn command_named(alloc: Global, name: &str, value: &Value) -> Result<Option<Command>, AllocError>
-    ensures { IfOk result (λ command. command
-        ≡ option_and_then (λ reader. reader (view value.now)) (lookup (bytes_eq name.now) readers)) }
+fn named_command(alloc: Global, name: &str, value: &Value) -> Result<Command, Unread>
+    ensures ok { IfOk result (λ command. named_command name.now (view value.now) ≡ Ok command) }
+    ensures err { IfErr result (IsFaultOf (named_command name.now (view value.now))) }
 {
     match name {
         "enqueue" => enqueue_of(alloc, value),
         "cancel" => cancel_of(alloc, value),
         "update" => update_of(alloc, value),
-        "moment" => Ok(moment_of(value)),
-        "conditions" => Ok(conditions_of(value)),
-        "prune" => Ok(alone(Command::Prune, value)),
-        "settle" => Ok(alone(Command::Settle, value)),
-        "hush" => Ok(alone(Command::Hush, value)),
-        "summary" => Ok(alone(Command::Summary, value)),
+        "moment" => moment_of(value),
+        "conditions" => conditions_of(value),
+        "prune" => alone(Command::Prune, value),
+        "settle" => alone(Command::Settle, value),
+        "hush" => alone(Command::Hush, value),
+        "summary" => alone(Command::Summary, value),
         "query" => query_of(alloc, value),
-        _ => Ok(None),
+        "observe" => observe_of(alloc, value),
+        "retire" => retire_of(value),
+        _ => Err(Unread::Form),
     }
 }
 
 /// A command, where it has no further key.
-fn alone(command: Command, value: &Value) -> Option<Command>
+fn alone(command: Command, value: &Value) -> Result<Command, Unread>
     ensures { result ≡ alone command (view value.now) }
 {
-    has_only(value, &["cmd"]).then_some(command)
+    formed(has_only(value, &["cmd"]).then_some(command))
 }
 
 /// The value of the one further key that a command has.
@@ -176,38 +185,36 @@ fn text_under<'v>(value: &'v Value, key: &str) -> Option<&'v str>
     short_in(one_key(value, key)?)
 }
 
-/// The command that enqueues works. Their Data is read once the whole line is in the form.
-#[tactic(auto, unfolding(crate::specs::Lines::enqueue_of))]
-fn enqueue_of(alloc: Global, value: &Value) -> Result<Option<Command>, AllocError>
-    ensures { IfOk result (λ command. command ≡ enqueue_of (view value.now)) }
+/// A number of milliseconds under the one further key.
+#[tactic(auto, unfolding(crate::specs::Lines::whole_under))]
+fn whole_under(value: &Value, key: &str) -> Option<u64>
+    ensures { result ≡ whole_under key.now (view value.now) }
 {
-    match enqueued_form(value) {
-        Some(form) => Ok(Some(enqueue_with(alloc, &form)?)),
-        None => Ok(None),
-    }
+    whole_in(one_key(value, key)?)
 }
 
-/// The command of an enqueue's batch, or of its fault.
-fn enqueue_with(alloc: Global, form: &EnqueueForm<'_>) -> Result<Command, AllocError>
-    requires { HasWorks (enqueue_form form.now).works }
-    ensures { IfOk result (λ command. command
-        ≡ command_with (Enqueue (enqueue_form form.entry.now).named) (batch_in (enqueue_form form.entry.now).works)) }
+/// The command that enqueues works, under a name or none.
+#[tactic(auto, unfolding(crate::specs::Lines::enqueue_of))]
+fn enqueue_of(alloc: Global, value: &Value) -> Result<Command, Unread>
+    ensures ok { IfOk result (λ command. enqueue_of (view value.now) ≡ Ok command) }
+    ensures err { IfErr result (IsFaultOf (enqueue_of (view value.now))) }
 {
-    let named = named_of(alloc, &form.named)?;
-    match batch_in(alloc, &form.works) {
-        Ok(batch) => Ok(Command::Enqueue { named, batch }),
-        Err(BatchFault::Line(fault)) => Ok(Command::Faulty(fault)),
-        Err(BatchFault::Memory) => Err(AllocError),
+    if !has_only(value, &["cmd", "layers", "name", "policy", "works"]) {
+        return Err(Unread::Form);
     }
+    let named = named_by(alloc, value.get("name"), value.get("policy"))?;
+    let batch = batch_in(alloc, value.get("works"), value.get("layers"))?;
+    Ok(Command::Enqueue { named, batch })
 }
 
 /// The command that cancels works.
-fn cancel_of(alloc: Global, value: &Value) -> Result<Option<Command>, AllocError>
-    ensures { IfOk result (λ command. command ≡ cancel_of (view value.now)) }
+fn cancel_of(alloc: Global, value: &Value) -> Result<Command, Unread>
+    ensures ok { IfOk result (λ command. cancel_of (view value.now) ≡ Ok command) }
+    ensures err { IfErr result (IsFaultOf (cancel_of (view value.now))) }
 {
     match target_of(alloc, value)? {
-        Some(target) => Ok(Some(Command::Cancel(target))),
-        None => Ok(None),
+        Some(target) => Ok(Command::Cancel(target)),
+        None => Err(Unread::Form),
     }
 }
 
@@ -243,81 +250,55 @@ fn is_of_all(value: &Value) -> bool
     }
 }
 
-/// The command that updates a work. Its Data is read once the whole line is in the form.
+/// The command that updates a work.
 #[tactic(auto, unfolding(crate::specs::Lines::update_of))]
-fn update_of(alloc: Global, value: &Value) -> Result<Option<Command>, AllocError>
-    ensures { IfOk result (λ command. command ≡ update_of (view value.now)) }
+fn update_of(alloc: Global, value: &Value) -> Result<Command, Unread>
+    ensures ok { IfOk result (λ command. update_of (view value.now) ≡ Ok command) }
+    ensures err { IfErr result (IsFaultOf (update_of (view value.now))) }
 {
-    match updated_in(value) {
-        Some(work) => Ok(Some(update_with(alloc, &work)?)),
-        None => Ok(None),
-    }
-}
-
-/// The work of an update, which names none that it is after.
-#[tactic(auto, unfolding(crate::specs::Lines::updated_in))]
-fn updated_in(value: &Value) -> Option<WorkForm<'_>>
-    ensures { option_map form_of result ≡ updated_in (view value.now) }
-{
-    lone_in(one_key(value, "work")?)
-}
-
-/// The command of an update's request, or of its fault.
-fn update_with(alloc: Global, work: &WorkForm<'_>) -> Result<Command, AllocError>
-    ensures { IfOk result (λ command. command ≡ command_with Update (request_in (form_of work.entry.now))) }
-{
-    match request_in(alloc, work) {
-        Ok(request) => Ok(Command::Update(request)),
-        Err(BatchFault::Line(fault)) => Ok(Command::Faulty(fault)),
-        Err(BatchFault::Memory) => Err(AllocError),
+    match one_key(value, "work") {
+        Some(work) => Ok(Command::Update(request_in(alloc, work)?)),
+        None => Err(Unread::Form),
     }
 }
 
 /// The command that sets the moment.
-#[tactic(auto, unfolding(crate::specs::Lines::moment_of))]
-fn moment_of(value: &Value) -> Option<Command>
+fn moment_of(value: &Value) -> Result<Command, Unread>
     ensures { result ≡ moment_of (view value.now) }
 {
-    Some(Command::Moment(whole_in(one_key(value, "at")?)?))
+    formed(whole_under(value, "at").map(Command::Moment))
 }
 
-/// The command that sets all seven conditions, each false where it is absent.
-#[tactic(auto, unfolding(crate::specs::Lines::conditions_of))]
-fn conditions_of(value: &Value) -> Option<Command>
+/// The command that sets all conditions.
+fn conditions_of(value: &Value) -> Result<Command, Unread>
     ensures { result ≡ conditions_of (view value.now) }
 {
-    if !has_only(
-        value,
-        &[
-            "battery_low",
-            "charging",
-            "cmd",
-            "connected",
-            "idle",
-            "metered",
-            "roaming",
-            "storage_low",
-        ],
-    ) {
-        return None;
-    }
-    Some(Command::Conditions(Conditions {
-        connected: flag_at(value.get("connected"))?,
-        metered: flag_at(value.get("metered"))?,
-        roaming: flag_at(value.get("roaming"))?,
-        charging: flag_at(value.get("charging"))?,
-        idle: flag_at(value.get("idle"))?,
-        battery_low: flag_at(value.get("battery_low"))?,
-        storage_low: flag_at(value.get("storage_low"))?,
-    }))
+    formed(conditions_in(value).map(Command::Conditions))
 }
 
 /// The command that queries works.
-fn query_of(alloc: Global, value: &Value) -> Result<Option<Command>, AllocError>
-    ensures { IfOk result (λ command. command ≡ query_of (view value.now)) }
+fn query_of(alloc: Global, value: &Value) -> Result<Command, Unread>
+    ensures ok { IfOk result (λ command. query_of (view value.now) ≡ Ok command) }
+    ensures err { IfErr result (IsFaultOf (query_of (view value.now))) }
 {
-    match query_in(alloc, value)? {
-        Some(query) => Ok(Some(Command::Query(query))),
-        None => Ok(None),
+    Ok(Command::Query(query_in(alloc, value)?))
+}
+
+/// What an observe asks for, which has the keys of a query. It isn't built yet.
+fn observe_of(alloc: Global, value: &Value) -> Result<Command, Unread>
+    ensures ok { IfOk result (λ command. observe_of (view value.now) ≡ Ok command) }
+    ensures err { IfErr result (IsFaultOf (observe_of (view value.now))) }
+{
+    drop(query_in(alloc, value)?);
+    Ok(Command::Faulty(LineFault::NotBuilt))
+}
+
+/// What a retire asks for, of a class of 1 to 200 bytes. It isn't built yet.
+fn retire_of(value: &Value) -> Result<Command, Unread>
+    ensures { result ≡ retire_of (view value.now) }
+{
+    match text_under(value, "class") {
+        Some(_) => Ok(Command::Faulty(LineFault::NotBuilt)),
+        None => Err(Unread::Form),
     }
 }

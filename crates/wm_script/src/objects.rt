@@ -32,7 +32,7 @@ fn are_among(members: &Map<String, Value>, keys: &[&str]) -> bool
 }
 
 /// Whether it is one of these keys.
-#[tactic(auto, using(crate::proofs::ObjectsLemmas::list_any_map))]
+#[tactic(auto, using(wm_collections::proofs::Lists::list_any_after))]
 fn is_among(key: &str, keys: &[&str]) -> bool
     ensures { result ≡ list_any (λ own. bytes_eq own key.now) (map (λ own. own.now) keys.now) }
 {

@@ -1,21 +1,93 @@
-//! The request that a work of a line asks for.
-ghost use Rattle.std.specs.Prelude.{◌≡◌, Ok, IfErr, IfOk, OnOk};
-ghost use Rattle.serde_json.specs.View.{items_view};
-ghost use Rattle.wm_request.specs.Building.{built_of, IsFaultOf};
-ghost use Rattle.wm_script.specs.Values.{texts_of};
-ghost use Rattle.wm_script.specs.Works.{asked_for, form_of, with_tags};
+//! The request that a work of a line asks for, and the work after those that it names.
+ghost use Rattle.std.specs.Prelude.{◌≡◌, Ok, option_map, IfErr, IfOk, OnOk};
+ghost use Rattle.std.specs.List.{AllByRecursion};
+ghost use Rattle.serde_json.specs.View.{view};
+ghost use Rattle.wm_data.specs.Entries.{IsFaultOf as IsDataFaultOf};
+ghost use Rattle.wm_request.specs.Building.{built_of, IsFaultOf as IsRequestFaultOf};
+ghost use Rattle.wm_request.specs.Requests.{IsShortText};
+ghost use Rattle.wm_script.specs.Parts.{IsFaultOf};
+ghost use Rattle.wm_script.specs.Requests.{asked_for, input_in, node_in, request_in, with_tags};
+ghost use Rattle.wm_script.specs.Works.{form_of};
 
-use crate::values::short_in;
-use crate::works::WorkForm;
+use crate::parts::{Part, Unread, formed, list_at};
+use crate::works::{WorkForm, work_of};
 use serde_json::Value;
 use std::alloc::{AllocError, Global};
-use wm_data::Data;
-use wm_request::{Builder, Request, RequestFault};
+use wm_collections::{Items, Text};
+use wm_data::{Data, DataFault};
+use wm_request::{Builder, Node, Request, RequestFault};
 
-/// The request of a work with this input, or why there is none.
-pub fn request_of(alloc: Global, work: &WorkForm<'_>, input: Data) -> Result<Request, RequestFault>
-    ensures ok { IfOk result (λ request. built_of (asked_for (form_of work.entry.now) input) ≡ Ok request) }
-    ensures err { IfErr result (IsFaultOf (built_of (asked_for (form_of work.entry.now) input))) }
+impl Part for Node {
+    ghost use Rattle.wm_script.specs.Requests.{node_in};
+
+    ghost reading = { node_in };
+
+    fn read(alloc: Global, value: &Value) -> Result<Node, Unread> {
+        node_in(alloc, value)
+    }
+}
+
+impl Part for Request {
+    ghost use Rattle.wm_script.specs.Requests.{request_in};
+
+    ghost reading = { request_in };
+
+    fn read(alloc: Global, value: &Value) -> Result<Request, Unread> {
+        request_in(alloc, value)
+    }
+}
+
+/// The request of a work that names none that it is after: it hasn't the key `after`.
+#[tactic(auto, unfolding(crate::specs::Requests::request_in))]
+pub fn request_in(alloc: Global, value: &Value) -> Result<Request, Unread>
+    ensures ok { IfOk result (λ request. request_in (view value.now) ≡ Ok request) }
+    ensures err { IfErr result (IsFaultOf (request_in (view value.now))) }
+{
+    if value.get("after").is_some() {
+        return Err(Unread::Form);
+    }
+    let node = node_in(alloc, value)?;
+    Ok(node.request)
+}
+
+/// A work after those that it names, or its first fault: its form comes first, then its input, then
+/// what its request has.
+#[tactic(auto, unfolding(crate::specs::Requests::node_in))]
+fn node_in(alloc: Global, value: &Value) -> Result<Node, Unread>
+    ensures ok { IfOk result (λ node. node_in (view value.now) ≡ Ok node) }
+    ensures err { IfErr result (IsFaultOf (node_in (view value.now))) }
+{
+    let Some(work) = work_of(value) else {
+        return Err(Unread::Form);
+    };
+    let tags = list_at(alloc, value.get("tags"))?;
+    let after = list_at(alloc, value.get("after"))?;
+    let input = input_in(alloc, work.input)?;
+    let request = request_of(alloc, &work, tags, input)?;
+    Ok(Node { request, after })
+}
+
+/// The Data of an input, which is empty where there is none.
+fn input_in(alloc: Global, input: Option<&Value>) -> Result<Data, DataFault>
+    ensures ok { IfOk result (λ read. input_in (option_map (λ found. view found.now) input.entry) ≡ Ok read) }
+    ensures err { IfErr result (IsDataFaultOf (input_in (option_map (λ found. view found.now) input.entry))) }
+{
+    match input {
+        Some(json) => Data::from_json(alloc, json),
+        None => Ok(Data::empty(alloc)),
+    }
+}
+
+/// The request of a work with these tags and this input, or why there is none.
+fn request_of(
+    alloc: Global,
+    work: &WorkForm<'_>,
+    tags: Items<Text>,
+    input: Data,
+) -> Result<Request, RequestFault>
+    requires { AllByRecursion IsShortText tags }
+    ensures ok { IfOk result (λ request. built_of (asked_for (form_of work.entry.now) tags input) ≡ Ok request) }
+    ensures err { IfErr result (IsRequestFaultOf (built_of (asked_for (form_of work.entry.now) tags input))) }
 {
     let class = String::from_str(alloc, work.class)?;
     let mut builder = match work.period {
@@ -27,19 +99,17 @@ pub fn request_of(alloc: Global, work: &WorkForm<'_>, input: Data) -> Result<Req
     builder.constraints(work.constraints);
     builder.backoff(work.backoff.policy, work.backoff.delay);
     builder.initial_delay(work.delay);
-    add_tags(alloc, &mut builder, work.tags)?;
+    add_tags(&mut builder, tags)?;
     builder.build()
 }
 
-/// Adds the tags of a list, one after another.
-fn add_tags(alloc: Global, builder: &mut Builder, tags: &[Value]) -> Result<(), AllocError>
-    ensures { OnOk result (builder.new
-        ≡ record builder.old { tags = with_tags (texts_of (items_view tags.now)) builder.old.tags }) }
+/// Adds tags, one after another.
+fn add_tags(builder: &mut Builder, tags: Items<Text>) -> Result<(), AllocError>
+    requires { AllByRecursion IsShortText tags }
+    ensures { OnOk result (builder.new ≡ record builder.old { tags = with_tags tags builder.old.tags }) }
 {
-    for tag in tags {
-        if let Some(text) = short_in(tag) {
-            builder.tag(String::from_str(alloc, text)?)?;
-        }
+    for tag in tags.into_vec() {
+        builder.tag(tag.into_string())?;
     }
     Ok(())
 }

@@ -1,13 +1,14 @@
 //! How single values are read, and what an absent one stands for.
-ghost use Rattle.std.specs.Prelude.{◌≡◌, ◌^◌, ◌<◌, [], is_some, option_map, unwrap_or, IfOk, IfSome};
-ghost use Rattle.serde_json.specs.View.{view, items_view};
+ghost use Rattle.std.specs.Prelude.{◌≡◌, ◌^◌, ◌<◌, option_map, IfSome};
+ghost use Rattle.serde_json.specs.View.{view};
 ghost use Rattle.wm_request.specs.Requests.{IsShortText};
-ghost use Rattle.wm_script.specs.Values.{are_ids, are_short, flag_at, id_in, ids_at, ids_of, short_in, texts_at, texts_of, whole_at, whole_in};
+ghost use Rattle.wm_script.specs.Values.{flag_at, id_in, short_in, whole_at, whole_in};
 
+use crate::parts::{Part, Unread, formed};
 use serde_json::Value;
-use std::alloc::{AllocError, Global};
+use std::alloc::Global;
 use uuid::Uuid;
-use wm_collections::{Items, Text};
+use wm_collections::Text;
 use wm_request::MAX_TEXT_BYTES;
 
 /// The number after the greatest that a line may hold.
@@ -71,95 +72,22 @@ pub fn short_in(value: &Value) -> Option<&str>
     }
 }
 
-/// Whether each of a list's items is such a text.
-fn are_short(items: &[Value]) -> bool
-    ensures { result ≡ are_short (items_view items.now) }
-{
-    items.iter().all(is_short)
-}
+impl Part for Uuid {
+    ghost use Rattle.wm_script.specs.Values.{id_part};
 
-fn is_short(value: &Value) -> bool
-    ensures { result ≡ is_some (short_in (view value.now)) }
-{
-    short_in(value).is_some()
-}
+    ghost reading = { id_part };
 
-/// Whether each of a list's items is an id.
-fn are_ids(items: &[Value]) -> bool
-    ensures { result ≡ are_ids (items_view items.now) }
-{
-    items.iter().all(is_id)
-}
-
-fn is_id(value: &Value) -> bool
-    ensures { result ≡ is_some (id_in (view value.now)) }
-{
-    id_in(value).is_some()
-}
-
-/// The items of a list of texts of 1 to 200 bytes; no item where there is no list.
-#[tactic(auto, unfolding(crate::specs::Values::texts_at))]
-pub fn texts_at(value: Option<&Value>) -> Option<&[Value]>
-    ensures { option_map (λ items. texts_of (items_view items.now)) result
-        ≡ texts_at (option_map (λ found. view found.now) value.entry) }
-{
-    let Some(value) = value else {
-        return Some(&[]);
-    };
-    let items = value.as_array()?.as_slice();
-    if are_short(items) { Some(items) } else { None }
-}
-
-/// The items of a list of ids, where there is a list.
-#[tactic(auto, unfolding(crate::specs::Values::ids_at))]
-pub fn ids_at(value: Option<&Value>) -> Option<Option<&[Value]>>
-    ensures { option_map (λ found. option_map (λ items. ids_of (items_view items.now)) found) result
-        ≡ ids_at (option_map (λ found. view found.now) value.entry) }
-{
-    let Some(value) = value else {
-        return Some(None);
-    };
-    let items = value.as_array()?.as_slice();
-    if are_ids(items) {
-        Some(Some(items))
-    } else {
-        None
+    fn read(_alloc: Global, value: &Value) -> Result<Uuid, Unread> {
+        formed(id_in(value))
     }
 }
 
-/// The texts of a list.
-pub fn texts_of(alloc: Global, items: &[Value]) -> Result<Items<Text>, AllocError>
-    ensures { IfOk result (λ texts. texts ≡ texts_of (items_view items.now)) }
-{
-    let mut texts = Items::new(alloc);
-    for item in items {
-        if let Some(text) = short_in(item) {
-            texts.push(Text::from_str(alloc, text)?)?;
-        }
-    }
-    Ok(texts)
-}
+impl Part for Text {
+    ghost use Rattle.wm_script.specs.Values.{text_part};
 
-/// The ids of a list.
-fn ids_of(alloc: Global, items: &[Value]) -> Result<Items<Uuid>, AllocError>
-    ensures { IfOk result (λ ids. ids ≡ ids_of (items_view items.now)) }
-{
-    let mut ids = Items::new(alloc);
-    for item in items {
-        if let Some(id) = id_in(item) {
-            ids.push(id)?;
-        }
-    }
-    Ok(ids)
-}
+    ghost reading = { text_part };
 
-/// The ids of a list; none where there is no list.
-pub fn given_ids(alloc: Global, items: Option<&[Value]>) -> Result<Items<Uuid>, AllocError>
-    ensures { IfOk result (λ ids. ids
-        ≡ unwrap_or (option_map (λ given. ids_of (items_view given.now)) items.entry) []) }
-{
-    match items {
-        Some(given) => ids_of(alloc, given),
-        None => Ok(Items::new(alloc)),
+    fn read(alloc: Global, value: &Value) -> Result<Text, Unread> {
+        Ok(Text::from_str(alloc, formed(short_in(value))?)?)
     }
 }

@@ -1,18 +1,19 @@
 //! A work as it stands in a line.
-ghost use Rattle.std.specs.Prelude.{◌≡◌, not, option_map, option_to_list};
+ghost use Rattle.std.specs.Prelude.{◌≡◌, option_map};
 ghost use Rattle.serde_json.specs.View.{view};
-ghost use Rattle.wm_script.specs.Enqueues.{are_alone};
-ghost use Rattle.wm_script.specs.Works.{backoff_at, backoff_policy_at, class_at, constraints_at, form_of, id_at, lone_in, merger_at, network_at, period_at, period_of, work_of};
+ghost use Rattle.wm_script.specs.Objects.{has_only};
+ghost use Rattle.wm_script.specs.Works.{backoff_at, backoff_policy_at, class_at, constraint_keys, constraints_at, form_of, id_at, merger_at, network_at, period_at, period_of, work_keys, work_of};
 
 use crate::objects::has_only;
-use crate::values::{flag_at, id_in, ids_at, texts_at, whole_at, whole_in};
+use crate::values::{flag_at, id_in, whole_at, whole_in};
 use serde_json::Value;
 use uuid::Uuid;
 use wm_conditions::{Constraints, Network};
 use wm_data::Merger;
 use wm_schedule::{Backoff, BackoffPolicy};
 
-/// A work as it stands in a line, where its input may be anything.
+/// A work as it stands in a line, where its input may be anything. Its tags and the works that it is
+/// after stand in lists beside it.
 #[derive(Clone, Copy)]
 pub struct WorkForm<'v> {
     pub id: Uuid,
@@ -20,8 +21,6 @@ pub struct WorkForm<'v> {
     pub class: &'v str,
     pub input: Option<&'v Value>,
     pub merger: Merger,
-    /// Texts of 1 to 200 bytes, in any order.
-    pub tags: &'v [Value],
     pub constraints: Constraints,
     /// With its delay as it is asked for, in milliseconds.
     pub backoff: Backoff,
@@ -29,8 +28,6 @@ pub struct WorkForm<'v> {
     pub delay: u64,
     /// How often it repeats, and its flex interval, as they are asked for, in milliseconds.
     pub period: Option<PeriodForm>,
-    /// The ids of the works that it is after, where it names any.
-    pub after: Option<&'v [Value]>,
 }
 
 /// A period, in milliseconds, and a flex interval where there is one.
@@ -40,28 +37,13 @@ pub struct PeriodForm {
     pub flex: Option<u64>,
 }
 
-/// The work that an object is, which has no other key than these. A key that is absent has its
-/// default.
+/// The work that an object is, which has no other key than these, without its lists. A key that is
+/// absent has its default.
 #[tactic(auto, unfolding(crate::specs::Works::work_of))]
 pub fn work_of(value: &Value) -> Option<WorkForm<'_>>
     ensures { option_map form_of result ≡ work_of (view value.now) }
 {
-    if !has_only(
-        value,
-        &[
-            "after",
-            "backoff",
-            "class",
-            "constraints",
-            "delay",
-            "flex",
-            "id",
-            "input",
-            "merger",
-            "period",
-            "tags",
-        ],
-    ) {
+    if !has_work_keys(value) {
         return None;
     }
     Some(WorkForm {
@@ -69,35 +51,11 @@ pub fn work_of(value: &Value) -> Option<WorkForm<'_>>
         class: class_at(value.get("class"))?,
         input: value.get("input"),
         merger: merger_at(value.get("merger"))?,
-        tags: texts_at(value.get("tags"))?,
         constraints: constraints_at(value.get("constraints"))?,
         backoff: backoff_at(value.get("backoff"))?,
         delay: whole_at(0, value.get("delay"))?,
         period: period_at(value.get("period"), value.get("flex"))?,
-        after: ids_at(value.get("after"))?,
     })
-}
-
-/// A work that names none that it is after: it hasn't the key `after`.
-#[tactic(auto, unfolding(crate::specs::Works::lone_in))]
-pub fn lone_in(value: &Value) -> Option<WorkForm<'_>>
-    ensures { option_map form_of result ≡ lone_in (view value.now) }
-{
-    if names_works(value) {
-        None
-    } else {
-        work_of(value)
-    }
-}
-
-/// Whether it is a work with the key `after`.
-pub fn names_works(value: &Value) -> bool
-    ensures { not result ≡ are_alone (option_to_list (work_of (view value.now))) }
-{
-    match work_of(value) {
-        Some(work) => work.after.is_some(),
-        None => false,
-    }
 }
 
 /// A period with its flex interval; no flex interval stands without a period.
@@ -178,16 +136,7 @@ fn constraints_at(value: Option<&Value>) -> Option<Constraints>
     let Some(value) = value else {
         return Some(Constraints::NONE);
     };
-    if !has_only(
-        value,
-        &[
-            "battery_not_low",
-            "charging",
-            "idle",
-            "network",
-            "storage_not_low",
-        ],
-    ) {
+    if !has_constraint_keys(value) {
         return None;
     }
     Some(Constraints {
@@ -229,4 +178,42 @@ fn backoff_at(value: Option<&Value>) -> Option<Backoff>
         policy: backoff_policy_at(value.get("policy"))?,
         delay: whole_at(Backoff::DEFAULT.delay, value.get("delay"))?,
     })
+}
+
+/// Whether it is an object that has no other key than those of a work.
+fn has_work_keys(value: &Value) -> bool
+    ensures { result ≡ has_only work_keys (view value.now) }
+{
+    has_only(
+        value,
+        &[
+            "after",
+            "backoff",
+            "class",
+            "constraints",
+            "delay",
+            "flex",
+            "id",
+            "input",
+            "merger",
+            "period",
+            "tags",
+        ],
+    )
+}
+
+/// Whether it is an object that has no other key than those of constraints.
+fn has_constraint_keys(value: &Value) -> bool
+    ensures { result ≡ has_only constraint_keys (view value.now) }
+{
+    has_only(
+        value,
+        &[
+            "battery_not_low",
+            "charging",
+            "idle",
+            "network",
+            "storage_not_low",
+        ],
+    )
 }

@@ -1,20 +1,21 @@
 -- A book after a claim: what a start keeps, and one that fails.
-use Rattle.std.proofs.Common.{◌≡◌, ℕ, ◌+◌, true, List, map, Option, Some, None, IsSomeAnd, option_map, refl, sym, ◌∙◌, ap, subst, arith}
+use Rattle.std.proofs.Common.{◌≡◌, ℕ, ◌+◌, true, List, map, Option, Some, None, IsSomeAnd, option_map, refl, sym, ◌∙◌, ap, subst, arith, []}
 use Rattle.wm_bench.specs.Places.{changed_at, made_away, idle_at}
 use Rattle.wm_bench.specs.Seat.{Seat}
 use Rattle.wm_bench.specs.declared.place.Place.{Place}
 use Rattle.wm_data.specs.declared.data.DataEntry.{DataEntry}
+use Rattle.wm_machine.specs.declared.event.Cause.{Cause}
+use Rattle.wm_machine.specs.declared.event.Event.{Event}
+use Rattle.wm_machine.specs.declared.state.Run.{Run}
+use Rattle.wm_machine.specs.declared.state.State.{State}
+use Rattle.wm_worker.specs.declared.kind.Kind.{Kind}
 use Rattle.wm_machine.proofs.Firsts.{idle_instance-idle, idle_instance-stored}
 use Rattle.wm_machine.proofs.Runnings.{found_valid}
 use Rattle.wm_machine.proofs.Steps.{framed, kept as kept_by}
 use Rattle.wm_machine.specs.Frame.{Frame}
 use Rattle.wm_machine.specs.Runs.{run_numbered, with_out}
 use Rattle.wm_machine.specs.Valid.{Valid}
-use Rattle.wm_machine.specs.declared.event.Cause.{Cause}
 use Rattle.wm_machine.specs.declared.event.Event.TheVariants as event
-use Rattle.wm_machine.specs.declared.event.Event.{Event}
-use Rattle.wm_machine.specs.declared.state.Run.{Run}
-use Rattle.wm_machine.specs.declared.state.State.{State}
 use Rattle.wm_session.proofs.PlacesAndInstances.{away-changed, away-taken, idle_at-in, kind-of_run, no_seat, seat_is, traits-taken, traits-with_out}
 use Rattle.wm_session.proofs.BookParts.{AwayInvariant-from, claimed_step}
 use Rattle.wm_session.specs.Bench.{instance_traits, is_away, place_traits}
@@ -29,7 +30,6 @@ use Rattle.wm_session.specs.declared.book.Stop.{Stop}
 use Rattle.wm_table.specs.declared.table.Claim.TheVariants as claim
 use Rattle.wm_table.specs.declared.table.Claim.{Claim}
 use Rattle.wm_worker.specs.Signal.{SignalState}
-use Rattle.wm_worker.specs.declared.kind.Kind.{Kind}
 use Rattle.wm_session.proofs.BookSteps.{IsTold, away_now, reached, reached_after, BookInvariant-event}
 
 -- the worker at the place of a ticket's instance is of the ticket's kind
@@ -39,7 +39,7 @@ ticket_kind : {B : Type 0} (kind_of : B → Kind) (worker : B) (s : State) (tick
 ticket_kind kind_of worker s ticket None places valid same is stands idle = absurd stands
 ticket_kind kind_of worker s ticket (Some run) places valid same is stands idle =
     let here : run.instance ≡ 0 + ticket.instance = ap (λ (t : TicketState). t.instance) (sym stands) ∙ omega arith in
-    kind-of_run kind_of worker run ticket.instance 0 places s.instances valid.numbered same
+    kind-of_run kind_of worker run ticket.instance 0 places s.instances valid.instances.numbered same
     (found_valid s ticket.task.run run valid is).instance here idle
     ∙ ap (λ (t : TicketState). t.kind) (sym stands)
 
@@ -53,7 +53,7 @@ module _ {K W B : Type 0} {run : Inputs} {tells : Tells K W B} where
       let start = step.legal in
       let instances = old.table.state.instances in
       let is : start.idle.number ≡ 0 + place = sym start.instance_is ∙ sym same ∙ omega arith in
-      idle_at-in start.idle place 0 old.places instances kept.valid.numbered (away_now old going kept.away)
+      idle_at-in start.idle place 0 old.places instances kept.valid.instances.numbered (away_now old going kept.away)
       (idle_instance-stored instances start.work.request.class start.idle start.is_idle)
       (idle_instance-idle instances start.work.request.class start.idle start.is_idle).is_in is
       (no_seat place (idle_at place old.places) none)
@@ -92,7 +92,7 @@ module _ {K W B : Type 0} {run : Inputs} {tells : Tells K W B} where
       ∙ sym (traits-with_out true instance s.instances) ∙ ap (map instance_traits) (sym instances))
       (AwayInvariant-from old.status (record old { table = table; places = places; pending = pending; sink = sink })
       (ap (map (λ place. is_away place.presence)) are
-      ∙ away-changed (made_away tells.kind_of) true instance 0 old.places s.instances (away-taken tells.kind_of) kept.valid.numbered
+      ∙ away-changed (made_away tells.kind_of) true instance 0 old.places s.instances (away-taken tells.kind_of) kept.valid.instances.numbered
       (away_now old going kept.away)
       ∙ ap (λ n. map (λ instance. instance.out) (with_out true n s.instances)) from_zero
       ∙ ap (map (λ instance. instance.out)) (sym instances)))
@@ -103,15 +103,15 @@ module _ {K W B : Type 0} {run : Inputs} {tells : Tells K W B} where
       → BookInvariant run tells old → old.status ≡ None
       → IsOneStep tells.held (event.Start ticket.task.run ticket.seq ticket.instance ticket.task.input) old.table table → IsTicketIn table.state ticket
       → place ≡ ticket.instance → Some seat ≡ option_map (λ worker. record { number = place; worker = worker }) (idle_at place old.places)
-      → places ≡ changed_at (made_away tells.kind_of) place old.places → signal ≡ record { run = ticket.task.run; never = true }
+      → places ≡ changed_at (made_away tells.kind_of) place old.places → signal ≡ record { run = ticket.task.run; never = true } → pending ≡ []
       → book.IsBegun tells.held tells.kind_of ticket seat signal old
       (record old { table = table; places = places; pending = pending; sink = sink })
-  IsBegun-taken {old = old} table places pending sink ticket place seat signal kept going step ticket_in same taken are signal_is =
+  IsBegun-taken {old = old} table places pending sink ticket place seat signal kept going step ticket_in same taken are signal_is written =
       let seated = seat_is place (idle_at place old.places) seat taken in
       let there : idle_at ticket.instance old.places ≡ Some seat.worker = ap (λ n. idle_at n old.places) (sym same) ∙ seated.0 in
       let start = event.Start ticket.task.run ticket.seq ticket.instance ticket.task.input in
       record {
-        goes_on = record { before = going; now = going };
+        goes_on = record { before = going; now = going; written = written };
         step = step;
         ticket_in = ticket_in;
         number = seated.1 ∙ same;
@@ -141,12 +141,12 @@ module _ {K W B : Type 0} {run : Inputs} {tells : Tells K W B} where
       no_fault
 
   pub IsStartFailed-kept : {old : BookState K W B} (table : TableState K) (pending : List ℕ) (sink : W) (seq : ℕ) (cause : Cause)
-      → BookInvariant run tells old → old.status ≡ None → IsOneStep tells.held (event.StartFailed seq cause) old.table table
+      → BookInvariant run tells old → old.status ≡ None → IsOneStep tells.held (event.StartFailed seq cause) old.table table → pending ≡ []
       → book.IsStartFailed tells.held old (record old { table = table; pending = pending; sink = sink })
-  IsStartFailed-kept {old = old} table pending sink seq cause kept going step = record {
+  IsStartFailed-kept {old = old} table pending sink seq cause kept going step written = record {
     seq = seq;
     cause = cause;
-    goes_on = record { before = going; now = going };
+    goes_on = record { before = going; now = going; written = written };
     step = step;
     places = refl;
     left = refl;

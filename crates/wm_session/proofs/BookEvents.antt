@@ -3,6 +3,9 @@ use Rattle.std.proofs.Common.{◌≡◌, ℕ, ◌+◌, ◌≤◌, cond, eqb, not
 use Rattle.std.proofs.lemmas.Bool.{cond_both}
 use Rattle.std.proofs.lemmas.List.{length-map}
 use Rattle.wm_data.specs.declared.data.DataEntry.{DataEntry}
+use Rattle.wm_machine.specs.declared.event.Event.{Event}
+use Rattle.wm_machine.specs.declared.state.Run.{Run}
+use Rattle.wm_machine.specs.declared.state.State.{State}
 use Rattle.wm_machine.proofs.Steps.{framed, kept as kept_by}
 use Rattle.wm_machine.specs.Frame.{frame_of, Frame, IsEndedIn, IsFramed}
 use Rattle.wm_machine.specs.Role as role
@@ -15,9 +18,6 @@ use Rattle.wm_machine.specs.Log.{command_in, AreNumberedFrom}
 use Rattle.wm_machine.specs.Narrow.{IsReached}
 use Rattle.wm_machine.specs.Runs.{other_runs, run_numbered}
 use Rattle.wm_machine.specs.declared.event.Event.TheVariants as event
-use Rattle.wm_machine.specs.declared.event.Event.{Event}
-use Rattle.wm_machine.specs.declared.state.Run.{Run}
-use Rattle.wm_machine.specs.declared.state.State.{State}
 
 -- ---- events that aren't commands
 

@@ -13,9 +13,9 @@ use Rattle.wm_machine.specs.Rows.{rows_of}
 use Rattle.wm_texts.specs.Texts.{log_text}
 use Rattle.wm_machine.specs.Valid.{Valid}
 use Rattle.wm_machine.specs.declared.command.Command.{Command}
-use Rattle.wm_machine.specs.declared.event.Event.TheVariants as event
 use Rattle.wm_machine.specs.declared.reply.Reply.{Reply}
 use Rattle.wm_machine.specs.declared.state.State.{State}
+use Rattle.wm_machine.specs.declared.event.Event.TheVariants as event
 use Rattle.wm_session.proofs.PlacesAndInstances.{all_here}
 use Rattle.wm_session.proofs.BookParts.{AwayInvariant-from}
 use Rattle.wm_session.proofs.WrittenTexts.{TextsInvariant-unwritten}

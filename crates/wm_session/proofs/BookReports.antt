@@ -1,16 +1,16 @@
 -- A book after the end of a run, and after a turn by which it goes on.
-use Rattle.std.proofs.Common.{◌≡◌, ◌⊎◌, ℕ, ◌+◌, Bool, true, false, List, map, Option, Some, None, IsSomeAnd, refl, sym, ◌∙◌, ap, subst, inl, inr, arith}
+use Rattle.std.proofs.Common.{◌≡◌, ◌⊎◌, ℕ, ◌+◌, Bool, true, false, List, map, Option, Some, None, IsSomeAnd, refl, sym, ◌∙◌, ap, subst, inl, inr, arith, []}
 use Rattle.wm_bench.specs.Places.{changed_at, made_idle, IsAwayAt}
 use Rattle.wm_bench.specs.Seat.{Seat}
 use Rattle.wm_bench.specs.declared.place.Place.{Place}
 use Rattle.wm_keeper.specs.declared.row.Row.{Row}
+use Rattle.wm_machine.specs.declared.event.Event.{Event}
+use Rattle.wm_machine.specs.declared.state.Instance.{Instance}
+use Rattle.wm_machine.specs.declared.state.State.{State}
 use Rattle.wm_machine.proofs.Turns.{after_turn}
 use Rattle.wm_machine.specs.Frame.{Frame}
 use Rattle.wm_machine.specs.Runs.{with_out}
-use Rattle.wm_machine.specs.declared.event.Event.{Event}
 use Rattle.wm_machine.specs.declared.event.Event.TheVariants as event
-use Rattle.wm_machine.specs.declared.state.Instance.{Instance}
-use Rattle.wm_machine.specs.declared.state.State.{State}
 use Rattle.wm_session.proofs.PlacesAndInstances.{away-changed, traits-given, traits-with_out}
 use Rattle.wm_session.proofs.BookEvents.{framed_end, no_more_after_end, no_more_after_turn, silent_end}
 use Rattle.wm_session.proofs.BookParts.{AwayInvariant-from}
@@ -59,14 +59,14 @@ module _ {K W B : Type 0} {run : Inputs} {tells : Tells K W B} where
   pub IsOver-ended : {old : BookState K W B} (table : TableState K) (places : List (Place B)) (pending : List ℕ) (sink : W) (ticket : TicketState)
       (seat : Seat B) (told : Report) (answer : TurnAnswer)
       → BookInvariant run tells old → old.status ≡ None → IsEndAnswer answer → IsTurnAnswer tells.held ticket told answer old.table table
-      → places ≡ changed_at (made_idle seat.worker) seat.number old.places
+      → places ≡ changed_at (made_idle seat.worker) seat.number old.places → pending ≡ []
       → book.IsOver tells.held ticket seat told old (record old { table = table; places = places; pending = pending; sink = sink })
-  IsOver-ended {old = old} table places pending sink ticket seat told answer kept going ends answered are =
+  IsOver-ended {old = old} table places pending sink ticket seat told answer kept going ends answered are written =
       let over = ended_by tells.held ticket told answer old.table table ends answered in
       let ended = over.over.finished in
       record {
         timed_out = over.timed_out;
-        goes_on = record { before = going; now = going };
+        goes_on = record { before = going; now = going; written = written };
         counts = over.over.counts;
         ended = ended;
         places = are;
@@ -122,7 +122,7 @@ module _ {K W B : Type 0} {run : Inputs} {tells : Tells K W B} where
       (traits-with_out false ticket.instance s.instances) ∙ ap (map instance_traits) (sym instances))
       (AwayInvariant-from status (record old { table = table; places = places; pending = pending; sink = sink; status = status })
       (ap (map (λ place. is_away place.presence)) are
-      ∙ away-changed (made_idle worker) false place 0 old.places s.instances (λ place. refl) kept.valid.numbered (away_now old going kept.away)
+      ∙ away-changed (made_idle worker) false place 0 old.places s.instances (λ place. refl) kept.valid.instances.numbered (away_now old going kept.away)
       ∙ ap (λ n. map (λ instance. instance.out) (with_out false n s.instances)) from_zero
       ∙ ap (map (λ instance. instance.out)) (sym instances)))
       (unfaulted_end answer (tells.keeper_faults old.table.keeper) (tells.keeper_faults table.keeper) ends cause)
@@ -131,10 +131,10 @@ module _ {K W B : Type 0} {run : Inputs} {tells : Tells K W B} where
 
   pub IsTurnTold-made : {old : BookState K W B} (table : TableState K) (pending : List ℕ) (sink : W) (ticket next : TicketState) (seat : Seat B)
       (told : Report)
-      → BookInvariant run tells old → old.status ≡ None → HasGoneOn tells.held ticket told next old.table table
+      → BookInvariant run tells old → old.status ≡ None → HasGoneOn tells.held ticket told next old.table table → pending ≡ []
       → book.IsTurnTold tells.held ticket next seat seat told old (record old { table = table; pending = pending; sink = sink })
-  IsTurnTold-made {old = old} table pending sink ticket next seat told kept going on = record {
-    goes_on = record { before = going; now = going };
+  IsTurnTold-made {old = old} table pending sink ticket next seat told kept going on written = record {
+    goes_on = record { before = going; now = going; written = written };
     turn = on;
     seat_is = refl;
     places = refl;

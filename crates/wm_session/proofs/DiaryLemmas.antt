@@ -9,6 +9,10 @@ use Rattle.wm_bench.specs.declared.place.Place.{Place}
 use Rattle.wm_bench.specs.declared.place.Presence.{Presence}
 use Rattle.wm_bench.specs.declared.place.Presence.TheVariants.{Idle, Away}
 use Rattle.wm_keeper.specs.declared.row.Row.{Row}
+use Rattle.wm_machine.specs.declared.event.Event.{Event}
+use Rattle.wm_machine.specs.declared.state.Run.{Run}
+use Rattle.wm_machine.specs.declared.state.State.{State}
+use Rattle.wm_worker.specs.declared.kind.Kind.{Kind}
 use Rattle.wm_machine.proofs.DiaryLogs.{log_lines-push}
 use Rattle.wm_machine.specs.Diaries.{event_lines, given_lines, log_lines, AreDiariesAfter, AreEntries, DiaryLine, IsDiaryWith, IsEntry}
 use Rattle.wm_machine.specs.Diaries as diary_line
@@ -17,10 +21,7 @@ use Rattle.wm_machine.specs.Frame.{Frame}
 use Rattle.wm_machine.specs.Role.{Reported, This}
 use Rattle.wm_machine.specs.Replay.{Replay}
 use Rattle.wm_machine.specs.Runs.{run_numbered}
-use Rattle.wm_machine.specs.declared.event.Event.{Event}
 use Rattle.wm_machine.specs.declared.event.Event.TheVariants as event
-use Rattle.wm_machine.specs.declared.state.Run.{Run}
-use Rattle.wm_machine.specs.declared.state.State.{State}
 use Rattle.wm_session.specs.Bench.{diary_in, place_diaries}
 use Rattle.wm_session.specs.Book.{GoesOn, IsBegun}
 use Rattle.wm_session.specs.BookState.{BookState}
@@ -33,7 +34,6 @@ use Rattle.wm_worker.specs.Signal.{SignalState}
 use Rattle.wm_worker.specs.declared.answer.Entry.{Entry}
 use Rattle.wm_worker.specs.declared.answer.Entry.TheVariants.{Begun, Gave}
 use Rattle.wm_worker.specs.declared.answer.Given.TheVariants.{More}
-use Rattle.wm_worker.specs.declared.kind.Kind.{Kind}
 
 -- ---- one diary
 

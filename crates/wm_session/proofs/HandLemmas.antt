@@ -7,11 +7,11 @@ use Rattle.wm_bench.specs.declared.place.Presence.{Presence}
 use Rattle.wm_bench.specs.declared.place.Presence.TheVariants.{Idle, Away}
 use Rattle.wm_machine.specs.declared.state.Instance.{Instance}
 use Rattle.wm_machine.specs.declared.state.State.{State}
+use Rattle.wm_worker.specs.declared.kind.Kind.{Kind}
 use Rattle.wm_session.specs.Bench.{AreIdle, Traits, hand_diaries, hand_traits, instance_traits, is_away, place_diaries, place_traits}
 use Rattle.wm_session.specs.Ended.{AreHandsBack}
 use Rattle.wm_session.specs.BetweenRuns.{NoneRetired}
 use Rattle.wm_worker.specs.declared.answer.Entry.{Entry}
-use Rattle.wm_worker.specs.declared.kind.Kind.{Kind}
 
 -- ---- hands that are given
 

@@ -8,11 +8,12 @@ use Rattle.wm_bench.specs.declared.place.Presence.TheVariants.{Idle, Away}
 use Rattle.wm_bench.specs.declared.place.Presence.{Presence}
 use Rattle.wm_machine.proofs.Runnings.{made_both}
 use Rattle.wm_machine.specs.Runs.{with_out}
-use Rattle.wm_machine.specs.Valid.{AreNumberedInOrder, HasOne, IsInstanceOf}
+use Rattle.wm_collections.specs.Lists.{HasOne}
+use Rattle.wm_machine.specs.Valid.{AreNumberedInOrder, IsInstanceOf}
 use Rattle.wm_machine.specs.declared.state.Instance.{Instance}
 use Rattle.wm_machine.specs.declared.state.Run.{Run}
-use Rattle.wm_session.specs.Bench.{instance_traits, is_away, place_traits, AreIdle, Traits, kind_at}
 use Rattle.wm_worker.specs.declared.kind.Kind.{Kind}
+use Rattle.wm_session.specs.Bench.{instance_traits, is_away, place_traits, AreIdle, Traits, kind_at}
 
 -- ---- what stays of a place and of an instance
 
@@ -48,8 +49,7 @@ pub traits-with_out : (out : Bool) (number : ℕ) (instances : List Instance)
     → map instance_traits (with_out out number instances) ≡ map instance_traits instances
 traits-with_out out number [] = refl
 traits-with_out out number (instance ∷ instances) =
-    made_both
-    (λ changed. instance_traits changed ∷ map instance_traits (with_out out number instances) ≡ instance_traits instance
+    made_both (λ changed. instance_traits changed ∷ map instance_traits (with_out out number instances) ≡ instance_traits instance
     ∷ map instance_traits instances) out number instance
     (λ same. ap (λ (rest : List Traits). instance_traits instance ∷ rest) (traits-with_out out number instances))
     (λ other. ap (λ (rest : List Traits). instance_traits instance ∷ rest) (traits-with_out out number instances))
@@ -82,10 +82,8 @@ away-changed change away zero first (place ∷ places) (instance ∷ instances) 
     let rest : away_list places ≡ out_list instances = cc in
     let is : instance.number ≡ first = in_order.0 in
     made_both (λ changed. is_away (change place).presence ∷ away_list places ≡ changed.out ∷ out_list (with_out away (first + zero) instances)) away
-    (first + zero) instance
-    (λ here. ap (λ bit. bit ∷ away_list places) (changes place) ∙ ap (λ bits. away ∷ bits)
-    (rest ∙ sym (out_list-below away (first + zero) (first + 1) instances in_order.1 (omega arith))))
-    (λ other. absurd (other (omega arith)))
+    (first + zero) instance (λ here. ap (λ bit. bit ∷ away_list places) (changes place) ∙ ap (λ bits. away ∷ bits)
+    (rest ∙ sym (out_list-below away (first + zero) (first + 1) instances in_order.1 (omega arith)))) (λ other. absurd (other (omega arith)))
 away-changed change away (suc number) first (place ∷ places) (instance ∷ instances) changes in_order same =
     let rest : away_list places ≡ out_list instances = cc in
     let head : is_away place.presence ≡ instance.out = cc in
@@ -93,11 +91,8 @@ away-changed change away (suc number) first (place ∷ places) (instance ∷ ins
     let further : first + 1 + number ≡ first + suc number = omega arith in
     let more : away_list (changed_at change number places) ≡ out_list (with_out away (first + suc number) instances) =
     away-changed change away number (first + 1) places instances changes in_order.1 rest ∙ ap (λ n. out_list (with_out away n instances)) further in
-    made_both
-    (λ changed. is_away place.presence ∷ away_list (changed_at change number places) ≡ changed.out ∷ out_list
-    (with_out away (first + suc number) instances)) away
-    (first + suc number) instance
-    (λ here. absurd (omega arith))
+    made_both (λ changed. is_away place.presence ∷ away_list (changed_at change number places) ≡ changed.out ∷ out_list
+    (with_out away (first + suc number) instances)) away (first + suc number) instance (λ here. absurd (omega arith))
     (λ other. ap (λ bit. bit ∷ away_list (changed_at change number places)) head ∙ ap (λ bits. instance.out ∷ bits) more)
 
 away_by : {B : Type 0} (kind_of : B → Kind) (presence : Presence B) → is_away (away_from kind_of presence) ≡ true
@@ -175,8 +170,7 @@ kind_at-idle : {B : Type 0} (kind_of : B → Kind) (presence : Presence B) (work
 kind_at-idle kind_of (Idle other) worker is = let same : other ≡ worker = cc in ap kind_of same
 kind_at-idle kind_of (Away kind) worker is = absurd cc
 
-run-from : (first : ℕ) (run : Run) (instances : List Instance) → AreNumberedInOrder first instances → HasOne (IsInstanceOf run) instances
-    → first ≤ run.instance
+run-from : (first : ℕ) (run : Run) (instances : List Instance) → AreNumberedInOrder first instances → HasOne (IsInstanceOf run) instances → first ≤ run.instance
 run-from first run [] in_order one = absurd one
 run-from first run (instance ∷ instances) in_order (inl is) =
     let number : instance.number ≡ run.instance = is.number in

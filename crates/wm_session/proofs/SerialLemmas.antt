@@ -7,6 +7,11 @@ use Rattle.wm_bench.specs.Places.{changed_at, made_away, made_idle, IsAwayAt}
 use Rattle.wm_bench.specs.Seat.{Seat}
 use Rattle.wm_data.specs.declared.data.DataEntry.{DataEntry}
 use Rattle.wm_keeper.specs.declared.row.Row.{Row}
+use Rattle.wm_machine.specs.declared.command.Command.{Command}
+use Rattle.wm_machine.specs.declared.event.Cause.{Cause}
+use Rattle.wm_machine.specs.declared.event.Event.{Event}
+use Rattle.wm_machine.specs.declared.state.State.{State}
+use Rattle.wm_worker.specs.declared.kind.Kind.{Kind}
 use Rattle.wm_machine.proofs.Serials.{AreInOrder-first, AreInOrder-nothing, AreInOrder-push, BeginsSerial-goes-on}
 use Rattle.wm_machine.specs.Outcome.{IsBuilt}
 use Rattle.wm_machine.specs.Frame.{Frame}
@@ -20,11 +25,7 @@ use Rattle.wm_machine.specs.Turns.{turned, with_turned}
 use Rattle.wm_machine.specs.Valid.{Valid}
 use Rattle.wm_machine.specs.Waiting.{left_to_drain}
 use Rattle.wm_machine.specs.Step.{Legal}
-use Rattle.wm_machine.specs.declared.command.Command.{Command}
-use Rattle.wm_machine.specs.declared.event.Cause.{Cause}
-use Rattle.wm_machine.specs.declared.event.Event.{Event}
 use Rattle.wm_machine.specs.declared.event.Event.TheVariants as event
-use Rattle.wm_machine.specs.declared.state.State.{State}
 use Rattle.wm_machine.proofs.Steps.{framed}
 use Rattle.wm_machine.proofs.Turns.{after_turn}
 use Rattle.wm_session.proofs.BookEvents.{end_in_turn, framed_end, length-turned, other_runs-turned, run_numbered-turned}
@@ -55,7 +56,6 @@ use Rattle.wm_worker.specs.declared.answer.Entry.TheVariants.{Gave}
 use Rattle.wm_worker.specs.declared.answer.Given.{Given}
 use Rattle.wm_worker.specs.declared.answer.Given.TheVariants.{More}
 use Rattle.std.specs.Prelude.{map, option_to_list}
-use Rattle.wm_worker.specs.declared.kind.Kind.{Kind}
 
 -- ---- a turn is reported
 

@@ -1,5 +1,5 @@
 -- The text that a sink was given, in pieces, and what of it is pending.
-use Rattle.std.proofs.Common.{◌≡◌, ℕ, ◌-◌, ◌+◌, List, [], ◌++◌, length, take, drop, Option, Some, None, option_map, refl, sym, ◌∙◌, ap, subst, arith, append_assoc, length-drop, take-append-drop}
+use Rattle.std.proofs.Common.{◌≡◌, ℕ, ◌-◌, ◌+◌, List, [], ◌++◌, length, take, drop, Option, Some, None, option_map, refl, sym, ◌∙◌, ap, subst, arith, append_assoc, length-drop}
 use Rattle.std.proofs.lemmas.List.{append-nil, take_all}
 use Rattle.std.proofs.Math.Seq.{take-add}
 use Rattle.wm_session.specs.Invariant.{TextsInvariant}
@@ -27,15 +27,6 @@ IsAppended-piece before between now text taken count given more =
     IsAppended-append before between now (take taken text) (take count (take (length text - taken) (drop taken text))) given more
     ∙ ap (λ (l : List ℕ). option_map (λ given. given ++ l) before) (ap (λ (l : List ℕ). take taken text ++ take count l) tail ∙ sym (take-add taken count text))
 
--- what was taken of the pending was given, and the rest is pending
-pub TextsInvariant-taken : (before now : Option (List ℕ)) (pending left : List ℕ) (taken : ℕ) → IsAppended before now (take taken pending)
-    → left ≡ drop taken pending → TextsInvariant None before now pending left
-TextsInvariant-taken before now pending left taken given is = record {
-  written = take taken pending;
-  given = given;
-  kept = sym (take-append-drop taken pending) ∙ ap (λ (l : List ℕ). take taken pending ++ l) (sym is);
-}
-
 -- bytes that are the whole text are a front of it
 pub TextsInvariant-front : (why : Stop) (before now : Option (List ℕ)) (text pending : List ℕ) → TextsInvariant None before now text pending
     → TextsInvariant (Some why) before now text pending
@@ -44,10 +35,6 @@ TextsInvariant-front why before now text pending kept = record {
   given = kept.given;
   kept = ([], kept.kept ∙ sym (append-nil (kept.written ++ pending)));
 }
-
--- nothing was written, and what is pending is a front of the text
-pub TextsInvariant-untold : (why : Stop) (before : Option (List ℕ)) (pending more : List ℕ) → TextsInvariant (Some why) before before (pending ++ more) pending
-TextsInvariant-untold why before pending more = record { written = []; given = IsAppended-nothing before; kept = (more, refl) }
 
 -- nothing was written, and everything is pending
 pub TextsInvariant-unwritten : (before : Option (List ℕ)) (pending : List ℕ) → TextsInvariant None before before pending pending

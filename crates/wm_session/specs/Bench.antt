@@ -1,4 +1,4 @@
--- How the bench of a session agrees with the instances of its state. This project's own choice.
+-- How the bench of a session agrees with the instances of its state.
 use Rattle.std.specs.Prelude.{◌≡◌, ℕ, Bool, true, false, List, map, Option, None}
 use Rattle.std.specs.List.{AllByRecursion}
 use Rattle.wm_bench.specs.declared.hand.Hand.{Hand}

@@ -1,4 +1,4 @@
--- A book between the runs of a session, and when its log is in serial order. This project's own choice.
+-- A book between the runs of a session, and when its log is in serial order.
 use Rattle.std.specs.Prelude.{◌≡◌, ◌⊎◌, ◌≤◌, false, List, [], length, Option, None}
 use Rattle.std.specs.List.{AllByRecursion}
 use Rattle.wm_bench.specs.declared.place.Place.{Place}

@@ -1,4 +1,4 @@
--- What the calls of a book do. This project's own choice.
+-- What the calls of a book do.
 use Rattle.std.specs.Prelude.{◌≡◌, ◌⊎◌, ℕ, ◌+◌, ◌<◌, ◌≤◌, Bool, true, List, [], ◌∷◌, Option, Some, None, IsSome, Result, Ok, Err}
 use Rattle.std.specs.declared.alloc.AllocError.{AllocError}
 use Rattle.wm_bench.specs.Places.{changed_at, idle_at, made_away, made_idle}
@@ -29,10 +29,11 @@ use Rattle.wm_worker.specs.Signal.{SignalState}
 use Rattle.wm_worker.specs.Told.{Report}
 use Rattle.wm_worker.specs.declared.kind.Kind.{Kind}
 
--- the session went on and goes on, and its lines are as they were
+-- the session went on and goes on, and what was to be written is written
 pub record GoesOn {K W B : Type 0} (old new : BookState K W B) : Type 0 where
   pub before : old.status ≡ None
   pub now : new.status ≡ None
+  pub written : new.pending ≡ []
 
 -- a session that had stopped before stays so: its status, its sink and what is pending are as they were
 pub record StaysStopped {K W B : Type 0} (old new : BookState K W B) : Type 0 where

@@ -1,4 +1,4 @@
--- What a contract sees of a book. This project's own choice.
+-- What a contract sees of a book.
 use Rattle.std.specs.Prelude.{ℕ, List, Option}
 use Rattle.wm_bench.specs.declared.place.Place.{Place}
 use Rattle.wm_machine.specs.declared.command.Command.{Command}

@@ -1,4 +1,4 @@
--- Which status a fault gives, and why a session ends early. This project's own choice.
+-- Which status a fault gives, and why a session ends early.
 use Rattle.std.specs.Prelude.{ℕ, Option, Some, None}
 use Rattle.wm_faults.specs.Faults.{Failed}
 use Rattle.wm_keeper.specs.declared.keeper.KeepFault.{KeepFault}

@@ -1,4 +1,4 @@
--- What driving a run to its end does. This project's own choice.
+-- What driving a run to its end does.
 use Rattle.std.specs.Prelude.{◌≡◌, ◌⊎◌, ℕ, ◌+◌, ◌<◌, ◌≤◌, List, [], ◌∷◌, slice_set, Option, Some, None, IsSome, Result, IfOk}
 use Rattle.std.specs.declared.alloc.AllocError.{AllocError}
 use Rattle.wm_bench.specs.Places.{changed_at, made_idle, IsAwayAt}

@@ -1,4 +1,4 @@
--- How a session ends: what its log, its last state, the bytes given and the workers handed back are. This project's own choice.
+-- How a session ends: what its log, its last state, the bytes given and the workers handed back are.
 use Rattle.std.specs.Prelude.{◌≡◌, ℕ, true, false, not, List, [], map, filter, Option, option_map, Vec}
 use Rattle.std.specs.declared.alloc.Global.{Global}
 use Rattle.wm_bench.specs.Places.{idle_hands}

@@ -1,4 +1,4 @@
--- The instances that the workers which a run is given are. This project's own choice.
+-- The instances that the workers which a run is given are.
 use Rattle.std.specs.Prelude.{ℕ, ◌+◌, false, List, [], ◌∷◌}
 use Rattle.wm_bench.specs.declared.hand.Hand.{Hand}
 use Rattle.wm_machine.specs.declared.state.Instance.{Instance}

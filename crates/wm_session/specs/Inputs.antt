@@ -1,4 +1,4 @@
--- The inputs of one run, by which whoever holds a part of the run knows what it is a part of. This project's own choice.
+-- The inputs of one run, by which whoever holds a part of the run knows what it is a part of.
 use Rattle.std.specs.Prelude.{ℕ, List, [], Option, None}
 use Rattle.wm_keeper.specs.declared.row.Row.{Row}
 use Rattle.wm_machine.specs.Opened.{opening_state}

@@ -1,4 +1,4 @@
--- What the type of a book keeps at every moment. This project's own choice.
+-- What the type of a book keeps at every moment.
 use Rattle.std.specs.Prelude.{◌≡◌, ℕ, ◌+◌, ◌^◌, ◌<◌, ◌≤◌, List, ◌++◌, length, map, Option, Some, None, option_map}
 use Rattle.std.specs.List.{AllByRecursion}
 use Rattle.wm_machine.specs.Outcome.{IsBuilt}

@@ -1,4 +1,4 @@
--- The exit status and the text of each way that a run ends. This project's own choice.
+-- The exit status and the text of each way that a run ends.
 use Rattle.std.specs.Prelude.{ℕ, ℤ, Bool, List, [], ◌++◌, codes, if◌then◌else◌}
 use Rattle.std.specs.Fmt.{signed_decimal}
 use Rattle.wm_session.specs.declared.status.Status.{Status}

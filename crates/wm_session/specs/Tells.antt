@@ -1,4 +1,4 @@
--- What the keeper, the sink and the workers of a run tell. This project's own choice.
+-- What the keeper, the sink and the workers of a run tell.
 use Rattle.std.specs.Prelude.{ℕ, List, Option}
 use Rattle.wm_keeper.specs.declared.row.Row.{Row}
 use Rattle.wm_worker.specs.declared.answer.Entry.{Entry}

@@ -1,4 +1,4 @@
--- What writing a text gives to its sink. This project's own choice.
+-- What writing a text gives to its sink.
 use Rattle.std.specs.Prelude.{◌≡◌, ℕ, Bool, true, false, List, ◌++◌, Option, option_map, Result, Err}
 use Rattle.wm_session.specs.declared.writing.WriteFault.{WriteFault}
 use Rattle.wm_session.specs.declared.writing.WriteFault.TheVariants.{Failed}

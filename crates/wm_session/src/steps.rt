@@ -81,11 +81,12 @@ pub fn tell_last<K: Keeper, W: Sink>(
         pending.old.items pending.new.items) }
     ensures err { IfErr result (λ fault. IsLastTold (Some (stop_by_fault fault)) table.now
         (W.given sink.old) (W.given sink.new) pending.old.items pending.new.items) }
+    ensures all { OnOk result (pending.new.items ≡ []) }
     ensures cause { WriteCause result (W.faults sink.old) (W.faults sink.new) }
 {
     match table.last_event() {
         Some(event) => tell(alloc, event, table.hushed(), pending, sink),
-        None => Ok(()),
+        None => write_pending(sink, pending),
     }
 }
 
@@ -102,6 +103,7 @@ fn tell<W: Sink>(
     ensures err { IfErr result (λ fault. TextsInvariant (Some (stop_by_fault fault))
         (W.given sink.old) (W.given sink.new)
         (pending.old.items ++ text_of event.now hushed) pending.new.items) }
+    ensures all { OnOk result (pending.new.items ≡ []) }
     ensures cause { WriteCause result (W.faults sink.old) (W.faults sink.new) }
 {
     let Ok(text) = event_text(alloc, event, hushed) else {

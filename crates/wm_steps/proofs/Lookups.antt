@@ -5,10 +5,10 @@ use Rattle.std.specs.List.{AllByRecursion, position, position_or_len}
 use Rattle.std.proofs.lemmas.Bool.{eq-eqb, ltb-true, ltb-false, ne_eqb}
 use Rattle.std.proofs.lemmas.List.Folds.{find_at}
 use Rattle.std.proofs.lemmas.Option.{cond_some, none-some, same_Some, slice_get_past}
-use Rattle.wm_machine.proofs.Lists.{All-stored}
+use Rattle.wm_collections.proofs.Lists.{All-stored}
 use Rattle.wm_machine.proofs.Runnings.{WorksAscend}
 use Rattle.wm_machine.specs.Runs.{changed_work}
-use Rattle.wm_machine.specs.Valid.{HasOne}
+use Rattle.wm_collections.specs.Lists.{HasOne}
 use Rattle.wm_machine.specs.declared.record.Record.{Record}
 
 -- ---- what stands at an index
@@ -61,8 +61,7 @@ changed_work-at change [] i work ascend is = absurd (none-some work is)
 changed_work-at change (first ∷ works) zero work ascend is =
     let same : first ≡ work = same_Some first work is in
     let hit = eq-eqb work.seq work.seq refl in
-    rw (same, hit)
-    (ap (λ rest. change work ∷ rest)
+    rw (same, hit) (ap (λ rest. change work ∷ rest)
     (changed_work-later change work.seq works (subst (λ (w : Record). AllByRecursion (λ later. w.seq < later.seq) works) same ascend.0)))
 changed_work-at change (first ∷ works) (suc i) work ascend is =
     let above = All-at (λ later. first.seq < later.seq) works i work ascend.0 is in

@@ -5,7 +5,7 @@ use Rattle.std.proofs.lemmas.Int.{ints}
 use Rattle.std.proofs.lemmas.List.{append-nil, drop_more}
 use Rattle.wm_keeper.specs.Keeper.{changed_number, AreOfDifferentNumbers}
 use Rattle.wm_keeper.specs.declared.row.Change.{Change}
-use Rattle.wm_machine.proofs.Lists.{All-both, All-weaker, map-same}
+use Rattle.wm_collections.proofs.Lists.{All-unmap, All-weaker, All-with2, map-same}
 use Rattle.wm_machine.proofs.Runnings.{WorksAscend, WorksAscend-in_order}
 use Rattle.wm_machine.proofs.Steps.{Valid-after}
 use Rattle.wm_machine.specs.Limits.{FitsRow}
@@ -30,8 +30,7 @@ after_change change work = or_same work (change work)
 
 -- with a record more in front, the indexes are greater by one
 replaced-behind-by : (change : Record → Option Record) (found : Option Record) (i : ℕ) (xs ys : List Record) (front : Record)
-    → ((rest : List Record) → with_replaced (replacements change (suc (i + 1)) xs) (front ∷ rest)
-    ≡ front ∷ with_replaced (replacements change (i + 1) xs) rest)
+    → ((rest : List Record) → with_replaced (replacements change (suc (i + 1)) xs) (front ∷ rest) ≡ front ∷ with_replaced (replacements change (i + 1) xs) rest)
     → with_replaced (at_index (suc i) found (replacements change (suc i + 1) xs)) (front ∷ ys)
     ≡ front ∷ with_replaced (at_index i found (replacements change (i + 1) xs)) ys
 replaced-behind-by change None i xs ys front later =
@@ -44,8 +43,7 @@ replaced-behind-by change (Some new) i xs ys front later =
 replaced-behind : (change : Record → Option Record) (i : ℕ) (xs ys : List Record) (front : Record)
     → with_replaced (replacements change (suc i) xs) (front ∷ ys) ≡ front ∷ with_replaced (replacements change i xs) ys
 replaced-behind change i [] ys front = refl
-replaced-behind change i (work ∷ xs) ys front =
-    replaced-behind-by change (change work) i xs ys front (λ rest. replaced-behind change (i + 1) xs rest front)
+replaced-behind change i (work ∷ xs) ys front = replaced-behind-by change (change work) i xs ys front (λ rest. replaced-behind change (i + 1) xs rest front)
 
 replaced-first : (change : Record → Option Record) (found : Option Record) (work : Record) (works : List Record)
     → with_replaced (replacements change 0 works) works ≡ map (after_change change) works
@@ -54,25 +52,9 @@ replaced-first change None work works rest = replaced-behind change 0 works work
 replaced-first change (Some new) work works rest = replaced-behind change 0 works works new ∙ ap (λ rest. new ∷ rest) rest
 
 -- the records that a change touches are in their places
-pub replaced-all : (change : Record → Option Record) (works : List Record)
-    → with_replaced (replacements change 0 works) works ≡ map (after_change change) works
+pub replaced-all : (change : Record → Option Record) (works : List Record) → with_replaced (replacements change 0 works) works ≡ map (after_change change) works
 replaced-all change [] = refl
 replaced-all change (work ∷ works) = replaced-first change (change work) work works (replaced-all change works)
-
-at_index-front : (i : ℕ) (found : Option Record) (later : List Replacement) → at_index i found later ≡ at_index i found [] ++ later
-at_index-front i None later = refl
-at_index-front i (Some work) later = refl
-
--- one record more is looked at
-pub replaced-on : (change : Record → Option Record) (before : List Replacement) (works : List Record) (i : ℕ) (work : Record) (found : Option Record)
-    → i < length works → work ≡ get_or works i work → found ≡ change work
-    → (before ++ at_index i found []) ++ replacements change (i + 1) (drop (i + 1) works) ≡ before ++ replacements change i (drop i works)
-replaced-on change before works i work found within is changed =
-    let left : drop i works ≡ work ∷ drop (i + 1) works = drop_more works i work within ∙ ap (λ w. w ∷ drop (i + 1) works) (sym is) in
-    append_assoc before (at_index i found []) (replacements change (i + 1) (drop (i + 1) works))
-    ∙ ap (λ rest. before ++ rest) (sym (at_index-front i found (replacements change (i + 1) (drop (i + 1) works))))
-    ∙ ap (λ o. before ++ at_index i o (replacements change (i + 1) (drop (i + 1) works))) changed
-    ∙ ap (λ ws. before ++ replacements change i ws) (sym left)
 
 -- ---- of their nodes
 
@@ -94,8 +76,7 @@ keeps-behind-by change (Some new) i xs ys front later keep =
 keeps-behind : (change : Record → Option Record) (i : ℕ) (xs ys : List Record) (front : Record) → AllByRecursion (KeepsPlace ys) (replacements change i xs)
     → AllByRecursion (KeepsPlace (front ∷ ys)) (replacements change (suc i) xs)
 keeps-behind change i [] ys front keep = tt
-keeps-behind change i (work ∷ xs) ys front keep =
-    keeps-behind-by change (change work) i xs ys front (λ rest. keeps-behind change (i + 1) xs ys front rest) keep
+keeps-behind change i (work ∷ xs) ys front keep = keeps-behind-by change (change work) i xs ys front (λ rest. keeps-behind change (i + 1) xs ys front rest) keep
 
 keeps-first : (change : Record → Option Record) (found : Option Record) (work : Record) (works : List Record) → KeepsNode work (or_same work found)
     → AllByRecursion (KeepsPlace (work ∷ works)) (replacements change (0 + 1) works)
@@ -121,8 +102,7 @@ replaced-each-by P change (Some new) i work works p later = (p, later)
 replaced-each : (P : Record → Type 0) (change : Record → Option Record) (i : ℕ) (works : List Record)
     → AllByRecursion (λ work. P (after_change change work)) works → AllByRecursion (λ r. P r.work) (replacements change i works)
 replaced-each P change i [] all = tt
-replaced-each P change i (work ∷ works) all =
-    replaced-each-by P change (change work) i work works all.0 (replaced-each P change (i + 1) works all.1)
+replaced-each P change i (work ∷ works) all = replaced-each-by P change (change work) i work works all.0 (replaced-each P change (i + 1) works all.1)
 
 -- rows of these have other numbers
 later-rows : (number : ℕ) (replaced : List Replacement) → AllByRecursion (λ r. number < r.work.seq) replaced
@@ -134,16 +114,12 @@ later-rows number (r ∷ replaced) above = (
 )
 
 replaced-apart-by : (change : Record → Option Record) (found : Option Record) (i : ℕ) (work : Record) (works : List Record) → KeepNodes change works
-    → (or_same work found).seq ≡ work.seq → WorksAscend (work ∷ works)
-    → AreOfDifferentNumbers (map put_replaced (replacements change (i + 1) works))
+    → (or_same work found).seq ≡ work.seq → WorksAscend (work ∷ works) → AreOfDifferentNumbers (map put_replaced (replacements change (i + 1) works))
     → AreOfDifferentNumbers (map put_replaced (at_index i found (replacements change (i + 1) works)))
 replaced-apart-by change None i work works keeps same ascend later = later
 replaced-apart-by change (Some new) i work works keeps same ascend later = (
-  later-rows new.seq (replacements change (i + 1) works)
-      (replaced-each (λ w. new.seq < w.seq) change (i + 1) works
-      (All-weaker (λ later. KeepsNode later (after_change change later) × (work.seq < later.seq)) (λ later. new.seq < (after_change change later).seq) works
-      (λ later facts. let above = facts.1 in let kept = facts.0.seq in omega (arith, above, same, kept))
-      (All-both (λ later. KeepsNode later (after_change change later)) (λ later. work.seq < later.seq) works keeps ascend.0))),
+  later-rows new.seq (replacements change (i + 1) works) (replaced-each (λ w. new.seq < w.seq) change (i + 1) works
+      (All-with2 works (λ later one below. let above = below in let kept = one.seq in omega (arith, above, same, kept)) keeps ascend.0)),
   later,
 )
 
@@ -155,10 +131,6 @@ replaced-apart change i (work ∷ works) keeps ascend =
 
 -- ---- the step
 
-pub All-unmap : {T U : Type 0} (P : U → Type 0) (f : T → U) (xs : List T) → AllByRecursion P (map f xs) → AllByRecursion (λ x. P (f x)) xs
-All-unmap P f [] all = tt
-All-unmap P f (x ∷ xs) all = (all.0, All-unmap P f xs all.1)
-
 -- a legal event that changes the records so, and what its change says of the runs, is made by the change that replaces the touched ones
 pub replacing_all-step : (s t : State) (touch : Record → Option Record) (change : Record → Record) (run : RunChange) (e : Event) → Valid s → IsNarrow s
     → Legal s e → KeepNodes touch s.works → AllByRecursion (λ work. after_change touch work ≡ change work) s.works
@@ -169,10 +141,8 @@ replacing_all-step s t touch change run e valid narrow legal keeps agree made th
     let replaced = replacements touch 0 s.works in
     let same = map-same (after_change touch) change s.works agree in
     let works_are : (after s e).works ≡ map (after_change touch) s.works = ap (λ (t : State). t.works) then ∙ sym same in
-    let records = subst (AllByRecursion IsRecord) works_are (Valid-after s e valid narrow legal).records in
-    let rows_fit =
-    All-weaker (λ work. IsRecord (after_change touch work)) (λ work. FitsRow (after_change touch work)) s.works (λ work is. is.fits)
-    (All-unmap IsRecord (after_change touch) s.works records) in
+    let records = subst (AllByRecursion IsRecord) works_are (Valid-after s e valid narrow legal).works.records in
+    let rows_fit = All-weaker s.works (λ work is. is.fits) (All-unmap _ (after_change touch) s.works records) in
     record {
       fits = record {
         told = tt;
@@ -180,14 +150,12 @@ replacing_all-step s t touch change run e valid narrow legal keeps agree made th
         removed = tt;
         placed = tt;
         named = tt;
-        numbers = omega (arith, valid.next);
+        numbers = omega (arith, valid.works.fits);
         replaced_rows = replaced-each FitsRow touch 0 s.works rows_fit;
         placed_rows = tt;
         apart = subst AreOfDifferentNumbers (sym (append-nil (map put_replaced replaced ++ []) ∙ append-nil (map put_replaced replaced)))
-            (replaced-apart touch 0 s.works keeps (WorksAscend-in_order s.works valid.in_order));
+            (replaced-apart touch 0 s.works keeps (WorksAscend-in_order s.works valid.works.in_order));
       };
       legal = legal;
-      state = made
-          ∙ unplaced t (with_replaced replaced s.works) (map change s.works) (replaced-all touch s.works ∙ same)
-          ∙ sym then;
+      state = made ∙ unplaced t (with_replaced replaced s.works) (map change s.works) (replaced-all touch s.works ∙ same) ∙ sym then;
     }

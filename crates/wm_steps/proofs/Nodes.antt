@@ -6,22 +6,22 @@ use Rattle.std.proofs.lemmas.Bool.{and_from, cases_Bool, cond_both, eq-eqb, eqb-
 use Rattle.std.proofs.lemmas.List.{map-append, reverse-append}
 use Rattle.std.proofs.lemmas.List.Folds.{list_any-append}
 use Rattle.std.proofs.lemmas.Map.Views.{any-filter_same}
-use Rattle.wm_collections.specs.Lists.{AllLater}
+use Rattle.wm_collections.specs.Lists.{AllLater, HasOne, is_among}
 use Rattle.wm_data.specs.declared.data.DataEntry.{DataEntry}
+use Rattle.wm_machine.specs.declared.record.Phase.{Phase}
+use Rattle.wm_machine.specs.declared.record.Record.{Record}
 use Rattle.wm_graph.specs.Descendants as graph
 use Rattle.wm_graph.specs.Marks.{freed_by, is_met, with_marked}
 use Rattle.wm_graph.specs.Nodes.{HasNode, NodeFields}
 use Rattle.wm_machine.proofs.Descendants.{descendant_self}
-use Rattle.wm_machine.proofs.Lists.{All-any, All-both, All-reverse, All-stored, All-weaker, HasOne-weaker, list_any-false, list_any-stored, one_gives}
+use Rattle.wm_collections.proofs.Lists.{All-of_one, All-reverse, All-stored, All-weaker, All-with2, HasOne-weaker, filter-each, list_any-false, list_any-one, list_any-reverse, list_any-stored, map-reverse}
 use Rattle.wm_machine.proofs.Runnings.{IsAlone, IsAlone-stored, WorksAscend, WorksAscend-in_order}
-use Rattle.wm_machine.specs.Closed.{descendants, is_among, is_open, is_reached}
+use Rattle.wm_machine.specs.Closed.{descendants, is_open, is_reached}
 use Rattle.wm_machine.specs.Ends.{is_freed, succeeded}
 use Rattle.wm_machine.specs.First.{all_met, has_succeeded, is_succeeded, is_waiting}
 use Rattle.wm_machine.specs.Runs.{changed_work}
-use Rattle.wm_machine.specs.Valid.{ArePriorSound, HasOne, IsBefore, IsPrerequisite}
-use Rattle.wm_machine.specs.declared.record.Phase.{Phase}
+use Rattle.wm_machine.specs.Valid.{ArePriorSound, IsBefore, IsPrerequisite}
 use Rattle.wm_machine.specs.declared.record.Phase.TheVariants as phase
-use Rattle.wm_machine.specs.declared.record.Record.{Record}
 use Rattle.wm_steps.specs.Nodes.{is_there, node_of, nodes_of, IsUnmarked, reached_from}
 
 -- ---- what is there
@@ -29,96 +29,17 @@ use Rattle.wm_steps.specs.Nodes.{is_there, node_of, nodes_of, IsUnmarked, reache
 -- each record is there
 pub there-each : (works : List Record) → AllByRecursion (λ work. is_there works work.seq ≡ true) works
 there-each works =
-    All-weaker (λ work. HasOne (λ other. other ≡ work) works) (λ work. is_there works work.seq ≡ true) works
-    (λ work stored. list_any-stored (λ other. eqb other.seq work.seq) works work stored (eq-eqb work.seq work.seq refl)) (All-stored works)
-
--- what holds of each number holds of one that is among them
-among-gives : (P : ℕ → Type 0) (numbers : List ℕ) (number : ℕ) → AllByRecursion P numbers → is_among numbers number ≡ true → P number
-among-gives P [] number all is = absurd (false≢true is)
-among-gives P (one ∷ numbers) number all is = elim (or_cases (eqb one number) (is_among numbers number) is) [
-  | inl here ↦ subst P (eqb-true one number here) all.0
-  | inr there ↦ among-gives P numbers number all.1 there
-]
-
--- ---- the descendants
-
-descendants_there : (all : List Record) (seq : ℕ) (works : List Record) → AllByRecursion (λ work. is_there all work.seq ≡ true) works
-    → AllByRecursion (λ number. is_there all number ≡ true) (descendants seq works)
-descendants_there all seq [] there = tt
-descendants_there all seq (work ∷ earlier) there =
-    let rest = descendants_there all seq earlier there.1 in
-    let found = descendants seq earlier in
-    cond_both (eqb work.seq seq || list_any (is_among found) work.prior) (work.seq ∷ found) found (AllByRecursion (λ number. is_there all number ≡ true))
-    (λ e. (there.0, rest)) (λ e. rest)
-
--- a prerequisite that isn't there isn't among what is found
-any-there : (all : List Record) (found prior : List ℕ) → AllByRecursion (λ number. is_there all number ≡ true) found
-    → list_any (is_among found) (filter (is_there all) prior) ≡ list_any (is_among found) prior
-any-there all found prior there =
-    any-filter_same (is_among found) (is_there all) true (λ number is. among-gives (λ n. is_there all n ≡ true) found number there is) prior
-
-descendants-nodes : (all : List Record) (seq : ℕ) (works : List Record) → AllByRecursion (λ work. is_there all work.seq ≡ true) works
-    → graph.descendants seq (map (node_of all) works) ≡ descendants seq works
-descendants-nodes all seq [] there = refl
-descendants-nodes all seq (work ∷ earlier) there =
-    let found = descendants seq earlier in
-    ap (λ found. cond (eqb work.seq seq || list_any (is_among found) (filter (is_there all) work.prior)) (work.seq ∷ found) found)
-    (descendants-nodes all seq earlier there.1)
-    ∙ ap (λ b. cond (eqb work.seq seq || b) (work.seq ∷ found) found) (any-there all found work.prior (descendants_there all seq earlier there.1))
-
-map-reverse : {T U : Type 0} (f : T → U) (xs : List T) → map f (reverse xs) ≡ reverse (map f xs)
-map-reverse f [] = refl
-map-reverse f (x ∷ xs) =
-    ap (map f) (reverse-append (x ∷ []) xs) ∙ map-append f (reverse xs) (x ∷ []) ∙ ap (λ rest. rest ++ f x ∷ []) (map-reverse f xs)
-    ∙ sym (reverse-append (f x ∷ []) (map f xs))
-
--- the descendants of a node are those of its record
-pub reached-nodes : (seq : ℕ) (works : List Record) → reached_from seq (nodes_of works) ≡ reverse (descendants seq (reverse works))
-reached-nodes seq works =
-    ap (λ (list : List NodeFields). reverse (graph.descendants seq list)) (sym (map-reverse (node_of works) works))
-    ∙ ap reverse (descendants-nodes works seq (reverse works) (All-reverse (λ work. is_there works work.seq ≡ true) works (there-each works)))
-
-or_swap : (a b : Bool) → (a || (b || false)) ≡ (b || a)
-or_swap true true = refl
-or_swap true false = refl
-or_swap false true = refl
-or_swap false false = refl
-
--- numbers are the same in the other order
-pub among-reverse : (numbers : List ℕ) (number : ℕ) → is_among (reverse numbers) number ≡ is_among numbers number
-among-reverse [] number = refl
-among-reverse (one ∷ numbers) number =
-    ap (λ all. is_among all number) (reverse-append (one ∷ []) numbers)
-    ∙ list_any-append (λ n. eqb n number) (reverse numbers) (one ∷ [])
-    ∙ ap (λ b. b || (eqb one number || false)) (among-reverse numbers number)
-    ∙ or_swap (is_among numbers number) (eqb one number)
-
--- those that are reached are the unfinished descendants
-pub reached-test : (seq : ℕ) (works : List Record) (work : Record)
-    → (is_open work.phase && is_among (reached_from seq (nodes_of works)) work.seq) ≡ is_reached seq works work
-unfolding is_reached
-reached-test seq works work =
-    ap (λ numbers. is_open work.phase && is_among numbers work.seq) (reached-nodes seq works)
-    ∙ ap (λ b. is_open work.phase && b) (among-reverse (descendants seq (reverse works)) work.seq)
-
--- what holds of each record holds of one that is there
-pub of_stored : (P : Record → Type 0) (work : Record) (works : List Record) → AllByRecursion P works → HasOne (λ other. other ≡ work) works → P work
-of_stored P work works all stored = one_gives P (λ other. other ≡ work) (P work) works (λ other p same. subst P same p) all stored
+    All-weaker works (λ work stored. list_any-stored (λ other. eqb other.seq work.seq) works work stored (eq-eqb work.seq work.seq refl)) (All-stored works)
 
 -- a record that is there has its number
 pub HasOne-number : (work : Record) (works : List Record) → HasOne (λ other. other ≡ work) works → HasOne (λ other. other.seq ≡ work.seq) works
-HasOne-number work works stored =
-    HasOne-weaker (λ other. Unit {0}) (λ other. other ≡ work) (λ other. other.seq ≡ work.seq) works (λ other u is. ap (λ (w : Record). w.seq) is)
-    (All-any (λ other. Unit {0}) works (λ other. tt)) stored
+HasOne-number work works stored = HasOne-weaker works (λ other is. ap (λ (w : Record). w.seq) is) stored
 
 -- an unfinished work reaches itself
 pub itself_reached : (work : Record) (works : List Record) → HasOne (λ other. other ≡ work) works → is_open work.phase ≡ true
     → is_reached work.seq works work ≡ true
 unfolding is_reached
-itself_reached work works stored unfinished =
-    and_from _ _ unfinished
-    (of_stored (λ other. other.seq ≡ work.seq → is_among (descendants work.seq (reverse works)) other.seq ≡ true) work works
-    (descendant_self work.seq works) stored refl)
+itself_reached work works stored unfinished = and_from _ _ unfinished (All-of_one _ works work (descendant_self work.seq works) stored refl)
 
 -- ---- those that are freed
 
@@ -163,10 +84,7 @@ picked-each test all (work ∷ works) ascend =
     λ nodes. AllByRecursion (λ other. is_among (map (λ (node : NodeFields). node.seq) nodes) other.seq ≡ test (node_of all other)) works in
     let others : P (cond (test (node_of all work)) (node_of all work ∷ later) later) =
     cond_both (test (node_of all work)) (node_of all work ∷ later) later P
-    (λ e. All-weaker (λ other. (work.seq < other.seq) × (is_among (picked test all works) other.seq ≡ test (node_of all other)))
-    (λ other. (eqb work.seq other.seq || is_among (picked test all works) other.seq) ≡ test (node_of all other)) works
-    (λ other facts. let miss = ne_eqb work.seq other.seq (λ e. absurd (omega (arith, facts.0))) in rw miss facts.1)
-    (All-both (λ other. work.seq < other.seq) (λ other. is_among (picked test all works) other.seq ≡ test (node_of all other)) works ascend.0 rest))
+    (λ e. All-with2 works (λ other below among. let miss = ne_eqb work.seq other.seq (λ e. absurd (omega (arith, below))) in rw miss among) ascend.0 rest)
     (λ e. rest) in
     let here : is_among (picked test all (work ∷ works)) work.seq ≡ test (node_of all work) =
     cond_both (test (node_of all work)) (node_of all work ∷ later) later
@@ -174,32 +92,19 @@ picked-each test all (work ∷ works) ascend =
     (λ e. rw (hit) (sym e)) (λ e. picked_not test all work.seq works ascend.0 ∙ sym e) in
     (here, others)
 
--- a test that each passes leaves all
-pub filter-each : {T : Type 0} (keep : T → Bool) (xs : List T) → AllByRecursion (λ x. keep x ≡ true) xs → filter keep xs ≡ xs
-filter-each keep [] all = refl
-filter-each keep (x ∷ xs) all = rw (all.0) (ap (λ rest. x ∷ rest) (filter-each keep xs all.1))
-
 list_all-same : {T : Type 0} (test other : T → Bool) (xs : List T) → ((x : T) → test x ≡ other x) → list_all test xs ≡ list_all other xs
 list_all-same test other [] same = refl
 list_all-same test other (x ∷ xs) same = rw (same x, list_all-same test other xs same) refl
 
 -- a prerequisite that is sound is there
 prerequisite-there : (number : ℕ) (works : List Record) → HasOne (IsPrerequisite number) works → is_there works number ≡ true
-prerequisite-there number [] one = absurd one
-prerequisite-there number (work ∷ works) (inl is) = let hit = eq-eqb work.seq number is.seq in rw hit refl
-prerequisite-there number (work ∷ works) (inr one) =
-    elim (cases_Bool (eqb work.seq number)) [
-      | inl hit ↦ rw hit refl
-      | inr miss ↦ rw miss (prerequisite-there number works one)
-    ]
+prerequisite-there number works one =
+    list_any-one (λ work. eqb work.seq number) works (HasOne-weaker works (λ work is. eq-eqb work.seq number is.seq) one)
 
 -- all prerequisites of waiting work are there
-waiting-there : (works : List Record) (p : Phase) (prior : List ℕ) → is_waiting p ≡ true → ArePriorSound works p prior
-    → filter (is_there works) prior ≡ prior
+waiting-there : (works : List Record) (p : Phase) (prior : List ℕ) → is_waiting p ≡ true → ArePriorSound works p prior → filter (is_there works) prior ≡ prior
 waiting-there works phase.Waiting prior waits sound =
-    filter-each (is_there works) prior
-    (All-weaker (λ number. HasOne (IsPrerequisite number) works) (λ number. is_there works number ≡ true) prior
-    (λ number one. prerequisite-there number works one) sound)
+    filter-each (is_there works) prior (All-weaker prior (λ number one. prerequisite-there number works one) sound)
 waiting-there works phase.Running prior waits sound = absurd (false≢true waits)
 waiting-there works (phase.Done how) prior waits sound = absurd (false≢true waits)
 
@@ -217,17 +122,12 @@ freed-nodes seq output works order sound =
     let then = changed_work (succeeded output) seq works in
     let marked = with_marked seq (nodes_of works) in
     let test : NodeFields → Bool = λ node. is_among node.before seq && list_all (is_met marked) node.before in
-    All-weaker (λ work. ArePriorSound works work.phase work.prior × (is_among (picked test works works) work.seq ≡ test (node_of works work)))
-    (λ work. (is_waiting work.phase && is_among (picked test works works) work.seq) ≡ is_freed seq then work) works
-    (λ work facts.
-    and-when (is_waiting work.phase) (is_among (picked test works works) work.seq) (is_among work.prior seq && all_met then work)
-    (λ waits.
-    facts.1
-    ∙ ap (λ prior. is_among prior seq && list_all (is_met marked) prior) (waiting-there works work.phase work.prior waits facts.0)
+    All-with2 works (λ work sound among. and-when (is_waiting work.phase) (is_among (picked test works works) work.seq)
+    (is_among work.prior seq && all_met then work) (λ waits. among
+    ∙ ap (λ prior. is_among prior seq && list_all (is_met marked) prior) (waiting-there works work.phase work.prior waits sound)
     ∙ ap (λ b. is_among work.prior seq && b)
-    (list_all-same (is_met marked) (has_succeeded then) work.prior (λ number. met-marked works works output seq number))))
-    (All-both (λ work. ArePriorSound works work.phase work.prior) (λ work. is_among (picked test works works) work.seq ≡ test (node_of works work)) works sound
-    (picked-each test works works (WorksAscend-in_order works order)))
+    (list_all-same (is_met marked) (has_succeeded then) work.prior (λ number. met-marked works works output seq number)))) sound
+    (picked-each test works works (WorksAscend-in_order works order))
 
 -- ---- a work that is unfinished
 
@@ -253,8 +153,7 @@ nodes-met all (work ∷ works) number = ap (λ b. (eqb work.seq number && is_suc
 -- a record that is there has its node
 pub node-stored : (work : Record) (works : List Record) → HasOne (λ other. other ≡ work) works → HasNode (nodes_of works) work.seq
 node-stored work works stored =
-    nodes-there works works work.seq
-    ∙ list_any-stored (λ other. eqb other.seq work.seq) works work stored (eq-eqb work.seq work.seq refl)
+    nodes-there works works work.seq ∙ list_any-stored (λ other. eqb other.seq work.seq) works work stored (eq-eqb work.seq work.seq refl)
 
 -- and where the work is unfinished, the node isn't marked
 pub unmarked-open : (work : Record) (works : List Record) → AllLater IsBefore works → HasOne (λ other. other ≡ work) works → is_open work.phase ≡ true
@@ -262,10 +161,8 @@ pub unmarked-open : (work : Record) (works : List Record) → AllLater IsBefore 
 unmarked-open work works order stored unfinished = record {
   there = node-stored work works stored;
   unmarked =
-      nodes-met works works work.seq
-      ∙ list_any-false (λ other. eqb other.seq work.seq && is_succeeded other.phase) works
-      (All-weaker (IsAlone work) (λ other. (eqb other.seq work.seq && is_succeeded other.phase) ≡ false) works
-      (λ other alone. elim (cases_Bool (eqb other.seq work.seq)) [
+      nodes-met works works work.seq ∙ list_any-false (λ other. eqb other.seq work.seq && is_succeeded other.phase) works
+      (All-weaker works (λ other alone. elim (cases_Bool (eqb other.seq work.seq)) [
         | inl here ↦
             let same = alone (eqb-true other.seq work.seq here) in
             rw here (ap (λ (w : Record). is_succeeded w.phase) same ∙ not_succeeded work.phase unfinished)

@@ -4,14 +4,14 @@ use Rattle.std.specs.Prelude.{IsSomeAnd}
 use Rattle.std.proofs.lemmas.List.{append-nil}
 use Rattle.std.proofs.lemmas.Option.{slice_get-map}
 use Rattle.wm_keeper.specs.declared.row.Row.{Row}
+use Rattle.wm_machine.specs.declared.event.Event.{Event}
+use Rattle.wm_machine.specs.declared.record.Record.{Record}
+use Rattle.wm_machine.specs.declared.state.State.{State}
 use Rattle.wm_machine.proofs.Runnings.{WorksAscend-in_order}
 use Rattle.wm_machine.specs.Rows.{row_of}
 use Rattle.wm_machine.specs.Runs.{changed_work}
 use Rattle.wm_machine.specs.Step.{Legal, after}
 use Rattle.wm_machine.specs.Valid.{IsRecord, Valid}
-use Rattle.wm_machine.specs.declared.event.Event.{Event}
-use Rattle.wm_machine.specs.declared.record.Record.{Record}
-use Rattle.wm_machine.specs.declared.state.State.{State}
 use Rattle.wm_steps.proofs.Lookups.{changed_work-at}
 use Rattle.wm_steps.specs.Nodes.{KeepsNode}
 use Rattle.wm_steps.specs.StepChanges.{changed_state, keeping_row, replacing, Fits, IsStepOf}
@@ -26,7 +26,7 @@ Fits-replacing s i work new run e valid at keeps is = record {
   removed = tt;
   placed = tt;
   named = tt;
-  numbers = omega (arith, valid.next);
+  numbers = omega (arith, valid.works.fits);
   replaced_rows = (is.fits, tt);
   placed_rows = tt;
   apart = (tt, tt);
@@ -41,7 +41,7 @@ Fits-keeping_row s i work new run e valid at keeps = record {
   removed = tt;
   placed = tt;
   named = tt;
-  numbers = omega (arith, valid.next);
+  numbers = omega (arith, valid.works.fits);
   replaced_rows = tt;
   placed_rows = tt;
   apart = tt;
@@ -58,7 +58,7 @@ unplaced s works changed same =
 state-replacing : (s t : State) (i : ℕ) (work : Record) (change : Record → Record) → Valid s → slice_get s.works i ≡ Some work
     → record t { works = set s.works i (change work) ++ []; next = t.next + 0 } ≡ record t { works = changed_work change work.seq s.works }
 state-replacing s t i work change valid at =
-    let ascend = WorksAscend-in_order s.works valid.in_order in
+    let ascend = WorksAscend-in_order s.works valid.works.in_order in
     unplaced t (set s.works i (change work)) (changed_work change work.seq s.works) (sym (changed_work-at change s.works i work ascend at))
 
 -- a legal event that changes one record, and what its change says of the runs, is made by the change that replaces it

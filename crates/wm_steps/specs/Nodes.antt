@@ -1,4 +1,4 @@
--- The records as the nodes of a graph. This project's own choice.
+-- The records as the nodes of a graph.
 use Rattle.std.specs.Prelude.{◌≡◌, ◌≢◌, ℕ, ◌==◌, ◌≤◌, Bool, true, false, List, length, map, filter, reverse}
 use Rattle.std.specs.List.{AllByRecursion, list_any}
 use Rattle.wm_collections.specs.Lists.{AllLater}
@@ -25,9 +25,9 @@ node_of works work = record { seq = work.seq; before = filter (is_there works) w
 abbrev pub nodes_of : List Record → List NodeFields
 nodes_of works = map (node_of works) works
 
--- the numbers of the descendants of a work, ascending
-abbrev pub reached_from : ℕ → List NodeFields → List ℕ
-reached_from seq nodes = reverse (descendants seq (reverse nodes))
+-- the numbers of the descendants of some works, ascending
+abbrev pub reached_from : List ℕ → List NodeFields → List ℕ
+reached_from seqs nodes = reverse (descendants seqs (reverse nodes))
 
 -- A record that may take the place of another leaves the graph as it is, or marks its node: it has the same number and the same prerequisites, and
 -- what has succeeded stays so.

@@ -1,4 +1,4 @@
--- The records that take the place of others. This project's own choice.
+-- The records that take the place of others.
 use Rattle.std.specs.Prelude.{ℕ, ◌+◌, List, [], ◌∷◌, Option, Some, None}
 use Rattle.wm_machine.specs.declared.record.Record.{Record}
 use Rattle.wm_steps.specs.declared.change.Replacement.{Replacement}

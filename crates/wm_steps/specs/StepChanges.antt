@@ -1,4 +1,4 @@
--- What the change of a step makes of a state and of the rows held, and when it fits a state. This project's own choice.
+-- What the change of a step makes of a state and of the rows held, and when it fits a state.
 use Rattle.std.specs.Prelude.{◌≡◌, ℕ, ◌+◌, ◌^◌, ◌==◌, ◌≤◌, pos, Bool, true, false, not, List, [], ◌∷◌, ◌++◌, length, map, filter, slice_get, slice_set, Some, IsSomeAnd}
 use Rattle.std.specs.List.{AllByRecursion}
 use Rattle.wm_conditions.specs.declared.conditions.Conditions.{Conditions}
@@ -10,7 +10,7 @@ use Rattle.wm_machine.specs.Rows.{row_of}
 use Rattle.wm_machine.specs.Runs.{other_runs, with_out}
 use Rattle.wm_machine.specs.Step.{Legal, after}
 use Rattle.wm_machine.specs.Turns.{with_turned}
-use Rattle.wm_machine.specs.Valid.{HasOne}
+use Rattle.wm_collections.specs.Lists.{HasOne}
 use Rattle.wm_machine.specs.declared.event.Event.{Event}
 use Rattle.wm_machine.specs.declared.record.Record.{Record}
 use Rattle.wm_machine.specs.declared.state.Instance.{Instance}
@@ -75,18 +75,23 @@ abbrev pub hushed_by : SettingChange → Bool → Bool
 hushed_by set.Hush before = true
 hushed_by _ before = before
 
+-- a state with what is set in it
+abbrev pub set_by : SettingChange → State → State
+set_by to s = record s {
+  now = now_by to s.now;
+  conditions = conditions_by to s.conditions;
+  hushed = hushed_by to s.hushed;
+}
+
 -- the state after a change: works without the removed ones, with the told and the replaced ones in place and the placed ones at the end
 abbrev pub changed_state : StepChange → State → State
-changed_state change s = record s {
+changed_state change s = set_by change.setting (record s {
   works = without change.removed (with_replaced change.replaced (with_replaced change.told s.works)) ++ change.placed;
   runs = runs_by change.run s.runs;
   instances = instances_by change.run s.instances;
   next = s.next + length change.placed;
   next_run = next_run_by change.run s.next_run;
-  now = now_by change.setting s.now;
-  conditions = conditions_by change.setting s.conditions;
-  hushed = hushed_by change.setting s.hushed;
-}
+})
 
 -- ---- the rows
 
@@ -147,30 +152,26 @@ pub record IsStepOf (s : State) (change : StepChange) : Type 0 where
 
 -- ---- changes
 
--- only the log changes
-abbrev pub telling : Event → StepChange
-telling event = record { told = []; replaced = []; removed = []; placed = []; run = Unchanged; setting = set.Unchanged; event = event }
-
--- the moment or the conditions are set
+-- something is set, or nothing: then only the log changes
 abbrev pub setting : SettingChange → Event → StepChange
-setting to event = record (telling event) { setting = to }
+setting to event = record { told = []; replaced = []; removed = []; placed = []; run = Unchanged; setting = to; event = event }
 
 -- one record is replaced
 abbrev pub replacing : ℕ → Record → RunChange → Event → StepChange
-replacing index work run event = record (telling event) { replaced = record { index = index; work = work } ∷ []; run = run }
+replacing index work run event = record (setting set.Unchanged event) { replaced = record { index = index; work = work } ∷ []; run = run }
 
 -- one record is replaced by one of its row, which is kept
 abbrev pub keeping_row : ℕ → Record → RunChange → Event → StepChange
-keeping_row index work run event = record (telling event) { told = record { index = index; work = work } ∷ []; run = run }
+keeping_row index work run event = record (setting set.Unchanged event) { told = record { index = index; work = work } ∷ []; run = run }
 
 -- several records are replaced
 abbrev pub replacing_all : List Replacement → RunChange → Event → StepChange
-replacing_all replaced run event = record (telling event) { replaced = replaced; run = run }
+replacing_all replaced run event = record (setting set.Unchanged event) { replaced = replaced; run = run }
 
 -- records are removed
 abbrev pub removing : List ℕ → Event → StepChange
-removing removed event = record (telling event) { removed = removed }
+removing removed event = record (setting set.Unchanged event) { removed = removed }
 
 -- records are replaced, removed and placed
 abbrev pub placing : List Replacement → List ℕ → List Record → Event → StepChange
-placing replaced removed placed event = record (telling event) { replaced = replaced; removed = removed; placed = placed }
+placing replaced removed placed event = record (setting set.Unchanged event) { replaced = replaced; removed = removed; placed = placed }

@@ -1,8 +1,8 @@
 //! What a step is about to do.
 ghost use Rattle.std.specs.Prelude.{◌≡◌, IfOk};
-ghost use Rattle.wm_steps.specs.StepChanges.{keeping_row, placing, removing, replacing, replacing_all, setting, telling};
+ghost use Rattle.wm_steps.specs.StepChanges.{keeping_row, placing, removing, replacing, replacing_all, setting};
 
-use crate::joins::{one, with};
+use crate::joins::{both, one};
 use std::alloc::{AllocError, Global};
 use wm_collections::Items;
 use wm_conditions::Conditions;
@@ -61,22 +61,7 @@ pub struct StepChange {
 }
 
 impl StepChange {
-    /// A change of the log alone.
-    pub fn telling(alloc: Global, event: Event) -> StepChange
-        ensures { result ≡ telling event }
-    {
-        StepChange {
-            told: Items::new(alloc),
-            replaced: Items::new(alloc),
-            removed: Items::new(alloc),
-            placed: Items::new(alloc),
-            run: RunChange::Unchanged,
-            setting: SettingChange::Unchanged,
-            event,
-        }
-    }
-
-    /// A change of the moment or the conditions, or of what is written.
+    /// A change of the log, and of what is set, if anything.
     pub fn setting(alloc: Global, to: SettingChange, event: Event) -> StepChange
         ensures { result ≡ setting to event }
     {
@@ -102,16 +87,8 @@ impl StepChange {
         ensures { IfOk result (λ change. change ≡ replacing index work run event) }
     {
         let replaced = one(alloc, Replacement { index, work });
-        let ((run, event), replaced) = with((run, event), replaced)?;
-        Ok(StepChange {
-            told: Items::new(alloc),
-            replaced,
-            removed: Items::new(alloc),
-            placed: Items::new(alloc),
-            run,
-            setting: SettingChange::Unchanged,
-            event,
-        })
+        let ((run, event), replaced) = both((run, event), replaced)?;
+        Ok(StepChange::replacing_all(alloc, replaced, run, event))
     }
 
     /// The change of the record at an index to this one, which has the same row, and of the runs.
@@ -125,16 +102,11 @@ impl StepChange {
         ensures { IfOk result (λ change. change ≡ keeping_row index work run event) }
     {
         let told = one(alloc, Replacement { index, work });
-        let ((run, event), told) = with((run, event), told)?;
-        Ok(StepChange {
-            told,
-            replaced: Items::new(alloc),
-            removed: Items::new(alloc),
-            placed: Items::new(alloc),
-            run,
-            setting: SettingChange::Unchanged,
-            event,
-        })
+        let ((run, event), told) = both((run, event), told)?;
+        let mut change = StepChange::setting(alloc, SettingChange::Unchanged, event);
+        change.told = told;
+        change.run = run;
+        Ok(change)
     }
 
     /// The change to these records in the places of others, and of the runs. It takes no memory.
@@ -146,30 +118,19 @@ impl StepChange {
     ) -> StepChange
         ensures { result ≡ replacing_all replaced run event }
     {
-        StepChange {
-            told: Items::new(alloc),
-            replaced,
-            removed: Items::new(alloc),
-            placed: Items::new(alloc),
-            run,
-            setting: SettingChange::Unchanged,
-            event,
-        }
+        let mut change = StepChange::setting(alloc, SettingChange::Unchanged, event);
+        change.replaced = replaced;
+        change.run = run;
+        change
     }
 
     /// The change by which the records of these numbers are removed. It takes no memory.
     pub fn removing(alloc: Global, removed: Items<u64>, event: Event) -> StepChange
         ensures { result ≡ removing removed event }
     {
-        StepChange {
-            told: Items::new(alloc),
-            replaced: Items::new(alloc),
-            removed,
-            placed: Items::new(alloc),
-            run: RunChange::Unchanged,
-            setting: SettingChange::Unchanged,
-            event,
-        }
+        let mut change = StepChange::setting(alloc, SettingChange::Unchanged, event);
+        change.removed = removed;
+        change
     }
 
     /// The change to these records in the places of others, without those of these numbers, and by
@@ -183,14 +144,9 @@ impl StepChange {
     ) -> StepChange
         ensures { result ≡ placing replaced removed placed event }
     {
-        StepChange {
-            told: Items::new(alloc),
-            replaced,
-            removed,
-            placed,
-            run: RunChange::Unchanged,
-            setting: SettingChange::Unchanged,
-            event,
-        }
+        let mut change = StepChange::removing(alloc, removed, event);
+        change.replaced = replaced;
+        change.placed = placed;
+        change
     }
 }

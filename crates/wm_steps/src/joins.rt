@@ -6,8 +6,8 @@ use wm_collections::{Items, Replica};
 
 /// A value with another one, unless memory was refused to that. It is generic, since the proof of an
 /// early return beside a live record or event goes through all shapes of these, and takes minutes.
-pub fn with<T: Drop, U: Drop>(value: T, other: Result<U, AllocError>) -> Result<(T, U), AllocError>
-    ensures { IfOk result (λ both. (both.0 ≡ value) × (other ≡ Ok both.1)) }
+pub fn both<T: Drop, U: Drop>(value: T, other: Result<U, AllocError>) -> Result<(T, U), AllocError>
+    ensures { IfOk result (λ pair. (pair.0 ≡ value) × (other ≡ Ok pair.1)) }
 {
     Ok((value, other?))
 }

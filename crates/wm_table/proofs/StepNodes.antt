@@ -3,28 +3,28 @@ use Rattle.std.proofs.Common.{◌≡◌, ◌≢◌, ℕ, zero, suc, ◌+◌, ◌
 use Rattle.std.specs.List.{AllByRecursion}
 use Rattle.std.proofs.lemmas.Bool.{cases_Bool, eq-eqb, eqb-true, false≢true, ne_eqb, or_cases, or_left, or_right}
 use Rattle.std.proofs.lemmas.Int.{ints}
-use Rattle.std.proofs.lemmas.List.{append-nil, length-set, set-append_left}
+use Rattle.std.proofs.lemmas.List.{map-append, append-nil, length-set, set-append_left}
 use Rattle.std.proofs.lemmas.List.Elements.{filter-append}
 use Rattle.std.proofs.lemmas.List.Folds.{list_any-append}
 use Rattle.std.proofs.lemmas.Option.{none-some, same_Some}
-use Rattle.wm_collections.specs.Lists.{AllLater}
+use Rattle.wm_collections.specs.Lists.{AllLater, HasOne}
 use Rattle.wm_graph.specs.Marks.{is_met, marked, with_marked}
 use Rattle.wm_graph.specs.Nodes as graph
 use Rattle.wm_graph.specs.Nodes.{HasNode, NamesNodes, NodeFields}
 use Rattle.wm_keeper.specs.Keeper.{changed_number, AreOfDifferentNumbers}
 use Rattle.wm_keeper.specs.declared.row.Change.{Change}
 use Rattle.wm_keeper.specs.declared.row.Row.{Row}
-use Rattle.wm_machine.proofs.Lists.{All-any, All-both, All-map, All-push, All-weaker, AllLater-push, map-push, map-same, one_gives}
+use Rattle.wm_machine.specs.declared.record.Phase.{Phase}
+use Rattle.wm_machine.specs.declared.record.Record.{Record}
+use Rattle.wm_machine.specs.declared.state.State.{State}
+use Rattle.wm_collections.proofs.Lists.{All-any, All-map, All-push, All-weaker, All-with2, AllLater-push, filter-each, filter-same, map-same, one_gives}
 use Rattle.wm_machine.proofs.Runnings.{WorksAscend, WorksAscend-in_order}
 use Rattle.wm_machine.specs.First.{is_succeeded}
 use Rattle.wm_machine.specs.Rows.{phase_code, row_of}
-use Rattle.wm_machine.specs.Valid.{HasOne, IsRecord, Valid}
+use Rattle.wm_machine.specs.Valid.{Valid}
 use Rattle.wm_machine.specs.declared.record.How.TheVariants as how
-use Rattle.wm_machine.specs.declared.record.Phase.{Phase}
 use Rattle.wm_machine.specs.declared.record.Phase.TheVariants as phase
-use Rattle.wm_machine.specs.declared.record.Record.{Record}
-use Rattle.wm_machine.specs.declared.state.State.{State}
-use Rattle.wm_steps.proofs.Nodes.{filter-each, nodes-there}
+use Rattle.wm_steps.proofs.Nodes.{nodes-there}
 use Rattle.wm_steps.specs.Nodes.{is_there, node_of, nodes_of, AreThere, KeepsNode}
 use Rattle.wm_steps.specs.StepChanges.{changed_state, other_works, put_replaced, put_work, remove_numbered, with_replaced, without, HaveNextNumbers, Fits, KeepsPlace, KeepsRow, NameEarlier}
 use Rattle.wm_steps.specs.declared.change.Replacement.{Replacement}
@@ -34,18 +34,12 @@ use Rattle.wm_table.specs.Following.{followed, nodes_by, placed_node, with_follo
 
 -- ---- the same prerequisites are there
 
-filter-same : {T : Type 0} (one other : T → Bool) (xs : List T) → AllByRecursion (λ x. one x ≡ other x) xs → filter one xs ≡ filter other xs
-filter-same one other [] same = refl
-filter-same one other (x ∷ xs) same = rw (same.0, filter-same one other xs same.1) refl
-
 -- nodes among records in which the same numbers are there
 nodes-among : (all other works : List Record) → ((number : ℕ) → is_there all number ≡ is_there other number)
     → map (node_of all) works ≡ map (node_of other) works
 nodes-among all other works same =
-    map-same (node_of all) (node_of other) works
-    (All-any (λ work. node_of all work ≡ node_of other work) works (λ work.
-    ap (λ (before : List ℕ). record (node_of other work) { before = before })
-    (filter-same (is_there all) (is_there other) work.prior (All-any (λ n. is_there all n ≡ is_there other n) work.prior same))))
+    map-same (node_of all) (node_of other) works (All-any works (λ work. ap (λ (before : List ℕ). record (node_of other work) { before = before })
+    (filter-same (is_there all) (is_there other) work.prior (All-any work.prior same))))
 
 there-set : (works : List Record) (i : ℕ) (new : Record) → KeepsPlace works (record { index = i; work = new }) → (number : ℕ)
     → is_there (set works i new) number ≡ is_there works number
@@ -69,10 +63,8 @@ followed-other work node nodes differs =
     let miss = ne_eqb node.seq work.seq (λ e. absurd (differs e)) in
     ap
     (λ b. cond (is_succeeded work.phase && not ((b && node.done) || is_met nodes work.seq)) (marked work.seq node ∷ with_marked work.seq nodes) (node ∷ nodes))
-    miss
-    ∙ ap (λ (n : NodeFields). cond (is_succeeded work.phase && not (is_met nodes work.seq)) (n ∷ with_marked work.seq nodes) (node ∷ nodes))
-    (marked-other work.seq node differs)
-    ∙ cond-cons (is_succeeded work.phase && not (is_met nodes work.seq)) node (with_marked work.seq nodes) nodes
+    miss ∙ ap (λ (n : NodeFields). cond (is_succeeded work.phase && not (is_met nodes work.seq)) (n ∷ with_marked work.seq nodes) (node ∷ nodes))
+    (marked-other work.seq node differs) ∙ cond-cons (is_succeeded work.phase && not (is_met nodes work.seq)) node (with_marked work.seq nodes) nodes
 
 -- none of greater numbers is met, and none is marked
 met-above : (all : List Record) (number : ℕ) (works : List Record) → AllByRecursion (λ work. number < work.seq) works
@@ -86,8 +78,7 @@ marked-above : (all : List Record) (number : ℕ) (works : List Record) → AllB
     → with_marked number (map (node_of all) works) ≡ map (node_of all) works
 marked-above all number [] above = refl
 marked-above all number (work ∷ works) above =
-    ap (λ (n : NodeFields). n ∷ with_marked number (map (node_of all) works))
-    (marked-other number (node_of all work) (λ e. absurd (omega (arith, above.0))))
+    ap (λ (n : NodeFields). n ∷ with_marked number (map (node_of all) works)) (marked-other number (node_of all work) (λ e. absurd (omega (arith, above.0))))
     ∙ ap (λ rest. node_of all work ∷ rest) (marked-above all number works above.1)
 
 -- the node of a record that takes the place of the first
@@ -139,8 +130,7 @@ followed-set all (work ∷ works) (suc i) new keeps ascend =
 nodes-set : (works : List Record) (i : ℕ) (new : Record) → KeepsPlace works (record { index = i; work = new }) → WorksAscend works
     → followed new (nodes_of works) ≡ nodes_of (set works i new)
 nodes-set works i new keeps ascend =
-    followed-set works works i new keeps ascend
-    ∙ nodes-among works (set works i new) (set works i new) (λ number. sym (there-set works i new keeps number))
+    followed-set works works i new keeps ascend ∙ nodes-among works (set works i new) (set works i new) (λ number. sym (there-set works i new keeps number))
 
 -- ---- records that take the places of others, one after another
 
@@ -161,12 +151,8 @@ nodes-replaced : (replaced : List Replacement) (works : List Record) → AllByRe
 nodes-replaced [] works keep apart ascend = refl
 nodes-replaced (replaced ∷ later) works keep apart ascend =
     let then = set works replaced.index replaced.work in
-    let rest =
-    All-weaker (λ r. KeepsPlace works r × (replaced.work.seq ≢ r.work.seq)) (KeepsPlace then) later
-    (λ r facts. place-set works replaced.index r.index replaced.work r.work keep.0 facts.1 facts.0)
-    (All-both (KeepsPlace works) (λ r. replaced.work.seq ≢ r.work.seq) later keep.1 apart.0) in
-    ap (with_followed later) (nodes-set works replaced.index replaced.work keep.0 ascend)
-    ∙ nodes-replaced later then rest apart.1
+    let rest = All-with2 later (λ r one differs. place-set works replaced.index r.index replaced.work r.work keep.0 differs one) keep.1 apart.0 in
+    ap (with_followed later) (nodes-set works replaced.index replaced.work keep.0 ascend) ∙ nodes-replaced later then rest apart.1
     (WorksAscend-set works replaced.index replaced.work (keeps_number works replaced keep.0) ascend)
 
 -- ---- records that tell something
@@ -271,13 +257,9 @@ nodes-told (told ∷ later) works keep ascend =
     let still =
     subst (λ (rows : List Row). AllByRecursion (λ r. slice_get rows r.index ≡ Some (row_of r.work)) later)
     (sym (rows-set works told.index told.work keep.0)) keep.1 in
-    let rest =
-    nodes-told later then still
-    (WorksAscend-set works told.index told.work (keeps_number works told place) ascend) in
+    let rest = nodes-told later then still (WorksAscend-set works told.index told.work (keeps_number works told place) ascend) in
     record {
-      nodes = rest.nodes
-          ∙ nodes-among then works then (there-set works told.index told.work place)
-          ∙ told-nodes works works told.index told.work keep.0;
+      nodes = rest.nodes ∙ nodes-among then works then (there-set works told.index told.work place) ∙ told-nodes works works told.index told.work keep.0;
       ascend = rest.ascend;
       places = λ j other keeps. rest.places j other (told-keeps works told.index j told.work other keep.0 keeps);
     }
@@ -328,8 +310,7 @@ forgotten seq all left (work ∷ works) same =
     let before = filter-twice (λ n. not (eqb n seq)) (is_there all) (is_there left) work.prior same in
     elim (cases_Bool (eqb work.seq seq)) [
       | inl e ↦ rw e rest
-      | inr e ↦ rw e
-          (ap (λ (nodes : List NodeFields). graph.forgetting seq (node_of all work) ∷ nodes) rest
+      | inr e ↦ rw e (ap (λ (nodes : List NodeFields). graph.forgetting seq (node_of all work) ∷ nodes) rest
           ∙ ap (λ (numbers : List ℕ). record (node_of left work) { before = numbers } ∷ map (node_of left) (other_works seq works)) before)
     ]
 
@@ -339,8 +320,7 @@ nodes-without seq works = forgotten seq works (other_works seq works) works (the
 
 nodes-removed : (numbers : List ℕ) (works : List Record) → without_all numbers (nodes_of works) ≡ nodes_of (without numbers works)
 nodes-removed [] works = refl
-nodes-removed (number ∷ numbers) works =
-    ap (without_all numbers) (nodes-without number works) ∙ nodes-removed numbers (other_works number works)
+nodes-removed (number ∷ numbers) works = ap (without_all numbers) (nodes-without number works) ∙ nodes-removed numbers (other_works number works)
 
 -- ---- records that are placed
 
@@ -348,8 +328,7 @@ nodes-removed (number ∷ numbers) works =
 abbrev NameSmaller : List Record → Type 0
 NameSmaller works = AllByRecursion (λ work. AllByRecursion (λ number. number < work.seq) work.prior) works
 
-there-below : (next : ℕ) (works : List Record) (number : ℕ) → AllByRecursion (λ work. work.seq < next) works → is_there works number ≡ true
-    → number < next
+there-below : (next : ℕ) (works : List Record) (number : ℕ) → AllByRecursion (λ work. work.seq < next) works → is_there works number ≡ true → number < next
 there-below next [] number below is = absurd (false≢true is)
 there-below next (work ∷ works) number below is = elim (or_cases (eqb work.seq number) (is_there works number) is) [
   | inl here ↦ subst (λ n. n < next) (eqb-true work.seq number here) below.0
@@ -360,8 +339,7 @@ there-below next (work ∷ works) number below is = elim (or_cases (eqb work.seq
 there-push : (works : List Record) (work : Record) (number : ℕ) → number < work.seq → is_there (works ++ work ∷ []) number ≡ is_there works number
 there-push works work number below =
     list_any-append (λ (w : Record). eqb w.seq number) works (work ∷ [])
-    ∙ ap (λ b. is_there works number || (b || false)) (ne_eqb work.seq number (λ e. absurd (omega arith)))
-    ∙ or_false (is_there works number)
+    ∙ ap (λ b. is_there works number || (b || false)) (ne_eqb work.seq number (λ e. absurd (omega arith))) ∙ or_false (is_there works number)
 
 -- one record more
 nodes-push : (works : List Record) (work : Record) → NameSmaller works → AllByRecursion (λ w. w.seq < work.seq) works
@@ -369,20 +347,13 @@ nodes-push : (works : List Record) (work : Record) → NameSmaller works → All
 nodes-push works work smaller below there =
     let all : List Record = works ++ work ∷ [] in
     let old =
-    map-same (node_of all) (node_of works) works
-    (All-weaker (λ w. AllByRecursion (λ number. number < w.seq) w.prior × (w.seq < work.seq)) (λ w. node_of all w ≡ node_of works w) works
-    (λ w facts.
-    ap (λ (before : List ℕ). record (node_of works w) { before = before })
+    map-same (node_of all) (node_of works) works (All-with2 works (λ w below below_is. ap (λ (before : List ℕ). record (node_of works w) { before = before })
     (filter-same (is_there all) (is_there works) w.prior
-    (All-weaker (λ n. n < w.seq) (λ n. is_there all n ≡ is_there works n) w.prior
-    (λ n less. there-push works work n (let under = facts.1 in omega arith)) facts.0)))
-    (All-both (λ w. AllByRecursion (λ number. number < w.seq) w.prior) (λ w. w.seq < work.seq) works smaller below)) in
+    (All-weaker w.prior (λ n less. there-push works work n (let under = below_is in omega arith)) below))) smaller below) in
     let new : filter (is_there all) work.prior ≡ work.prior =
     filter-each (is_there all) work.prior
-    (All-weaker (λ n. is_there works n ≡ true) (λ n. is_there all n ≡ true) work.prior
-    (λ n is. list_any-append (λ (w : Record). eqb w.seq n) works (work ∷ []) ∙ or_left _ _ is) there) in
-    sym
-    (map-push (node_of all) works work ∙ ap (λ (nodes : List NodeFields). nodes ++ node_of all work ∷ []) old
+    (All-weaker work.prior (λ n is. list_any-append (λ (w : Record). eqb w.seq n) works (work ∷ []) ∙ or_left _ _ is) there) in
+    sym (map-append (node_of all) works (work ∷ []) ∙ ap (λ (nodes : List NodeFields). nodes ++ node_of all work ∷ []) old
     ∙ ap (λ (before : List ℕ). nodes_of works ++ (record (placed_node work) { before = before }) ∷ []) new)
 
 -- the nodes of records that are placed can be added, and are then those of all
@@ -394,11 +365,11 @@ record IsGrown (works placed : List Record) : Type 0 where
 addable-one : (works : List Record) (work : Record) → AllByRecursion (λ w. w.seq < work.seq) works → AreThere works work.prior
     → IsAddable (nodes_of works) (placed_node work)
 addable-one works work under is = record {
-  above = All-map (λ w. w.seq < work.seq) (λ (node : NodeFields). node.seq < work.seq) (node_of works) works (λ w less. less) under;
+  above = All-map _ (node_of works) works (λ w less. less) under;
   few = is.few;
   names = record {
     different = is.different;
-    there = All-weaker (λ n. is_there works n ≡ true) (HasNode (nodes_of works)) work.prior (λ n there. nodes-there works works n ∙ there) is.there;
+    there = All-weaker work.prior (λ n there. nodes-there works works n ∙ there) is.there;
   };
 }
 
@@ -413,14 +384,10 @@ grown next (work ∷ placed) works numbered named ascend below smaller =
     let under : AllByRecursion (λ w. w.seq < work.seq) works = subst (λ n. AllByRecursion (λ w. w.seq < n) works) (sym numbered.0) below in
     let is = named.0 in
     let step = nodes-push works work smaller under is.there in
-    let before =
-    All-weaker (λ n. is_there works n ≡ true) (λ n. n < work.seq) work.prior (λ n there. there-below work.seq works n under there) is.there in
-    let more =
-    All-push (λ w. w.seq < next + 1) works work
-    (All-weaker (λ w. w.seq < next) (λ w. w.seq < next + 1) works (λ w is. omega arith) below) (omega (arith, numbered.0)) in
+    let before = All-weaker work.prior (λ n there. there-below work.seq works n under there) is.there in
+    let more = All-push _ works work (All-weaker works (λ w is. omega arith) below) (omega (arith, numbered.0)) in
     let rest =
-    grown (next + 1) placed (works ++ work ∷ []) numbered.1 named.1 (AllLater-push (λ one other. one.seq < other.seq) works work ascend under) more
-    (All-push (λ w. AllByRecursion (λ n. n < w.seq) w.prior) works work smaller before) in
+    grown (next + 1) placed (works ++ work ∷ []) numbered.1 named.1 (AllLater-push _ works work ascend under) more (All-push _ works work smaller before) in
     let all = append_assoc works (work ∷ []) placed in
     record {
       addable = (
@@ -428,9 +395,7 @@ grown next (work ∷ placed) works numbered named ascend below smaller =
         subst (λ (nodes : List NodeFields). AreAddable nodes (map placed_node placed)) (sym step) rest.addable,
       );
       nodes = sym (append_assoc (nodes_of works) (placed_node work ∷ []) (map placed_node placed))
-          ∙ ap (λ (nodes : List NodeFields). nodes ++ map placed_node placed) step
-          ∙ rest.nodes
-          ∙ ap nodes_of all;
+          ∙ ap (λ (nodes : List NodeFields). nodes ++ map placed_node placed) step ∙ rest.nodes ∙ ap nodes_of all;
       ascend = subst WorksAscend all rest.ascend;
     }
 
@@ -450,8 +415,7 @@ row-front (work ∷ works) placed (suc i) new is = row-front works placed i new 
 
 length-replaced : (replaced : List Replacement) (works : List Record) → length (with_replaced replaced works) ≡ length works
 length-replaced [] works = refl
-length-replaced (replaced ∷ later) works =
-    length-replaced later (set works replaced.index replaced.work) ∙ length-set works replaced.index replaced.work
+length-replaced (replaced ∷ later) works = length-replaced later (set works replaced.index replaced.work) ∙ length-set works replaced.index replaced.work
 
 replaced-front : (replaced : List Replacement) (works placed : List Record) → AllByRecursion (λ r. r.index < length works) replaced
     → with_replaced replaced (works ++ placed) ≡ with_replaced replaced works ++ placed
@@ -465,8 +429,7 @@ removed-front : (numbers : List ℕ) (works placed : List Record) → AllByRecur
     → without numbers (works ++ placed) ≡ without numbers works ++ placed
 removed-front [] works placed above = refl
 removed-front (number ∷ numbers) works placed above =
-    ap (without numbers)
-    (filter-append (λ (work : Record). not (eqb work.seq number)) works placed
+    ap (without numbers) (filter-append (λ (work : Record). not (eqb work.seq number)) works placed
     ∙ ap (λ (rest : List Record). other_works number works ++ rest) (other_works-above number placed above.0))
     ∙ removed-front numbers (other_works number works) placed above.1
 
@@ -474,14 +437,13 @@ next-above : (next : ℕ) (placed : List Record) → HaveNextNumbers next placed
 next-above next [] numbered = tt
 next-above next (work ∷ placed) numbered = (
   omega (arith, numbered.0),
-  All-weaker (λ w. next + 1 ≤ w.seq) (λ w. next ≤ w.seq) placed (λ w is. omega arith) (next-above (next + 1) placed numbered.1),
+  All-weaker placed (λ w is. omega arith) (next-above (next + 1) placed numbered.1),
 )
 
 -- ---- no row is changed twice
 
 differs-put : (number : ℕ) (replaced : List Replacement) (others : List Change)
-    → AllByRecursion (λ later. pos number ≢ changed_number later) (map put_replaced replaced ++ others)
-    → AllByRecursion (λ r. number ≢ r.work.seq) replaced
+    → AllByRecursion (λ later. pos number ≢ changed_number later) (map put_replaced replaced ++ others) → AllByRecursion (λ r. number ≢ r.work.seq) replaced
 differs-put number [] others differ = tt
 differs-put number (r ∷ replaced) others differ = (λ same. differ.0 (ap (λ n. pos n) same), differs-put number replaced others differ.1)
 
@@ -520,13 +482,10 @@ module _ (s : State) (change : StepChange) (valid : Valid s) (fits : Fits s chan
   all = s.works ++ change.placed
 
   smaller : NameSmaller s.works
-  smaller =
-      All-weaker IsRecord (λ work. AllByRecursion (λ n. n < work.seq) work.prior) s.works
-      (λ work is. All-weaker (λ n. (1 ≤ n) × (n < work.seq)) (λ n. n < work.seq) work.prior (λ n both. both.1) is.prior.earlier) valid.records
+  smaller = All-weaker s.works (λ work is. All-weaker work.prior (λ n both. both.1) is.prior.earlier) valid.works.records
 
   is_grown : IsGrown s.works change.placed
-  is_grown =
-      grown s.next change.placed s.works fits.placed fits.named (WorksAscend-in_order s.works valid.in_order) valid.numbers smaller
+  is_grown = grown s.next change.placed s.works fits.placed fits.named (WorksAscend-in_order s.works valid.works.in_order) valid.works.numbers smaller
 
   pub step-addable : AreAddable (nodes_of s.works) (map placed_node change.placed)
   step-addable = is_grown.addable
@@ -536,29 +495,22 @@ module _ (s : State) (change : StepChange) (valid : Valid s) (fits : Fits s chan
 
   pub step-replaced : AllByRecursion (λ r. HasNode (nodes_of all) r.work.seq) change.replaced
   step-replaced =
-      All-weaker (KeepsPlace s.works) (λ r. HasNode (nodes_of all) r.work.seq) change.replaced
-      (λ r keeps.
+      All-weaker change.replaced (λ r keeps.
       nodes-there all all r.work.seq ∙ place-there all r.index r.work (place-front s.works change.placed r.index r.work keeps)) fits.replaced
 
   apart : AreApart change.replaced × AreOfDifferentNumbers (map remove_numbered change.removed ++ map put_work change.placed)
   apart =
-      puts-apart change.replaced (map remove_numbered change.removed ++ map put_work change.placed)
-      (subst AreOfDifferentNumbers
+      puts-apart change.replaced (map remove_numbered change.removed ++ map put_work change.placed) (subst AreOfDifferentNumbers
       (append_assoc (map put_replaced change.replaced) (map remove_numbered change.removed) (map put_work change.placed)) fits.apart)
 
   pub step-removed : NamesNodes (nodes_of all) change.removed
   step-removed = record {
     different = removes-apart change.removed (map put_work change.placed) apart.1;
-    there =
-        All-weaker (λ number. HasOne (λ work. work.seq ≡ number) s.works) (HasNode (nodes_of all)) change.removed
-        (λ number one. nodes-there all all number ∙ one-there number s.works change.placed one) fits.removed;
+    there = All-weaker change.removed (λ number one. nodes-there all all number ∙ one-there number s.works change.placed one) fits.removed;
   }
 
   is_told : IsTold all (with_replaced change.told all)
-  is_told =
-      nodes-told change.told all
-      (All-weaker (KeepsRow s.works) (KeepsRow all) change.told (λ r keeps. row-front s.works change.placed r.index r.work keeps) fits.told)
-      is_grown.ascend
+  is_told = nodes-told change.told all (All-weaker change.told (λ r keeps. row-front s.works change.placed r.index r.work keeps) fits.told) is_grown.ascend
 
   -- the records that are placed are last in each state between
   front : without change.removed (with_replaced change.replaced (with_replaced change.told all)) ≡ (changed_state change s).works
@@ -566,27 +518,19 @@ module _ (s : State) (change : StepChange) (valid : Valid s) (fits : Fits s chan
       let told = with_replaced change.told s.works in
       let count : length told ≡ length s.works = length-replaced change.told s.works in
       ap (λ (works : List Record). without change.removed (with_replaced change.replaced works))
-      (replaced-front change.told s.works change.placed (told_within s.works change.told fits.told))
-      ∙ ap (without change.removed)
+      (replaced-front change.told s.works change.placed (told_within s.works change.told fits.told)) ∙ ap (without change.removed)
       (replaced-front change.replaced told change.placed
       (subst (λ n. AllByRecursion (λ r. r.index < n) change.replaced) (sym count) (replaced_within s.works change.replaced fits.replaced)))
-      ∙ removed-front change.removed (with_replaced change.replaced told) change.placed
-      (All-weaker (λ number. HasOne (λ work. work.seq ≡ number) s.works) (λ number. AllByRecursion (λ work. number < work.seq) change.placed) change.removed
-      (λ number one.
-      let below : number < s.next =
-      one_gives (λ work. work.seq < s.next) (λ work. work.seq ≡ number) (number < s.next) s.works (λ work below is. omega (arith, below, is)) valid.numbers
-      one in
-      All-weaker (λ work. s.next ≤ work.seq) (λ work. number < work.seq) change.placed (λ work above. omega (arith, below, above))
-      (next-above s.next change.placed fits.placed)) fits.removed)
+      ∙ removed-front change.removed (with_replaced change.replaced told) change.placed (All-weaker change.removed (λ number one.
+      let below : number < s.next = one_gives s.works (λ work below is. omega (arith, below, is)) valid.works.numbers one in
+      All-weaker change.placed (λ work above. omega (arith, below, above)) (next-above s.next change.placed fits.placed)) fits.removed)
 
   -- marked and taken away, they are the nodes of the records after the step
   pub step-nodes : nodes_by change (nodes_of all) ≡ nodes_of (changed_state change s).works
   step-nodes =
       let told = with_replaced change.told all in
       let places =
-      All-weaker (KeepsPlace s.works) (KeepsPlace told) change.replaced
-      (λ r keeps. is_told.places r.index r.work (place-front s.works change.placed r.index r.work keeps)) fits.replaced in
+      All-weaker change.replaced (λ r keeps. is_told.places r.index r.work (place-front s.works change.placed r.index r.work keeps)) fits.replaced in
       ap (λ (nodes : List NodeFields). without_all change.removed (with_followed change.replaced nodes)) (sym is_told.nodes)
       ∙ ap (without_all change.removed) (nodes-replaced change.replaced told places apart.0 is_told.ascend)
-      ∙ nodes-removed change.removed (with_replaced change.replaced told)
-      ∙ ap nodes_of front
+      ∙ nodes-removed change.removed (with_replaced change.replaced told) ∙ ap nodes_of front

@@ -1,24 +1,23 @@
 -- The rows that a step changes are those of the state that it gives, and so its change is one step of the machine.
-use Rattle.std.proofs.Common.{◌≡◌, ℕ, zero, suc, ◌+◌, ◌^◌, ◌<◌, ◌≤◌, Bool, true, not, eqb, pos, List, [], ◌∷◌, ◌++◌, append_assoc, filter, length, map, set, slice_get, Option, Some, None, option_map, refl, sym, ◌∙◌, ap, subst, arith, inl, inr}
+use Rattle.std.proofs.Common.{◌≡◌, ℕ, zero, suc, ◌+◌, ◌^◌, ◌<◌, ◌≤◌, Bool, not, eqb, pos, List, [], ◌∷◌, ◌++◌, append_assoc, length, map, set, slice_get, Option, Some, None, option_map, refl, sym, ◌∙◌, ap, subst, arith, inl, inr}
 use Rattle.std.specs.List.{AllByRecursion}
 use Rattle.std.proofs.lemmas.Bool.{cases_order, eq-eqb, ne_eqb}
 use Rattle.std.proofs.lemmas.Int.{ints}
-use Rattle.std.proofs.lemmas.List.{append-nil, length-map}
+use Rattle.std.proofs.lemmas.List.{map-append, append-nil, length-map}
 use Rattle.std.proofs.lemmas.Option.{none-some, same_Some, slice_get_within}
 use Rattle.wm_keeper.proofs.Ascending.{int_lt-true, int_lt-false, put_row-above}
 use Rattle.wm_keeper.specs.Keeper.{changed, changed_by, put_row, remove_row}
 use Rattle.wm_keeper.specs.declared.row.Change.{Change}
 use Rattle.wm_keeper.specs.declared.row.Row.{Row}
-use Rattle.wm_machine.proofs.Lists.{All-filter, All-push, All-weaker, AllLater-filter, map-push, one_gives}
+use Rattle.wm_machine.specs.declared.record.Record.{Record}
+use Rattle.wm_machine.specs.declared.state.State.{State}
+use Rattle.wm_collections.proofs.Lists.{All-kept, All-push, All-weaker, AllLater-filter, one_gives}
 use Rattle.wm_machine.proofs.Runnings.{WorksAscend, WorksAscend-in_order}
 use Rattle.wm_machine.proofs.Rows.{rows_below}
 use Rattle.wm_machine.specs.Rows.{row_of, rows_of}
-use Rattle.wm_machine.specs.Valid.{HasOne, IsValidRun, Valid}
-use Rattle.wm_machine.specs.declared.record.Record.{Record}
-use Rattle.wm_machine.specs.declared.state.State.{State}
-use Rattle.wm_steps.specs.StepChanges.{changed_state, next_run_by, other_works, put_replaced, put_work, remove_numbered, row_changes, seqs_of, with_replaced, without, HaveNextNumbers, Fits, IsStepOf, KeepsPlace, KeepsRow}
-use Rattle.wm_table.specs.Table.{HoldsRowsOf, IsOneStep}
-use Rattle.wm_table.specs.TableState.{TableState}
+use Rattle.wm_machine.specs.Valid.{Valid}
+use Rattle.wm_steps.specs.StepChanges.{changed_state, next_run_by, other_works, put_replaced, put_work, remove_numbered, row_changes, seqs_of, with_replaced, without, HaveNextNumbers, Fits, KeepsPlace, KeepsRow}
+use Rattle.wm_table.specs.Table.{HoldsRowsOf}
 use Rattle.wm_steps.specs.declared.change.Replacement.{Replacement}
 use Rattle.wm_steps.specs.declared.change.RunChange.TheVariants.{Unchanged, Begin, Turn, End}
 use Rattle.wm_steps.specs.declared.change.StepChange.{StepChange}
@@ -61,8 +60,7 @@ pub WorksAscend-set : (works : List Record) (i : ℕ) (new : Record) → slice_g
 WorksAscend-set [] i new is ascend = tt
 WorksAscend-set (work ∷ works) zero new is ascend =
     (subst (λ number. AllByRecursion (λ later. number < later.seq) works) (same_Some work.seq new.seq is) ascend.0, ascend.1)
-WorksAscend-set (work ∷ works) (suc i) new is ascend =
-    (All-set (λ number. work.seq < number) works i new is ascend.0, WorksAscend-set works i new is ascend.1)
+WorksAscend-set (work ∷ works) (suc i) new is ascend = (All-set (λ number. work.seq < number) works i new is ascend.0, WorksAscend-set works i new is ascend.1)
 
 -- its row takes the place of the old row
 put_row-at : (works : List Record) (i : ℕ) (new : Record) → slice_get (seqs_of works) i ≡ Some new.seq → WorksAscend works
@@ -101,8 +99,7 @@ rows-replaced next (replaced ∷ later) works keep below =
 -- ---- a record that takes the place of one of its row
 
 -- a record of the same row has the same number
-number-kept : (works : List Record) (i : ℕ) (new : Record) → slice_get (map row_of works) i ≡ Some (row_of new)
-    → slice_get (seqs_of works) i ≡ Some new.seq
+number-kept : (works : List Record) (i : ℕ) (new : Record) → slice_get (map row_of works) i ≡ Some (row_of new) → slice_get (seqs_of works) i ≡ Some new.seq
 number-kept [] i new is = absurd (none-some (row_of new) is)
 number-kept (work ∷ works) zero new is =
     let row : row_of work ≡ row_of new = same_Some (row_of work) (row_of new) is in
@@ -137,9 +134,6 @@ rows-told next (told ∷ later) works keep below =
 
 -- ---- records that are removed
 
-All-kept : (P : Record → Type 0) (keep : Record → Bool) (works : List Record) → AllByRecursion P works → AllByRecursion P (filter keep works)
-All-kept P keep works all = All-filter P keep works (All-weaker P (λ work. keep work ≡ true → P work) works (λ work is e. is) all)
-
 -- records above a number stay
 pub other_works-above : (number : ℕ) (works : List Record) → AllByRecursion (λ later. number < later.seq) works → other_works number works ≡ works
 other_works-above number [] above = refl
@@ -158,8 +152,7 @@ remove_row-at number (work ∷ works) ascend = elim (cases_order number work.seq
       (sym (other_works-above number works (subst (λ n. AllByRecursion (λ later. n < later.seq) works) (sym same) ascend.0))))
   | inr (inl above) ↦
       let up = int_lt-true (pos number) (pos work.seq) (omega (arith, ints)) in
-      let all =
-      All-weaker (λ later. work.seq < later.seq) (λ later. number < later.seq) works (λ later is. omega arith) ascend.0 in
+      let all = All-weaker works (λ later is. omega arith) ascend.0 in
       rw up (ap (map row_of) (sym (other_works-above number (work ∷ works) (above, all))))
   | inr (inr below) ↦
       let up = int_lt-false (pos number) (pos work.seq) (omega (arith, ints)) in
@@ -173,8 +166,8 @@ rows-removed : (next : ℕ) (numbers : List ℕ) (works : List Record) → AreBe
 rows-removed next [] works below = (refl, below)
 rows-removed next (number ∷ numbers) works below =
     let keep : Record → Bool = λ work. not (eqb work.seq number) in
-    let ascend = AllLater-filter (λ one other. one.seq < other.seq) keep works below.0 in
-    let rest = rows-removed next numbers (other_works number works) (ascend, All-kept (λ work. work.seq < next) keep works below.1) in
+    let ascend = AllLater-filter _ keep works below.0 in
+    let rest = rows-removed next numbers (other_works number works) (ascend, All-kept _ keep works below.1) in
     (ap (changed (map remove_numbered numbers)) (remove_row-at number works below.0) ∙ rest.0, rest.1)
 
 -- ---- records that are placed
@@ -183,14 +176,10 @@ rows-placed : (next : ℕ) (placed works : List Record) → HaveNextNumbers next
     → changed (map put_work placed) (map row_of works) ≡ map row_of (works ++ placed)
 rows-placed next [] works numbered below = ap (map row_of) (sym (append-nil works))
 rows-placed next (work ∷ placed) works numbered below =
-    let more =
-    All-push (λ w. w.seq < next + 1) works work
-    (All-weaker (λ w. w.seq < next) (λ w. w.seq < next + 1) works (λ w is. omega arith) below) (omega (arith, numbered.0)) in
+    let more = All-push _ works work (All-weaker works (λ w is. omega arith) below) (omega (arith, numbered.0)) in
     let rows = rows_below works next below in
-    ap (changed (map put_work placed))
-    (put_row-above (row_of work) (map row_of works) (rw (numbered.0) rows) ∙ sym (map-push row_of works work))
-    ∙ rows-placed (next + 1) placed (works ++ work ∷ []) numbered.1 more
-    ∙ ap (map row_of) (append_assoc works (work ∷ []) placed)
+    ap (changed (map put_work placed)) (put_row-above (row_of work) (map row_of works) (rw (numbered.0) rows) ∙ sym (map-append row_of works (work ∷ [])))
+    ∙ rows-placed (next + 1) placed (works ++ work ∷ []) numbered.1 more ∙ ap (map row_of) (append_assoc works (work ∷ []) placed)
 
 -- ---- the step
 
@@ -205,14 +194,13 @@ rows-changed s change valid fits =
     let removes = map remove_numbered change.removed in
     let placed = map put_work change.placed in
     let works = with_replaced change.told s.works in
-    let told = rows-told s.next change.told s.works fits.told (WorksAscend-in_order s.works valid.in_order, valid.numbers) in
+    let told = rows-told s.next change.told s.works fits.told (WorksAscend-in_order s.works valid.works.in_order, valid.works.numbers) in
     let keep =
     subst (λ numbers. AllByRecursion (λ r. slice_get numbers r.index ≡ Some r.work.seq) change.replaced) (sym told.numbers)
-    (All-weaker (KeepsPlace s.works) (KeepsNumber s.works) change.replaced (keeps_number s.works) fits.replaced) in
+    (All-weaker change.replaced (keeps_number s.works) fits.replaced) in
     let replaced = rows-replaced s.next change.replaced works keep told.below in
     let left = rows-removed s.next change.removed (with_replaced change.replaced works) replaced.1 in
-    changed-append (puts ++ removes) placed (rows_of s)
-    ∙ ap (changed placed)
+    changed-append (puts ++ removes) placed (rows_of s) ∙ ap (changed placed)
     (changed-append puts removes (rows_of s) ∙ ap (changed removes) (ap (changed puts) (sym told.rows) ∙ replaced.0) ∙ left.0)
     ∙ rows-placed s.next change.placed (without change.removed (with_replaced change.replaced works)) fits.placed left.1.1
 
@@ -224,22 +212,13 @@ rows-held s t change (Some rows) holds makes =
     let same : rows ≡ rows_of s = cc in
     ap (λ (rs : List Row). Some rs) (ap change same ∙ makes)
 
--- a change that is that of a legal step makes one step of the machine
-pub change-step : {K : Type 0} (held : K → Option (List Row)) (old new : TableState K) (change : StepChange) → Valid old.state
-    → HoldsRowsOf old.state (held old.keeper) → IsStepOf old.state change → new.first ≡ old.first → new.state ≡ changed_state change old.state
-    → new.log ≡ old.log ++ change.event ∷ [] → held new.keeper ≡ option_map (changed (row_changes change)) (held old.keeper)
-    → IsOneStep held change.event old new
-change-step held old new change valid holds is first state appended rows = record {
-  first = first;
-  legal = is.legal;
-  state = state ∙ is.state;
-  appended = appended;
-  rows =
-      rows
-      ∙ rows-held old.state (changed_state change old.state) (changed (row_changes change)) (held old.keeper) holds
-      (rows-changed old.state change valid is.fits)
-      ∙ ap (λ (t : State). option_map (λ _. rows_of t) (held old.keeper)) (sym state);
-}
+-- the rows held after a change are those of the state after it
+pub rows-made : (s now : State) (change : StepChange) (stored held : Option (List Row)) → Valid s → Fits s change → HoldsRowsOf s stored
+    → now ≡ changed_state change s → held ≡ option_map (changed (row_changes change)) stored → held ≡ option_map (λ _. rows_of now) stored
+rows-made s now change stored held valid fits holds state rows =
+    rows
+    ∙ rows-held s (changed_state change s) (changed (row_changes change)) stored holds (rows-changed s change valid fits)
+    ∙ ap (λ (t : State). option_map (λ _. rows_of t) stored) (sym state)
 
 -- a change begins one run at most
 pub next_run-changed : (s : State) (change : StepChange) → (changed_state change s).next_run ≤ s.next_run + 1
@@ -255,24 +234,20 @@ next_run-changed s change = elim change.run as (λ run. next_run_by run s.next_r
 -- the numbers that are removed fit a row
 pub removed_fit : (s : State) (change : StepChange) → Valid s → Fits s change → AllByRecursion (λ number. number < 2 ^ 53) change.removed
 removed_fit s change valid fits =
-    All-weaker (λ number. HasOne (λ work. work.seq ≡ number) s.works) (λ number. number < 2 ^ 53) change.removed (λ number one.
-    one_gives (λ work. work.seq < s.next) (λ work. work.seq ≡ number) (number < 2 ^ 53) s.works (λ work below is. omega (arith, valid.next)) valid.numbers one)
-    fits.removed
+    All-weaker change.removed (λ number one. one_gives s.works (λ work below is. omega (arith, valid.works.fits)) valid.works.numbers one) fits.removed
 
 -- the records that are replaced are there
 pub replaced_within : (works : List Record) (replaced : List Replacement) → AllByRecursion (KeepsPlace works) replaced
     → AllByRecursion (λ r. r.index < length works) replaced
 replaced_within works replaced keep =
-    All-weaker (KeepsPlace works) (λ r. r.index < length works) replaced (λ r is.
+    All-weaker replaced (λ r is.
     omega (arith, slice_get_within (seqs_of works) r.index r.work.seq (keeps_number works r is), length-map works (λ (work : Record). work.seq))) keep
 
 -- and so are those that tell something
-pub told_within : (works : List Record) (told : List Replacement) → AllByRecursion (KeepsRow works) told
-    → AllByRecursion (λ r. r.index < length works) told
+pub told_within : (works : List Record) (told : List Replacement) → AllByRecursion (KeepsRow works) told → AllByRecursion (λ r. r.index < length works) told
 told_within works told keep =
-    All-weaker (KeepsRow works) (λ r. r.index < length works) told (λ r is.
-    omega (arith, slice_get_within (map row_of works) r.index (row_of r.work) is, length-map works row_of)) keep
+    All-weaker told (λ r is. omega (arith, slice_get_within (map row_of works) r.index (row_of r.work) is, length-map works row_of)) keep
 
 -- each run is at one of its turns
 pub turns_left : (s : State) → Valid s → AllByRecursion (λ run. run.turn ≤ 999) s.runs
-turns_left s valid = All-weaker (IsValidRun s) (λ run. run.turn ≤ 999) s.runs (λ run is. is.turn) valid.runs
+turns_left s valid = All-weaker s.runs (λ run is. is.turn) valid.runs.each

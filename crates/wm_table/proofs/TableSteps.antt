@@ -5,20 +5,22 @@ use Rattle.std.proofs.lemmas.Bool.{true≢false}
 use Rattle.std.proofs.lemmas.Option.{none-some}
 use Rattle.wm_graph.specs.Nodes.{NodeFields}
 use Rattle.wm_keeper.specs.declared.row.Row.{Row}
-use Rattle.wm_machine.proofs.Lists.{All-weaker}
+use Rattle.wm_machine.specs.declared.event.Event.{Event}
+use Rattle.wm_machine.specs.declared.state.Instance.{Instance}
+use Rattle.wm_machine.specs.declared.state.State.{State}
+use Rattle.wm_collections.proofs.Lists.{All-weaker}
 use Rattle.wm_machine.proofs.Logs.{Replay-push}
-use Rattle.wm_machine.proofs.Steps.{IsNarrow-after, Valid-after}
 use Rattle.wm_machine.specs.First.{first_of}
 use Rattle.wm_machine.specs.Narrow.{IsNarrow}
 use Rattle.wm_machine.specs.Opened.{opening_state}
 use Rattle.wm_machine.specs.Quiet.{IsQuiet}
 use Rattle.wm_machine.specs.Rows.{rows_of}
-use Rattle.wm_machine.specs.Valid.{IsOutForRun, Valid}
+use Rattle.wm_machine.specs.Valid.{Valid}
 use Rattle.wm_machine.specs.declared.event.Event.{Event}
 use Rattle.wm_machine.specs.declared.state.Instance.{Instance}
 use Rattle.wm_machine.specs.declared.state.State.{State}
-use Rattle.wm_steps.specs.Nodes.{nodes_of}
-use Rattle.wm_table.specs.Table.{last_of, AreFresh, HoldsRowsOf, IsFresh, IsOneStep, TableInvariant, IsUntouched}
+use Rattle.wm_steps.specs.Views.{IsViewed}
+use Rattle.wm_table.specs.Table.{last_of, AreFresh, HoldsRowsOf, IsOneStep, TableInvariant, IsUntouched}
 use Rattle.wm_table.specs.TableState.{TableState}
 
 -- ---- the rows held
@@ -48,18 +50,9 @@ empty-from_first (x ∷ xs) none = absurd (none-some x none)
 -- the state that an empty store opens to, with fresh instances
 pub Valid-opening : (instances : List Instance) → AreFresh instances → Valid (opening_state [] instances)
 Valid-opening instances fresh = record {
-  numbers = tt;
-  first = omega arith;
-  next = omega arith;
-  few_works = omega arith;
-  records = tt;
-  in_order = tt;
-  sound = tt;
-  running = tt;
-  runs = tt;
-  apart = tt;
-  instances = All-weaker IsFresh (IsOutForRun []) instances (λ instance is. is.out) fresh.all;
-  numbered = fresh.in_order;
+  works = record { first = omega arith; fits = omega arith; numbers = tt; few = omega arith; records = tt; in_order = tt; sound = tt };
+  runs = record { running = tt; each = tt; apart = tt };
+  instances = record { out = All-weaker instances (λ instance is. is.out) fresh.all; numbered = fresh.in_order };
   few_observers = omega arith;
   now = omega arith;
 }
@@ -71,45 +64,39 @@ holds_none : (held : Option (List Row)) → IfSome held (λ rows. [] ≡ rows) �
 holds_none None none = refl
 holds_none (Some rows) none = ap (λ (rs : List Row). Some rs) (sym none)
 
+-- and its view
+pub viewed-opening : (instances : List Instance) (s : State) (graph : List NodeFields) → AreFresh instances → s ≡ opening_state [] instances → graph ≡ []
+    → IsViewed s graph
+viewed-opening instances s graph fresh s_is graph_is =
+    rw (s_is, graph_is) (record { valid = Valid-opening instances fresh; narrow = IsNarrow-opening instances; graph_is = refl })
+
 -- what a table keeps when it begins
-pub kept-opening : (instances : List Instance) (rows : List Row) (held : Option (List Row)) (first s : State) (graph : List NodeFields) (log : List Event)
-    → AreFresh instances → IfSome held (λ stored. rows ≡ stored) → rows ≡ [] → first ≡ opening_state [] instances → s ≡ opening_state [] instances → graph ≡ []
-    → log ≡ [] → TableInvariant first s graph log held
-kept-opening instances rows held first s graph log fresh told none first_is s_is graph_is log_is =
+pub kept-opening : (instances : List Instance) (rows : List Row) (held : Option (List Row)) (first s : State) (log : List Event)
+    → IfSome held (λ stored. rows ≡ stored) → rows ≡ [] → first ≡ opening_state [] instances → s ≡ opening_state [] instances → log ≡ []
+    → TableInvariant first s log held
+kept-opening instances rows held first s log told none first_is s_is log_is =
     let stored : IfSome held (λ stored. [] ≡ stored) = subst (λ (rs : List Row). IfSome held (λ stored. rs ≡ stored)) none told in
-    rw (first_is, s_is, graph_is, log_is) (record {
-      replay = refl;
-      valid = Valid-opening instances fresh;
-      narrow = IsNarrow-opening instances;
-      rows = holds_none held stored;
-      graph_is = refl;
-      few_runs = omega arith;
-    })
+    rw (first_is, s_is, log_is) (record { replay = refl; rows = holds_none held stored; few_runs = omega arith })
 
 -- ---- what a table keeps
 
-module _ {K : Type 0} (held : K → Option (List Row)) (old new : TableState K) (before now : List NodeFields) where
+module _ {K : Type 0} (held : K → Option (List Row)) (old new : TableState K) where
   -- a step that begins one run at most
-  pub kept-step : (e : Event) → TableInvariant old.first old.state before old.log (held old.keeper) → IsOneStep held e old new
-      → new.state.next_run ≤ old.state.next_run + 1 → now ≡ nodes_of new.state.works → TableInvariant new.first new.state now new.log (held new.keeper)
-  kept-step e kept step more graph_is =
+  pub kept-step : (e : Event) → TableInvariant old.first old.state old.log (held old.keeper) → IsOneStep held e old new
+      → new.state.next_run ≤ old.state.next_run + 1 → TableInvariant new.first new.state new.log (held new.keeper)
+  kept-step e kept step more =
       let longer : length new.log ≡ length old.log + 1 = ap length step.appended ∙ length-append old.log (e ∷ []) in
       let few : new.state.next_run ≤ length new.log + 1 = omega (arith, kept.few_runs) in
       let rows : HoldsRowsOf new.state (held new.keeper) = HoldsRowsOf-told new.state (held old.keeper) (held new.keeper) step.rows in
       record {
         replay = rw (step.first, step.state, step.appended) (Replay-push old.first old.log old.state e kept.replay step.legal);
-        valid = rw step.state (Valid-after old.state e kept.valid kept.narrow step.legal);
-        narrow = rw step.state (IsNarrow-after old.state e kept.valid kept.narrow step.legal);
         rows = rows;
-        graph_is = graph_is;
         few_runs = few;
       }
 
-  pub kept-untouched : TableInvariant old.first old.state before old.log (held old.keeper) → IsUntouched held old new → now ≡ nodes_of old.state.works
-      → TableInvariant new.first new.state now new.log (held new.keeper)
-  kept-untouched kept same graph_is =
-      let graph_same : now ≡ before = graph_is ∙ sym kept.graph_is in
-      rw (same.first, same.state, same.log, same.rows, graph_same) kept
+  pub kept-untouched : TableInvariant old.first old.state old.log (held old.keeper) → IsUntouched held old new
+      → TableInvariant new.first new.state new.log (held new.keeper)
+  kept-untouched kept same = rw (same.first, same.state, same.log, same.rows) kept
 
 -- ---- rest
 

@@ -1,4 +1,4 @@
--- What the graph of the records does in a step. This project's own choice.
+-- What the graph of the records does in a step.
 use Rattle.std.specs.Prelude.{ℕ, ◌<◌, ◌≤◌, ◌&&◌, not, List, [], ◌∷◌, ◌++◌, length, if◌then◌else◌}
 use Rattle.std.specs.List.{AllByRecursion}
 use Rattle.wm_graph.specs.Marks.{is_met, with_marked}

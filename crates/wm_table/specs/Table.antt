@@ -1,24 +1,21 @@
--- What the calls of the table do to the state, its log and the rows held. This project's own choice.
+-- What the calls of the table do to the state, its log and the rows held.
 use Rattle.std.specs.Prelude.{◌≡◌, ℕ, ◌+◌, ◌≤◌, Bool, true, false, List, [], ◌∷◌, ◌++◌, length, Option, Some, None, IsSomeAnd, option_map, Result, Err}
 use Rattle.std.specs.List.{AllByRecursion}
 use Rattle.wm_data.specs.declared.data.DataEntry.{DataEntry}
 use Rattle.wm_faults.specs.Faults as faults
-use Rattle.wm_graph.specs.Nodes.{NodeFields}
 use Rattle.wm_keeper.specs.declared.row.Row.{Row}
 use Rattle.wm_machine.specs.First.{first_of}
-use Rattle.wm_machine.specs.Narrow.{IsNarrow}
 use Rattle.wm_machine.specs.Replay.{Replay}
 use Rattle.wm_machine.specs.Role as role
 use Rattle.wm_machine.specs.Role.{HasGiven, Reported}
 use Rattle.wm_machine.specs.Rows.{rows_of}
 use Rattle.wm_machine.specs.Runs.{run_numbered}
 use Rattle.wm_machine.specs.Step.{Legal, after, role_of}
-use Rattle.wm_machine.specs.Valid.{Valid, AreNumberedInOrder}
+use Rattle.wm_machine.specs.Valid.{AreNumberedInOrder}
 use Rattle.wm_machine.specs.declared.event.Event.{Event}
 use Rattle.wm_machine.specs.declared.event.Event.TheVariants as event
 use Rattle.wm_machine.specs.declared.state.Instance.{Instance}
 use Rattle.wm_machine.specs.declared.state.State.{State}
-use Rattle.wm_steps.specs.Nodes.{nodes_of}
 use Rattle.wm_runs.specs.Reports.{is_timeout, CountsIn}
 use Rattle.wm_runs.specs.declared.starting.Claimed.{Claimed}
 use Rattle.wm_runs.specs.declared.starting.Claimed.TheVariants as claimed
@@ -191,14 +188,10 @@ TurnCause answer before now = faults.HasCause (is_refused_for_keeper answer) bef
 abbrev pub HoldsRowsOf : State → Option (List Row) → Type 0
 HoldsRowsOf s held = held ≡ option_map (λ _. rows_of s) held
 
--- the log replays from the first state to the state now, which is valid, whose rows are held, and of whose records this is the graph; it is
--- narrow for now
-pub record TableInvariant (first state : State) (graph : List NodeFields) (log : List Event) (held : Option (List Row)) : Type 0 where
+-- the log replays from the first state to the state now, whose rows are held
+pub record TableInvariant (first state : State) (log : List Event) (held : Option (List Row)) : Type 0 where
   pub replay : Replay first log state
-  pub valid : Valid state
-  pub narrow : IsNarrow state
   pub rows : HoldsRowsOf state held
-  pub graph_is : graph ≡ nodes_of state.works
   pub few_runs : state.next_run ≤ length log + 1
 
 -- the last of a list

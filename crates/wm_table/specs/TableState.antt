@@ -1,4 +1,4 @@
--- What a contract sees of a table and of a ticket. This project's own choice.
+-- What a contract sees of a table and of a ticket.
 use Rattle.std.specs.Prelude.{ℕ, List}
 use Rattle.wm_machine.specs.declared.event.Event.{Event}
 use Rattle.wm_machine.specs.declared.state.Run.{Run}

@@ -1,4 +1,4 @@
--- What the table makes of a keeper's answer. This project's own choice.
+-- What the table makes of a keeper's answer.
 use Rattle.wm_keeper.specs.declared.keeper.KeepFault.{KeepFault}
 use Rattle.wm_keeper.specs.declared.keeper.KeepFault.TheVariants.{Failed, Memory}
 use Rattle.wm_table.specs.declared.table.Trouble.{Trouble}

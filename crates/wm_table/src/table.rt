@@ -18,19 +18,18 @@ mod follow;
 mod row_changes;
 pub mod ticket;
 
-use crate::opening::opening_state;
+use crate::opening::{opening_state, opening_view};
 use crate::table::carry::carry_out;
 use std::alloc::{AllocError, Global};
 use std::marker::Model;
 use ticket::{Ticket, ticket_for};
 use wm_collections::{Items, Replica};
 use wm_commands::{Executed, execute};
-use wm_graph::Graph;
 use wm_keeper::{KeepFault, Keeper, Row};
 use wm_machine::{Cause, Command, Event, Instance, Reply, State};
 use wm_query::first_index;
 use wm_runs::{Claimed, Claiming, Ending, claim_first, counts_in, finish, goes_on, next_turn};
-use wm_steps::StepChange;
+use wm_steps::{StepChange, View};
 use wm_worker::Told;
 
 /// Why a call of the table changed nothing.
@@ -83,14 +82,21 @@ pub enum Claim {
     Failed { seq: u64, cause: Cause },
 }
 
+/// Whether nothing is startable and no run is unreturned.
+fn is_quiet(view: &View) -> bool
+    ensures { IsTrue result ↔ IsQuiet view.now }
+{
+    view.state.runs.is_empty() && first_index(&view.state).is_none()
+}
+
 /// What was claimed: the ticket of its run, which the state has, or that the work couldn't start. It
 /// takes no memory.
-fn claim_of(state: &State, claimed: Claimed) -> Claim
-    requires { HasClaimed state.now claimed }
-    ensures { IsClaim state.entry.now claimed result }
+fn claim_of(view: &View, claimed: Claimed) -> Claim
+    requires { HasClaimed view.now claimed }
+    ensures { IsClaim view.entry.now claimed result }
 {
     match claimed {
-        Claimed::Run { run, input } => Claim::Run(ticket_for(state, run, input)),
+        Claimed::Run { run, input } => Claim::Run(ticket_for(view, run, input)),
         Claimed::Failed { seq, cause } => Claim::Failed { seq, cause },
     }
 }
@@ -123,9 +129,9 @@ pub struct TableEnd<K> {
 }
 
 /// The state, the log of the events that led to it from the first state, and the keeper of its
-/// rows. Beside the state it has the graph of its records, which is asked what a work reaches. Its
-/// type keeps that the log replays, that the state is valid, that the graph is that of the state's
-/// records, and that the keeper holds the state's rows, where it tells them. A contract sees first state, state, log and keeper.
+/// rows. The state stands in a [`View`] with what is kept beside it. Its type keeps that the log
+/// replays, and that the keeper holds the state's rows, where it tells them. A contract sees first
+/// state, state, log and keeper.
 ///
 /// Each call makes at most one event. It takes all its memory first, then commits the rows that
 /// change, and changes the state last: so nothing can fail after a commit, and where there is
@@ -133,8 +139,7 @@ pub struct TableEnd<K> {
 pub struct Table<K: Keeper> {
     alloc: Global,
     first: State,
-    state: State,
-    graph: Graph,
+    view: View,
     log: Items<Event>,
     keeper: K,
 }
@@ -146,9 +151,9 @@ impl<K: Keeper> Model for Table<K> {
 
     ghost use Rattle.wm_table.specs.Table.{TableInvariant};
 
-    ghost view = { λ t. record { first = t.first; state = t.state; log = t.log; keeper = t.keeper } };
+    ghost view = { λ t. record { first = t.first; state = t.view; log = t.log; keeper = t.keeper } };
 
-    ghost invariant = { λ t. TableInvariant t.first t.state t.graph t.log (K.held t.keeper) };
+    ghost invariant = { λ t. TableInvariant t.first t.view t.log (K.held t.keeper) };
 }
 
 impl<K: Keeper> Table<K> {
@@ -182,8 +187,7 @@ impl<K: Keeper> Table<K> {
             Ok(copies) => Ok(Table {
                 alloc,
                 first: opening_state(alloc, copies),
-                state: opening_state(alloc, instances),
-                graph: Graph::new(alloc),
+                view: opening_view(alloc, instances),
                 log: Items::new(alloc),
                 keeper,
             }),
@@ -205,7 +209,7 @@ impl<K: Keeper> Table<K> {
         ensures keeper_fault { result ≡ Err Trouble.KeeperFault
             → ChangesRows self.old.state command }
     {
-        let Executed { change, reply } = execute(self.alloc, &self.state, line, command)?;
+        let Executed { change, reply } = execute(self.alloc, &self.view, line, command)?;
         match self.make(change) {
             Ok(()) => Ok(reply),
             Err(trouble) => {
@@ -222,12 +226,12 @@ impl<K: Keeper> Table<K> {
         ensures err { OnErr result (IsUntouched K.held self.old self.new) }
         ensures cause { TroubleCause result (K.faults self.old.keeper) (K.faults self.new.keeper) }
     {
-        let Some(claiming) = claim_first(self.alloc, &self.state, &self.graph)? else {
+        let Some(claiming) = claim_first(self.alloc, &self.view)? else {
             return Ok(None);
         };
         let Claiming { change, claimed } = claiming;
         match self.make(change) {
-            Ok(()) => Ok(Some(claim_of(&self.state, claimed))),
+            Ok(()) => Ok(Some(claim_of(&self.view, claimed))),
             Err(trouble) => {
                 drop(claimed);
                 Err(trouble)
@@ -243,7 +247,7 @@ impl<K: Keeper> Table<K> {
         ensures answer { IsTurnAnswer K.held ticket told result self.old self.new }
         ensures cause { TurnCause result (K.faults self.old.keeper) (K.faults self.new.keeper) }
     {
-        if !counts_in(&self.state, ticket.task().run, &told) {
+        if !counts_in(&self.view, ticket.task().run, &told) {
             drop(told);
             return TurnAnswer::Again(ticket);
         }
@@ -267,21 +271,21 @@ impl<K: Keeper> Table<K> {
     pub fn quiet(&self) -> bool
         ensures { IsTrue result ↔ IsQuiet self.now.state }
     {
-        self.state.runs.is_empty() && first_index(&self.state).is_none()
+        is_quiet(&self.view)
     }
 
     /// Whether only summaries are written.
     pub fn hushed(&self) -> bool
         ensures { result ≡ self.now.state.hushed }
     {
-        self.state.hushed
+        self.view.state.hushed
     }
 
     /// The moment, in milliseconds.
     pub fn now(&self) -> u64
         ensures { result ≡ self.now.state.now }
     {
-        self.state.now
+        self.view.state.now
     }
 
     /// The log's last event; none where the log is empty.
@@ -305,11 +309,11 @@ impl<K: Keeper> Table<K> {
         let Table {
             alloc: _,
             first,
-            state,
-            graph: _,
+            view,
             log,
             keeper,
         } = self;
+        let View { state, graph: _ } = view;
         TableEnd {
             first,
             last: state,
@@ -331,7 +335,7 @@ impl<K: Keeper> Table<K> {
         match self.advance(number, &told) {
             Ok(()) => {
                 ticket.spend();
-                TurnAnswer::Go(ticket_for(&self.state, number, told.into_input()))
+                TurnAnswer::Go(ticket_for(&self.view, number, told.into_input()))
             }
             Err(trouble) => TurnAnswer::Refused(ticket, told, trouble),
         }
@@ -345,7 +349,7 @@ impl<K: Keeper> Table<K> {
         ensures err { OnErr result (IsUntouched K.held self.old self.new) }
         ensures cause { TroubleCause result (K.faults self.old.keeper) (K.faults self.new.keeper) }
     {
-        let change = next_turn(self.alloc, &self.state, number, told)?;
+        let change = next_turn(self.alloc, &self.view, number, told)?;
         self.make(change)
     }
 
@@ -379,7 +383,7 @@ impl<K: Keeper> Table<K> {
         ensures err { OnErr result (IsUntouched K.held self.old self.new) }
         ensures cause { TroubleCause result (K.faults self.old.keeper) (K.faults self.new.keeper) }
     {
-        let ending = finish(self.alloc, &self.state, &self.graph, number, told)?;
+        let ending = finish(self.alloc, &self.view, number, told)?;
         let Ending { change, timed_out } = ending;
         self.make(change)?;
         Ok(timed_out)
@@ -396,8 +400,7 @@ impl<K: Keeper> Table<K> {
     {
         carry_out(
             self.alloc,
-            &mut self.state,
-            &mut self.graph,
+            &mut self.view,
             &mut self.log,
             &mut self.keeper,
             change,

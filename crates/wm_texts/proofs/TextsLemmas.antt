@@ -7,16 +7,15 @@ use Rattle.wm_texts.specs.Texts.{count, info_json, info_members, reply_json, wit
 use Rattle.wm_machine.specs.declared.command.LineFault.{LineFault}
 use Rattle.wm_machine.specs.declared.command.LineFault.TheVariants as fault
 use Rattle.wm_machine.specs.declared.reply.Refusal.{Refusal}
-use Rattle.wm_machine.specs.declared.reply.Refusal.TheVariants as refusal
 use Rattle.wm_machine.specs.declared.reply.Reply.{Reply}
+use Rattle.wm_machine.specs.declared.reply.Refusal.TheVariants as refusal
 use Rattle.wm_machine.specs.declared.reply.Reply.TheVariants as reply
 use Rattle.wm_machine.specs.declared.reply.WorkInfo.{WorkInfo}
 
 -- ---- what is told of a work
 
 members_have_no_float : (info : WorkInfo) → members_have_float (info_members info) ≡ false
-members_have_no_float info =
-    rw (entries_have_no_float info.output, entries_have_no_float info.progress, list_has_no_float json.string info.tags (λ text. refl))
+members_have_no_float info = rw (entries_have_no_float info.output, entries_have_no_float info.progress, list_has_no_float json.string info.tags (λ text. refl))
 
 named_has_no_float : (name : Option (List ℕ)) (due : Option ℕ) (info : WorkInfo)
     → has_float (json.object (with_name name (with_due due (info_members info)))) ≡ false

@@ -3,27 +3,19 @@ use Rattle.std.proofs.Common.{◌≡◌, ◌&&◌, ◌||◌, ℕ, ◌+◌, ◌^�
 use Rattle.std.specs.List.{AllByRecursion, list_any}
 use Rattle.std.specs.Str.{bytes_eq}
 use Rattle.std.proofs.lemmas.Bool.{cases_Bool, or_left, or_right, true≢false}
-use Rattle.wm_machine.proofs.Lists.{All-any, All-stored, All-weaker, list_any-filter, list_any-stored}
+use Rattle.wm_collections.proofs.Lists.{All-any, All-stored, All-weaker, find-same, list_any-filter, list_any-stored}
 use Rattle.wm_machine.proofs.Placings.{bytes_eq-refl, bytes_eq-same}
 use Rattle.wm_machine.specs.Cancelled.{is_stored}
-use Rattle.wm_machine.specs.Closed.{is_among}
 use Rattle.wm_machine.specs.Enqueued.{first_refusal, first_unknown, id_in_use, is_stored_periodic, no_such_prerequisite, numbers_spent, periodic_in_chain, refusal_of_placing, too_many_after, too_many_works, without}
 use Rattle.wm_machine.specs.Plan.{Placing}
-use Rattle.wm_machine.specs.Valid.{HasOne}
+use Rattle.wm_collections.specs.Lists.{HasOne, is_among}
+use Rattle.wm_request.specs.declared.request.Node.{Node}
 use Rattle.wm_machine.specs.declared.record.Record.{Record}
 use Rattle.wm_machine.specs.declared.reply.Refusal.{Refusal}
-use Rattle.wm_machine.specs.declared.reply.Refusal.TheVariants as refusal
 use Rattle.wm_machine.specs.declared.state.State.{State}
+use Rattle.wm_machine.specs.declared.reply.Refusal.TheVariants as refusal
 use Rattle.wm_request.specs.Batches.{has_id}
-use Rattle.wm_request.specs.declared.request.Node.{Node}
 use Rattle.wm_unique.specs.Plans.{is_named_by, names_id}
-
--- ---- lists
-
-find_same : {T : Type 0} (one other : T → Bool) (xs : List T) → AllByRecursion (λ x. one x ≡ other x) xs → find one xs ≡ find other xs
-find_same one other [] all = refl
-find_same one other (x ∷ xs) all =
-    ap (λ b. cond b (Some x) (find one xs)) all.0 ∙ ap (λ found. cond (other x) (Some x) found) (find_same one other xs all.1)
 
 -- ---- those that aren't let go
 
@@ -47,8 +39,7 @@ any_filtered test keep (work ∷ works) =
 
 any_of_all : (test : Record → Bool) (works : List Record) → list_any test works ≡ list_any (λ work. test work && true) works
 any_of_all test [] = refl
-any_of_all test (work ∷ works) =
-    ap (λ b. b || list_any test works) (and_true (test work)) ∙ ap (λ b. (test work && true) || b) (any_of_all test works)
+any_of_all test (work ∷ works) = ap (λ b. b || list_any test works) (and_true (test work)) ∙ ap (λ b. (test work && true) || b) (any_of_all test works)
 
 -- one passes that isn't let go
 pub any_without : (test : Record → Bool) (numbers : List ℕ) (works : List Record)
@@ -77,9 +68,7 @@ unnamed_fails nodes id test work named of not_named =
 -- of the records that a batch names the same passes as of all
 any_named : (nodes : List Node) (works : List Record) (id : List ℕ) (test : Record → Bool) → names_id nodes id ≡ true → IsOfId id test
     → list_any test (filter (is_named_by nodes) works) ≡ list_any test works
-any_named nodes works id test named of =
-    list_any-filter test (is_named_by nodes) works
-    (All-any (λ work. is_named_by nodes work ≡ false → test work ≡ false) works (λ work. unnamed_fails nodes id test work named of))
+any_named nodes works id test named of = list_any-filter test (is_named_by nodes) works (All-any works (λ work. unnamed_fails nodes id test work named of))
 
 stored_named : (nodes : List Node) (works : List Record) (id : List ℕ) → names_id nodes id ≡ true
     → is_stored (filter (is_named_by nodes) works) id ≡ is_stored works id
@@ -91,8 +80,7 @@ left_named nodes works numbers id named =
     let test : Record → Bool = λ work. bytes_eq work.request.id id in
     let keep : Record → Bool = λ work. not (is_among numbers work.seq) in
     any_without test numbers (filter (is_named_by nodes) works)
-    ∙ any_named nodes works id (λ work. test work && keep work) named (λ work e. of_id (test work) (keep work) e)
-    ∙ sym (any_without test numbers works)
+    ∙ any_named nodes works id (λ work. test work && keep work) named (λ work e. of_id (test work) (keep work) e) ∙ sym (any_without test numbers works)
 
 periodic_named : (nodes : List Node) (works : List Record) (id : List ℕ) → names_id nodes id ≡ true
     → is_stored_periodic (filter (is_named_by nodes) works) id ≡ is_stored_periodic works id
@@ -109,15 +97,12 @@ named_node : (nodes : List Node) (node : Node) → HasOne (λ other. other ≡ n
 named_node nodes node one = record {
   own = list_any-stored (λ (n : Node). bytes_eq n.request.id node.request.id || has_id n.after node.request.id) nodes node one
       (or_left _ _ (bytes_eq-refl node.request.id));
-  after = All-weaker (λ id. HasOne (λ other. other ≡ id) node.after) (λ id. names_id nodes id ≡ true) node.after
-      (λ id there.
-      list_any-stored (λ (n : Node). bytes_eq n.request.id id || has_id n.after id) nodes node one
-      (or_right _ _ (list_any-stored (λ other. bytes_eq other id) node.after id there (bytes_eq-refl id))))
-      (All-stored node.after);
+  after = All-weaker node.after (λ id there. list_any-stored (λ (n : Node). bytes_eq n.request.id id || has_id n.after id) nodes node one
+      (or_right _ _ (list_any-stored (λ other. bytes_eq other id) node.after id there (bytes_eq-refl id)))) (All-stored node.after);
 }
 
 named_each : (nodes : List Node) → AllByRecursion (IsNamed nodes) nodes
-named_each nodes = All-weaker (λ node. HasOne (λ other. other ≡ node) nodes) (IsNamed nodes) nodes (λ node one. named_node nodes node one) (All-stored nodes)
+named_each nodes = All-weaker nodes (λ node one. named_node nodes node one) (All-stored nodes)
 
 -- ---- the checks
 
@@ -138,30 +123,22 @@ used_named : (all : List Node) (s : State) (nodes : List Node) → AllByRecursio
     (find (λ node. is_stored (filter (is_named_by all) s.works) node.request.id) nodes) ≡ id_in_use s nodes
 used_named all s nodes named =
     ap (option_map (λ (node : Node). refusal.IdInUse node.request.id))
-    (find_same (λ (node : Node). is_stored (filter (is_named_by all) s.works) node.request.id) (λ node. is_stored s.works node.request.id) nodes
-    (All-weaker (IsNamed all) (λ node. is_stored (filter (is_named_by all) s.works) node.request.id ≡ is_stored s.works node.request.id) nodes
-    (λ node is. stored_named all s.works node.request.id is.own) named))
-    ∙ used s nodes
+    (find-same (λ (node : Node). is_stored (filter (is_named_by all) s.works) node.request.id) (λ node. is_stored s.works node.request.id) nodes
+    (All-weaker nodes (λ node is. stored_named all s.works node.request.id is.own) named)) ∙ used s nodes
 
-unknown_named : (all : List Node) (works : List Record) (numbers : List ℕ) (earlier ids : List (List ℕ))
-    → AllByRecursion (λ id. names_id all id ≡ true) ids
+unknown_named : (all : List Node) (works : List Record) (numbers : List ℕ) (earlier ids : List (List ℕ)) → AllByRecursion (λ id. names_id all id ≡ true) ids
     → first_unknown (without numbers (filter (is_named_by all) works)) earlier ids ≡ first_unknown (without numbers works) earlier ids
 unknown_named all works numbers earlier ids named =
-    find_same (λ id. not (is_stored (without numbers (filter (is_named_by all) works)) id || has_id earlier id))
+    find-same (λ id. not (is_stored (without numbers (filter (is_named_by all) works)) id || has_id earlier id))
     (λ id. not (is_stored (without numbers works) id || has_id earlier id)) ids
-    (All-weaker (λ id. names_id all id ≡ true)
-    (λ id. not (is_stored (without numbers (filter (is_named_by all) works)) id || has_id earlier id)
-    ≡ not (is_stored (without numbers works) id || has_id earlier id)) ids
-    (λ id is. ap (λ b. not (b || has_id earlier id)) (left_named all works numbers id is)) named)
+    (All-weaker ids (λ id is. ap (λ b. not (b || has_id earlier id)) (left_named all works numbers id is)) named)
 
-no_such_named : (all : List Node) (works : List Record) (numbers : List ℕ) (earlier : List (List ℕ)) (nodes : List Node)
-    → AllByRecursion (IsNamed all) nodes
+no_such_named : (all : List Node) (works : List Record) (numbers : List ℕ) (earlier : List (List ℕ)) (nodes : List Node) → AllByRecursion (IsNamed all) nodes
     → no_such_prerequisite (without numbers (filter (is_named_by all) works)) earlier nodes ≡ no_such_prerequisite (without numbers works) earlier nodes
 no_such_named all works numbers earlier [] named = refl
 no_such_named all works numbers earlier (node ∷ nodes) named =
     let later = earlier ++ node.request.id ∷ [] in
-    ap (λ found.
-    first_refusal (option_map refusal.NoSuchPrerequisite found
+    ap (λ found. first_refusal (option_map refusal.NoSuchPrerequisite found
     ∷ no_such_prerequisite (without numbers (filter (is_named_by all) works)) later nodes ∷ []))
     (unknown_named all works numbers earlier node.after named.0.after)
     ∙ ap (λ rest. first_refusal (option_map refusal.NoSuchPrerequisite (first_unknown (without numbers works) earlier node.after) ∷ rest ∷ []))
@@ -172,9 +149,8 @@ in_chain_named : (all : List Node) (works : List Record) (nodes : List Node) →
 in_chain_named all works [] named = refl
 in_chain_named all works (node ∷ nodes) named =
     ap (λ found. first_refusal (option_map refusal.PeriodicInChain found ∷ periodic_in_chain (filter (is_named_by all) works) nodes ∷ []))
-    (find_same (is_stored_periodic (filter (is_named_by all) works)) (is_stored_periodic works) node.after
-    (All-weaker (λ id. names_id all id ≡ true) (λ id. is_stored_periodic (filter (is_named_by all) works) id ≡ is_stored_periodic works id) node.after
-    (λ id is. periodic_named all works id is) named.0.after))
+    (find-same (is_stored_periodic (filter (is_named_by all) works)) (is_stored_periodic works) node.after
+    (All-weaker node.after (λ id is. periodic_named all works id is) named.0.after))
     ∙ ap (λ rest. first_refusal (option_map refusal.PeriodicInChain (find (is_stored_periodic works) node.after) ∷ rest ∷ []))
     (in_chain_named all works nodes named.1)
 
@@ -182,17 +158,11 @@ in_chain_named all works (node ∷ nodes) named =
 abbrev pub refusal_over : List Record → Placing → List Node → Option Refusal
 refusal_over works placing nodes = first_refusal
     (option_map (λ (node : Node). refusal.IdInUse node.request.id) (find (λ node. is_stored works node.request.id) nodes)
-    ∷ no_such_prerequisite (without placing.let_go works) [] nodes
-    ∷ periodic_in_chain works nodes
-    ∷ too_many_after placing.after nodes
-    ∷ [])
+    ∷ no_such_prerequisite (without placing.let_go works) [] nodes ∷ periodic_in_chain works nodes ∷ too_many_after placing.after nodes ∷ [])
 
 abbrev refusal_left : State → Placing → List Node → List (Option Refusal)
 refusal_left s placing nodes =
-    id_in_use s nodes
-    ∷ no_such_prerequisite (without placing.let_go s.works) [] nodes
-    ∷ periodic_in_chain s.works nodes
-    ∷ too_many_after placing.after nodes
+    id_in_use s nodes ∷ no_such_prerequisite (without placing.let_go s.works) [] nodes ∷ periodic_in_chain s.works nodes ∷ too_many_after placing.after nodes
     ∷ []
 
 over_named : (s : State) (placing : Placing) (nodes : List Node)
@@ -202,10 +172,8 @@ over_named s placing nodes =
     let each = named_each nodes in
     let last = too_many_after placing.after nodes in
     ap (λ found. first_refusal (found ∷ no_such_prerequisite (without placing.let_go named) [] nodes ∷ periodic_in_chain named nodes ∷ last ∷ []))
-    (used_named nodes s nodes each)
-    ∙ ap (λ found. first_refusal (id_in_use s nodes ∷ found ∷ periodic_in_chain named nodes ∷ last ∷ []))
-    (no_such_named nodes s.works placing.let_go [] nodes each)
-    ∙ ap (λ found.
+    (used_named nodes s nodes each) ∙ ap (λ found. first_refusal (id_in_use s nodes ∷ found ∷ periodic_in_chain named nodes ∷ last ∷ []))
+    (no_such_named nodes s.works placing.let_go [] nodes each) ∙ ap (λ found.
     first_refusal (id_in_use s nodes ∷ no_such_prerequisite (without placing.let_go s.works) [] nodes ∷ found ∷ last ∷ []))
     (in_chain_named nodes s.works nodes each)
 
@@ -234,8 +202,7 @@ checked s works next placing nodes is next_is =
     ap (λ (list : List Record).
     first_refusal (many_of (length list) nodes ∷ spent_of next nodes ∷ refusal_over (filter (is_named_by nodes) list) placing nodes ∷ [])) (sym is)
     ∙ ap (λ n. first_refusal (many_of (length s.works) nodes ∷ spent_of n nodes ∷ refusal_over (filter (is_named_by nodes) s.works) placing nodes ∷ []))
-    (sym next_is)
-    ∙ ap (λ rest. first_refusal (too_many_works s nodes ∷ numbers_spent s nodes ∷ rest ∷ [])) (over_named s placing nodes)
+    (sym next_is) ∙ ap (λ rest. first_refusal (too_many_works s nodes ∷ numbers_spent s nodes ∷ rest ∷ [])) (over_named s placing nodes)
     ∙ joined (too_many_works s nodes) (numbers_spent s nodes) (refusal_left s placing nodes)
 
 -- and where neither the count nor the next number refuses it

@@ -2,11 +2,9 @@
 use Rattle.std.proofs.Common.{◌≡◌, ◌||◌, ◌&&◌, ℕ, ◌<◌, Bool, true, false, cond, List, [], ◌∷◌, filter, find, Option, Some, None, option_map, refl, sym, ◌∙◌, ap, arith}
 use Rattle.std.specs.List.{AllByRecursion, list_any}
 use Rattle.std.proofs.lemmas.Bool.{eq-eqb, ne_eqb, or_left}
-use Rattle.wm_collections.specs.Lists.{AllLater}
-use Rattle.wm_machine.proofs.Lists.{All-both, All-find, All-weaker}
-use Rattle.wm_machine.proofs.Names.{All-of_filter}
+use Rattle.wm_collections.specs.Lists.{AllLater, is_among}
+use Rattle.wm_collections.proofs.Lists.{All-find, All-kept, All-with2, filter-same}
 use Rattle.wm_machine.proofs.Runnings.{WorksAscend, WorksAscend-in_order}
-use Rattle.wm_machine.specs.Closed.{is_among}
 use Rattle.wm_machine.specs.Group.{numbers_in}
 use Rattle.wm_machine.specs.Input.{work_numbered}
 use Rattle.wm_machine.specs.Valid.{IsBefore}
@@ -29,16 +27,11 @@ found_each : (works : List Record) → WorksAscend works → AreFound works work
 found_each [] ascend = tt
 found_each (work ∷ works) ascend = (
   found-first work works,
-  All-weaker (λ later. (work.seq < later.seq) × (work_numbered later.seq works ≡ Some later))
-      (λ later. work_numbered later.seq (work ∷ works) ≡ Some later) works
-      (λ later both. found-later work later works both.0 both.1)
-      (All-both (λ later. work.seq < later.seq) (λ later. work_numbered later.seq works ≡ Some later) works ascend.0 (found_each works ascend.1)),
+  All-with2 works (λ later below one. found-later work later works below one) ascend.0 (found_each works ascend.1),
 )
 
 found_grouped : (works : List Record) (numbers : List ℕ) → AllLater IsBefore works → AreFound works (grouped works numbers)
-found_grouped works numbers in_order =
-    All-of_filter (λ member. work_numbered member.seq works ≡ Some member) (λ work. is_among numbers work.seq) works
-    (found_each works (WorksAscend-in_order works in_order))
+found_grouped works numbers in_order = All-kept _ (λ work. is_among numbers work.seq) works (found_each works (WorksAscend-in_order works in_order))
 
 -- ---- what is asked of each number is asked of its work
 
@@ -96,7 +89,7 @@ found-by : (test : Record → Bool) (works members : List Record) (number : ℕ)
 found-by test works members number None all is has = absurd (cc)
 found-by test works members number (Some member) all is has =
     let same : number ≡ member.seq = cc in
-    ap (λ n. work_numbered n works) same ∙ All-find (λ w. work_numbered w.seq works ≡ Some w) test members member is all
+    ap (λ n. work_numbered n works) same ∙ All-find _ test members member is all
 
 -- the work of the number of the first that passes is that work
 pub numbered_found : (test : Record → Bool) (works : List Record) (numbers : List ℕ) (number : ℕ) → AllLater IsBefore works
@@ -120,8 +113,7 @@ among-first false work members none = none
 
 among-later : (b : Bool) (work later : Record) (members : List Record) → work.seq < later.seq
     → is_among (numbers_in (cond b (work ∷ members) members)) later.seq ≡ is_among (numbers_in members) later.seq
-among-later true work later members below =
-    ap (λ b. b || is_among (numbers_in members) later.seq) (ne_eqb work.seq later.seq (λ e. absurd (omega arith)))
+among-later true work later members below = ap (λ b. b || is_among (numbers_in members) later.seq) (ne_eqb work.seq later.seq (λ e. absurd (omega arith)))
 among-later false work later members below = refl
 
 -- a number is among those of the works that pass where its work does
@@ -130,25 +122,14 @@ pub among_filter : (test : Record → Bool) (works : List Record) → WorksAscen
 among_filter test [] ascend = tt
 among_filter test (work ∷ works) ascend =
     let rest = filter test works in (
-      among-first (test work) work rest (none_among work.seq rest (All-of_filter (λ later. work.seq < later.seq) test works ascend.0)),
-      All-weaker (λ later. (work.seq < later.seq) × (is_among (numbers_in rest) later.seq ≡ test later))
-          (λ later. is_among (numbers_in (cond (test work) (work ∷ rest) rest)) later.seq ≡ test later) works
-          (λ later both. among-later (test work) work later rest both.0 ∙ both.1)
-          (All-both (λ later. work.seq < later.seq) (λ later. is_among (numbers_in rest) later.seq ≡ test later) works ascend.0
-          (among_filter test works ascend.1)),
+      among-first (test work) work rest (none_among work.seq rest (All-kept _ test works ascend.0)),
+      All-with2 works (λ later below among. among-later (test work) work later rest below ∙ among) ascend.0 (among_filter test works ascend.1),
     )
 
-pub filter_same : {T : Type 0} (one other : T → Bool) (xs : List T) → AllByRecursion (λ x. one x ≡ other x) xs → filter one xs ≡ filter other xs
-filter_same one other [] all = refl
-filter_same one other (x ∷ xs) all =
-    ap (λ b. cond b (x ∷ filter one xs) (filter one xs)) all.0 ∙ ap (λ list. cond (other x) (x ∷ list) list) (filter_same one other xs all.1)
-
 -- the works of the numbers of a group are the group
-pub grouped_filter : (test : Record → Bool) (works : List Record) → AllLater IsBefore works
-    → grouped works (numbers_in (filter test works)) ≡ filter test works
+pub grouped_filter : (test : Record → Bool) (works : List Record) → AllLater IsBefore works → grouped works (numbers_in (filter test works)) ≡ filter test works
 grouped_filter test works in_order =
-    filter_same (λ work. is_among (numbers_in (filter test works)) work.seq) test works
-    (among_filter test works (WorksAscend-in_order works in_order))
+    filter-same (λ work. is_among (numbers_in (filter test works)) work.seq) test works (among_filter test works (WorksAscend-in_order works in_order))
 
 -- and so its numbers are numbers of works
 pub numbers_filter : (test : Record → Bool) (works : List Record) → AllLater IsBefore works → AreNumbersOf works (numbers_in (filter test works))

@@ -1,8 +1,8 @@
--- What is planned and checked of an enqueue by the numbers of works: those of a group, and those that a batch names. This project's own choice.
+-- What is planned and checked of an enqueue by the numbers of works: those of a group, and those that a batch names.
 use Rattle.std.specs.Prelude.{◌≡◌, ◌||◌, ℕ, Bool, true, false, List, [], filter, Option, Some, None}
 use Rattle.std.specs.List.{list_any}
 use Rattle.std.specs.Str.{bytes_eq}
-use Rattle.wm_machine.specs.Closed.{is_among}
+use Rattle.wm_collections.specs.Lists.{is_among}
 use Rattle.wm_machine.specs.Group.{numbers_in}
 use Rattle.wm_machine.specs.Input.{work_numbered}
 use Rattle.wm_machine.specs.Plan as plan

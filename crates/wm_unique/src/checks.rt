@@ -3,9 +3,8 @@ ghost use Rattle.std.specs.List.{list_any};
 ghost use Rattle.std.specs.Option.{option_copied};
 ghost use Rattle.std.specs.Prelude.{◌≡◌, ◌+◌, ◌^◌, ◌≤◌, ◌&&◌, [], ◌∷◌, filter, find, if◌then◌else◌, is_some, length, nat_lt, None, not, option_map, Some};
 ghost use Rattle.std.specs.Str.{bytes_eq};
-ghost use Rattle.wm_collections.specs.Lists.{AllLater};
+ghost use Rattle.wm_collections.specs.Lists.{AllLater, is_among};
 ghost use Rattle.wm_machine.specs.Cancelled.{is_stored};
-ghost use Rattle.wm_machine.specs.Closed.{is_among};
 ghost use Rattle.wm_machine.specs.Enqueued.{count_prior, first_refusal, first_unknown, is_stored_periodic, no_such_prerequisite, periodic_in_chain, refusal_of_placing, too_many_after, without};
 ghost use Rattle.wm_machine.specs.Group.{numbers_in};
 ghost use Rattle.wm_machine.specs.Valid.{IsBefore};
@@ -13,11 +12,11 @@ ghost use Rattle.wm_machine.specs.declared.state.State.{State};
 ghost use Rattle.wm_request.specs.Batches.{has_id, ids_of};
 ghost use Rattle.wm_unique.specs.Plans.{AreNumbersOf, grouped, is_named_by, numbered_passes, placing_by};
 
-use crate::members::is_among;
 use crate::plans::GroupPlan;
 use uuid::Uuid;
+use wm_collections::is_among;
 use wm_machine::{Record, Refusal, work_numbered};
-use wm_request::{Batch, Node};
+use wm_request::{Batch, Node, has_work};
 
 /// The most records that a state has.
 const MAX_WORKS: usize = 100_000;
@@ -175,13 +174,6 @@ fn id_in_use(works: &[Record], known: &[u64], batch: &[Node]) -> Option<Refusal>
         }),
         None => None,
     }
-}
-
-/// Whether one of these works of a batch has this id.
-fn has_work(batch: &[Node], id: Uuid) -> bool
-    ensures { result ≡ list_any (λ work. bytes_eq work.request.id id) batch.now }
-{
-    batch.iter().any(|work| work.request.id() == id)
 }
 
 /// Whether the id is one of these works.

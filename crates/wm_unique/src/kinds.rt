@@ -36,17 +36,11 @@ fn is_unfit(policy: Policy, member: &Record) -> bool
     }
 }
 
-fn is_periodic(work: &Node) -> bool
-    ensures { result ≡ is_periodic work.now }
-{
-    work.request.period().is_some()
-}
-
 /// The first periodic work of a batch.
 fn first_periodic(works: &[Node]) -> Option<&Node>
     ensures { option_copied result ≡ find is_periodic works.now }
 {
-    works.iter().find(|work| is_periodic(work))
+    works.iter().find(|work| work.is_periodic())
 }
 
 /// Whether a policy can't take a batch of so many works of which one is periodic.

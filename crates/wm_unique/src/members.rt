@@ -1,23 +1,15 @@
 //! Works by their numbers: the members of a group, looked up among the records in ascending number.
 ghost use Rattle.std.specs.Prelude.{◌≡◌, filter, find, option_map, IfOk};
 ghost use Rattle.std.specs.List.{list_any};
-ghost use Rattle.wm_collections.specs.Lists.{AllLater};
-ghost use Rattle.wm_machine.specs.Closed.{is_among, is_open};
+ghost use Rattle.wm_collections.specs.Lists.{AllLater, is_among};
 ghost use Rattle.wm_machine.specs.Group.{leaves_of, numbers_in};
 ghost use Rattle.wm_machine.specs.Plan.{is_lost, is_unfinished};
 ghost use Rattle.wm_machine.specs.Valid.{IsBefore};
 ghost use Rattle.wm_unique.specs.Plans.{AreNumbersOf, grouped, is_prior_number, numbered_passes};
 
 use std::alloc::{AllocError, Global};
-use wm_collections::Items;
+use wm_collections::{Items, is_among};
 use wm_machine::{How, Phase, Record, work_numbered};
-
-/// Whether work in this phase isn't finished.
-fn is_open(phase: Phase) -> bool
-    ensures { result ≡ is_open phase }
-{
-    !matches!(phase, Phase::Done(_))
-}
 
 /// Whether work in this phase has failed or was cancelled.
 fn is_lost(phase: Phase) -> bool
@@ -29,20 +21,13 @@ fn is_lost(phase: Phase) -> bool
     )
 }
 
-/// Whether this number is one of these.
-pub fn is_among(numbers: &[u64], number: u64) -> bool
-    ensures { result ≡ is_among numbers.now number }
-{
-    numbers.contains(&number)
-}
-
 /// Whether the work of this number isn't finished.
 fn is_unfinished(works: &[Record], number: u64) -> bool
     requires { AllLater IsBefore works.now }
     ensures { result ≡ numbered_passes is_unfinished works.now number }
 {
     match work_numbered(works, number) {
-        Some(work) => is_open(work.phase),
+        Some(work) => work.phase.is_open(),
         None => false,
     }
 }

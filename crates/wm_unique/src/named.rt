@@ -9,7 +9,7 @@ use std::alloc::{AllocError, Global};
 use uuid::Uuid;
 use wm_collections::Items;
 use wm_machine::Record;
-use wm_request::Node;
+use wm_request::{Node, has_id};
 
 /// The numbers of the records that a batch of these works names, by the id of a work or of one that
 /// a work comes after, in the order of the records. Memory that is refused is the only error.
@@ -37,11 +37,4 @@ fn has_or_follows(node: &Node, id: Uuid) -> bool
     ensures { result ≡ (bytes_eq node.now.request.id id || has_id node.now.after id) }
 {
     node.request.id() == id || has_id(node.after.as_slice(), id)
-}
-
-/// Whether an id is one of these.
-fn has_id(ids: &[Uuid], id: Uuid) -> bool
-    ensures { result ≡ has_id ids.now id }
-{
-    ids.iter().any(|one| *one == id)
 }

@@ -26,8 +26,7 @@ IsData-alone key content named short small =
 
 -- ---- what a stock worker gives is Data
 
-reached_gives : (has : Bool) (input : List DataEntry) (other : Given) → IsData input → GivesData other
-    → GivesData (cond has (given.Success input) other)
+reached_gives : (has : Bool) (input : List DataEntry) (other : Given) → IsData input → GivesData other → GivesData (cond has (given.Success input) other)
 reached_gives has input other taken is = cond_both has (given.Success input) other GivesData (λ e. taken) (λ e. is)
 
 stock_gives : (kind : Kind) (input : List DataEntry) (attempt k : ℕ) (stock : Given) → IsData input → stock_answer kind input attempt k ≡ Some stock
@@ -48,8 +47,7 @@ stock_gives kind.Count input attempt k stock taken is =
     let done : Given = given.Success (entry_alone (codes "turns") (value.Int (turns_of input))) in
     let more = int_lt (pos (k + 1)) (turns_of input) in
     let same : cond more told done ≡ stock = cc in
-    subst GivesData same
-    (cond_both more told done GivesData
+    subst GivesData same (cond_both more told done GivesData
     (λ e. IsData-alone (codes "turn") (value.Int (pos (k + 1))) (omega arith) (omega arith) (omega arith))
     (λ e. IsData-alone (codes "turns") (value.Int (turns_of input)) (omega arith) (omega arith) (omega arith)))
 stock_gives kind.Wait input attempt k stock taken is = let same : given.More None ≡ stock = cc in subst GivesData same tt
@@ -60,8 +58,7 @@ gives_by None gave stock is = is
 gives_by (Some one) gave stock is = subst GivesData (sym is) (stock one refl)
 
 -- what a worker gives is Data, where what it took is
-pub gives_data : (kind : Kind) (input : List DataEntry) (attempt k : ℕ) (gave : Given) → IsData input → MayGive kind input attempt k gave
-    → GivesData gave
+pub gives_data : (kind : Kind) (input : List DataEntry) (attempt k : ℕ) (gave : Given) → IsData input → MayGive kind input attempt k gave → GivesData gave
 gives_data kind input attempt k gave taken may =
     gives_by (stock_answer kind input attempt k) gave (λ stock is. stock_gives kind input attempt k stock taken is) may
 

@@ -1,4 +1,4 @@
--- What a worker's calls add to the diary that it tells. This project's own choice.
+-- What a worker's calls add to the diary that it tells.
 use Rattle.std.specs.Prelude.{ℕ, List, ◌++◌, map, Option, option_map, option_to_list}
 use Rattle.wm_worker.specs.Answers.{given_of}
 use Rattle.wm_worker.specs.declared.answer.Answer.{Answer}

@@ -1,4 +1,4 @@
--- What a contract sees of a signal. This project's own choice.
+-- What a contract sees of a signal.
 use Rattle.std.specs.Prelude.{ℕ, Bool}
 
 -- the number of its run, and whether it can never be raised

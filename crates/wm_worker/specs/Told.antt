@@ -1,4 +1,4 @@
--- What a contract sees of a Told. This project's own choice.
+-- What a contract sees of a Told.
 use Rattle.std.specs.Prelude.{◌≡◌, ℕ, List}
 use Rattle.wm_data.specs.declared.data.DataEntry.{DataEntry}
 use Rattle.wm_worker.specs.Answers.{MayAnswer}

@@ -4,13 +4,12 @@ ghost use Rattle.std.specs.Prelude.{◌≡◌, ◌≢◌, ◌+◌, ◌^◌, ◌<
 ghost use Rattle.std.specs.List.{AllByRecursion};
 ghost use Rattle.wm_keeper.specs.Keeper.{changed, AreOfDifferentNumbers};
 ghost use Rattle.wm_machine.specs.Limits.{FitsRow};
+ghost use Rattle.wm_machine.specs.Rows.{rows_of};
 ghost use Rattle.wm_machine.specs.Runs.{other_runs, with_out};
 ghost use Rattle.wm_machine.specs.Turns.{with_turned};
-ghost use Rattle.wm_machine.specs.Valid.{Valid};
-ghost use Rattle.wm_steps.specs.Nodes.{nodes_of};
-ghost use Rattle.wm_steps.specs.StepChanges.{changed_state, conditions_by, hushed_by, instances_by, next_run_by, now_by, other_works, row_changes, runs_by, with_replaced, without, Fits};
+ghost use Rattle.wm_steps.specs.StepChanges.{changed_state, instances_by, next_run_by, other_works, row_changes, runs_by, set_by, with_replaced, without, IsStepOf};
 ghost use Rattle.wm_table.specs.Following.{placed_node, AreAddable};
-ghost use Rattle.wm_table.specs.Table.{TroubleCause};
+ghost use Rattle.wm_table.specs.Table.{HoldsRowsOf, TroubleCause};
 
 use crate::table::Trouble;
 use crate::table::follow::{add_nodes, change_nodes};
@@ -21,7 +20,7 @@ use wm_collections::Items;
 use wm_graph::Graph;
 use wm_keeper::{Change, Keeper};
 use wm_machine::{Event, Instance, Record, Run, State};
-use wm_steps::{Replacement, RunChange, SettingChange, StepChange};
+use wm_steps::{Replacement, RunChange, SettingChange, StepChange, View};
 
 /// The lists that a step adds to, while their room counts.
 #[derive(Drop)]
@@ -84,14 +83,11 @@ impl Lists {
             ≡ without change.removed (with_replaced change.replaced (with_replaced change.told self.old.works.items)) ++ change.placed }
         ensures runs { self.new.runs.items ≡ runs_by change.run self.old.runs.items }
         ensures log { self.new.log.items ≡ self.old.log.items ++ change.event ∷ [] }
-        ensures state { state.new ≡ record state.old {
+        ensures state { state.new ≡ set_by change.setting (record state.old {
           instances = instances_by change.run state.old.instances;
           next = state.old.next + length change.placed;
           next_run = next_run_by change.run state.old.next_run;
-          now = now_by change.setting state.old.now;
-          conditions = conditions_by change.setting state.old.conditions;
-          hushed = hushed_by change.setting state.old.hushed;
-        } }
+        }) }
     {
         let StepChange {
             told,
@@ -199,11 +195,7 @@ fn change_runs(
 
 /// Changes the moment or the conditions, or what is written.
 fn change_setting(state: &mut State, setting: SettingChange)
-    ensures { state.new ≡ record state.old {
-      now = now_by setting state.old.now;
-      conditions = conditions_by setting state.old.conditions;
-      hushed = hushed_by setting state.old.hushed;
-    } }
+    ensures { state.new ≡ set_by setting state.old }
 {
     match setting {
         SettingChange::Unchanged => {}
@@ -300,45 +292,41 @@ fn store<K: Keeper>(
     commit(keeper, &changes)
 }
 
-/// Carries a change out: the event is appended, the rows that change are committed at once, and the
-/// state and the graph of its records are changed. Where there is trouble, nothing has changed.
+/// Carries the change of a step out: the event is appended, the rows that change are committed at
+/// once, and the view is changed. Where there is trouble, nothing has changed.
 pub fn carry_out<K: Keeper>(
     alloc: Global,
-    state: &mut State,
-    graph: &mut Graph,
+    view: &mut View,
     log: &mut Items<Event>,
     keeper: &mut K,
     change: StepChange,
 ) -> Result<(), Trouble>
-    requires valid { Valid state.old }
-    requires fits { Fits state.old change }
-    requires graph { graph.old ≡ nodes_of state.old.works }
-    requires few_runs { state.old.next_run ≤ length log.old + 1 }
-    ensures state { OnOk result (state.new ≡ changed_state change state.old) }
-    ensures nodes { OnOk result (graph.new ≡ nodes_of (changed_state change state.old).works) }
-    ensures nodes_err { OnErr result (graph.new ≡ nodes_of state.old.works) }
+    requires step { IsStepOf view.old change }
+    requires rows { HoldsRowsOf view.old (K.held keeper.old) }
+    requires few_runs { view.old.next_run ≤ length log.old + 1 }
+    ensures view { OnOk result (view.new ≡ changed_state change view.old) }
     ensures log { OnOk result (log.new ≡ log.old ++ change.event ∷ []) }
-    ensures rows { OnOk result (K.held keeper.new ≡ option_map (changed (row_changes change)) (K.held keeper.old)) }
-    ensures state_err { OnErr result (state.new ≡ state.old) }
+    ensures rows { OnOk result (K.held keeper.new ≡ option_map (λ _. rows_of view.new) (K.held keeper.old)) }
+    ensures view_err { OnErr result (view.new ≡ view.old) }
     ensures log_err { OnErr result (log.new ≡ log.old) }
     ensures rows_err { OnErr result (K.held keeper.new ≡ K.held keeper.old) }
     ensures cause { TroubleCause result (K.faults keeper.old) (K.faults keeper.new) }
     ensures untouched_keeper { row_changes change ≡ [] → keeper.new ≡ keeper.old }
     ensures no_keeper_fault { row_changes change ≡ [] → result ≢ Err Trouble.KeeperFault }
 {
-    let count = graph.len();
-    let mut lists = Lists::take(alloc, state, log);
-    match store(alloc, &mut lists, graph, keeper, &change) {
+    let count = view.graph.len();
+    let mut lists = Lists::take(alloc, &mut view.state, log);
+    match store(alloc, &mut lists, &mut view.graph, keeper, &change) {
         Ok(()) => {
-            change_nodes(graph, &change);
-            lists.change(alloc, state, change);
-            lists.put_back(state, log);
+            change_nodes(&mut view.graph, &change);
+            lists.change(alloc, &mut view.state, change);
+            lists.put_back(&mut view.state, log);
             Ok(())
         }
         Err(trouble) => {
             drop(change);
-            graph.truncate(count);
-            lists.put_back(state, log);
+            view.graph.truncate(count);
+            lists.put_back(&mut view.state, log);
             Err(trouble)
         }
     }

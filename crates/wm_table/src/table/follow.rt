@@ -3,12 +3,11 @@
 ghost use Rattle.std.specs.Prelude.{◌≡◌, ◌++◌, ℕ, length, map, take, OnOk};
 ghost use Rattle.std.specs.List.{AllByRecursion};
 ghost use Rattle.wm_graph.specs.Nodes.{HasNode, NamesNodes};
-ghost use Rattle.wm_machine.specs.First.{is_succeeded};
 ghost use Rattle.wm_table.specs.Following.{followed, nodes_by, placed_node, with_followed, without_all, AreAddable};
 
 use std::alloc::AllocError;
 use wm_graph::Graph;
-use wm_machine::{How, Phase, Record};
+use wm_machine::Record;
 use wm_steps::{Replacement, StepChange};
 
 /// Adds the nodes of new records. Where memory is refused, some may have been added.
@@ -18,7 +17,7 @@ pub fn add_nodes(graph: &mut Graph, placed: &[Record]) -> Result<(), AllocError>
     ensures first { take (length graph.old) graph.new ≡ graph.old }
 {
     for work in placed {
-        graph.add(work.seq, work.prior.as_slice(), is_succeeded(work.phase))?;
+        graph.add(work.seq, work.prior.as_slice(), work.phase.is_succeeded())?;
     }
     Ok(())
 }
@@ -31,13 +30,6 @@ pub fn change_nodes(graph: &mut Graph, change: &StepChange)
 {
     follow_each(graph, change.replaced.as_slice());
     remove_each(graph, change.removed.as_slice());
-}
-
-/// Whether a phase is that of work that has succeeded.
-fn is_succeeded(phase: Phase) -> bool
-    ensures { result ≡ is_succeeded phase }
-{
-    matches!(phase, Phase::Done(How::Succeeded))
 }
 
 /// Marks the nodes of those of these records that have succeeded.
@@ -56,7 +48,7 @@ fn follow(graph: &mut Graph, work: &Record)
     requires { HasNode graph.old work.now.seq }
     ensures { graph.new ≡ followed work.now graph.old }
 {
-    if is_succeeded(work.phase) && !graph.is_done(work.seq) {
+    if work.phase.is_succeeded() && !graph.is_done(work.seq) {
         graph.succeed(work.seq);
     }
 }

@@ -5,8 +5,9 @@ ghost use Rattle.wm_table.specs.TableState.{ticket_of};
 
 use std::marker::Model;
 use wm_data::Data;
-use wm_machine::{Run, State};
+use wm_machine::Run;
 use wm_runs::run_numbered;
+use wm_steps::View;
 use wm_worker::{Kind, Task};
 
 /// The right to report on one run of a work: it names the work, and holds what the run took and
@@ -96,13 +97,13 @@ impl Ticket {
 }
 
 /// The ticket of the run of this number, which took this input. It takes no memory.
-pub(crate) fn ticket_for(state: &State, number: u64, input: Data) -> Ticket
-    requires { IsSomeAnd (run_numbered number state.now.runs) (λ run. input ≡ run.input) }
+pub(crate) fn ticket_for(view: &View, number: u64, input: Data) -> Ticket
+    requires { IsSomeAnd (run_numbered number view.now.runs) (λ run. input ≡ run.input) }
     ensures run { result.task.run ≡ number }
     ensures input { result.task.input ≡ input }
-    ensures ticket { IsTicketIn state.entry.now result }
+    ensures ticket { IsTicketIn view.entry.now result }
 {
-    match run_numbered(state.runs.as_slice(), number) {
+    match run_numbered(view.state.runs.as_slice(), number) {
         Some(run) => Ticket::of(run, input),
         None => unreachable!(),
     }

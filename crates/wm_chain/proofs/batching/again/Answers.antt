@@ -16,8 +16,7 @@ loop-id-preserved c =
     let kept = c.loop-id.invariant in
     let new = sym (kept.seen id) ∙ not-true _ (sym c.in_ok-insert.ensures.added ∙ c.if-not-branch.false) in
     record {
-      seen = λ other.
-          c.in_ok-insert.ensures.updates.0 other
+      seen = λ other. c.in_ok-insert.ensures.updates.0 other
           ∙ more-seen c.args.ids.now c.loop-id.id-index id c.loop-id-test.true c.id-item.is other _ (kept.seen other);
       found = again-on c.args.ids.now c.loop-id.id-index id c.loop-id-test.true c.id-item.is kept.found new;
     }

@@ -7,12 +7,17 @@ use Rattle.wm_commands.proofs.ClearingSteps.{clearing_alone-step}
 use Rattle.wm_commands.proofs.Clearings.{any_reached, cancelled-each}
 use Rattle.wm_commands.proofs.Executions.{Answers-outcome, rows-change}
 use Rattle.wm_commands.specs.Builds.{IsExecuted}
-use Rattle.wm_commands.specs.Cleared.{becomes_cancelled, cancelled_in, cancelling, cleared, cleared_by, reached_from_any, replaced_by_clearing, stays, with_cleared}
+use Rattle.wm_commands.specs.Cleared.{becomes_cancelled, cancelled_in, cancelling, cleared, cleared_by, replaced_by_clearing, stays, with_cleared}
 use Rattle.wm_commands.specs.declared.clearing.Clearing.{Clearing}
 use Rattle.wm_keeper.specs.declared.row.Row.{Row}
+use Rattle.wm_machine.specs.declared.command.Target.{Target}
+use Rattle.wm_machine.specs.declared.event.Event.{Event}
+use Rattle.wm_machine.specs.declared.record.Phase.{Phase}
+use Rattle.wm_machine.specs.declared.record.Record.{Record}
+use Rattle.wm_machine.specs.declared.state.State.{State}
 use Rattle.wm_machine.proofs.Closings.{no_run_reached}
 use Rattle.wm_machine.proofs.Groups.{closed_by, each_closed-at_once}
-use Rattle.wm_machine.proofs.Lists.{All-any, All-filter, All-stored, All-weaker, count-cons, count-none, filter-all, map-same, weight}
+use Rattle.wm_collections.proofs.Lists.{All-any, All-filter, All-stored, count-cons, count-none, filter-all, map-same, weight}
 use Rattle.wm_machine.specs.Cancelled.{cancelled_each, count_reached, is_cancellable, is_for, targeted}
 use Rattle.wm_machine.specs.Closed.{closed, is_open, is_reached, with_each_closed}
 use Rattle.wm_machine.specs.Group.{numbers_in}
@@ -20,18 +25,16 @@ use Rattle.wm_machine.specs.Outcome.{outcome}
 use Rattle.wm_machine.specs.Replied.{Outcome}
 use Rattle.wm_machine.specs.Rows.{phase_code, row_of, rows_of}
 use Rattle.wm_machine.specs.Step.{after, state_by}
-use Rattle.wm_machine.specs.Valid.{HasOne, Valid}
+use Rattle.wm_collections.specs.Lists.{HasOne}
+use Rattle.wm_machine.specs.Valid.{Valid}
 use Rattle.wm_machine.specs.declared.command.Command.TheVariants as command
-use Rattle.wm_machine.specs.declared.command.Target.{Target}
-use Rattle.wm_machine.specs.declared.event.Event.{Event}
 use Rattle.wm_machine.specs.declared.event.Event.TheVariants as event
 use Rattle.wm_machine.specs.declared.record.How.TheVariants as how
-use Rattle.wm_machine.specs.declared.record.Phase.{Phase}
 use Rattle.wm_machine.specs.declared.record.Phase.TheVariants as phase
-use Rattle.wm_machine.specs.declared.record.Record.{Record}
 use Rattle.wm_machine.specs.declared.reply.Reply.TheVariants as reply
-use Rattle.wm_machine.specs.declared.state.State.{State}
 use Rattle.wm_steps.proofs.Nodes.{itself_reached}
+use Rattle.wm_steps.proofs.Views.{reached-view}
+use Rattle.wm_steps.specs.Nodes.{nodes_of, reached_from}
 use Rattle.wm_steps.specs.Replacements.{at_index, replacements}
 use Rattle.wm_steps.specs.StepChanges.{replacing_all, row_changes}
 use Rattle.wm_steps.specs.declared.change.Replacement.{Replacement}
@@ -61,7 +64,7 @@ touched-count test change i (work ∷ works) same =
 
 -- works are cancelled with their descendants
 abbrev cancelling_from : List ℕ → List Record → Clearing
-cancelling_from seqs works = cancelling (reached_from_any seqs works)
+cancelling_from seqs works = cancelling (reached_from seqs (nodes_of works))
 
 -- the records that take the place of others then
 abbrev replaced_by_cancel : List ℕ → List Record → List Replacement
@@ -80,21 +83,17 @@ touched-cancelling : (seqs : List ℕ) (works : List Record)
     → AllByRecursion (λ w. is_some (cleared_by (cancelling_from seqs works) w) ≡ any_reaches seqs works w) works
 touched-cancelling seqs works =
     let clearing = cancelling_from seqs works in
-    All-any (λ w. is_some (cleared_by clearing w) ≡ any_reaches seqs works w) works
-    (λ w. is_some-cond (becomes_cancelled clearing.cancelled w) (cleared clearing w) ∙ sym (any_reached seqs works w))
+    All-any works (λ w. is_some-cond (becomes_cancelled clearing.cancelled w) (cleared clearing w) ∙ sym (any_reached seqs works w))
 
 -- as many are replaced as are reached
 count-replaced : (seqs : List ℕ) (works : List Record) → length (replaced_by_cancel seqs works) ≡ count_reached seqs works
-count-replaced seqs works =
-    touched-count (any_reaches seqs works) (cleared_by (cancelling_from seqs works)) 0 works (touched-cancelling seqs works)
+count-replaced seqs works = touched-count (any_reaches seqs works) (cleared_by (cancelling_from seqs works)) 0 works (touched-cancelling seqs works)
 
 -- and it closes just those
 cancelling-closes : (seqs : List ℕ) (works : List Record) → with_each_closed how.Cancelled seqs works ≡ with_cleared (cancelling_from seqs works) works
 cancelling-closes seqs works =
     let clearing = cancelling_from seqs works in
-    cancelled-each seqs works
-    ∙ map-same (cancelled_in clearing.cancelled) (cleared clearing) works
-    (All-any (λ w. cancelled_in clearing.cancelled w ≡ cleared clearing w) works (λ w. refl))
+    cancelled-each seqs works ∙ map-same (cancelled_in clearing.cancelled) (cleared clearing) works (All-any works (λ w. refl))
     ∙ ap (map (cleared clearing)) (sym (filter-all (stays []) works (λ w. refl)))
 
 -- ---- the rows
@@ -109,9 +108,7 @@ open_code (phase.Done how) unfinished same = absurd (false≢true unfinished)
 reached_row-changes : (seqs : List ℕ) (work : Record) (works : List Record) → HasOne (λ other. other ≡ work) works → is_open work.phase ≡ true
     → any_reaches seqs works work ≡ true → map row_of (with_each_closed how.Cancelled seqs works) ≢ map row_of works
 reached_row-changes seqs work works stored unfinished reached same =
-    rows-change (closed_by how.Cancelled seqs works) work works stored
-    (λ row.
-    open_code work.phase unfinished
+    rows-change (closed_by how.Cancelled seqs works) work works stored (λ row. open_code work.phase unfinished
     (ap (λ b. phase_code (cond b (closed how.Cancelled work) work).phase) (sym reached) ∙ ap (λ (r : Row). r.phase) row))
     (ap (map row_of) (sym (each_closed-at_once how.Cancelled seqs works)) ∙ same)
 
@@ -119,7 +116,7 @@ reached_row-changes seqs work works stored unfinished reached same =
 none_replaced : (works : List Record) → replaced_by_cancel [] works ≡ []
 none_replaced works =
     none_is_empty (replaced_by_cancel [] works)
-    (count-replaced [] works ∙ count-none (any_reaches [] works) works (All-any (λ w. any_reaches [] works w ≡ false) works (λ w. refl))) where
+    (count-replaced [] works ∙ count-none (any_reaches [] works) works (All-any works (λ w. refl))) where
       none_is_empty : (replaced : List Replacement) → length replaced ≡ 0 → replaced ≡ []
       none_is_empty [] none = refl
       none_is_empty (one ∷ replaced) none = absurd (omega (arith, none))
@@ -131,9 +128,8 @@ record IsMeant (works : List Record) (work : Record) : Type 0 where
 
 all_meant : (target : Target) (works : List Record) → AllByRecursion (IsMeant works) (filter (is_cancellable target) works)
 all_meant target works =
-    All-filter (IsMeant works) (is_cancellable target) works
-    (All-weaker (λ work. HasOne (λ other. other ≡ work) works) (λ work. is_cancellable target work ≡ true → IsMeant works work) works
-    (λ work stored is. record { stored = stored; unfinished = (and_parts (is_open work.phase) (is_for target work) is).0 }) (All-stored works))
+    All-filter (is_cancellable target) works (λ work is stored. record
+    { stored = stored; unfinished = (and_parts (is_open work.phase) (is_for target work) is).0 }) (All-stored works)
 
 -- where there is a work that is meant, its row changes
 meant_row-changes : (works found : List Record) (work : Record) → IsMeant works work
@@ -159,16 +155,13 @@ outcome-is s seqs no_run = ap (λ b. cond b None (Some (cancel_outcome s seqs)))
 
 -- rows change, or there is none to change
 rows-cancelled : (s : State) (target : Target) (e : Event) (found : List Record) → filter (is_cancellable target) s.works ≡ found
-    → AllByRecursion (IsMeant s.works) found
-    → after s e ≡ record s { works = with_each_closed how.Cancelled (numbers_in found) s.works }
+    → AllByRecursion (IsMeant s.works) found → after s e ≡ record s { works = with_each_closed how.Cancelled (numbers_in found) s.works }
     → (rows_of (after s e) ≢ rows_of s) ⊎ (row_changes (replacing_all (replaced_by_cancel (numbers_in found) s.works) Unchanged e) ≡ [])
 rows-cancelled s target e [] is meant after-is = inr (ap (λ replaced. row_changes (replacing_all replaced Unchanged e)) (none_replaced s.works))
-rows-cancelled s target e (work ∷ found) is meant after-is =
-    inl (λ same. meant_row-changes s.works found work meant.0 (ap rows_of (sym after-is) ∙ same))
+rows-cancelled s target e (work ∷ found) is meant after-is = inl (λ same. meant_row-changes s.works found work meant.0 (ap rows_of (sym after-is) ∙ same))
 
 cancelling-executed : (s : State) (line : ℕ) (target : Target) → Valid s → s.runs ≡ []
-    → outcome s (command.Cancel target) ≡ cancelled_each s (targeted target s.works)
-    → IsExecuted s line (command.Cancel target) (record {
+    → outcome s (command.Cancel target) ≡ cancelled_each s (targeted target s.works) → IsExecuted s line (command.Cancel target) (record {
       change = replacing_all (replaced_by_cancel (targeted target s.works) s.works) Unchanged
           (cancel_event line target (length (replaced_by_cancel (targeted target s.works) s.works)));
       reply = reply.Cancelled (length (replaced_by_cancel (targeted target s.works) s.works));
@@ -190,11 +183,12 @@ cancelling-executed s line target valid no_run accepted =
 
 pub returns : goal.returns
 returns c =
-    let s = c.args.state.now in
+    let s = c.args.view.now in
     let line = c.args.line in
     let target = c.args.target in
     let seqs = targeted target s.works in
     let replaced = replaced_by_cancel seqs s.works in
+    let reached = reached-view _ s _ c.view.view_is c.view.invariant in
     let count : c.len-count.result ≡ length replaced = search rules in
     let change : c.replacing_all.result ≡ replacing_all replaced Unchanged (cancel_event line target (length replaced)) = search rules in
-    rw (change, count) (cancelling-executed s line target c.requires.valid c.requires.no_run c.requires.accepted)
+    rw (change, count) (cancelling-executed s line target reached.valid c.requires.no_run c.requires.accepted)

@@ -6,7 +6,7 @@ use Rattle.wm_commands.proofs.checking.check_and_place.Goals as goal
 
 pub place-requires-clause-places : goal.place-requires-clause-places
 place-requires-clause-places c =
-    let s = c.args.state.now in
+    let s = c.args.view.now in
     let named : c.in_ok-named.named ≡ c.args.named = search rules in
     let batch : c.in_ok-named.batch ≡ c.args.batch = search rules in
     let plan : c.in_ok-named.plan ≡ c.args.plan = search rules in
@@ -15,7 +15,7 @@ place-requires-clause-places c =
 
 pub place-requires-clause-room : goal.place-requires-clause-room
 place-requires-clause-room c =
-    let s = c.args.state.now in
+    let s = c.args.view.now in
     let batch : c.in_ok-named.batch ≡ c.args.batch = search rules in
     let checked : refusal_of_placing s (placing_by c.args.plan) c.args.batch.works ≡ None = search rules in
     rw batch (placed-room s (placing_by c.args.plan) c.args.batch.works checked)

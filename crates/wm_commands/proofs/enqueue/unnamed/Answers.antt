@@ -2,7 +2,7 @@ use Rattle.wm_commands.proofs.CheckedBatches.{free-placed}
 use Rattle.wm_commands.proofs.enqueue.unnamed.Goals as goal
 
 pub check_and_place-requires-clause-placed : goal.check_and_place-requires-clause-placed
-check_and_place-requires-clause-placed c = rw c.free.ensures (free-placed c.args.state.now c.args.batch.works)
+check_and_place-requires-clause-placed c = rw c.free.ensures (free-placed c.args.view.now c.args.batch.works)
 
 pub check_and_place-requires-clause-after : goal.check_and_place-requires-clause-after
 check_and_place-requires-clause-after c = rw c.free.ensures tt

@@ -7,16 +7,19 @@ use Rattle.wm_machine.specs.Plan.{first_of_batch}
 use Rattle.wm_machine.specs.Valid.{IsRecord}
 use Rattle.wm_machine.specs.declared.command.Command.TheVariants as command
 use Rattle.wm_steps.proofs.Lookups.{All-at}
+use Rattle.wm_steps.proofs.Views.{reached-view}
 use Rattle.wm_commands.proofs.member.update_member.Goals as goal
 
 pub update_of-requires : goal.update_of-requires
 update_of-requires c =
-    let at : slice_get c.args.state.now.works c.member_index-index.result ≡ Some c.at-work.result.now = search rules in
-    (All-at IsRecord c.args.state.now.works c.member_index-index.result c.at-work.result.now c.requires.valid.records at).fits
+    let s = c.args.view.now in
+    let reached = reached-view _ s _ c.view.view_is c.view.invariant in
+    let at : slice_get s.works c.member_index-index.result ≡ Some c.at-work.result.now = search rules in
+    (All-at IsRecord s.works c.member_index-index.result c.at-work.result.now reached.valid.works.records at).fits
 
 pub returns : goal.returns
 returns c =
-    let s = c.args.state.now in
+    let s = c.args.view.now in
     let line = c.args.line in
     let unique = c.args.unique in
     let batch = c.args.batch in
@@ -24,10 +27,11 @@ returns c =
     let index = c.member_index-index.result in
     let work = c.at-work.result.now in
     let request = c.in_ok-unique.request in
+    let reached = reached-view _ s _ c.view.view_is c.view.invariant in
     let named : c.in_ok-unique.unique ≡ unique = search rules in
     let works : c.in_ok-unique.batch ≡ batch = search rules in
     let at : slice_get s.works index ≡ Some work = search rules in
     let first : IsSomeAnd (first_of_batch batch.works) (λ node. request ≡ node.request) = search rules in
     IfOk-weaker c.update_of.result (IsUpdating line asked index work request) (IsExecuted s line asked) (λ executed is.
-    member-executed s line unique batch c.args.number index work request executed c.requires.valid c.requires.no_run c.requires.asked c.requires.planned
+    member-executed s line unique batch c.args.number index work request executed reached.valid c.requires.asked.can c.requires.asked.built c.requires.planned
     c.requires.fits at c.member_index-index.ensures.found is first) (rw (named, works) at c.update_of.ensures)

@@ -7,7 +7,7 @@ use Rattle.wm_commands.proofs.naming.carry_out.Goals as goal
 
 pub check_and_place-requires-clause-after : goal.check_and_place-requires-clause-after
 check_and_place-requires-clause-after c =
-    let s = c.args.state.now in
+    let s = c.args.view.now in
     let unique = c.args.unique in
     let after : c.args.plan.after ≡ (plan_fields (plan_in s unique)).after = ap (λ (fields : GroupPlan). fields.after) c.requires.planned in
     rw after (after-there unique.policy s.works unique.name)

@@ -4,13 +4,15 @@ use Rattle.wm_commands.specs.Placed.{name_in, placement_of}
 use Rattle.wm_machine.specs.declared.command.Command.TheVariants as command
 use Rattle.wm_machine.specs.declared.event.Event.TheVariants as event
 use Rattle.wm_machine.specs.declared.reply.Reply.TheVariants as reply
+use Rattle.wm_steps.proofs.Views.{reached-view}
 use Rattle.wm_steps.specs.StepChanges.{placing, seqs_of}
 use Rattle.wm_unique.specs.Plans.{placing_by}
 use Rattle.wm_commands.proofs.placement.place.Goals as goal
 
 pub returns : goal.returns
 returns c =
-    let s = c.args.state.now in
+    let s = c.args.view.now in
+    let reached = reached-view _ s _ c.view.view_is c.view.invariant in
     let by = placing_by c.args.plan in
     let made = placement_of s (name_in c.args.named) by c.args.batch.works in
     let placement : c.in_ok-named-2.placement ≡ made = search rules in
@@ -23,4 +25,4 @@ returns c =
     (event.Command c.args.line (command.Enqueue c.args.named c.args.batch) (reply.Enqueued (seqs_of c.in_ok-named-2.placement.placed))) =
     search (rules, logged, named, batch) in
     rw (change, told, placement)
-    (placement-executed s c.args.line c.args.named c.args.batch by c.requires.valid c.requires.no_run c.requires.built c.requires.places c.requires.after)
+    (placement-executed s c.args.line c.args.named c.args.batch by reached.valid c.requires.asked.can c.requires.asked.built c.requires.places c.requires.after)

@@ -5,7 +5,7 @@ use Rattle.wm_commands.proofs.placement.placement_of.Goals as goal
 
 pub returns : goal.returns
 returns c =
-    let s = c.args.state.now in
+    let s = c.args.view.now in
     let plan = c.args.plan in
     let clearing : c.in_ok-clearing.clearing ≡ clearing_of s.works plan.cancel plan.let_go = search rules in
     let name : c.in_ok-name.name ≡ name_in c.args.named.now = search rules in

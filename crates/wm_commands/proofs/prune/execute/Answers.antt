@@ -17,10 +17,12 @@ use Rattle.wm_machine.specs.Rows.{row_of}
 use Rattle.wm_machine.specs.Valid.{IsBefore, Valid}
 use Rattle.wm_machine.specs.declared.command.Command.TheVariants as command
 use Rattle.wm_machine.specs.declared.event.Event.{Event}
-use Rattle.wm_machine.specs.declared.event.Event.TheVariants as event
 use Rattle.wm_machine.specs.declared.record.Record.{Record}
+use Rattle.wm_machine.specs.declared.state.State.{State}
+use Rattle.wm_machine.specs.declared.event.Event.TheVariants as event
 use Rattle.wm_machine.specs.declared.reply.Reply.TheVariants as reply
 use Rattle.wm_machine.specs.declared.state.State.{State}
+use Rattle.wm_steps.proofs.Views.{reached-view}
 use Rattle.wm_steps.specs.Replacements.{at_index, replacements}
 use Rattle.wm_steps.specs.StepChanges.{placing, removing, row_changes, with_replaced, without, IsStepOf}
 use Rattle.wm_steps.specs.declared.change.Replacement.{Replacement}
@@ -90,17 +92,18 @@ pruning-executed s line valid =
       event = refl;
       step =
           subst (λ (replaced : List Replacement). IsStepOf s (placing replaced removed [] e)) (none-replaced removed 0 s.works)
-          (clearing_alone-step s (pruning removed) e valid (passing-stored test s.works valid.in_order)
+          (clearing_alone-step s (pruning removed) e valid (passing-stored test s.works valid.works.in_order)
           (tt, ap reply.Pruned (count-removed test s.works))
-          (ap (λ (works : List Record). record s { works = works }) (sym (staying test s.works valid.in_order))));
+          (ap (λ (works : List Record). record s { works = works }) (sym (staying test s.works valid.works.in_order))));
       rows = rows-removed s e (filter test s.works) refl;
     }
 
 pub returns : goal.returns
 returns c =
-    let s = c.args.state.now in
+    let s = c.args.view.now in
     let line = c.args.line in
     let numbers = removable_numbers s.works in
+    let reached = reached-view _ s _ c.view.view_is c.view.invariant in
     let count : c.len-count.result ≡ length numbers = search rules in
     let change : c.removing.result ≡ removing numbers (prune_event line s.works) = search rules in
-    rw (change, count) (pruning-executed s line c.requires.valid)
+    rw (change, count) (pruning-executed s line reached.valid)

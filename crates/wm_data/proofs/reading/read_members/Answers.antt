@@ -37,8 +37,7 @@ returns-in_err-put_member-clause-err c =
     let member : String Global × Value = (c.in-Some.key.now, c.in-Some.json.now) in
     let whole = around done c.loop-key.key-iterator c.next.new.self c.args.members.now.entries member c.in-Some.ensures.steps c.loop-key.invariant.1 in
     let refused = rw c.as_str.ensures.value at c.in_err-put_member.ensures.err in
-    rw (returned.1, member_list-members_view c.args.members.now.entries, ← whole)
-    (entries_of-fault done c.next.new.self member c.loop-key.builder _
+    rw (returned.1, member_list-members_view c.args.members.now.entries, ← whole) (entries_of-fault done c.next.new.self member c.loop-key.builder _
     c.loop-key.invariant.0 (rw returned.2 refused))
 
 pub returns-clause-ok : goal.returns-clause-ok

@@ -6,8 +6,7 @@ use Rattle.wm_data.specs.Entries.{IsFoundAt, IsMissingAt}
 use Rattle.wm_data.proofs.Places.{IsFoundAt-search}
 use Rattle.wm_data.proofs.search.search.Goals as goal
 
-place : (c : goal.After-binary_search_by)
-    → IfOk c.binary_search_by.result (IsFoundAt c.args.key.now c.args.entries.now)
+place : (c : goal.After-binary_search_by) → IfOk c.binary_search_by.result (IsFoundAt c.args.key.now c.args.entries.now)
     × IfErr c.binary_search_by.result (IsMissingAt c.args.key.now c.args.entries.now)
 place c =
     IsFoundAt-search c.args.key.now c.args.entries.now c.binary_search_by.result c.requires c.binary_search_by.ensures.bound

@@ -18,9 +18,7 @@ returns-in-Ok c =
     let bound : IsSearchInRange (Ok c.in-Ok.index) (length nodes) = rw c.in-Ok.is at found.bound in
     let at : slice_get nodes c.in-Ok.index ≡ Some c.index-nodes-index.result =
     slice_get_read nodes (length nodes) c.in-Ok.index c.index-nodes-index.result refl bound c.index-nodes-index.is in
-    c.is_done.ensures
-    ∙ ap (λ (o : Option NodeFields). option_map_or (λ (node : NodeFields). node.done) o false) (sym at)
-    ∙ (rw c.in-Ok.is at is)
+    c.is_done.ensures ∙ ap (λ (o : Option NodeFields). option_map_or (λ (node : NodeFields). node.done) o false) (sym at) ∙ (rw c.in-Ok.is at is)
 
 pub returns-in-Err : goal.returns-in-Err
 returns-in-Err c =

@@ -1,9 +1,12 @@
-use Rattle.std.proofs.Common.{◌≡◌, ℕ, ◌≤◌, true, false, ltb, List, Option, Some, None, arith, rules, slice_get, refl, sym, ◌∙◌, ap, subst, inl, inr}
+use Rattle.std.proofs.Common.{◌≡◌, ℕ, ◌≤◌, true, false, ltb, List, Option, Some, None, arith, slice_get, refl, sym, ◌∙◌, ap, subst, inl, inr}
 use Rattle.std.specs.List.{AllByRecursion}
 use Rattle.std.proofs.lemmas.Bool.{and_from, cases_Bool, false≢true, ltb-false, true≢false}
 use Rattle.std.proofs.lemmas.Result.{IfOk-weaker}
 use Rattle.wm_data.specs.declared.data.DataEntry.{DataEntry}
-use Rattle.wm_graph.specs.Nodes.{NodeFields}
+use Rattle.wm_machine.specs.declared.event.End.{End}
+use Rattle.wm_machine.specs.declared.record.Record.{Record}
+use Rattle.wm_machine.specs.declared.state.Run.{Run}
+use Rattle.wm_machine.specs.declared.state.State.{State}
 use Rattle.wm_machine.proofs.Changes.{OfNumber}
 use Rattle.wm_machine.proofs.Endings.{end_by, end_in, same_period}
 use Rattle.wm_machine.proofs.Finishes.{after_finish, after_timed_out}
@@ -16,25 +19,21 @@ use Rattle.wm_machine.specs.Role as role
 use Rattle.wm_machine.specs.Runs.{other_runs, run_numbered, with_out}
 use Rattle.wm_machine.specs.Step.{IsEnd, IsReport, IsTimeout}
 use Rattle.wm_machine.specs.Valid.{IsWorkOf}
-use Rattle.wm_machine.specs.declared.event.End.{End}
 use Rattle.wm_machine.specs.declared.event.End.TheVariants.{Retry}
 use Rattle.wm_machine.specs.declared.event.Event.TheVariants as event
-use Rattle.wm_machine.specs.declared.record.Record.{Record}
-use Rattle.wm_machine.specs.declared.state.Run.{Run}
-use Rattle.wm_machine.specs.declared.state.State.{State}
 use Rattle.wm_runs.proofs.Reaching.{change-keeps, end-agree, ended-same}
 use Rattle.wm_runs.proofs.Reporting.{counted, may-give}
 use Rattle.wm_runs.proofs.RunLookups.{found-numbered}
 use Rattle.wm_runs.specs.Builds.{over, IsFinish}
 use Rattle.wm_runs.specs.Reached.{change_by, end_reach, replaced_by, replaced_by_end}
-use Rattle.wm_runs.specs.Reports.{goes_on, wants_more, CountsIn}
+use Rattle.wm_runs.specs.Reports.{goes_on, wants_more, CountsIn, IsFoundRun}
 use Rattle.wm_runs.specs.declared.finishing.Ending.{Ending}
 use Rattle.wm_runs.specs.declared.reach.Reach.{Reach}
 use Rattle.wm_runs.specs.declared.reach.Reach.TheVariants as reach
-use Rattle.wm_steps.proofs.Lookups.{All-at, at-some, stored-at}
+use Rattle.wm_steps.proofs.Lookups.{All-at, stored-at}
 use Rattle.wm_steps.proofs.ManyRows.{after_change, KeepNodes, replacing_all-step}
 use Rattle.wm_steps.proofs.Nodes.{unmarked-open}
-use Rattle.wm_steps.specs.Nodes.{nodes_of, IsUnmarked}
+use Rattle.wm_steps.specs.Nodes.{nodes_of}
 use Rattle.wm_steps.specs.StepChanges.{replacing_all}
 use Rattle.wm_worker.specs.Answers.{given_of, MayGive}
 use Rattle.wm_worker.specs.Told.{IsAllowed, Report}
@@ -46,18 +45,15 @@ use Rattle.wm_runs.proofs.finishing.finish.Goals as goal
 
 -- a run that is found, with its work and the report that counts for it
 record IsReported (s : State) (number i : ℕ) (told : Report) (run : Run) (work : Record) : Type 0 where
-  reached : IsReached s
   counts : CountsIn s number told
   allowed : IsAllowed told
-  found : run_numbered number s.runs ≡ Some run
-  at : slice_get s.works i ≡ Some work
-  of : IsWorkOf run work
+  is_found : IsFoundRun s number i run work
 
 -- what was told is a report of the machine
 may-report : (s : State) (number i : ℕ) (told : Report) (run : Run) (work : Record) (gave : Given) → IsReported s number i told run work
     → given_of told.answer ≡ Some gave → MayGive run.kind run.input run.attempt run.turn gave
 may-report s number i told run work gave is told_is =
-    may-give run told gave (counted s number told run is.counts is.found) is.allowed told_is
+    may-give run told gave (counted s number told run is.counts is.is_found.found) is.allowed told_is
 
 -- the end of a run changes just what is touched: its work and those that it reaches
 ends-agree : (s : State) (i : ℕ) (run : Run) (work : Record) (end : End) → IsReached s → slice_get s.works i ≡ Some work → IsWorkOf run work
@@ -66,9 +62,9 @@ ends-agree : (s : State) (i : ℕ) (run : Run) (work : Record) (end : End) → I
 ends-agree s i run work end reached at of =
     let valid = reached.valid in
     let period : work.request.period ≡ period_of run.seq s.works =
-    All-at (OfNumber run.seq (λ w. w.request.period ≡ period_of run.seq s.works)) s.works i work (same_period run.seq s.works valid.in_order) at of.seq in
+    All-at (OfNumber run.seq (λ w. w.request.period ≡ period_of run.seq s.works)) s.works i work (same_period run.seq s.works valid.works.in_order) at of.seq in
     let agree =
-    end-agree work.request.period s.now end work s.works valid.in_order valid.sound (stored-at s.works i work at) (ap is_open of.running) in
+    end-agree work.request.period s.now end work s.works valid.works.in_order valid.works.sound (stored-at s.works i work at) (ap is_open of.running) in
     let touch = change_by (ended_as work.request.period s.now end work) (end_reach work.request.period s.now work.seq end (nodes_of s.works)) in
     subst (λ number. AllByRecursion (λ w. after_change touch w ≡ end_by s.now number (period_of run.seq s.works) end s.works w) s.works) of.seq
     (subst (λ kind. AllByRecursion (λ w. after_change touch w ≡ end_by s.now work.seq kind end s.works w) s.works) period agree)
@@ -77,20 +73,20 @@ ends-agree s i run work end reached at of =
 run-keeps : (s : State) (i : ℕ) (run : Run) (work itself : Record) (to : Reach) → IsReached s → slice_get s.works i ≡ Some work → IsWorkOf run work
     → itself.seq ≡ work.seq → itself.prior ≡ work.prior → KeepNodes (change_by itself to) s.works
 run-keeps s i run work itself to reached at of seq prior =
-    change-keeps itself work to s.works reached.valid.in_order (stored-at s.works i work at) (ap is_open of.running) seq prior
+    change-keeps itself work to s.works reached.valid.works.in_order (stored-at s.works i work at) (ap is_open of.running) seq prior
 
 -- the run is over by this end
 finish-step : (s : State) (number i : ℕ) (told : Report) (run : Run) (work : Record) (end : End) → IsReported s number i told run work
     → given_of told.answer ≡ Some (given_by end)
     → IsFinish s number told false (replacing_all (replaced_by_end s work end) (over run) (event.Finish run.run end))
 finish-step s number i told run work end is told_is =
-    let valid = is.reached.valid in
-    let named = found-numbered number s.runs run is.found in
+    let valid = is.is_found.reached.valid in
+    let named = found-numbered number s.runs run is.is_found.found in
     let may = may-report s number i told run work (given_by end) is told_is in
     let legal : IsEnd s run.run end = record {
       run = run;
-      is_running = ap (λ n. run_numbered n s.runs) named ∙ is.found;
-      is_current = found_narrow s number run is.reached.narrow is.found;
+      is_running = ap (λ n. run_numbered n s.runs) named ∙ is.is_found.found;
+      is_current = found_narrow s number run is.is_found.reached.narrow is.is_found.found;
       may_give = may;
     } in
     let gone : State = record s { runs = other_runs run.run s.runs; instances = with_out false run.instance s.instances } in
@@ -105,8 +101,8 @@ finish-step s number i told run work end is told_is =
       ends = ap (λ n. role.Ends n (This (given_by end))) named;
       how = refl;
       step =
-          replacing_all-step s gone (change_by itself to) (end_in s run end) (over run) (event.Finish run.run end) valid is.reached.narrow legal
-          (run-keeps s i run work itself to is.reached is.at is.of same.0 same.1) (ends-agree s i run work end is.reached is.at is.of) refl
+          replacing_all-step s gone (change_by itself to) (end_in s run end) (over run) (event.Finish run.run end) valid is.is_found.reached.narrow legal
+          (run-keeps s i run work itself to is.is_found.reached is.is_found.at is.is_found.of same.0 same.1) (ends-agree s i run work end is.is_found.reached is.is_found.at is.is_found.of) refl
           (after_finish s run.run end legal);
     }
 
@@ -122,15 +118,15 @@ timeout-step : (s : State) (number i : ℕ) (told : Report) (run : Run) (work : 
     → IsReported s number i told run work → goes_on told ≡ false → given_of told.answer ≡ Some (More progress)
     → IsFinish s number told true (replacing_all (replaced_by (retried s.now work) reach.Stays s.works) (over run) (event.TimedOut run.run))
 timeout-step s number i told run work progress is stays told_is =
-    let valid = is.reached.valid in
-    let named = found-numbered number s.runs run is.found in
-    let turn : told.k ≡ run.turn = (counted s number told run is.counts is.found).about.same_turn in
-    let most : run.turn ≤ 999 = (found_valid s number run valid is.found).turn in
+    let valid = is.is_found.reached.valid in
+    let named = found-numbered number s.runs run is.is_found.found in
+    let turn : told.k ≡ run.turn = (counted s number told run is.counts is.is_found.found).about.same_turn in
+    let most : run.turn ≤ 999 = (found_valid s number run valid is.is_found.found).turn in
     let last = last-turn told progress stays told_is in
     let report : IsReport s run.run (More progress) = record {
       run = run;
-      is_running = ap (λ n. run_numbered n s.runs) named ∙ is.found;
-      is_current = found_narrow s number run is.reached.narrow is.found;
+      is_running = ap (λ n. run_numbered n s.runs) named ∙ is.is_found.found;
+      is_current = found_narrow s number run is.is_found.reached.narrow is.is_found.found;
       may_give = may-report s number i told run work (More progress) is told_is;
     } in
     let legal : IsTimeout s run.run = record { progress = progress; report = report; none_left = omega arith } in
@@ -144,8 +140,8 @@ timeout-step s number i told run work progress is stays told_is =
       ends = ap (λ n. role.Ends n SomeMore) named;
       how = refl;
       step =
-          replacing_all-step s gone touch (end_in s run Retry) (over run) (event.TimedOut run.run) valid is.reached.narrow legal
-          (run-keeps s i run work (retried s.now work) reach.Stays is.reached is.at is.of refl refl) (ends-agree s i run work Retry is.reached is.at is.of) refl
+          replacing_all-step s gone touch (end_in s run Retry) (over run) (event.TimedOut run.run) valid is.is_found.reached.narrow legal
+          (run-keeps s i run work (retried s.now work) reach.Stays is.is_found.reached is.is_found.at is.is_found.of refl refl) (ends-agree s i run work Retry is.is_found.reached is.is_found.at is.is_found.of) refl
           (after_timed_out s run.run legal);
     }
 
@@ -157,36 +153,28 @@ asked-more (Some (Success output)) asks = absurd (false≢true asks)
 asked-more (Some (Failure output)) asks = absurd (false≢true asks)
 asked-more (Some given.Retry) asks = absurd (false≢true asks)
 
-pub finish_by-requires-clause-unmarked : goal.finish_by-requires-clause-unmarked
-finish_by-requires-clause-unmarked c =
-    let s = c.args.state.now in
-    let run = c.in-Some.run'.now in
-    let index = c.in-Some-work_index.index in
-    let work = c.at-work.result.now in
-    let work_at : slice_get s.works index ≡ Some work = search rules in
-    let of = at-some (IsWorkOf run) s.works index work work_at c.in-Some-work_index.ensures.1 in
-    subst (λ (nodes : List NodeFields). IsUnmarked nodes work.seq) (sym c.requires.nodes)
-    (unmarked-open work s.works c.requires.valid.in_order (stored-at s.works index work work_at) (ap is_open of.running))
+pub finish_by-requires : goal.finish_by-requires
+finish_by-requires c =
+    let s = c.args.view.now in
+    let found = c.found_run.ensures in
+    let work = c.found_run.result.work.now in
+    unmarked-open work s.works found.reached.valid.works.in_order (stored-at s.works c.found_run.result.index work found.at) (ap is_open found.of.running)
 
-pub returns-in-Some-2 : goal.returns-in-Some-2
-returns-in-Some-2 c =
-    let s = c.args.state.now in
+pub returns-in-Some : goal.returns-in-Some
+returns-in-Some c =
+    let s = c.args.view.now in
     let number = c.args.number in
     let told = c.args.told.now in
-    let run = c.in-Some.run'.now in
-    let index = c.in-Some-work_index.index in
-    let work = c.at-work.result.now in
-    let end = c.in-Some-2.end in
-    let work_at : slice_get s.works index ≡ Some work = search rules in
+    let run = c.found_run.result.run.now in
+    let index = c.found_run.result.index in
+    let work = c.found_run.result.work.now in
+    let end = c.in-Some.end in
     let is : IsReported s number index told run work = record {
-      reached = record { valid = c.requires.valid; narrow = c.requires.narrow };
       counts = c.requires.counts;
       allowed = c.answer.ensures.allowed;
-      found = search rules;
-      at = work_at;
-      of = at-some (IsWorkOf run) s.works index work work_at c.in-Some-work_index.ensures.1;
+      is_found = c.found_run.ensures;
     } in
-    let said = rw c.in-Some-2.is at c.in_ok-end.ensures in
+    let said = rw c.in-Some.is at c.in_ok-end.ensures in
     let told_is : given_of told.answer ≡ Some (given_by end) = ap given_of (sym c.answer.ensures.answer) ∙ said in
     let ending : Ending = record { change = replacing_all (replaced_by_end s work end) (over run) (event.Finish run.run end); timed_out = false } in
     IfOk-weaker c.finish_by.result (λ e. e ≡ ending) (λ e. IsFinish s number told e.timed_out e.change) (λ e same.
@@ -195,20 +183,16 @@ returns-in-Some-2 c =
 
 pub returns-in-None : goal.returns-in-None
 returns-in-None c =
-    let s = c.args.state.now in
+    let s = c.args.view.now in
     let number = c.args.number in
     let told = c.args.told.now in
-    let run = c.in-Some.run'.now in
-    let index = c.in-Some-work_index.index in
-    let work = c.at-work.result.now in
-    let work_at : slice_get s.works index ≡ Some work = search rules in
+    let run = c.found_run.result.run.now in
+    let index = c.found_run.result.index in
+    let work = c.found_run.result.work.now in
     let is : IsReported s number index told run work = record {
-      reached = record { valid = c.requires.valid; narrow = c.requires.narrow };
       counts = c.requires.counts;
       allowed = c.answer.ensures.allowed;
-      found = search rules;
-      at = work_at;
-      of = at-some (IsWorkOf run) s.works index work work_at c.in-Some-work_index.ensures.1;
+      is_found = c.found_run.ensures;
     } in
     let said = rw c.in-None.is at c.in_ok-end.ensures in
     let more = asked-more (given_of told.answer) (ap (λ (a : Answer). wants_more (given_of a)) (sym c.answer.ensures.answer) ∙ said) in

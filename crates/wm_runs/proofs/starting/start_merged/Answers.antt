@@ -9,7 +9,7 @@ start-requires-clause-input c = rw c.in-Ok.is at c.in_ok-input.ensures
 
 pub fail-requires-clause-refused : goal.fail-requires-clause-refused
 fail-requires-clause-refused c =
-    let s = c.args.state.now in
+    let s = c.args.view.now in
     let work = c.args.work.now in
     let idle = c.args.idle.now in
     let refused = rw c.in-Err.is at c.in_ok-input.ensures in

@@ -5,5 +5,4 @@ use Rattle.wm_stock.proofs.sum.sum_of.Given as goal
 
 -- the entries so far
 abbrev pub invariant-loop-entry : goal.invariant-loop-entry
-invariant-loop-entry l =
-    (l.sum ≡ sum_of (take l.entry-index l.entry-items)) × (nat_abs l.sum ≤ 2147483648 * size_of (take l.entry-index l.entry-items))
+invariant-loop-entry l = (l.sum ≡ sum_of (take l.entry-index l.entry-items)) × (nat_abs l.sum ≤ 2147483648 * size_of (take l.entry-index l.entry-items))

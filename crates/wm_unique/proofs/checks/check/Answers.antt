@@ -25,8 +25,6 @@ returns c =
     ap (grouped works) c.requires.known ∙ grouped_filter (is_named_by nodes) works c.requires.in_order in
     let many : None ≡ many_of (length works) read = search rules in
     let spent : None ≡ spent_of c.args.next read = search rules in
-    checked_last s works c.args.next placing nodes c.refusal_by_named.result is next_is
-    (many ∙ ap (many_of (length works)) same)
-    (spent ∙ ap (spent_of c.args.next) same)
-    (c.refusal_by_named.ensures ∙ ap (refusal_over (grouped works c.args.known.now) placing) same
+    checked_last s works c.args.next placing nodes c.refusal_by_named.result is next_is (many ∙ ap (many_of (length works)) same)
+    (spent ∙ ap (spent_of c.args.next) same) (c.refusal_by_named.ensures ∙ ap (refusal_over (grouped works c.args.known.now) placing) same
     ∙ ap (λ list. refusal_over list placing nodes) part)

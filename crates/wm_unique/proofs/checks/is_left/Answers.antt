@@ -1,6 +1,6 @@
 use Rattle.std.proofs.Common.{◌&&◌, not, sym, ◌∙◌}
 use Rattle.std.specs.Str.{bytes_eq}
-use Rattle.wm_machine.specs.Closed.{is_among}
+use Rattle.wm_collections.specs.Lists.{is_among}
 use Rattle.wm_unique.proofs.Checked.{any_without}
 use Rattle.wm_unique.proofs.Numbered.{any_numbered}
 use Rattle.wm_unique.specs.Plans.{grouped}

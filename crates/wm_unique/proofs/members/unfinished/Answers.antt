@@ -9,6 +9,5 @@ pub returns : goal.returns
 returns c =
     let works = c.args.works.now in
     let group = c.args.group.now in
-    c.loop-number.invariant
-    ∙ ap (filter (numbered_passes is_unfinished works)) (take_all c.loop-number.number-index group c.loop-number-test.false)
+    c.loop-number.invariant ∙ ap (filter (numbered_passes is_unfinished works)) (take_all c.loop-number.number-index group c.loop-number-test.false)
     ∙ filter_numbered is_unfinished works group c.requires.in_order c.requires.group

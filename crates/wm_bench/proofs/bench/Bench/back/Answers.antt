@@ -11,8 +11,7 @@ left_with : (g : _) (c : In-Some g) → (c.places.yielded ++ c.in-Some.place ∷
 left_with g c =
     let steps : into_iter_items c.places.place-iterator ≡ c.in-Some.place ∷ into_iter_items c.next.new.self = search rules in
     append_assoc c.places.yielded (c.in-Some.place ∷ []) (into_iter_items c.next.new.self)
-    ∙ ap (λ (rest : List (Place g.row.B.Denot)). c.places.yielded ++ rest) (sym steps)
-    ∙ c.places.invariant.left
+    ∙ ap (λ (rest : List (Place g.row.B.Denot)). c.places.yielded ++ rest) (sym steps) ∙ c.places.invariant.left
 
 pub places-preserved-in-Some-into_hand : goal.places-preserved-in-Some-into_hand
 places-preserved-in-Some-into_hand g c =

@@ -1,7 +1,7 @@
 use Rattle.std.proofs.Common.{◌≡◌, ◌==◌, not, filter, map, rules, sym, ap, subst, ◌∙◌}
 use Rattle.std.proofs.lemmas.Fn.{filter_same}
 use Rattle.wm_graph.proofs.Graphs.{IsGraph-without}
-use Rattle.wm_graph.proofs.Lists.{changed-whole}
+use Rattle.wm_collections.proofs.Lists.{changed-whole}
 use Rattle.wm_graph.specs.Nodes.{forgetting, IsGraph, without}
 use Rattle.wm_graph.proofs.graph.Graph.remove.Goals as goal
 

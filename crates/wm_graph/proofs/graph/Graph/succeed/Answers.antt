@@ -1,6 +1,6 @@
 use Rattle.std.proofs.Common.{sym, subst}
 use Rattle.wm_graph.proofs.Graphs.{IsGraph-marked}
-use Rattle.wm_graph.proofs.Lists.{changed-whole}
+use Rattle.wm_collections.proofs.Lists.{changed-whole}
 use Rattle.wm_graph.specs.Marks.{marked}
 use Rattle.wm_graph.specs.Nodes.{IsGraph}
 use Rattle.wm_graph.proofs.graph.Graph.succeed.Goals as goal

@@ -68,7 +68,7 @@ returns-in-Some g c =
     let run = rw (c.in-Ok-Some.field-0-is, c.in-Run.is) at c.in-Ok-Some.ensures.ok in
     rw (← c.self.view_is)
     (IsBegun-taken c.claim.new.self c.take.new.self told.pending.items told.sink ticket c.instance.result c.in-Some.seat c.never-signal.result
-    c.self.invariant (search rules) run.step run.ticket_in c.instance.ensures c.in-Some.ensures.seat c.in-Some.ensures.taken (cc))
+    c.self.invariant (search rules) run.step run.ticket_in c.instance.ensures c.in-Some.ensures.seat c.in-Some.ensures.taken (cc) c.in-Ok.ensures.all)
 
 pub returns-in-Failed : goal.returns-in-Failed
 returns-in-Failed g c =
@@ -76,4 +76,4 @@ returns-in-Failed g c =
     let told = c.tell_last.new in
     let step = rw (c.in-Ok-Some.field-0-is, failed.is) at c.in-Ok-Some.ensures.ok in
     rw (← c.self.view_is)
-    (IsStartFailed-kept c.claim.new.self told.pending.items told.sink failed.seq failed.cause c.self.invariant (search rules) step)
+    (IsStartFailed-kept c.claim.new.self told.pending.items told.sink failed.seq failed.cause c.self.invariant (search rules) step c.in-Ok.ensures.all)

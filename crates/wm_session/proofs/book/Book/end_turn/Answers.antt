@@ -39,7 +39,7 @@ returns-in-Ok g c =
     let going = subst (λ book. book.status ≡ None) (sym c.self.view_is) c.requires.going in
     rw (← c.self.view_is)
     (IsTurnTold-made c.turn.new.self told.pending.items told.sink c.args.ticket c.in-Go.next c.args.seat c.args.told c.self.invariant going
-    c.in-Go.ensures.answer)
+    c.in-Go.ensures.answer c.in-Ok.ensures.all)
 
 pub returns-in-Err : goal.returns-in-Err
 returns-in-Err g c =
@@ -87,7 +87,7 @@ returns-in-Ok-tell_last g c =
     let going = subst (λ book. book.status ≡ None) (sym c.self.view_is) c.requires.going in
     rw (← c.self.view_is)
     (IsOver-ended c.turn.new.self c.give.new.self told.pending.items told.sink c.args.ticket c.args.seat c.args.told c.turn.result c.self.invariant going
-    c.in-Finished.is c.turn.ensures.answer c.give.ensures)
+    c.in-Finished.is c.turn.ensures.answer c.give.ensures c.in-Ok-tell_last.ensures.all)
 
 pub returns-in-Err-tell_last : goal.returns-in-Err-tell_last
 returns-in-Err-tell_last g c =

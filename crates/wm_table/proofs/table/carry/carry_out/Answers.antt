@@ -1,15 +1,20 @@
-use Rattle.std.proofs.Common.{◌≡◌, ◌<◌, ◌≤◌, List, ◌++◌, length, map, take, vec_len, rules, sym, ◌∙◌, ap, subst}
+use Rattle.std.proofs.Common.{◌≡◌, ◌<◌, ◌≤◌, List, ◌++◌, length, map, vec_len, rules, sym, ◌∙◌, ap, subst}
 use Rattle.std.specs.List.{AllByRecursion}
 use Rattle.wm_graph.specs.Nodes.{HasNode, NamesNodes, NodeFields}
+use Rattle.wm_machine.proofs.Steps.{IsNarrow-after, Valid-after}
+use Rattle.wm_machine.specs.Narrow.{IsNarrow}
+use Rattle.wm_machine.specs.Step.{after}
 use Rattle.wm_machine.specs.Valid.{Valid}
 use Rattle.wm_machine.specs.declared.state.Run.{Run}
 use Rattle.wm_machine.specs.declared.state.State.{State}
 use Rattle.wm_steps.specs.Nodes.{nodes_of}
-use Rattle.wm_steps.specs.StepChanges.{Fits}
+use Rattle.wm_steps.specs.StepChanges.{changed_state, Fits, IsStepOf}
+use Rattle.wm_steps.specs.Views.{IsViewed}
 use Rattle.wm_steps.specs.declared.change.StepChange.{StepChange}
 use Rattle.wm_table.proofs.StepNodes.{step-addable, step-grown, step-nodes, step-removed, step-replaced}
-use Rattle.wm_table.proofs.StepRows.{removed_fit, replaced_within, told_within, turns_left}
+use Rattle.wm_table.proofs.StepRows.{removed_fit, replaced_within, rows-made, told_within, turns_left}
 use Rattle.wm_table.specs.Following.{nodes_by, placed_node, AreAddable}
+use Rattle.wm_table.specs.Table.{HoldsRowsOf}
 use Rattle.wm_table.proofs.table.carry.carry_out.Goals as goal
 
 -- once the nodes of the placed records are added, they are those of all records
@@ -18,56 +23,87 @@ grown-nodes : (s : State) (change : StepChange) (old new : List NodeFields) → 
 grown-nodes s change old new valid fits old_is new_is =
     new_is ∙ ap (λ (nodes : List NodeFields). nodes ++ map placed_node change.placed) old_is ∙ step-grown s change valid fits
 
+-- the step of the value is one of the fields
+step-inside : (s now : State) (change : StepChange) → s ≡ now → IsStepOf now change → IsStepOf s change
+step-inside s now change same is = subst (λ (t : State). IsStepOf t change) (sym same) is
+
+-- what is made of a view is one again
+viewed-step : (s made : State) (graph made_graph : List NodeFields) (change : StepChange) → IsViewed s graph → IsStepOf s change
+    → made ≡ changed_state change s → made_graph ≡ nodes_of (changed_state change s).works → IsViewed made made_graph
+viewed-step s made graph made_graph change viewed is made_is graph_is =
+    let then : made ≡ after s change.event = made_is ∙ is.state in
+    record {
+      valid = subst Valid (sym then) (Valid-after s change.event viewed.valid viewed.narrow is.legal);
+      narrow = subst IsNarrow (sym then) (IsNarrow-after s change.event viewed.valid viewed.narrow is.legal);
+      graph_is = graph_is ∙ ap (λ (t : State). nodes_of t.works) (sym made_is);
+    }
+
 pub store-requires-clause-addable : goal.store-requires-clause-addable
 store-requires-clause-addable g c =
-    subst (λ (nodes : List NodeFields). AreAddable nodes (map placed_node c.args.change.placed)) (sym c.requires.graph)
-    (step-addable c.args.state.now c.args.change c.requires.valid c.requires.fits)
+    let s = c.view.inside.state in
+    let is = step-inside s _ c.args.change c.view.view_is c.requires.step in
+    subst (λ (nodes : List NodeFields). AreAddable nodes (map placed_node c.args.change.placed)) (sym c.view.invariant.graph_is)
+    (step-addable s c.args.change c.view.invariant.valid is.fits)
+
+pub store-requires-clause-removed : goal.store-requires-clause-removed
+store-requires-clause-removed g c =
+    let s = c.view.inside.state in
+    let is = step-inside s _ c.args.change c.view.view_is c.requires.step in
+    removed_fit s c.args.change c.view.invariant.valid is.fits
 
 pub change_nodes-requires-clause-there : goal.change_nodes-requires-clause-there
 change_nodes-requires-clause-there g c =
-    let s = c.args.state.now in
+    let s = c.view.inside.state in
     let change = c.args.change in
-    let all =
-    grown-nodes s change c.args.graph.now c.store.new.graph c.requires.valid c.requires.fits c.requires.graph c.in-Ok.ensures.nodes in
+    let is = step-inside s _ change c.view.view_is c.requires.step in
+    let all = grown-nodes s change c.view.inside.graph c.store.new.graph c.view.invariant.valid is.fits c.view.invariant.graph_is c.in-Ok.ensures.nodes in
     subst (λ (nodes : List NodeFields). AllByRecursion (λ r. HasNode nodes r.work.seq) change.replaced) (sym all)
-    (step-replaced s change c.requires.valid c.requires.fits)
+    (step-replaced s change c.view.invariant.valid is.fits)
 
 pub change_nodes-requires-clause-removed : goal.change_nodes-requires-clause-removed
 change_nodes-requires-clause-removed g c =
-    let s = c.args.state.now in
+    let s = c.view.inside.state in
     let change = c.args.change in
-    let all =
-    grown-nodes s change c.args.graph.now c.store.new.graph c.requires.valid c.requires.fits c.requires.graph c.in-Ok.ensures.nodes in
-    subst (λ (nodes : List NodeFields). NamesNodes nodes change.removed) (sym all) (step-removed s change c.requires.valid c.requires.fits)
-
-pub returns-in-Ok-clause-nodes : goal.returns-in-Ok-clause-nodes
-returns-in-Ok-clause-nodes g c =
-    let s = c.args.state.now in
-    let change = c.args.change in
-    let all =
-    grown-nodes s change c.args.graph.now c.store.new.graph c.requires.valid c.requires.fits c.requires.graph c.in-Ok.ensures.nodes in
-    c.change_nodes.ensures ∙ ap (nodes_by change) all ∙ step-nodes s change c.requires.valid c.requires.fits
-
-pub returns-in-Err-clause-nodes_err : goal.returns-in-Err-clause-nodes_err
-returns-in-Err-clause-nodes_err g c =
-    c.truncate.ensures ∙ ap (λ n. take n c.store.new.graph) c.len-count.ensures ∙ c.in-Err.ensures.first_nodes ∙ c.requires.graph
-
-pub store-requires-clause-removed : goal.store-requires-clause-removed
-store-requires-clause-removed g c = removed_fit c.args.state.now c.args.change c.requires.valid c.requires.fits
+    let is = step-inside s _ change c.view.view_is c.requires.step in
+    let all = grown-nodes s change c.view.inside.graph c.store.new.graph c.view.invariant.valid is.fits c.view.invariant.graph_is c.in-Ok.ensures.nodes in
+    subst (λ (nodes : List NodeFields). NamesNodes nodes change.removed) (sym all) (step-removed s change c.view.invariant.valid is.fits)
 
 pub change-requires-clause-told : goal.change-requires-clause-told
 change-requires-clause-told g c =
-    let len : vec_len c.store.new.lists.works ≡ length c.args.state.now.works = search rules in
-    subst (λ n. AllByRecursion (λ told. told.index < n) c.args.change.told) (sym len)
-    (told_within c.args.state.now.works c.args.change.told c.requires.fits.told)
+    let s = c.view.inside.state in
+    let is = step-inside s _ c.args.change c.view.view_is c.requires.step in
+    let len : vec_len c.store.new.lists.works ≡ length s.works = search rules in
+    subst (λ n. AllByRecursion (λ told. told.index < n) c.args.change.told) (sym len) (told_within s.works c.args.change.told is.fits.told)
 
 pub change-requires-clause-replaced : goal.change-requires-clause-replaced
 change-requires-clause-replaced g c =
-    let len : vec_len c.store.new.lists.works ≡ length c.args.state.now.works = search rules in
+    let s = c.view.inside.state in
+    let is = step-inside s _ c.args.change c.view.view_is c.requires.step in
+    let len : vec_len c.store.new.lists.works ≡ length s.works = search rules in
     subst (λ n. AllByRecursion (λ replaced. replaced.index < n) c.args.change.replaced) (sym len)
-    (replaced_within c.args.state.now.works c.args.change.replaced c.requires.fits.replaced)
+    (replaced_within s.works c.args.change.replaced is.fits.replaced)
 
 pub change-requires-clause-turns : goal.change-requires-clause-turns
 change-requires-clause-turns g c =
-    let runs : c.store.new.lists.runs.items ≡ c.args.state.now.runs = search rules in
-    subst (λ (runs : List Run). AllByRecursion (λ run. run.turn ≤ 999) runs) (sym runs) (turns_left c.args.state.now c.requires.valid)
+    let s = c.view.inside.state in
+    let runs : c.store.new.lists.runs.items ≡ s.runs = search rules in
+    subst (λ (runs : List Run). AllByRecursion (λ run. run.turn ≤ 999) runs) (sym runs) (turns_left s c.view.invariant.valid)
+
+pub invariant_of-view : goal.invariant_of-view
+invariant_of-view g c =
+    let s = c.view.inside.state in
+    let change = c.args.change in
+    let is = step-inside s _ change c.view.view_is c.requires.step in
+    let all = grown-nodes s change c.view.inside.graph c.store.new.graph c.view.invariant.valid is.fits c.view.invariant.graph_is c.in-Ok.ensures.nodes in
+    let made_is : c.put_back.new.state ≡ changed_state change s = search rules in
+    viewed-step s c.put_back.new.state c.view.inside.graph c.change_nodes.new.graph change c.view.invariant is made_is
+    (c.change_nodes.ensures ∙ ap (nodes_by change) all ∙ step-nodes s change c.view.invariant.valid is.fits)
+
+pub returns-in-Ok-clause-rows : goal.returns-in-Ok-clause-rows
+returns-in-Ok-clause-rows g c =
+    let s = c.view.inside.state in
+    let change = c.args.change in
+    let is = step-inside s _ change c.view.view_is c.requires.step in
+    let holds = subst (λ (t : State). HoldsRowsOf t (g.K.Keeper.held c.args.keeper.now)) (sym c.view.view_is) c.requires.rows in
+    let made_is : c.put_back.new.state ≡ changed_state change s = search rules in
+    rows-made s c.put_back.new.state change _ _ c.view.invariant.valid is.fits holds made_is c.in-Ok.ensures.ok

@@ -5,7 +5,7 @@ use Rattle.std.proofs.lemmas.List.{drop_more}
 use Rattle.wm_graph.proofs.Graphs.{HasNode-map, seq-marked}
 use Rattle.wm_graph.specs.Marks.{is_met, marked, with_marked}
 use Rattle.wm_graph.specs.Nodes.{HasNode, NodeFields}
-use Rattle.wm_machine.proofs.Lists.{All-weaker}
+use Rattle.wm_collections.proofs.Lists.{All-weaker}
 use Rattle.wm_machine.specs.First.{is_succeeded}
 use Rattle.wm_machine.specs.declared.record.Record.{Record}
 use Rattle.wm_steps.specs.declared.change.Replacement.{Replacement}
@@ -27,16 +27,12 @@ loop-replacement-preserved c =
     let later = drop (i + 1) replaced in
     let here : drop i replaced ≡ r ∷ later =
     drop_more replaced i r c.loop-replacement-test.true ∙ ap (λ (r : Replacement). r ∷ later) (sym c.replacement-item.is) in
-    let left =
-    subst (λ (rest : List Replacement). AllByRecursion (λ r. HasNode nodes r.work.seq) rest) here c.loop-replacement.invariant.left in
+    let left = subst (λ (rest : List Replacement). AllByRecursion (λ r. HasNode nodes r.work.seq) rest) here c.loop-replacement.invariant.left in
     record {
-      nodes = ap (with_followed later) c.follow.ensures
-          ∙ ap (λ (rest : List Replacement). with_followed rest nodes) (sym here)
+      nodes = ap (with_followed later) c.follow.ensures ∙ ap (λ (rest : List Replacement). with_followed rest nodes) (sym here)
           ∙ c.loop-replacement.invariant.nodes;
-      there = λ number has.
-          subst (λ (now : List NodeFields). HasNode now number) (sym c.follow.ensures)
+      there = λ number has. subst (λ (now : List NodeFields). HasNode now number) (sym c.follow.ensures)
           (followed-there r.work nodes number (c.loop-replacement.invariant.there number has));
       left = subst (λ (now : List NodeFields). AllByRecursion (λ r. HasNode now r.work.seq) later) (sym c.follow.ensures)
-          (All-weaker (λ r. HasNode nodes r.work.seq) (λ r. HasNode (followed c.replacement-item.result.work nodes) r.work.seq) later
-          (λ other has. followed-there r.work nodes other.work.seq has) left.1);
+          (All-weaker later (λ other has. followed-there r.work nodes other.work.seq has) left.1);
     }

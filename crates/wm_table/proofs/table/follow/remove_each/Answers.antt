@@ -1,9 +1,9 @@
-use Rattle.std.proofs.Common.{◌≡◌, ◌≢◌, ℕ, ◌+◌, ◌<◌, not, List, ◌∷◌, drop, get_or, length, sym, ap, subst, ◌∙◌}
+use Rattle.std.proofs.Common.{◌≡◌, ℕ, ◌+◌, ◌<◌, not, List, ◌∷◌, drop, get_or, length, sym, ap, subst, ◌∙◌}
 use Rattle.std.proofs.lemmas.Bool.{ne_eqb}
 use Rattle.std.proofs.lemmas.List.{drop_more}
 use Rattle.wm_graph.proofs.Graphs.{HasNode-without}
-use Rattle.wm_graph.specs.Nodes.{HasNode, NamesNodes, NodeFields, without}
-use Rattle.wm_machine.proofs.Lists.{All-both, All-weaker}
+use Rattle.wm_graph.specs.Nodes.{NamesNodes, NodeFields, without}
+use Rattle.wm_collections.proofs.Lists.{All-with2}
 use Rattle.wm_table.specs.Following.{without_all}
 use Rattle.wm_table.proofs.table.follow.remove_each.Goals as goal
 
@@ -12,15 +12,12 @@ names-left : (nodes : List NodeFields) (number : ℕ) (later : List ℕ) → Nam
 names-left nodes number later names = record {
   different = names.different.1;
   there =
-      All-weaker (λ n. HasNode nodes n × (number ≢ n)) (HasNode (without number nodes)) later
-      (λ n facts. HasNode-without number nodes n (ap not (ne_eqb n number (λ e. facts.1 (sym e)))) facts.0)
-      (All-both (HasNode nodes) (λ n. number ≢ n) later names.there.1 names.different.0);
+      All-with2 later (λ n has differs. HasNode-without number nodes n (ap not (ne_eqb n number (λ e. differs (sym e)))) has) names.there.1 names.different.0;
 }
 
 -- one node is taken away
 removed-on : (nodes now : List NodeFields) (numbers : List ℕ) (i d : ℕ) → i < length numbers → now ≡ without (get_or numbers i d) nodes
-    → NamesNodes nodes (drop i numbers)
-    → (without_all (drop (i + 1) numbers) now ≡ without_all (drop i numbers) nodes) × NamesNodes now (drop (i + 1) numbers)
+    → NamesNodes nodes (drop i numbers) → (without_all (drop (i + 1) numbers) now ≡ without_all (drop i numbers) nodes) × NamesNodes now (drop (i + 1) numbers)
 removed-on nodes now numbers i d within is names =
     let number = get_or numbers i d in
     let later = drop (i + 1) numbers in

@@ -1,0 +1,12 @@
+//! Tests of an enqueue in states that no table of plain values holds: what the policy of a unique name
+//! comes to, and the checks of an enqueue and their order, up to 100,000 works.
+//!
+//! It is otherwise empty.
+#![tactic(auto)]
+
+#[cfg(test)]
+mod checks;
+#[cfg(test)]
+mod commands;
+#[cfg(test)]
+mod unique;

@@ -1,0 +1,17 @@
+//! The calls of the crates that the machine stands on, as a row of a table gives them what they are
+//! given and tells what came: data and its merging, conditions, schedules, requests, chains and the
+//! stock workers, a module a subject; and how the fields of a row are read ([`fields`]) and what came
+//! is told ([`told`]).
+//!
+//! The program `tables` makes these calls, and those of the crates above.
+#![tactic(auto)]
+
+pub mod chains;
+pub mod conditions;
+pub mod data;
+pub mod fields;
+mod names;
+pub mod requests;
+pub mod schedule;
+pub mod told;
+pub mod workers;

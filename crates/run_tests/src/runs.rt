@@ -1,0 +1,323 @@
+//! Statuses and whole runs, of `wm_cli`, as far as no worked case shows them.
+ghost use Rattle.std.specs.Prelude.{◌≡◌, ◌≤◌, vec_len, IfOk};
+ghost use Rattle.wm_bench.specs.declared.bench.TheConstants.{MAX_HANDS};
+
+use part_tests::diarist::Diarist;
+use part_tests::uploader::{Uploader, diary_text};
+use std::alloc::{AllocError, Global};
+use std::process::Abort;
+use std::test::Fail;
+use wm_bench::Hand;
+use wm_cli::{Ended, Status, run};
+use wm_collections::Text;
+use wm_data::{Data, DataBuilder, DataFault, Value};
+use wm_io::{MemorySink, MemorySource, StdSink, StdSource};
+use wm_keeper::SureKeeper;
+use wm_script::Limit;
+use wm_steps::both;
+use wm_stock::Echo;
+use wm_worker::Worker;
+
+/// The statuses of a run that began, each with its code and its text.
+fn statuses_of_runs() -> [(Status, u8, &'static str); 5] {
+    [
+        (Status::Done, 0, ""),
+        (Status::SourceFault, 3, "read failed"),
+        (Status::SinkFault, 4, "write failed"),
+        (Status::KeeperFault, 5, "store failed"),
+        (Status::Memory, 8, "out of memory"),
+    ]
+}
+
+/// The statuses of what a run is given, each with its code and its text.
+fn statuses_of_inputs() -> [(Status, u8, &'static str); 4] {
+    [
+        (
+            Status::Usage,
+            2,
+            "usage: work --store NAME [--workers N] [--generate SEED]",
+        ),
+        (
+            Status::ScriptTooLong(Limit::Bytes),
+            7,
+            "script too long: bytes",
+        ),
+        (
+            Status::ScriptTooLong(Limit::Line),
+            7,
+            "script too long: line",
+        ),
+        (
+            Status::ScriptTooLong(Limit::Lines),
+            7,
+            "script too long: lines",
+        ),
+    ]
+}
+
+/// The statuses of stores that aren't opened, each with its text.
+fn statuses_of_stores() -> [(Status, &'static str); 3] {
+    [
+        (
+            Status::BadStore {
+                seq: 3,
+                bad_row: true,
+            },
+            "bad store: row 3: bad row",
+        ),
+        (
+            Status::BadStore {
+                seq: 5,
+                bad_row: false,
+            },
+            "bad store: row 5: unsound",
+        ),
+        (
+            Status::BadStore {
+                seq: -7,
+                bad_row: true,
+            },
+            "bad store: row -7: bad row",
+        ),
+    ]
+}
+
+/// The status has the code and the text.
+fn expect_status(
+    rt: &impl Abort,
+    alloc: Global,
+    status: Status,
+    code: u8,
+    text: &str,
+) -> Result<(), AllocError> {
+    assert_eq!(rt; status.code(), code);
+    assert_eq!(rt; status.text(alloc)?.as_str(), text);
+    Ok(())
+}
+
+#[test]
+fn a_status_has_a_code_and_a_text(rt: HostRuntime) -> Result<(), Fail> {
+    let alloc = rt.alloc();
+    for (status, code, text) in statuses_of_runs() {
+        expect_status(&rt, alloc, status, code, text)?;
+    }
+    for (status, code, text) in statuses_of_inputs() {
+        expect_status(&rt, alloc, status, code, text)?;
+    }
+    for (status, text) in statuses_of_stores() {
+        expect_status(&rt, alloc, status, 6, text)?;
+    }
+    Ok(())
+}
+
+/// The words of an ordinary run.
+fn words(alloc: Global) -> Result<Vec<String>, AllocError> {
+    let mut words = Vec::new(alloc);
+    words.push(String::from_str(alloc, "--store")?)?;
+    words.push(String::from_str(alloc, "demo")?)?;
+    Ok(words)
+}
+
+const SCRIPT: &str =
+    r#"{"cmd":"enqueue","works":[{"class":"Echo","id":"00000000-0000-0000-0000-000000000001"}]}
+{"cmd":"query"}
+"#;
+
+const REPLIES: &str = r#"{"line":1,"ok":"enqueued","works":[1]}
+{"line":2,"ok":"query","works":[{"attempt":1,"generation":0,"id":"00000000-0000-0000-0000-000000000001","output":{},"progress":{},"seq":1,"state":"SUCCEEDED","tags":[]}]}
+"#;
+
+/// A worker of class Echo.
+fn echo(alloc: Global) -> Result<Hand<Echo>, AllocError> {
+    Ok(Hand {
+        class: Text::from_str(alloc, "Echo")?,
+        worker: Echo::new(),
+    })
+}
+
+/// Two workers of class Echo.
+fn echoes(alloc: Global) -> Result<Vec<Hand<Echo>>, AllocError>
+    ensures { IfOk result (λ hands. vec_len hands ≤ MAX_HANDS) }
+{
+    let mut hands = Vec::new(alloc);
+    hands.push(echo(alloc)?)?;
+    hands.push(echo(alloc)?)?;
+    Ok(hands)
+}
+
+/// How a run of the script ends with these words and workers, over std's reader and writer and a
+/// keeper that never fails, and what it writes.
+fn run_of_echoes(alloc: Global, words: &[String], hands: Vec<Hand<Echo>>) -> (Status, Vec<u8>)
+    requires { vec_len hands ≤ MAX_HANDS }
+{
+    let mut written = Vec::new(alloc);
+    let mut source = StdSource::new(SCRIPT.as_bytes());
+    let sink = StdSink::new(&mut written);
+    let keeper = SureKeeper::new(Vec::new(alloc));
+    let ended = run(alloc, words, hands, &mut source, sink, keeper);
+    let status = ended.status;
+    drop(ended);
+    (status, written)
+}
+
+/// A run over std's reader and writer and a keeper that never fails.
+#[test]
+fn a_run_takes_any_source_sink_and_keeper(rt: HostRuntime) -> Result<(), Fail> {
+    let alloc = rt.alloc();
+    let words = words(alloc)?;
+    let hands = echoes(alloc)?;
+    let (status, written) = run_of_echoes(alloc, &words, hands);
+    assert_eq!(rt; status, Status::Done);
+    assert_eq!(rt; written.as_slice(), REPLIES.as_bytes());
+    Ok(())
+}
+
+/// The one hand of a run: a boxed worker of this class.
+fn one_hand(
+    alloc: Global,
+    class: &str,
+    worker: Box<dyn Worker + Send>,
+) -> Result<Vec<Hand>, AllocError>
+    ensures { IfOk result (λ hands. vec_len hands ≤ MAX_HANDS) }
+{
+    let (worker, class) = both(worker, Text::from_str(alloc, class))?;
+    let mut hands = Vec::new(alloc);
+    hands.push(Hand { class, worker })?;
+    Ok(hands)
+}
+
+/// What is left of a run: how it ended, what it wrote, how many events it had, and the hands that
+/// came back.
+#[derive(Drop)]
+struct Left {
+    status: Status,
+    written: Vec<u8>,
+    events: usize,
+    hands: Vec<Hand>,
+}
+
+/// What is left of a run.
+fn left_of(alloc: Global, ended: Ended<SureKeeper, MemorySink>) -> Result<Left, AllocError> {
+    let (status, events) = (ended.status, ended.log.len());
+    let written = Vec::from_slice(alloc, ended.sink.bytes());
+    let hands = hands_of(ended);
+    let (hands, written) = both(hands, written)?;
+    Ok(Left {
+        status,
+        written,
+        events,
+        hands,
+    })
+}
+
+/// The hands that came back from a run.
+fn hands_of(ended: Ended<SureKeeper, MemorySink>) -> Vec<Hand> {
+    ended.hands
+}
+
+/// Runs a script with these words and workers, over sources and sinks in memory.
+fn run_in_memory(
+    alloc: Global,
+    words: &[String],
+    script: Vec<u8>,
+    hands: Vec<Hand>,
+) -> Result<Left, AllocError>
+    requires { vec_len hands ≤ MAX_HANDS }
+{
+    let mut source = MemorySource::new(script, 100, Vec::new(alloc));
+    let sink = MemorySink::new(100, Vec::new(alloc));
+    let keeper = SureKeeper::new(Vec::new(alloc));
+    let ended = run(alloc, words, hands, &mut source, sink, keeper);
+    left_of(alloc, ended)
+}
+
+/// Runs a script with one worker of this class.
+fn run_with_one(
+    alloc: Global,
+    class: &str,
+    worker: Box<dyn Worker + Send>,
+    script: &str,
+) -> Result<Left, AllocError> {
+    let hands = one_hand(alloc, class, worker)?;
+    let (hands, words) = both(hands, words(alloc))?;
+    let (hands, script) = both(hands, Vec::from_slice(alloc, script.as_bytes()))?;
+    run_in_memory(alloc, &words, script, hands)
+}
+
+/// A run is done, had so many events, wrote this, and its one worker, of this class, comes back with
+/// this diary.
+fn expect_left(
+    rt: &impl Abort,
+    alloc: Global,
+    left: &Left,
+    class: &str,
+    expected: (usize, &str, &str),
+) -> Result<(), Fail> {
+    assert_eq!(rt; left.status, Status::Done);
+    assert_eq!(rt; left.events, expected.0);
+    assert_eq!(rt; left.written.as_slice(), expected.1.as_bytes());
+    let [hand] = left.hands.as_slice() else {
+        panic!(rt; "not one hand");
+    };
+    assert_eq!(rt; hand.class.as_str(), class);
+    let diary = diary_text(alloc, &hand.worker)?;
+    assert_eq!(rt; diary.as_deref(), Some(expected.2));
+    Ok(())
+}
+
+#[test]
+fn a_boxed_worker_comes_back_with_its_diary(rt: HostRuntime) -> Result<(), Fail> {
+    let alloc = rt.alloc();
+    let worker: Box<dyn Worker + Send> = Box::new(alloc, Diarist::new(alloc))?;
+    let left = run_with_one(alloc, "Echo", worker, SCRIPT)?;
+    let diary = "run 1 begun\nrun 1 turn 0: Success {}\n";
+    expect_left(&rt, alloc, &left, "Echo", (4, REPLIES, diary))
+}
+
+const UPLOAD: &str =
+    r#"{"cmd":"enqueue","works":[{"class":"Upload","id":"00000000-0000-0000-0000-000000000001"}]}
+{"cmd":"query"}
+"#;
+
+const UPLOAD_REPLIES: &str = r#"{"line":1,"ok":"enqueued","works":[1]}
+{"line":2,"ok":"query","works":[{"attempt":1,"generation":0,"id":"00000000-0000-0000-0000-000000000001","output":{"sent":{"int":2}},"progress":{},"seq":1,"state":"FAILED","tags":[]}]}
+"#;
+
+const UPLOAD_DIARY: &str = r#"run 1 begun
+run 1 turn 0: More {"of":{"int":3}}
+run 1 turn 1: More {"of":{"int":3}}
+run 1 turn 2: Failure {"sent":{"int":2}}
+"#;
+
+/// The Data of a builder, unless what was put was refused.
+fn built(builder: DataBuilder, put: Result<(), DataFault>) -> Result<Data, AllocError> {
+    match put {
+        Ok(()) => builder.build().map_err(|_| AllocError),
+        Err(_) => Err(AllocError),
+    }
+}
+
+/// Data of one value.
+pub fn data_of(alloc: Global, key: &str, value: Value) -> Result<Data, AllocError> {
+    let (value, key) = both(value, String::from_str(alloc, key))?;
+    let mut builder = DataBuilder::new(alloc);
+    let put = builder.put(key, value);
+    built(builder, put)
+}
+
+/// A caller's own worker, which tells its progress twice, and fails.
+fn uploader(alloc: Global) -> Result<Uploader, AllocError> {
+    let progress = data_of(alloc, "of", Value::Int(3))?;
+    let (progress, output) = both(progress, data_of(alloc, "sent", Value::Int(2)))?;
+    Ok(Uploader::new(alloc, 2, progress, output))
+}
+
+/// A caller's own worker, which may give what it likes: it tells its progress twice, and fails.
+#[test]
+fn a_custom_worker_takes_turns_and_fails(rt: HostRuntime) -> Result<(), Fail> {
+    let alloc = rt.alloc();
+    let worker: Box<dyn Worker + Send> = Box::new(alloc, uploader(alloc)?)?;
+    let left = run_with_one(alloc, "Upload", worker, UPLOAD)?;
+    let expected = (6, UPLOAD_REPLIES, UPLOAD_DIARY);
+    expect_left(&rt, alloc, &left, "Upload", expected)
+}

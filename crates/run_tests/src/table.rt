@@ -1,0 +1,427 @@
+//! The table of `wm_table`, over a keeper that fails at the commits that it is told to.
+ghost use Rattle.std.specs.Prelude.{◌≡◌, [], Ok, IfOk, None};
+ghost use Rattle.wm_machine.specs.Outcome.{IsBuilt};
+ghost use Rattle.wm_machine.specs.Quiet.{CanCome};
+ghost use Rattle.wm_machine.specs.declared.state.State.{State};
+ghost use Rattle.wm_request.specs.Requests.{IsRequest};
+ghost use Rattle.wm_table.specs.Table.{AreFresh, Stands};
+
+use crate::runs::data_of;
+use std::alloc::{AllocError, Global};
+use std::test::Fail;
+use uuid::Uuid;
+use wm_collections::{Items, Replica, Text};
+use wm_data::{Data, Merger, Value};
+use wm_keeper::MemoryKeeper;
+use wm_machine::{Cause, Command, How, Instance, Kind, Phase, Record, Reply};
+use wm_request::{Batch, Builder, Node, Request, RequestFault};
+use wm_steps::{both, one};
+use wm_table::{Claim, Table, TableEnd, Ticket, Trouble, TurnAnswer};
+use wm_worker::{Answer, Task, Told};
+
+/// One idle Echo.
+fn one_echo(alloc: Global) -> Result<Items<Instance>, AllocError>
+    ensures { IfOk result AreFresh }
+{
+    let mut instances = Items::new(alloc);
+    instances.push(Instance {
+        number: 0,
+        class: Text::from_str(alloc, "Echo")?,
+        kind: Kind::Echo,
+        out: false,
+        retired: false,
+    })?;
+    Ok(instances)
+}
+
+/// So many letters `x`.
+fn letters(alloc: Global, count: usize) -> Result<Text, AllocError> {
+    let mut text = String::new(alloc);
+    for _ in 0..count {
+        text.push('x')?;
+    }
+    Ok(Text::from_string(text))
+}
+
+/// Reads a request, which its types keep within its limits.
+fn look_at(request: &Request)
+    ensures { IsRequest request.now }
+{
+    let id = request.id();
+    let _bytes = id.as_bytes();
+    let _size = request.input().size();
+    let _class = request.class();
+    let _tags = request.tags();
+    let _backoff = request.backoff();
+    let _delay = request.initial_delay();
+    let _period = request.period();
+}
+
+/// A request that was built, looked at.
+fn within(request: Result<Request, RequestFault>) -> Result<Request, AllocError>
+    ensures { IfOk result (λ built. (request ≡ Ok built) × IsRequest built) }
+{
+    match request {
+        Ok(request) => {
+            look_at(&request);
+            Ok(request)
+        }
+        Err(_) => Err(AllocError),
+    }
+}
+
+/// The request of one-time work of this class, with this merger and input.
+fn request_of(
+    alloc: Global,
+    class: String,
+    merger: Merger,
+    input: Data,
+) -> Result<Request, AllocError>
+    ensures within { IfOk result IsRequest }
+    ensures one_time { IfOk result (λ request. request.period ≡ None) }
+{
+    let mut builder = Builder::one_time(alloc, Uuid::from_u128(1), class);
+    builder.merger(merger);
+    builder.input(input);
+    within(builder.build())
+}
+
+/// The request of one-time work of class Echo, with this merger and a text of so many letters under
+/// the key `k` as its input.
+fn request(alloc: Global, merger: Merger, count: usize) -> Result<Request, AllocError>
+    ensures within { IfOk result IsRequest }
+    ensures one_time { IfOk result (λ request. request.period ≡ None) }
+{
+    let input = data_of(alloc, "k", Value::Text(letters(alloc, count)?))?;
+    let (input, class) = both(input, String::from_str(alloc, "Echo"))?;
+    request_of(alloc, class, merger, input)
+}
+
+/// An enqueue of one such work.
+fn enqueue(alloc: Global, merger: Merger, count: usize) -> Result<Command, AllocError>
+    ensures built { IfOk result IsBuilt }
+    ensures comes { IfOk result (λ command. (s : State) → s.runs ≡ [] → CanCome command s) }
+{
+    let request = request(alloc, merger, count)?;
+    let after = Items::new(alloc);
+    let works = one(alloc, Node { request, after })?;
+    Ok(Command::Enqueue {
+        named: None,
+        batch: Batch::new(works),
+    })
+}
+
+/// What an Echo reports on.
+#[derive(Clone, Copy)]
+enum Subject {
+    /// Its task.
+    Task,
+    /// The run after its own.
+    NextRun,
+    /// Its run without an input.
+    NoInput,
+}
+
+/// The run that an Echo with this task reports on.
+fn run_told(task: &Task, subject: Subject) -> u64 {
+    match subject {
+        Subject::NextRun => task.run.wrapping_add(1),
+        _ => task.run,
+    }
+}
+
+/// The input that an Echo with this task reports on.
+fn input_told(alloc: Global, task: &Task, subject: Subject) -> Result<Data, AllocError> {
+    match subject {
+        Subject::NoInput => Ok(Data::empty(alloc)),
+        _ => task.input.replica(alloc),
+    }
+}
+
+/// The task that an Echo with this task reports on.
+fn task_told(alloc: Global, task: &Task, subject: Subject) -> Result<Task, AllocError> {
+    Ok(Task {
+        run: run_told(task, subject),
+        attempt: task.attempt,
+        input: input_told(alloc, task, subject)?,
+    })
+}
+
+/// What an Echo tells of a task.
+fn echo_of(alloc: Global, task: &Task) -> Result<Told, AllocError> {
+    let output = task.input.replica(alloc)?;
+    Told::new(alloc, Kind::Echo, task, 0, Answer::Success(output))
+}
+
+/// What an Echo with this task tells.
+fn echoed(alloc: Global, task: &Task, subject: Subject) -> Result<Told, AllocError> {
+    let task = task_told(alloc, task, subject)?;
+    let told = echo_of(alloc, &task);
+    drop(task);
+    told
+}
+
+/// Whether the second try of a report finishes its run.
+fn finishes(table: &mut Table<MemoryKeeper>, ticket: Ticket, told: Told) -> bool
+    requires { Stands table.old.state ticket }
+{
+    match table.turn(ticket, told) {
+        TurnAnswer::Finished => true,
+        TurnAnswer::TimedOut => false,
+        TurnAnswer::Go(ticket) => {
+            table.take_back(ticket);
+            false
+        }
+        TurnAnswer::Again(ticket) => {
+            table.take_back(ticket);
+            false
+        }
+        TurnAnswer::Refused(ticket, _, _) => {
+            table.take_back(ticket);
+            false
+        }
+    }
+}
+
+/// What becomes of a report.
+fn report(
+    table: &mut Table<MemoryKeeper>,
+    ticket: Ticket,
+    told: Result<Told, AllocError>,
+) -> &'static str
+    requires { Stands table.old.state ticket }
+{
+    let Ok(told) = told else {
+        table.take_back(ticket);
+        return "no memory";
+    };
+    match table.turn(ticket, told) {
+        TurnAnswer::Finished => "finished",
+        TurnAnswer::TimedOut => "timed out",
+        TurnAnswer::Go(ticket) => {
+            table.take_back(ticket);
+            "goes on"
+        }
+        TurnAnswer::Again(ticket) => {
+            let same = ticket.seq() == 1 && ticket.k() == 0 && ticket.instance() == 0;
+            table.take_back(ticket);
+            if same { "again" } else { "another ticket" }
+        }
+        TurnAnswer::Refused(ticket, told, trouble) => {
+            let by_keeper = trouble == Trouble::KeeperFault;
+            let finished = finishes(table, ticket, told);
+            if by_keeper && finished {
+                "finished later"
+            } else {
+                "refused"
+            }
+        }
+    }
+}
+
+/// What becomes of a run, where it is the first.
+fn run(
+    alloc: Global,
+    table: &mut Table<MemoryKeeper>,
+    ticket: Ticket,
+    subject: Subject,
+) -> &'static str
+    requires { Stands table.old.state ticket }
+{
+    let first = ticket.task().run == 1 && ticket.task().attempt == 1;
+    let told = echoed(alloc, ticket.task(), subject);
+    let outcome = report(table, ticket, told);
+    if first { outcome } else { "another run" }
+}
+
+/// What becomes of the start of a work and of its run.
+fn start_and_report(
+    alloc: Global,
+    table: &mut Table<MemoryKeeper>,
+    subject: Subject,
+) -> &'static str {
+    match table.claim() {
+        Ok(Some(claim)) => match claim {
+            Claim::Run(ticket) => run(alloc, table, ticket, subject),
+            Claim::Failed { seq: _, cause: _ } => "can't start",
+        },
+        Ok(None) => "nothing to start",
+        Err(Trouble::KeeperFault) => "not started",
+        Err(Trouble::Memory) => "no memory",
+    }
+}
+
+/// Whether a reply lists the number 1 alone.
+fn lists_first(reply: &Reply) -> bool {
+    match reply {
+        Reply::Enqueued(works) => works.as_slice() == [1].as_slice(),
+        _ => false,
+    }
+}
+
+/// What becomes of a work that is enqueued, started and reported on.
+fn enqueue_and_run(
+    table: &mut Table<MemoryKeeper>,
+    alloc: Global,
+    command: Command,
+    subject: Subject,
+) -> &'static str
+    requires built { IsBuilt command }
+    requires can { CanCome command table.old.state }
+{
+    match table.command(1, command) {
+        Ok(reply) => {
+            let first = lists_first(&reply);
+            drop(reply);
+            let outcome = start_and_report(alloc, table, subject);
+            if first { outcome } else { "another reply" }
+        }
+        Err(Trouble::KeeperFault) => "not enqueued",
+        Err(Trouble::Memory) => "no memory",
+    }
+}
+
+/// A value with another one, which isn't let go, unless memory was refused to that.
+fn beside<T: Drop, U>(value: T, other: Result<U, AllocError>) -> Result<(T, U), AllocError>
+    ensures { IfOk result (λ both. (both.0 ≡ value) × (other ≡ Ok both.1)) }
+{
+    Ok((value, other?))
+}
+
+/// A table of one Echo over a keeper that fails at this commit.
+fn one_table(alloc: Global, failing: u32) -> Result<Table<MemoryKeeper>, AllocError>
+    ensures { IfOk result (λ table. table.state.runs ≡ []) }
+{
+    let failing = vec![in alloc; failing]?;
+    let (failing, instances) = both(failing, one_echo(alloc))?;
+    let keeper = MemoryKeeper::new(Vec::new(alloc), failing);
+    Table::begin(alloc, keeper, &[], instances).map_err(|_| AllocError)
+}
+
+/// What becomes of one work over a keeper that fails at this commit, how many works and events
+/// there are in the end, and whether there is nothing left to do.
+fn outcome(
+    alloc: Global,
+    failing: u32,
+    subject: Subject,
+) -> Result<(&'static str, usize, usize, bool), AllocError> {
+    let command = enqueue(alloc, Merger::Overwriting, 1)?;
+    let (command, mut table) = beside(command, one_table(alloc, failing))?;
+    let outcome = enqueue_and_run(&mut table, alloc, command, subject);
+    let quiet = table.quiet();
+    let end = table.end();
+    let counts = (end.last.works.len(), end.log.len());
+    drop(end);
+    Ok((outcome, counts.0, counts.1, quiet))
+}
+
+#[test]
+fn a_table_runs_one_echo(rt: HostRuntime) -> Result<(), Fail> {
+    let alloc = rt.alloc();
+    for (failing, subject, want) in [
+        (0, Subject::Task, ("finished", 1, 3, true)),
+        (1, Subject::Task, ("not enqueued", 0, 0, true)),
+        (2, Subject::Task, ("not started", 1, 1, false)),
+        (3, Subject::Task, ("finished later", 1, 3, true)),
+        (0, Subject::NextRun, ("again", 1, 2, false)),
+        (0, Subject::NoInput, ("again", 1, 2, false)),
+    ] {
+        assert_eq!(rt; outcome(alloc, failing, subject)?, want);
+    }
+    Ok(())
+}
+
+/// Why a work can't start.
+fn cause_text(alloc: Global, cause: &Cause) -> Result<Text, AllocError> {
+    let text = match cause {
+        Cause::NoWorker => String::from_str(alloc, "NoWorker")?,
+        Cause::Conflict { key } => format!(in alloc; "Conflict {}", key.as_str())?,
+        Cause::TooLarge { size } => format!(in alloc; "TooLarge {size}")?,
+    };
+    Ok(Text::from_string(text))
+}
+
+/// What becomes of the start of a work: the input of its run, or why it can't start.
+fn start(alloc: Global, table: &mut Table<MemoryKeeper>) -> Result<Text, AllocError> {
+    match table.claim() {
+        Ok(Some(claim)) => match claim {
+            Claim::Run(ticket) => {
+                let input = ticket.task().input.to_text(alloc);
+                table.take_back(ticket);
+                input
+            }
+            Claim::Failed { seq: _, cause } => cause_text(alloc, &cause),
+        },
+        Ok(None) => Text::from_str(alloc, "nothing to start"),
+        Err(_) => Text::from_str(alloc, "trouble"),
+    }
+}
+
+/// The phase of a work, how often it was started, and whether it gave an output.
+fn record_text(alloc: Global, work: &Record) -> Result<String, AllocError> {
+    let phase = match work.phase {
+        Phase::Waiting => "waiting",
+        Phase::Running => "running",
+        Phase::Done(How::Succeeded) => "succeeded",
+        Phase::Done(How::Failed) => "failed",
+        Phase::Done(How::Cancelled) => "cancelled",
+    };
+    let output = if work.output.is_empty() {
+        "no output"
+    } else {
+        "an output"
+    };
+    format!(in alloc; "{phase}, attempt {}, {output}", work.attempt)
+}
+
+/// The only work of a table in the end.
+fn only_text(alloc: Global, end: &TableEnd<MemoryKeeper>) -> Result<String, AllocError> {
+    match end.last.works.as_slice() {
+        [work] => record_text(alloc, work),
+        _ => String::from_str(alloc, "not one work"),
+    }
+}
+
+/// The only work of a table in the end.
+fn end_text(alloc: Global, table: Table<MemoryKeeper>) -> Result<String, AllocError> {
+    let end = table.end();
+    let text = only_text(alloc, &end);
+    drop(end);
+    text
+}
+
+/// What becomes of the start of a work with this merger and a text of so many letters, and what the
+/// work is then.
+fn started(alloc: Global, merger: Merger, count: usize) -> Result<String, AllocError> {
+    let command = enqueue(alloc, merger, count)?;
+    let (command, mut table) = beside(command, one_table(alloc, 0))?;
+    drop(table.command(1, command));
+    let outcome = start(alloc, &mut table);
+    let record = end_text(alloc, table)?;
+    format!(in alloc; "{} {}", outcome?.as_str(), record.as_str())
+}
+
+#[test]
+fn a_run_takes_what_the_merger_makes(rt: HostRuntime) -> Result<(), Fail> {
+    let alloc = rt.alloc();
+    for (merger, count, want) in [
+        (
+            Merger::Overwriting,
+            1,
+            "{\"k\":{\"text\":\"x\"}} running, attempt 1, no output",
+        ),
+        (
+            Merger::ArrayCreating,
+            1,
+            "{\"k\":{\"texts\":[\"x\"]}} running, attempt 1, no output",
+        ),
+        (
+            Merger::ArrayCreating,
+            10_230,
+            "TooLarge 10244 failed, attempt 0, no output",
+        ),
+    ] {
+        assert_eq!(rt; started(alloc, merger, count)?.as_str(), want);
+    }
+    Ok(())
+}

@@ -1,0 +1,138 @@
+//! The tables of single calls: the program reads the tables where it runs, makes the call of each
+//! row, and prints each row whose call answers something else than the row says, with what it
+//! answers, and how many rows there are of each call. What it has to print stands in the crate's
+//! file `stdout`, written by hand.
+//!
+//! A table ends in `.rows`; the tables are read in the order of their names. The folder `faulty` has
+//! rows that are wrong: what is printed for each is what came, or why it is refused.
+//! `data/README.md` has the form of a row.
+#![tactic(auto)]
+
+mod calls;
+mod infos;
+mod names;
+mod records;
+mod texts;
+
+use crate::calls::difference;
+use part_calls::fields::{RowFault, given, text};
+use serde_json::Value;
+use std::alloc::{AllocError, Global};
+use std::collections::BTreeMap;
+use std::process::ExitCode;
+use std::rt::Files;
+use std::{fs, io};
+
+/// The names of the tables of a folder, in order.
+fn tables<R: Files + Alloc<A = Global> + Clone + Drop>(
+    rt: &R,
+    folder: &str,
+) -> io::Result<Vec<String>> {
+    let mut names = Vec::new(rt.alloc());
+    for entry in fs::read_dir(rt, folder)? {
+        let entry = entry?;
+        if entry.file_name().ends_with(".rows") {
+            names.push(String::from_str(rt.alloc(), entry.file_name())?)?;
+        }
+    }
+    names.sort()?;
+    Ok(names)
+}
+
+/// How many rows there are of each call, and how many of all rows are as they say, and aren't.
+#[derive(Drop)]
+struct Tally {
+    calls: BTreeMap<String, u64>,
+    right: u64,
+    wrong: u64,
+}
+
+impl Tally {
+    fn new(alloc: Global) -> Tally {
+        Tally {
+            calls: BTreeMap::new(alloc),
+            right: 0,
+            wrong: 0,
+        }
+    }
+
+    /// Counts a row of this call.
+    fn add(&mut self, alloc: Global, call: &str) -> Result<(), AllocError> {
+        let rows = match self.calls.get(call) {
+            Some(rows) => rows.saturating_add(1),
+            None => 1,
+        };
+        let call = String::from_str(alloc, call)?;
+        self.calls.insert(call, rows)?;
+        Ok(())
+    }
+}
+
+/// What a line of a table is read as, and what differs.
+fn checked(alloc: Global, tally: &mut Tally, line: &str) -> Result<Option<String>, RowFault> {
+    let row = given(Value::from_str(alloc, line))?;
+    tally.add(alloc, text(&row, "call")?)?;
+    difference(alloc, &row)
+}
+
+/// What is to be told of a line of a table, if anything is.
+fn told_of(alloc: Global, tally: &mut Tally, line: &str) -> Result<Option<String>, AllocError> {
+    match checked(alloc, tally, line) {
+        Ok(None) => {
+            tally.right = tally.right.saturating_add(1);
+            Ok(None)
+        }
+        Ok(Some(came)) => {
+            tally.wrong = tally.wrong.saturating_add(1);
+            Ok(Some(format!(in alloc; "it answers {came}")?))
+        }
+        Err(fault) => {
+            tally.wrong = tally.wrong.saturating_add(1);
+            Ok(Some(format!(in alloc; "{fault}")?))
+        }
+    }
+}
+
+/// What is to be told of the rows of a table.
+fn tell(alloc: Global, tally: &mut Tally, name: &str, table: &str) -> Result<String, AllocError> {
+    let mut told = String::new(alloc);
+    for (index, line) in table.lines().enumerate() {
+        if line.is_empty() || line.starts_with('#') {
+            continue;
+        }
+        let number = index.saturating_add(1);
+        if let Some(what) = told_of(alloc, tally, line)? {
+            told.push_str(format!(in alloc; "{name}:{number}: {what}\n")?.as_str())?;
+        }
+    }
+    Ok(told)
+}
+
+/// Prints what is to be told of the tables of a folder, and answers the count of their rows.
+fn print_folder(rt: &HostRuntime, folder: &str) -> io::Result<Tally> {
+    let alloc = rt.alloc();
+    let mut tally = Tally::new(alloc);
+    for name in tables(rt, folder)? {
+        let path = format!(in alloc; "{folder}/{name}")?;
+        let table = fs::read_to_string(rt, path.as_str())?;
+        rt.print(tell(alloc, &mut tally, name.as_str(), table.as_str())?)?;
+    }
+    Ok(tally)
+}
+
+/// Prints how many rows there are of each call.
+fn print_calls(rt: &HostRuntime, tally: &Tally) -> io::Result<()> {
+    for (call, rows) in tally.calls.iter() {
+        println!(rt; "rows of {call}: {rows}")?;
+    }
+    Ok(())
+}
+
+/// Ends with status 1 where a row isn't as it says, or one that is wrong is.
+fn main(rt: HostRuntime) -> io::Result<ExitCode> {
+    let tables = print_folder(&rt, ".")?;
+    print_calls(&rt, &tables)?;
+    let faulty = print_folder(&rt, "faulty")?;
+    let as_wanted = tables.wrong == 0 && faulty.right == 0;
+    Ok(ExitCode::from(u8::from(!as_wanted)))
+}

@@ -1,0 +1,160 @@
+//! The texts of events, of `wm_texts`.
+
+use crate::infos::infos;
+use crate::names::applied_named;
+use part_calls::fields::{
+    RowFault, count, field, has_only, id, number, numbers, text, unless_refused,
+};
+use part_calls::told::pair;
+use serde_json::Value;
+use std::alloc::{AllocError, Global};
+use wm_collections::{Replica, Text};
+use wm_machine::{Applied, Command, Counts, Event, LineFault, Refusal, Reply};
+use wm_texts::event_text;
+
+/// What an update did.
+fn applied(form: &Value) -> Result<Applied, RowFault> {
+    applied_named(text(form, "result")?).ok_or(RowFault::Value)
+}
+
+fn updated(form: &Value) -> Result<Reply, RowFault> {
+    Ok(Reply::Updated {
+        result: applied(form)?,
+        generation: number(form, "generation")?,
+    })
+}
+
+fn observing(alloc: Global, form: &Value) -> Result<Reply, RowFault> {
+    let observer = count(form, "observer")?;
+    Ok(Reply::Observing {
+        observer,
+        works: infos(alloc, form)?,
+    })
+}
+
+fn counts(form: &Value) -> Result<Counts, RowFault> {
+    Ok(Counts {
+        enqueued: number(form, "enqueued")?,
+        running: number(form, "running")?,
+        succeeded: number(form, "succeeded")?,
+        failed: number(form, "failed")?,
+        blocked: number(form, "blocked")?,
+        cancelled: number(form, "cancelled")?,
+        attempts: number(form, "attempts")?,
+    })
+}
+
+/// A reply that has neither works nor numbers.
+fn bare_reply(name: &str) -> Result<Reply, RowFault> {
+    match name {
+        "Kept" => Ok(Reply::Kept),
+        "Moment" => Ok(Reply::Moment),
+        "Settled" => Ok(Reply::Settled),
+        "Hushed" => Ok(Reply::Hushed),
+        _ => Err(RowFault::Value),
+    }
+}
+
+/// The reply that a value says.
+fn reply(alloc: Global, form: &Value) -> Result<Reply, RowFault> {
+    match text(form, "reply")? {
+        "Enqueued" => Ok(Reply::Enqueued(numbers(alloc, form, "works")?)),
+        "Updated" => updated(form),
+        "Cancelled" => Ok(Reply::Cancelled(number(form, "count")?)),
+        "Conditions" => Ok(Reply::Conditions {
+            stopped: number(form, "stopped")?,
+        }),
+        "Pruned" => Ok(Reply::Pruned(number(form, "count")?)),
+        "Query" => Ok(Reply::Query(infos(alloc, form)?)),
+        "Observing" => observing(alloc, form),
+        "Retired" => Ok(Reply::Retired(count(form, "count")?)),
+        "Summary" => Ok(Reply::Summary(counts(form)?)),
+        "Refused" => Ok(Reply::Refused(refusal(alloc, form)?)),
+        name => bare_reply(name),
+    }
+}
+
+/// The refusal that a value says.
+fn refusal(alloc: Global, form: &Value) -> Result<Refusal, RowFault> {
+    match text(form, "why")? {
+        "IdInUse" => Ok(Refusal::IdInUse {
+            id: id(form, "id")?,
+        }),
+        "TooManyWorks" => Ok(Refusal::TooManyWorks {
+            count: number(form, "count")?,
+        }),
+        "NumbersSpent" => Ok(Refusal::NumbersSpent {
+            next: number(form, "next")?,
+        }),
+        "MomentBack" => Ok(Refusal::MomentBack {
+            now: number(form, "now")?,
+        }),
+        "NoSuchClass" => Ok(Refusal::NoSuchClass),
+        name => Ok(Refusal::Line(line_fault(alloc, name, form)?)),
+    }
+}
+
+/// What is wrong with a line.
+fn line_fault(alloc: Global, name: &str, form: &Value) -> Result<LineFault, RowFault> {
+    match name {
+        "Bad" => Ok(LineFault::Bad),
+        "NotBuilt" => Ok(LineFault::NotBuilt),
+        "BadData" => Ok(LineFault::BadData {
+            key: Text::from_str(alloc, text(form, "key")?)?,
+        }),
+        "TooLarge" => Ok(LineFault::TooLarge {
+            size: number(form, "size")?,
+        }),
+        _ => Err(RowFault::Value),
+    }
+}
+
+/// A replica of the reply that a value says.
+fn replica(alloc: Global, form: &Value) -> Result<Reply, RowFault> {
+    let reply = reply(alloc, form)?;
+    let copy = reply.replica(alloc);
+    drop(reply);
+    unless_refused(copy)
+}
+
+/// A line with its reply. The texts of lines don't depend on their commands.
+fn line(line: u32, reply: Reply) -> Event {
+    Event::Command {
+        line,
+        command: Command::Settle,
+        reply,
+    }
+}
+
+/// The event of a row: the time-out of a run, or a line with its reply.
+fn event(alloc: Global, row: &Value) -> Result<Event, RowFault> {
+    if row.get("timed_out").is_some() {
+        return Ok(Event::TimedOut {
+            run: number(row, "timed_out")?,
+        });
+    }
+    let number = count(row, "line")?;
+    Ok(line(number, replica(alloc, field(row, "told")?)?))
+}
+
+/// The text of an event where the state after it is hushed, or isn't.
+fn text_told(alloc: Global, event: &Event, hushed: bool) -> Result<Value, AllocError> {
+    let bytes = event_text(alloc, event, hushed)?;
+    Ok(Value::String(String::from_utf8_lossy(alloc, bytes.as_slice())?))
+}
+
+/// Both texts of an event.
+fn texts(alloc: Global, event: &Event) -> Result<Value, AllocError> {
+    let plain = text_told(alloc, event, false)?;
+    let hushed = text_told(alloc, event, true)?;
+    pair(alloc, plain, hushed)
+}
+
+/// The text of an event, and the one where the state after it is hushed.
+pub fn told(alloc: Global, row: &Value) -> Result<Value, RowFault> {
+    has_only(row, &["line", "told", "timed_out"])?;
+    let event = event(alloc, row)?;
+    let told = texts(alloc, &event);
+    drop(event);
+    Ok(told?)
+}

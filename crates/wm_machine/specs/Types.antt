@@ -1,0 +1,21 @@
+-- The types that the definitions speak of, in one place for files that cite several.
+pub use Rattle.wm_data.specs.declared.data.DataEntry.{DataEntry}
+pub use Rattle.wm_keeper.specs.declared.row.Row.{Row}
+pub use Rattle.wm_machine.specs.declared.command.Command.{Command}
+pub use Rattle.wm_machine.specs.declared.command.Policy.{Policy}
+pub use Rattle.wm_machine.specs.declared.command.Target.{Target}
+pub use Rattle.wm_machine.specs.declared.command.UniqueName.{UniqueName}
+pub use Rattle.wm_machine.specs.declared.event.Cause.{Cause}
+pub use Rattle.wm_machine.specs.declared.event.End.{End}
+pub use Rattle.wm_machine.specs.declared.event.Event.{Event}
+pub use Rattle.wm_machine.specs.declared.record.How.{How}
+pub use Rattle.wm_machine.specs.declared.record.Phase.{Phase}
+pub use Rattle.wm_machine.specs.declared.record.Record.{Record}
+pub use Rattle.wm_machine.specs.declared.reply.Refusal.{Refusal}
+pub use Rattle.wm_machine.specs.declared.reply.Reply.{Reply}
+pub use Rattle.wm_machine.specs.declared.state.Instance.{Instance}
+pub use Rattle.wm_machine.specs.declared.state.Run.{Run}
+pub use Rattle.wm_machine.specs.declared.state.State.{State}
+pub use Rattle.wm_request.specs.declared.request.Node.{Node}
+pub use Rattle.wm_schedule.specs.declared.schedule.Period.{Period}
+pub use Rattle.wm_worker.specs.declared.kind.Kind.{Kind}

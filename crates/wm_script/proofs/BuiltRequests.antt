@@ -1,0 +1,203 @@
+-- The works of lines are of requests within their limits.
+use Rattle.std.proofs.Common.{◌≡◌, ℕ, ◌+◌, ◌≤◌, zero, suc, List, [], ◌∷◌, ◌++◌, length, map, Option, Some, None, IfSome, is_none, option_map, Ok, IfOk, refl, ap, ◌∙◌, add-one, rules, arith}
+use Rattle.std.specs.Prelude.{codes}
+use Rattle.std.specs.List.{AllByRecursion}
+use Rattle.std.proofs.lemmas.List.{length-append, length-map}
+use Rattle.serde_json.specs.Data as json
+use Rattle.serde_json.specs.Find.{as_str, get}
+use Rattle.uuid.specs.Text.{by_index, parsed}
+use Rattle.wm_chain.proofs.Sound.{IsBatch-sound}
+use Rattle.wm_chain.specs.Layers.{layered, no_layer, node_after, ContinuationFields}
+use Rattle.wm_chain.specs.Walk.{batched, batched_by, fault_in}
+use Rattle.wm_chain.specs.declared.fault.ChainFault.{ChainFault}
+use Rattle.wm_data.proofs.ReadData.{IsData-read_data}
+use Rattle.wm_data.specs.Size.{IsData}
+use Rattle.wm_data.specs.declared.data.DataEntry.{DataEntry}
+use Rattle.wm_machine.specs.Built.{AreAsked}
+use Rattle.wm_request.proofs.Limits.{built_of-cases, IsShortText-is_short}
+use Rattle.wm_request.proofs.Tags.{AreSortedTags-with_tag}
+use Rattle.wm_request.specs.Batches.{BatchFields}
+use Rattle.wm_request.specs.Building.{built_of, is_short, with_tag, IsBuilding}
+use Rattle.wm_request.specs.Requests.{AreSortedTags, IsRequest, IsShortText, RequestFields}
+use Rattle.wm_request.specs.declared.request.Node.{Node}
+use Rattle.wm_schedule.proofs.Clamps.{IsBackoffDelay-clamped, IsPeriod-clamped}
+use Rattle.wm_schedule.specs.Clamped.{clamped_period, IsPeriod}
+use Rattle.wm_script.proofs.Options.{either, tested, then_any, then_of}
+use Rattle.wm_script.proofs.PartsLemmas.{bind_any, bind_holds, formed_holds, list_holds, or_holds, some_holds, AreSome}
+use Rattle.wm_script.proofs.PartsLemmas.{tested as tested_ok}
+use Rattle.wm_script.specs.Batches.{are_few, batch_in, chained, layer_in, layers_in, works_in}
+use Rattle.wm_script.specs.Parts.{formed, list_at, of_chain, of_data, of_request, or_fault, some_in}
+use Rattle.wm_script.specs.Requests.{asked_for, input_in, node_in, request_in, with_tags}
+use Rattle.wm_script.specs.Values.{id_in, id_part, short_in, text_part, whole_at}
+use Rattle.wm_script.specs.Works.{backoff_at, class_at, constraints_at, id_at, merger_at, period_at, work_of, PeriodForm, WorkForm}
+
+-- ---- an id
+
+HasSixteen : List ℕ → Type 0
+HasSixteen id = length id ≡ 16
+
+length-by_index : {X : Type 0} (n : ℕ) (f : ℕ → X) → length (by_index n f) ≡ n
+unfolding by_index
+length-by_index zero f = refl
+length-by_index (suc n) f = length-append (by_index n f) (f n ∷ []) ∙ ap (λ m. m + 1) (length-by_index n f) ∙ add-one n
+
+HasSixteen-parsed : (text : List ℕ) → IfSome (parsed text) HasSixteen
+unfolding HasSixteen
+HasSixteen-parsed text = search (rules, either, length-by_index)
+
+HasSixteen-id_in : (d : json.Data) → IfSome (id_in d) HasSixteen
+unfolding id_in
+HasSixteen-id_in d = then_any HasSixteen parsed (as_str d) HasSixteen-parsed
+
+HasSixteen-id_at : (value : Option json.Data) → IfSome (id_at value) HasSixteen
+unfolding id_at
+HasSixteen-id_at value = then_any HasSixteen id_in value HasSixteen-id_in
+
+HasId : WorkForm → Type 0
+HasId work = HasSixteen work.id
+
+HasId-work_of : (d : json.Data) → IfSome (work_of d) HasId
+unfolding work_of HasId
+HasId-work_of d =
+    either HasId _ _ None
+    (then_of HasSixteen HasId _ (id_at (get (codes "id") d)) (HasSixteen-id_at (get (codes "id") d)) (λ id sixteen.
+    then_any HasId _ (class_at (get (codes "class") d)) (λ class.
+    then_any HasId _ (merger_at (get (codes "merger") d)) (λ merger.
+    then_any HasId _ (constraints_at (get (codes "constraints") d)) (λ constraints.
+    then_any HasId _ (backoff_at (get (codes "backoff") d)) (λ backoff.
+    then_any HasId _ (whole_at 0 (get (codes "delay") d)) (λ delay.
+    then_any HasId _ (period_at (get (codes "period") d) (get (codes "flex") d)) (λ period. sixteen)))))))) tt
+
+-- ---- a request
+
+pub IsShortText-short_in : (d : json.Data) → IfSome (short_in d) IsShortText
+unfolding short_in
+IsShortText-short_in d = then_any IsShortText _ (as_str d) (λ text. tested IsShortText (is_short text) text (IsShortText-is_short text))
+
+-- tags are texts that a request may have
+AreShort-list_at : (value : Option json.Data) → IfOk (list_at text_part value) (AllByRecursion IsShortText)
+AreShort-list_at value = list_holds IsShortText text_part (λ d. formed_holds IsShortText (short_in d) (IsShortText-short_in d)) value
+
+pub AreShort-read : (value : Option json.Data) (tags : List (List ℕ)) → list_at text_part value ≡ Ok tags → AllByRecursion IsShortText tags
+AreShort-read value tags is = rw is at (AreShort-list_at value)
+
+sorted_tags : (tags all : List (List ℕ)) → AllByRecursion IsShortText tags → AreSortedTags all → AreSortedTags (with_tags tags all)
+sorted_tags [] all short sorted = sorted
+sorted_tags (tag ∷ tags) all short sorted = sorted_tags tags (with_tag tag all) short.1 (AreSortedTags-with_tag tag all short.0 sorted)
+
+IsPeriod-asked : (period : Option PeriodForm) → IfSome (option_map (λ p. clamped_period p.period p.flex) period) IsPeriod
+IsPeriod-asked None = tt
+IsPeriod-asked (Some p) = IsPeriod-clamped p.period p.flex
+
+-- the request of a work with these tags and this input
+IsRequest-asked : (work : WorkForm) (tags : List (List ℕ)) (input : List DataEntry) → HasId work → AllByRecursion IsShortText tags → IsData input
+    → IfOk (or_fault of_request (built_of (asked_for work tags input))) IsRequest
+unfolding HasId HasSixteen
+IsRequest-asked work tags input sixteen short is_data =
+    let asked = asked_for work tags input in
+    let building : IsBuilding asked.tags asked.backoff asked.period = record {
+      tags_are = sorted_tags tags [] short (record { short = tt; ascending = tt });
+      backoff_is = IsBackoffDelay-clamped work.backoff.delay;
+      period_is = IsPeriod-asked work.period;
+    } in
+    built_of-cases (λ built. IfOk (or_fault of_request built) IsRequest) asked building tt tt tt
+    (λ limits. record { id = sixteen; input = is_data; within = limits })
+
+IsData-input_in : (input : Option json.Data) → IfOk (input_in input) IsData
+IsData-input_in None = record { ascending = tt; named = tt; size = omega arith }
+IsData-input_in (Some d) = IsData-read_data d
+
+HasRequest : Node → Type 0
+HasRequest node = IsRequest node.request
+
+HasRequest-node_in : (d : json.Data) → IfOk (node_in d) HasRequest
+unfolding node_in HasRequest
+HasRequest-node_in d =
+    bind_holds HasId HasRequest _ (formed (work_of d)) (formed_holds HasId (work_of d) (HasId-work_of d)) (λ work sixteen.
+    bind_holds (AllByRecursion IsShortText) HasRequest _ (list_at text_part (get (codes "tags") d)) (AreShort-list_at (get (codes "tags") d)) (λ tags short.
+    bind_any HasRequest _ (list_at id_part (get (codes "after") d)) (λ after.
+    bind_holds IsData HasRequest _ (or_fault of_data (input_in work.input)) (or_holds IsData of_data (input_in work.input) (IsData-input_in work.input))
+    (λ input is_data.
+    bind_holds IsRequest HasRequest _ (or_fault of_request (built_of (asked_for work tags input)))
+    (IsRequest-asked work tags input sixteen short is_data) (λ request is. is)))))
+
+pub IsRequest-request_in : (d : json.Data) → IfOk (request_in d) IsRequest
+unfolding request_in HasRequest
+IsRequest-request_in d =
+    tested_ok IsRequest (is_none (get (codes "after") d)) _
+    (λ e. bind_holds HasRequest IsRequest _ (node_in d) (HasRequest-node_in d) (λ node is. is))
+
+-- ---- a batch
+
+-- at least one work, each of a request within its limits
+record AreNodes (works : List Node) : Type 0 where
+  some : 1 ≤ length works
+  requests : AllByRecursion HasRequest works
+
+both : (works more : List Node) → AllByRecursion HasRequest works → AllByRecursion HasRequest more → AllByRecursion HasRequest (works ++ more)
+both [] more all others = others
+both (work ∷ works) more all others = (all.0, both works more all.1 others)
+
+of_layer : (after : List (List ℕ)) (requests : List RequestFields) → AllByRecursion IsRequest requests
+    → AllByRecursion HasRequest (map (node_after after) requests)
+unfolding HasRequest
+of_layer after [] all = tt
+of_layer after (request ∷ requests) all = (all.0, of_layer after requests all.1)
+
+AreNodes-layered : (chain : ContinuationFields) (requests : List RequestFields) → AllByRecursion HasRequest chain.works → AreSome IsRequest requests
+    → AreNodes (layered chain requests).works
+AreNodes-layered chain requests all are =
+    let some = are.0 in
+    let long = length-append chain.works (map (node_after chain.last) requests) in
+    let many = length-map requests (node_after chain.last) in
+    record {
+      some = omega arith;
+      requests = both chain.works (map (node_after chain.last) requests) all (of_layer chain.last requests are.1);
+    }
+
+AreNodes-chained : (chain : ContinuationFields) (layers : List (List RequestFields)) → AreNodes chain.works → AllByRecursion (AreSome IsRequest) layers
+    → AreNodes (chained chain layers).works
+AreNodes-chained chain [] are all = are
+AreNodes-chained chain (layer ∷ layers) are all =
+    AreNodes-chained (layered chain layer) layers (AreNodes-layered chain layer are.requests all.0) all.1
+
+AreNodes-layers : (layers : List (List RequestFields)) → AreSome (AreSome IsRequest) layers → AreNodes (chained no_layer layers).works
+AreNodes-layers [] are = absurd (omega arith)
+AreNodes-layers (layer ∷ layers) are =
+    AreNodes-chained (layered no_layer layer) layers (AreNodes-layered no_layer layer tt are.1.0) are.1.1
+
+AreSome-layer_in : (d : json.Data) → IfOk (layer_in d) (AreSome IsRequest)
+unfolding layer_in
+AreSome-layer_in d = some_holds IsRequest request_in IsRequest-request_in d
+
+AreSome-layers_in : (d : json.Data) → IfOk (layers_in d) (AreSome (AreSome IsRequest))
+unfolding layers_in
+AreSome-layers_in d =
+    tested_ok (AreSome (AreSome IsRequest)) (are_few d) (some_in layer_in d) (λ e. some_holds (AreSome IsRequest) layer_in AreSome-layer_in d)
+
+AreSome-works_in : (d : json.Data) → IfOk (works_in d) (AreSome HasRequest)
+unfolding works_in
+AreSome-works_in d = some_holds HasRequest node_in HasRequest-node_in d
+
+unfoldable pub IsAsked : BatchFields → Type 0
+IsAsked batch = AreAsked batch.works
+
+IsAsked-batched_by : (works : List Node) (found : Option ChainFault) → fault_in works ≡ found → AreNodes works
+    → IfOk (or_fault of_chain (batched_by found works)) IsAsked
+unfolding IsAsked HasRequest
+IsAsked-batched_by works None none are = record { batch = IsBatch-sound works are.some none; requests = are.requests }
+IsAsked-batched_by works (Some found) e are = tt
+
+IsAsked-batched : (works : List Node) → AreNodes works → IfOk (or_fault of_chain (batched works)) IsAsked
+IsAsked-batched works are = IsAsked-batched_by works (fault_in works) refl are
+
+pub IsAsked-batch_in : (works layers : Option json.Data) → IfOk (batch_in works layers) IsAsked
+unfolding batch_in
+IsAsked-batch_in None None = tt
+IsAsked-batch_in (Some works) None =
+    bind_holds (AreSome HasRequest) IsAsked _ (works_in works) (AreSome-works_in works)
+    (λ nodes are. IsAsked-batched nodes (record { some = are.0; requests = are.1 }))
+IsAsked-batch_in None (Some layers) =
+    bind_holds (AreSome (AreSome IsRequest)) IsAsked _ (layers_in layers) (AreSome-layers_in layers)
+    (λ found are. IsAsked-batched (chained no_layer found).works (AreNodes-layers found are))
+IsAsked-batch_in (Some works) (Some layers) = tt

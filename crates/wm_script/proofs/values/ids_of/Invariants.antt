@@ -1,8 +1,0 @@
--- The ids so far and those of the items that are left are all.
-use Rattle.std.proofs.Common.{◌≡◌, ◌++◌, drop}
-use Rattle.serde_json.specs.View.{items_view}
-use Rattle.wm_script.specs.Values.{ids_of}
-use Rattle.wm_script.proofs.values.ids_of.Given as goal
-
-abbrev pub invariant-loop-item : goal.invariant-loop-item
-invariant-loop-item l = l.ids ++ ids_of (items_view (drop l.item-index l.items)) ≡ ids_of (items_view l.items)
