@@ -1,5 +1,7 @@
 //! The events of a log in words.
 
+use part_calls::conditions::flags;
+use part_calls::names::backoff_policy_name;
 use std::alloc::{AllocError, Global};
 use uuid::Uuid;
 use wm_collections::Text;
@@ -10,7 +12,7 @@ use wm_machine::{
     UniqueName, WorkQuery,
 };
 use wm_request::{Batch, Request};
-use wm_schedule::{Backoff, BackoffPolicy, Period};
+use wm_schedule::{Backoff, Period};
 
 /// Data of more bytes is told by its size alone.
 const MAX_TOLD_BYTES: u64 = 1_000;
@@ -62,6 +64,10 @@ fn command_words(alloc: Global, command: &Command) -> Result<String, AllocError>
         Command::Conditions(conditions) => conditions_words(alloc, conditions),
         Command::Prune => String::from_str(alloc, "prune"),
         Command::Query(query) => query_words(alloc, query),
+        Command::Retire(class) => {
+            let class = class.as_str();
+            format!(in alloc; "retire {class:?}")
+        }
         Command::Settle => String::from_str(alloc, "settle"),
         Command::Hush => String::from_str(alloc, "hush"),
         Command::Summary => String::from_str(alloc, "summary"),
@@ -243,10 +249,7 @@ fn add_constraints(words: &mut String, constraints: Constraints) -> Result<(), A
 fn add_delays(alloc: Global, words: &mut String, request: &Request) -> Result<(), AllocError> {
     let backoff = request.backoff();
     if backoff != Backoff::DEFAULT {
-        let policy = match backoff.policy {
-            BackoffPolicy::Linear => "LINEAR",
-            BackoffPolicy::Exponential => "EXPONENTIAL",
-        };
+        let policy = backoff_policy_name(backoff.policy);
         let delay = backoff.delay;
         words.push_str(format!(in alloc; " backoff {policy} {delay}")?.as_str())?;
     }
@@ -271,18 +274,7 @@ fn conditions_words(alloc: Global, conditions: &Conditions) -> Result<String, Al
     if *conditions == Conditions::OPENING {
         words.push_str(" none")?;
     }
-    add_names(
-        &mut words,
-        &[
-            ("connected", conditions.connected),
-            ("metered", conditions.metered),
-            ("roaming", conditions.roaming),
-            ("charging", conditions.charging),
-            ("idle", conditions.idle),
-            ("battery_low", conditions.battery_low),
-            ("storage_low", conditions.storage_low),
-        ],
-    )?;
+    add_names(&mut words, &flags(conditions))?;
     Ok(words)
 }
 
@@ -346,6 +338,7 @@ fn reply_words(alloc: Global, reply: &Reply) -> Result<String, AllocError> {
             format!(in alloc; "updated {applied} generation {generation}")
         }
         Reply::Pruned(count) => format!(in alloc; "pruned {count}"),
+        Reply::Retired(dropped) => format!(in alloc; "retired {dropped}"),
         Reply::Refused(refusal) => {
             let refusal = refusal_words(alloc, refusal)?;
             format!(in alloc; "refused {refusal}")

@@ -15,47 +15,24 @@ mod row;
 
 use crate::outcome::tell_cases;
 use crate::reader::read_parts;
-use std::alloc::Global;
+use part_calls::files::{TextFile, text_files};
+use std::alloc::{AllocError, Global};
+use std::io;
 use std::process::ExitCode;
-use std::rt::Files;
-use std::{fs, io};
-
-/// The names of the case files of a folder, in order.
-fn case_files<R: Files + Alloc<A = Global> + Clone + Drop>(
-    rt: &R,
-    folder: &str,
-) -> io::Result<Vec<String>> {
-    let mut names = Vec::new(rt.alloc());
-    for entry in fs::read_dir(rt, folder)? {
-        let entry = entry?;
-        if entry.file_name().ends_with(".cases") {
-            names.push(String::from_str(rt.alloc(), entry.file_name())?)?;
-        }
-    }
-    names.sort()?;
-    Ok(names)
-}
 
 /// What comes of the cases of a file, or why the file is refused; and whether it is in form.
-fn told<R: Files + Alloc<A = Global>>(
-    rt: &R,
-    folder: &str,
-    name: &str,
-) -> io::Result<(String, bool)> {
-    let alloc = rt.alloc();
-    let path = format!(in alloc; "{folder}/{name}")?;
-    let text = fs::read_to_string(rt, path.as_str())?;
-    match read_parts(alloc, text.as_str()) {
+fn told(alloc: Global, file: &TextFile) -> Result<(String, bool), AllocError> {
+    match read_parts(alloc, file.text.as_str()) {
         Ok(parts) => Ok((tell_cases(alloc, &parts)?, true)),
-        Err(fault) => Ok((format!(in alloc; "{name}:{fault}\n")?, false)),
+        Err(fault) => Ok((format!(in alloc; "{}:{fault}\n", file.name)?, false)),
     }
 }
 
 /// Prints what comes of the files of a folder, and answers whether each is in form, or is not.
 fn print_folder(rt: &HostRuntime, folder: &str, in_form: bool) -> io::Result<bool> {
     let mut as_wanted = true;
-    for name in case_files(rt, folder)? {
-        let (text, is_in_form) = told(rt, folder, name.as_str())?;
+    for file in text_files(rt, folder, ".cases")? {
+        let (text, is_in_form) = told(rt.alloc(), &file)?;
         rt.print(text)?;
         as_wanted = as_wanted && is_in_form == in_form;
     }

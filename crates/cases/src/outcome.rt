@@ -1,6 +1,6 @@
 //! Runs the cases, and tells what came of them.
-ghost use Rattle.std.specs.Prelude.{◌≡◌, ◌+◌, ◌≤◌, vec_len, OnOk};
-ghost use Rattle.wm_bench.specs.declared.bench.TheConstants.{MAX_HANDS};
+ghost use Rattle.std.specs.Prelude.{◌≤◌, vec_len};
+ghost use Rattle.wm_bench.specs.Places.{most_hands};
 
 use crate::event::event_words;
 use crate::part::{Failing, Part};
@@ -12,11 +12,8 @@ use wm_collections::{Replica, Text};
 use wm_io::{MemorySink, MemorySource};
 use wm_keeper::{Change, Keeper, MemoryKeeper, Row, SureKeeper};
 use wm_machine::Event;
-use wm_stock::{Count, Echo, FailUntil, RetryUntil, Sum, Wait};
+use wm_stock::{AnyStock, STOCK_WORKERS};
 use wm_worker::Worker;
-
-/// How many workers there are of each kind.
-const EACH: u32 = 4;
 
 /// What comes of the parts of a case file, one after another.
 pub fn tell_cases(alloc: Global, parts: &[Part]) -> Result<String, AllocError> {
@@ -59,20 +56,6 @@ fn tell_part(
     Ok(kept)
 }
 
-/// Adds a worker for the works of a class.
-fn add_worker(
-    alloc: Global,
-    hands: &mut Vec<Hand>,
-    class: &str,
-    worker: Box<dyn Worker + Send>,
-) -> Result<(), AllocError>
-    ensures one_more { OnOk result (vec_len hands.new ≡ vec_len hands.old + 1) }
-{
-    let class = Text::from_str(alloc, class)?;
-    hands.push(Hand { class, worker })?;
-    Ok(())
-}
-
 /// Runs a part with these calls failing and the workers of the program: see [`tell_run_of`].
 fn tell_run(
     alloc: Global,
@@ -82,33 +65,10 @@ fn tell_run(
     store: &mut SureKeeper,
 ) -> Result<SureKeeper, AllocError> {
     let mut hands = Vec::new(alloc);
-    for _ in 0..EACH {
-        add_worker(alloc, &mut hands, "Echo", Box::new(alloc, Echo::new())?)?;
-    }
-    for _ in 0..EACH {
-        add_worker(alloc, &mut hands, "Sum", Box::new(alloc, Sum::new())?)?;
-    }
-    for _ in 0..EACH {
-        add_worker(
-            alloc,
-            &mut hands,
-            "FailUntil",
-            Box::new(alloc, FailUntil::new())?,
-        )?;
-    }
-    for _ in 0..EACH {
-        add_worker(
-            alloc,
-            &mut hands,
-            "RetryUntil",
-            Box::new(alloc, RetryUntil::new())?,
-        )?;
-    }
-    for _ in 0..EACH {
-        add_worker(alloc, &mut hands, "Count", Box::new(alloc, Count::new())?)?;
-    }
-    for _ in 0..EACH {
-        add_worker(alloc, &mut hands, "Wait", Box::new(alloc, Wait::new())?)?;
+    for number in 0..STOCK_WORKERS {
+        let worker = AnyStock::numbered(number);
+        let class = Text::from_str(alloc, worker.name())?;
+        hands.push(Hand { class, worker })?;
     }
     tell_run_of(alloc, told, part, failing, store, hands)
 }
@@ -123,7 +83,7 @@ fn tell_run_of<B: Worker>(
     store: &mut SureKeeper,
     hands: Vec<Hand<B>>,
 ) -> Result<SureKeeper, AllocError>
-    requires few_hands { vec_len hands ≤ MAX_HANDS }
+    requires few_hands { vec_len hands ≤ most_hands }
 {
     told.push_str(heading(alloc, part, failing)?.as_str())?;
     let mut source = source_of(alloc, part, failing)?;

@@ -26,7 +26,7 @@ waiting_valid works next waiting few above fits = record {
     sound = All-weaker works (λ work is. rw (is.waits, is.after_none) tt) waiting.each;
   };
   runs = record { running = All-weaker works (λ work is runs. let waits = is.waits in absurd (cc)) waiting.each; each = tt; apart = tt };
-  instances = record { out = tt; numbered = tt };
+  instances = record { few = omega arith; out = tt; numbered = tt };
   few_observers = omega arith;
   now = omega arith;
 }

@@ -4,7 +4,7 @@ use Rattle.std.specs.Int.{to_be_bytes, w128}
 use Rattle.std.specs.List.{AllByRecursion}
 use Rattle.wm_collections.specs.Lists.{AllLater}
 use Rattle.wm_machine.specs.Opened.{opening_state}
-use Rattle.wm_machine.specs.Quiet.{CanCome}
+use Rattle.wm_machine.specs.Outcome.{IsLegalLine}
 use Rattle.wm_machine.specs.Valid.{IsBefore, IsRecord}
 use Rattle.wm_machine.specs.declared.command.Command.{Command}
 use Rattle.wm_machine.specs.declared.record.Phase.{Phase}
@@ -51,6 +51,6 @@ pub record AreWaiting (works : List Record) : Type 0 where
 abbrev pub waiting_state : List Record → ℕ → State
 waiting_state works number = record (opening_state works []) { next = number }
 
--- a command that can come wherever no run is unreturned
+-- a command that is legal wherever no run is unreturned
 abbrev pub ComesBetweenRuns : Command → Type 0
-ComesBetweenRuns asked = (s : State) → s.runs ≡ [] → CanCome asked s
+ComesBetweenRuns asked = (s : State) → s.runs ≡ [] → IsLegalLine s asked

@@ -6,7 +6,8 @@ ghost use Rattle.wm_collections.specs.Lists.{AllLater};
 ghost use Rattle.wm_machine.specs.Valid.{IsBefore};
 ghost use Rattle.wm_request.specs.Requests.{IsRequest, IsShortText};
 
-use crate::unique::{record, record_of, request, within};
+use crate::unique::{record, record_of, request};
+use part_tests::requests::within;
 use std::alloc::{AllocError, Global};
 use std::process::Abort;
 use std::test::Fail;

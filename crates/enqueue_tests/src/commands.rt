@@ -3,7 +3,6 @@
 ghost use Rattle.std.specs.Prelude.{◌≡◌, ◌^◌, ◌<◌, ◌≤◌, [], length, IfOk, IfSome};
 ghost use Rattle.enqueue_tests.specs.Waiting.{waiting_state, AreWaiting, ComesBetweenRuns};
 ghost use Rattle.wm_machine.specs.Built.{AreAsked};
-ghost use Rattle.wm_machine.specs.Outcome.{IsBuilt};
 ghost use Rattle.wm_steps.specs.Nodes.{nodes_of};
 ghost use Rattle.wm_request.specs.Requests.{IsRequest, IsShortText};
 
@@ -103,8 +102,7 @@ fn named(alloc: Global, policy: Option<Policy>) -> Result<Option<UniqueName>, Al
 fn enqueue_of(named: Option<UniqueName>, batch: Batch) -> Command
     requires name { IfSome named (λ unique. IsShortText unique.name) }
     requires asked { AreAsked batch.works }
-    ensures built { IsBuilt result }
-    ensures comes { ComesBetweenRuns result }
+    ensures { ComesBetweenRuns result }
 {
     match named {
         Some(unique) => Command::Enqueue {
@@ -117,8 +115,7 @@ fn enqueue_of(named: Option<UniqueName>, batch: Batch) -> Command
 
 /// An enqueue of one work, under the name of the first record where there is a policy.
 fn enqueue(alloc: Global, policy: Option<Policy>, is_periodic: bool) -> Result<Command, AllocError>
-    ensures built { IfOk result IsBuilt }
-    ensures comes { IfOk result ComesBetweenRuns }
+    ensures { IfOk result ComesBetweenRuns }
 {
     let named = named(alloc, policy)?;
     let (named, batch) = both(named, batch(alloc, is_periodic))?;

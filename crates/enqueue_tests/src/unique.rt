@@ -1,12 +1,13 @@
 //! What the policy of a unique name comes to, by the numbers of works, of `wm_unique`.
 ghost use Rattle.std.specs.Int.{to_be_bytes, w128};
-ghost use Rattle.std.specs.Prelude.{◌≡◌, [], ◌∷◌, length, Ok, IfOk, None};
+ghost use Rattle.std.specs.Prelude.{◌≡◌, [], ◌∷◌, length, IfOk, None};
 ghost use Rattle.enqueue_tests.specs.Waiting.{IsPlain};
 ghost use Rattle.wm_collections.specs.Lists.{AllLater};
 ghost use Rattle.wm_machine.specs.Valid.{IsBefore};
 ghost use Rattle.wm_request.specs.Requests.{IsRequest};
 ghost use Rattle.wm_unique.specs.Plans.{AreNumbersOf};
 
+use part_tests::requests::within;
 use std::alloc::{AllocError, Global};
 use std::process::Abort;
 use std::test::Fail;
@@ -14,36 +15,9 @@ use uuid::Uuid;
 use wm_collections::Items;
 use wm_data::Data;
 use wm_machine::{How, Phase, Policy, Record};
-use wm_request::{Batch, Builder, Node, Request, RequestFault};
+use wm_request::{Batch, Builder, Node, Request};
 use wm_steps::{both, one};
 use wm_unique::{GroupPlan, plan};
-
-/// Reads a request, which its types keep within its limits.
-pub fn look_at(request: &Request)
-    ensures { IsRequest request.now }
-{
-    let id = request.id();
-    let _bytes = id.as_bytes();
-    let _size = request.input().size();
-    let _class = request.class();
-    let _tags = request.tags();
-    let _backoff = request.backoff();
-    let _delay = request.initial_delay();
-    let _period = request.period();
-}
-
-/// A request that was built, looked at.
-pub fn within(request: Result<Request, RequestFault>) -> Result<Request, AllocError>
-    ensures { IfOk result (λ built. (request ≡ Ok built) × IsRequest built) }
-{
-    match request {
-        Ok(request) => {
-            look_at(&request);
-            Ok(request)
-        }
-        Err(_) => Err(AllocError),
-    }
-}
 
 /// A request of one-time work with this number as its id.
 pub fn request(alloc: Global, number: u64) -> Result<Request, AllocError>

@@ -52,7 +52,7 @@ fn conditions(number: u8) -> Conditions {
 }
 
 /// The conditions by their names.
-fn flags(conditions: &Conditions) -> [(&'static str, bool); 7] {
+pub fn flags(conditions: &Conditions) -> [(&'static str, bool); 7] {
     [
         ("connected", conditions.connected),
         ("metered", conditions.metered),

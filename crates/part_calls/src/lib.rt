@@ -3,14 +3,17 @@
 //! stock workers, a module a subject; and how the fields of a row are read ([`fields`]) and what came
 //! is told ([`told`]).
 //!
-//! The program `tables` makes these calls, and those of the crates above.
+//! The program `tables` makes these calls, and those of the crates above. How the files of a folder
+//! are read ([`files`]) it has in common with the program `cases`, which tells values by the same
+//! names.
 #![tactic(auto)]
 
 pub mod chains;
 pub mod conditions;
 pub mod data;
 pub mod fields;
-mod names;
+pub mod files;
+pub mod names;
 pub mod requests;
 pub mod schedule;
 pub mod told;

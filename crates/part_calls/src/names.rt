@@ -5,7 +5,7 @@ use wm_data::Merger;
 use wm_schedule::BackoffPolicy;
 use wm_worker::Kind;
 
-pub fn policy_named(name: &str) -> Option<BackoffPolicy> {
+pub fn backoff_policy_named(name: &str) -> Option<BackoffPolicy> {
     match name {
         "LINEAR" => Some(BackoffPolicy::Linear),
         "EXPONENTIAL" => Some(BackoffPolicy::Exponential),
@@ -13,7 +13,7 @@ pub fn policy_named(name: &str) -> Option<BackoffPolicy> {
     }
 }
 
-pub fn policy_name(policy: BackoffPolicy) -> &'static str {
+pub fn backoff_policy_name(policy: BackoffPolicy) -> &'static str {
     match policy {
         BackoffPolicy::Linear => "LINEAR",
         BackoffPolicy::Exponential => "EXPONENTIAL",

@@ -7,7 +7,7 @@ use crate::data::merger;
 use crate::fields::{
     RowFault, both, count, data, given, has_only, id, items, letters, number, number_if, text,
 };
-use crate::names::{merger_name, policy_name, policy_named};
+use crate::names::{backoff_policy_name, backoff_policy_named, merger_name};
 use crate::told::{Told, id as id_told, string, texts};
 use serde_json::Value;
 use std::alloc::{AllocError, Global};
@@ -38,7 +38,7 @@ fn backoff_if(row: &Value) -> Result<Option<(BackoffPolicy, u64)>, RowFault> {
     if row.get("policy").is_none() {
         return Ok(None);
     }
-    let policy = policy_named(text(row, "policy")?).ok_or(RowFault::Value)?;
+    let policy = backoff_policy_named(text(row, "policy")?).ok_or(RowFault::Value)?;
     Ok(Some((policy, number(row, "delay")?)))
 }
 
@@ -177,7 +177,7 @@ fn request_told(alloc: Global, request: &Request) -> Result<Value, AllocError> {
 /// The delays of a request.
 fn put_times(told: &mut Told, request: &Request) -> Result<(), AllocError> {
     let Backoff { policy, delay } = request.backoff();
-    told.text("policy", policy_name(policy))?;
+    told.text("policy", backoff_policy_name(policy))?;
     told.number("delay", delay)?;
     told.number("initial_delay", request.initial_delay())?;
     if let Some(period) = request.period() {

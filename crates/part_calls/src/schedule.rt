@@ -4,7 +4,7 @@ ghost use Rattle.wm_schedule.specs.Clamped.{IsPeriod};
 ghost use Rattle.wm_schedule.specs.Moments.{AreTimes, IsDelay};
 
 use crate::fields::{RowFault, count, has_only, number, number_if, text};
-use crate::names::policy_named;
+use crate::names::backoff_policy_named;
 use crate::told::Told;
 use serde_json::Value;
 use std::alloc::Global;
@@ -18,7 +18,7 @@ const LONGEST: u64 = 315_360_000_000;
 
 /// The policy of a row's backoff.
 fn policy(row: &Value) -> Result<BackoffPolicy, RowFault> {
-    policy_named(text(row, "policy")?).ok_or(RowFault::Value)
+    backoff_policy_named(text(row, "policy")?).ok_or(RowFault::Value)
 }
 
 /// How long a backoff that is asked for with a delay waits after an attempt.

@@ -1,6 +1,7 @@
 //! Tests of single calls of the crates that the table stands on, as far as no table of plain values
 //! has them, a module a subject: lists and copies, the graph, keepers, streams, workers and the
-//! bench; and the workers that tell diaries, which the tests of whole runs have too.
+//! bench; and what the tests of the crates above have too: workers that tell diaries, their
+//! hands, and requests within their limits.
 #![tactic(auto)]
 
 #[cfg(test)]
@@ -8,8 +9,10 @@ mod collections;
 pub mod diarist;
 #[cfg(test)]
 mod graph;
+pub mod hands;
 #[cfg(test)]
 mod keepers;
+pub mod requests;
 #[cfg(test)]
 mod streams;
 pub mod uploader;

@@ -1,13 +1,13 @@
 //! Workers, signals and the bench, of `wm_worker`, `wm_stock` and `wm_bench`.
-ghost use Rattle.std.specs.Prelude.{◌≡◌, ◌++◌, ◌∷◌, [], ◌+◌, pos, negsuc, codes, vec_len, IfOk, OnOk, Some, None};
+ghost use Rattle.std.specs.Prelude.{◌≡◌, ◌++◌, ◌∷◌, [], pos, negsuc, codes, vec_len, IfOk, Some, None};
 ghost use Rattle.wm_worker.specs.Answers.{entry_alone, stock_answer};
 
-use crate::diarist::{Diarist, Noted, told_runs};
+use crate::diarist::{Diarist, diary_text};
+use crate::hands::add_hand;
 use std::alloc::{AllocError, Global};
 use std::process::Abort;
 use std::test::Fail;
 use wm_bench::{Bench, Hand, Seated};
-use wm_collections::Text;
 use wm_data::{Data, Value};
 use wm_stock::Echo;
 use wm_worker::{Answer, Given, Kind, Signal, Task, Told, Worker};
@@ -61,7 +61,7 @@ fn run_one_turn<W: Worker>(
     alloc: Global,
     worker: &mut W,
     signal: &Signal,
-) -> Result<Option<Vec<Noted>>, AllocError>
+) -> Result<Option<String>, AllocError>
     requires { signal.now.run ≡ 7 }
 {
     let task = bare_task(alloc, 7, 2);
@@ -72,34 +72,21 @@ fn run_one_turn<W: Worker>(
     expect_bare_success(rt, told);
     assert_eq!(rt; turn, (Kind::Echo, 7, 2, 3));
     assert_eq!(rt; worker.kind(), Kind::Echo);
-    told_runs(alloc, worker)
+    diary_text(alloc, worker)
 }
 
-/// The worker writes nothing down.
-fn expect_no_diary<W: Worker>(
-    rt: &impl Abort,
-    alloc: Global,
-    mut worker: W,
-    signal: &Signal,
-) -> Result<(), AllocError>
-    requires { signal.now.run ≡ 7 }
-{
-    assert!(rt; run_one_turn(rt, alloc, &mut worker, signal)?.is_none());
-    Ok(())
-}
-
-/// The worker writes its run and its turn down.
+/// What the worker has written down after that turn; none where it tells no diary.
 fn expect_diary<W: Worker>(
     rt: &impl Abort,
     alloc: Global,
     mut worker: W,
     signal: &Signal,
+    written: Option<&str>,
 ) -> Result<(), AllocError>
     requires { signal.now.run ≡ 7 }
 {
     let diary = run_one_turn(rt, alloc, &mut worker, signal)?;
-    let written = [(7, None), (7, Some((3, true)))];
-    assert_eq!(rt; diary.as_deref(), Some(written.as_slice()));
+    assert_eq!(rt; diary.as_deref(), written);
     Ok(())
 }
 
@@ -109,9 +96,9 @@ fn boxed_echo(alloc: Global) -> Result<Box<dyn Worker + Send>, AllocError> {
     Ok(echo)
 }
 
-/// A boxed worker that tells a diary.
+/// A boxed Echo that tells a diary.
 fn boxed_diarist(alloc: Global) -> Result<Box<dyn Worker + Send>, AllocError> {
-    let diarist: Box<dyn Worker + Send> = Box::new(alloc, Diarist::new(alloc))?;
+    let diarist: Box<dyn Worker + Send> = Box::new(alloc, Diarist::new(alloc, Echo::new()))?;
     Ok(diarist)
 }
 
@@ -128,9 +115,10 @@ fn raised(alloc: Global) -> Result<Signal, AllocError>
 fn a_worker_tells_its_turn_and_its_diary(rt: HostRuntime) -> Result<(), Fail> {
     let alloc = rt.alloc();
     let never = Signal::never(7);
-    expect_diary(&rt, alloc, boxed_diarist(alloc)?, &never)?;
-    expect_no_diary(&rt, alloc, boxed_echo(alloc)?, &never)?;
-    expect_no_diary(&rt, alloc, Echo::new(), &raised(alloc)?)?;
+    let written = Some("run 7 begun\nrun 7 turn 3: Success {}\n");
+    expect_diary(&rt, alloc, boxed_diarist(alloc)?, &never, written)?;
+    expect_diary(&rt, alloc, boxed_echo(alloc)?, &never, None)?;
+    expect_diary(&rt, alloc, Echo::new(), &raised(alloc)?, None)?;
     Ok(())
 }
 
@@ -155,20 +143,6 @@ fn a_raised_signal_is_seen_in_its_shares(rt: HostRuntime) -> Result<(), Fail> {
     let share = never.share()?;
     share.raise();
     assert!(rt; share.poll().is_none());
-    Ok(())
-}
-
-/// Adds a hand of this class.
-fn add_hand<B: Drop>(
-    alloc: Global,
-    hands: &mut Vec<Hand<B>>,
-    class: &str,
-    worker: B,
-) -> Result<(), AllocError>
-    ensures one_more { OnOk result (vec_len hands.new ≡ vec_len hands.old + 1) }
-{
-    let class = Text::from_str(alloc, class)?;
-    hands.push(Hand { class, worker })?;
     Ok(())
 }
 
@@ -250,6 +224,13 @@ fn leave_second(rt: &impl Abort, mut bench: Bench) -> Vec<Hand> {
     bench.back()
 }
 
+/// The diary of two runs of one turn.
+const TWO_RUNS: &str = r#"run 5 begun
+run 5 turn 0: Success {}
+run 7 begun
+run 7 turn 0: Success {}
+"#;
+
 /// What the first and the third worker come back with: none has a diary but the third, which took
 /// two runs of one turn.
 fn expect_two(rt: &impl Abort, alloc: Global, hands: &[Hand]) -> Result<(), AllocError> {
@@ -257,15 +238,9 @@ fn expect_two(rt: &impl Abort, alloc: Global, hands: &[Hand]) -> Result<(), Allo
         panic!(rt; "not two hands");
     };
     assert_eq!(rt; (a.class.as_str(), c.class.as_str()), ("a", "c"));
-    assert!(rt; told_runs(alloc, &a.worker)?.is_none());
-    let runs = [
-        (5, None),
-        (5, Some((0, true))),
-        (7, None),
-        (7, Some((0, true))),
-    ];
-    let diary = told_runs(alloc, &c.worker)?;
-    assert_eq!(rt; diary.as_deref(), Some(runs.as_slice()));
+    assert!(rt; diary_text(alloc, &a.worker)?.is_none());
+    let diary = diary_text(alloc, &c.worker)?;
+    assert_eq!(rt; diary.as_deref(), Some(TWO_RUNS));
     Ok(())
 }
 
@@ -279,6 +254,44 @@ fn workers_leave_the_bench_and_come_back(rt: HostRuntime) -> Result<(), Fail> {
     drop(hands);
     driven?;
     told?;
+    Ok(())
+}
+
+/// Two boxed workers of one class, on a bench.
+fn two_idle(alloc: Global) -> Result<Bench, AllocError> {
+    let mut hands = Vec::new(alloc);
+    add_hand(alloc, &mut hands, "Echo", boxed_echo(alloc)?)?;
+    add_hand(alloc, &mut hands, "Echo", boxed_echo(alloc)?)?;
+    Bench::new(alloc, hands).map_err(|_| AllocError)
+}
+
+/// Retires the class of two workers while the first is out: only the second is dropped at once, and
+/// the first when it comes back.
+fn retire_while_out(rt: &impl Abort, alloc: Global, bench: &mut Bench) -> Result<(), AllocError> {
+    assert_eq!(rt; bench.retire("echo"), 0);
+    let Some(mut seat) = bench.take(0) else {
+        panic!(rt; "instance 0 isn't idle");
+    };
+    let taken = take_turn(rt, alloc, &mut seat, 5);
+    assert!(rt; bench.take(0).is_none());
+    assert_eq!(rt; bench.retire("Echo"), 1);
+    assert!(rt; bench.take(1).is_none());
+    bench.give(seat);
+    assert!(rt; bench.take(0).is_none());
+    assert_eq!(rt; bench.retire("Echo"), 0);
+    taken
+}
+
+#[test]
+fn a_retired_worker_is_dropped(rt: HostRuntime) -> Result<(), Fail> {
+    let alloc = rt.alloc();
+    let mut bench = two_idle(alloc)?;
+    let retired = retire_while_out(&rt, alloc, &mut bench);
+    let hands = bench.back();
+    let left = hands.len();
+    drop(hands);
+    assert_eq!(rt; left, 0);
+    retired?;
     Ok(())
 }
 

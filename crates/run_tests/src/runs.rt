@@ -1,9 +1,10 @@
 //! Statuses and whole runs, of `wm_cli`, as far as no worked case shows them.
 ghost use Rattle.std.specs.Prelude.{◌≡◌, ◌≤◌, vec_len, IfOk};
-ghost use Rattle.wm_bench.specs.declared.bench.TheConstants.{MAX_HANDS};
+ghost use Rattle.wm_bench.specs.Places.{most_hands};
 
-use part_tests::diarist::Diarist;
-use part_tests::uploader::{Uploader, diary_text};
+use part_tests::diarist::{Diarist, diary_text};
+use part_tests::hands::add_hand;
+use part_tests::uploader::Uploader;
 use std::alloc::{AllocError, Global};
 use std::process::Abort;
 use std::test::Fail;
@@ -137,7 +138,7 @@ fn echo(alloc: Global) -> Result<Hand<Echo>, AllocError> {
 
 /// Two workers of class Echo.
 fn echoes(alloc: Global) -> Result<Vec<Hand<Echo>>, AllocError>
-    ensures { IfOk result (λ hands. vec_len hands ≤ MAX_HANDS) }
+    ensures { IfOk result (λ hands. vec_len hands ≤ most_hands) }
 {
     let mut hands = Vec::new(alloc);
     hands.push(echo(alloc)?)?;
@@ -148,7 +149,7 @@ fn echoes(alloc: Global) -> Result<Vec<Hand<Echo>>, AllocError>
 /// How a run of the script ends with these words and workers, over std's reader and writer and a
 /// keeper that never fails, and what it writes.
 fn run_of_echoes(alloc: Global, words: &[String], hands: Vec<Hand<Echo>>) -> (Status, Vec<u8>)
-    requires { vec_len hands ≤ MAX_HANDS }
+    requires { vec_len hands ≤ most_hands }
 {
     let mut written = Vec::new(alloc);
     let mut source = StdSource::new(SCRIPT.as_bytes());
@@ -178,11 +179,10 @@ fn one_hand(
     class: &str,
     worker: Box<dyn Worker + Send>,
 ) -> Result<Vec<Hand>, AllocError>
-    ensures { IfOk result (λ hands. vec_len hands ≤ MAX_HANDS) }
+    ensures { IfOk result (λ hands. vec_len hands ≤ most_hands) }
 {
-    let (worker, class) = both(worker, Text::from_str(alloc, class))?;
     let mut hands = Vec::new(alloc);
-    hands.push(Hand { class, worker })?;
+    add_hand(alloc, &mut hands, class, worker)?;
     Ok(hands)
 }
 
@@ -222,7 +222,7 @@ fn run_in_memory(
     script: Vec<u8>,
     hands: Vec<Hand>,
 ) -> Result<Left, AllocError>
-    requires { vec_len hands ≤ MAX_HANDS }
+    requires { vec_len hands ≤ most_hands }
 {
     let mut source = MemorySource::new(script, 100, Vec::new(alloc));
     let sink = MemorySink::new(100, Vec::new(alloc));
@@ -231,14 +231,10 @@ fn run_in_memory(
     left_of(alloc, ended)
 }
 
-/// Runs a script with one worker of this class.
-fn run_with_one(
-    alloc: Global,
-    class: &str,
-    worker: Box<dyn Worker + Send>,
-    script: &str,
-) -> Result<Left, AllocError> {
-    let hands = one_hand(alloc, class, worker)?;
+/// Runs a script with these workers.
+fn run_with(alloc: Global, hands: Vec<Hand>, script: &str) -> Result<Left, AllocError>
+    requires { vec_len hands ≤ most_hands }
+{
     let (hands, words) = both(hands, words(alloc))?;
     let (hands, script) = both(hands, Vec::from_slice(alloc, script.as_bytes()))?;
     run_in_memory(alloc, &words, script, hands)
@@ -265,11 +261,20 @@ fn expect_left(
     Ok(())
 }
 
+/// A boxed Echo that tells a diary.
+fn boxed_diarist(alloc: Global) -> Result<Box<dyn Worker + Send>, AllocError> {
+    let diarist: Box<dyn Worker + Send> = Box::new(alloc, Diarist::new(alloc, Echo::new()))?;
+    Ok(diarist)
+}
+
 #[test]
 fn a_boxed_worker_comes_back_with_its_diary(rt: HostRuntime) -> Result<(), Fail> {
     let alloc = rt.alloc();
-    let worker: Box<dyn Worker + Send> = Box::new(alloc, Diarist::new(alloc))?;
-    let left = run_with_one(alloc, "Echo", worker, SCRIPT)?;
+    let left = run_with(
+        alloc,
+        one_hand(alloc, "Echo", boxed_diarist(alloc)?)?,
+        SCRIPT,
+    )?;
     let diary = "run 1 begun\nrun 1 turn 0: Success {}\n";
     expect_left(&rt, alloc, &left, "Echo", (4, REPLIES, diary))
 }
@@ -309,15 +314,53 @@ pub fn data_of(alloc: Global, key: &str, value: Value) -> Result<Data, AllocErro
 fn uploader(alloc: Global) -> Result<Uploader, AllocError> {
     let progress = data_of(alloc, "of", Value::Int(3))?;
     let (progress, output) = both(progress, data_of(alloc, "sent", Value::Int(2)))?;
-    Ok(Uploader::new(alloc, 2, progress, output))
+    Ok(Uploader::new(2, progress, output))
 }
 
 /// A caller's own worker, which may give what it likes: it tells its progress twice, and fails.
 #[test]
 fn a_custom_worker_takes_turns_and_fails(rt: HostRuntime) -> Result<(), Fail> {
     let alloc = rt.alloc();
-    let worker: Box<dyn Worker + Send> = Box::new(alloc, uploader(alloc)?)?;
-    let left = run_with_one(alloc, "Upload", worker, UPLOAD)?;
+    let worker: Box<dyn Worker + Send> = Box::new(alloc, Diarist::new(alloc, uploader(alloc)?))?;
+    let left = run_with(alloc, one_hand(alloc, "Upload", worker)?, UPLOAD)?;
     let expected = (6, UPLOAD_REPLIES, UPLOAD_DIARY);
     expect_left(&rt, alloc, &left, "Upload", expected)
+}
+
+const TWO_CLASSES: &str =
+    r#"{"cmd":"enqueue","works":[{"class":"Left","id":"00000000-0000-0000-0000-000000000001"},{"class":"Right","id":"00000000-0000-0000-0000-000000000002"}]}
+{"class":"Left","cmd":"retire"}
+{"cmd":"enqueue","works":[{"class":"Left","id":"00000000-0000-0000-0000-000000000003"},{"class":"Right","id":"00000000-0000-0000-0000-000000000004"}]}
+{"cmd":"summary"}
+"#;
+
+const TWO_CLASSES_REPLIES: &str = r#"{"line":1,"ok":"enqueued","works":[1,2]}
+{"dropped":1,"line":2,"ok":"retired"}
+{"line":3,"ok":"enqueued","works":[3,4]}
+{"attempts":3,"blocked":0,"cancelled":0,"enqueued":0,"failed":1,"line":4,"ok":"summary","running":0,"succeeded":3}
+"#;
+
+const RIGHT_DIARY: &str = r#"run 2 begun
+run 2 turn 0: Success {}
+run 3 begun
+run 3 turn 0: Success {}
+"#;
+
+/// The hands of two workers of one kind, which tell diaries, each of a class of its own.
+fn two_hands(alloc: Global) -> Result<Vec<Hand>, AllocError>
+    ensures { IfOk result (λ hands. vec_len hands ≤ most_hands) }
+{
+    let mut hands = Vec::new(alloc);
+    add_hand(alloc, &mut hands, "Left", boxed_diarist(alloc)?)?;
+    add_hand(alloc, &mut hands, "Right", boxed_diarist(alloc)?)?;
+    Ok(hands)
+}
+
+/// A class is retired, and the other one of its kind goes on: its worker alone comes back.
+#[test]
+fn a_retire_takes_the_workers_of_its_class_alone(rt: HostRuntime) -> Result<(), Fail> {
+    let alloc = rt.alloc();
+    let left = run_with(alloc, two_hands(alloc)?, TWO_CLASSES)?;
+    let expected = (11, TWO_CLASSES_REPLIES, RIGHT_DIARY);
+    expect_left(&rt, alloc, &left, "Right", expected)
 }

@@ -1,12 +1,13 @@
 //! The table of `wm_table`, over a keeper that fails at the commits that it is told to.
 ghost use Rattle.std.specs.Prelude.{◌≡◌, [], Ok, IfOk, None};
-ghost use Rattle.wm_machine.specs.Outcome.{IsBuilt};
-ghost use Rattle.wm_machine.specs.Quiet.{CanCome};
+ghost use Rattle.wm_machine.specs.Opened.{AreFresh};
+ghost use Rattle.wm_machine.specs.Outcome.{IsLegalLine};
 ghost use Rattle.wm_machine.specs.declared.state.State.{State};
 ghost use Rattle.wm_request.specs.Requests.{IsRequest};
-ghost use Rattle.wm_table.specs.Table.{AreFresh, Stands};
+ghost use Rattle.wm_table.specs.Table.{Stands};
 
 use crate::runs::data_of;
+use part_tests::requests::within;
 use std::alloc::{AllocError, Global};
 use std::test::Fail;
 use uuid::Uuid;
@@ -14,7 +15,7 @@ use wm_collections::{Items, Replica, Text};
 use wm_data::{Data, Merger, Value};
 use wm_keeper::MemoryKeeper;
 use wm_machine::{Cause, Command, How, Instance, Kind, Phase, Record, Reply};
-use wm_request::{Batch, Builder, Node, Request, RequestFault};
+use wm_request::{Batch, Builder, Node, Request};
 use wm_steps::{both, one};
 use wm_table::{Claim, Table, TableEnd, Ticket, Trouble, TurnAnswer};
 use wm_worker::{Answer, Task, Told};
@@ -41,33 +42,6 @@ fn letters(alloc: Global, count: usize) -> Result<Text, AllocError> {
         text.push('x')?;
     }
     Ok(Text::from_string(text))
-}
-
-/// Reads a request, which its types keep within its limits.
-fn look_at(request: &Request)
-    ensures { IsRequest request.now }
-{
-    let id = request.id();
-    let _bytes = id.as_bytes();
-    let _size = request.input().size();
-    let _class = request.class();
-    let _tags = request.tags();
-    let _backoff = request.backoff();
-    let _delay = request.initial_delay();
-    let _period = request.period();
-}
-
-/// A request that was built, looked at.
-fn within(request: Result<Request, RequestFault>) -> Result<Request, AllocError>
-    ensures { IfOk result (λ built. (request ≡ Ok built) × IsRequest built) }
-{
-    match request {
-        Ok(request) => {
-            look_at(&request);
-            Ok(request)
-        }
-        Err(_) => Err(AllocError),
-    }
 }
 
 /// The request of one-time work of this class, with this merger and input.
@@ -99,8 +73,7 @@ fn request(alloc: Global, merger: Merger, count: usize) -> Result<Request, Alloc
 
 /// An enqueue of one such work.
 fn enqueue(alloc: Global, merger: Merger, count: usize) -> Result<Command, AllocError>
-    ensures built { IfOk result IsBuilt }
-    ensures comes { IfOk result (λ command. (s : State) → s.runs ≡ [] → CanCome command s) }
+    ensures { IfOk result (λ command. (s : State) → s.runs ≡ [] → IsLegalLine s command) }
 {
     let request = request(alloc, merger, count)?;
     let after = Items::new(alloc);
@@ -266,8 +239,7 @@ fn enqueue_and_run(
     command: Command,
     subject: Subject,
 ) -> &'static str
-    requires built { IsBuilt command }
-    requires can { CanCome command table.old.state }
+    requires { IsLegalLine table.old.state command }
 {
     match table.command(1, command) {
         Ok(reply) => {

@@ -1,6 +1,6 @@
 //! The calls by their names.
 
-use crate::{infos, records, texts};
+use crate::{infos, lines, records, texts};
 use part_calls::fields::{RowFault, field, text};
 use part_calls::{chains, conditions, data, requests, schedule, workers};
 use serde_json::Value;
@@ -38,6 +38,7 @@ fn answer_of_works(alloc: Global, call: &str, row: &Value) -> Result<Value, RowF
             records::change(alloc, row)
         }
         "row" => records::row(alloc, row),
+        "lines" => lines::read(alloc, row),
         "event text" => texts::told(alloc, row),
         "answer" => infos::answered(alloc, row),
         "matches" => infos::matched(alloc, row),

@@ -10,34 +10,19 @@
 
 mod calls;
 mod infos;
+mod lines;
 mod names;
 mod records;
 mod texts;
 
 use crate::calls::difference;
 use part_calls::fields::{RowFault, given, text};
+use part_calls::files::{TextFile, text_files};
 use serde_json::Value;
 use std::alloc::{AllocError, Global};
 use std::collections::BTreeMap;
+use std::io;
 use std::process::ExitCode;
-use std::rt::Files;
-use std::{fs, io};
-
-/// The names of the tables of a folder, in order.
-fn tables<R: Files + Alloc<A = Global> + Clone + Drop>(
-    rt: &R,
-    folder: &str,
-) -> io::Result<Vec<String>> {
-    let mut names = Vec::new(rt.alloc());
-    for entry in fs::read_dir(rt, folder)? {
-        let entry = entry?;
-        if entry.file_name().ends_with(".rows") {
-            names.push(String::from_str(rt.alloc(), entry.file_name())?)?;
-        }
-    }
-    names.sort()?;
-    Ok(names)
-}
 
 /// How many rows there are of each call, and how many of all rows are as they say, and aren't.
 #[derive(Drop)]
@@ -94,9 +79,10 @@ fn told_of(alloc: Global, tally: &mut Tally, line: &str) -> Result<Option<String
 }
 
 /// What is to be told of the rows of a table.
-fn tell(alloc: Global, tally: &mut Tally, name: &str, table: &str) -> Result<String, AllocError> {
+fn tell(alloc: Global, tally: &mut Tally, table: &TextFile) -> Result<String, AllocError> {
+    let name = table.name.as_str();
     let mut told = String::new(alloc);
-    for (index, line) in table.lines().enumerate() {
+    for (index, line) in table.text.as_str().lines().enumerate() {
         if line.is_empty() || line.starts_with('#') {
             continue;
         }
@@ -112,10 +98,8 @@ fn tell(alloc: Global, tally: &mut Tally, name: &str, table: &str) -> Result<Str
 fn print_folder(rt: &HostRuntime, folder: &str) -> io::Result<Tally> {
     let alloc = rt.alloc();
     let mut tally = Tally::new(alloc);
-    for name in tables(rt, folder)? {
-        let path = format!(in alloc; "{folder}/{name}")?;
-        let table = fs::read_to_string(rt, path.as_str())?;
-        rt.print(tell(alloc, &mut tally, name.as_str(), table.as_str())?)?;
+    for table in text_files(rt, folder, ".rows")? {
+        rt.print(tell(alloc, &mut tally, &table)?)?;
     }
     Ok(tally)
 }

@@ -126,11 +126,16 @@ fn line(line: u32, reply: Reply) -> Event {
     }
 }
 
-/// The event of a row: the time-out of a run, or a line with its reply.
+/// The event of a row: the time-out or the late return of a run, or a line with its reply.
 fn event(alloc: Global, row: &Value) -> Result<Event, RowFault> {
     if row.get("timed_out").is_some() {
         return Ok(Event::TimedOut {
             run: number(row, "timed_out")?,
+        });
+    }
+    if row.get("late").is_some() {
+        return Ok(Event::Late {
+            run: number(row, "late")?,
         });
     }
     let number = count(row, "line")?;
@@ -152,7 +157,7 @@ fn texts(alloc: Global, event: &Event) -> Result<Value, AllocError> {
 
 /// The text of an event, and the one where the state after it is hushed.
 pub fn told(alloc: Global, row: &Value) -> Result<Value, RowFault> {
-    has_only(row, &["line", "told", "timed_out"])?;
+    has_only(row, &["line", "told", "timed_out", "late"])?;
     let event = event(alloc, row)?;
     let told = texts(alloc, &event);
     drop(event);

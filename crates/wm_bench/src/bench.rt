@@ -1,17 +1,15 @@
-ghost use Rattle.std.specs.Prelude.{◌≡◌, ◌≤◌, map, vec_len, IfOk, IfErr, IfSome, IfNone, OnSome, option_map};
+ghost use Rattle.std.specs.Prelude.{◌≡◌, ℕ, ◌≤◌, map, count_by, vec_len, IfOk, IfErr, IfSome, IfNone, OnSome, option_map};
+ghost use Rattle.wm_worker.specs.declared.kind.Kind.{Kind};
 
 use crate::hand::Hand;
-use crate::place::{Place, give_at, take_at};
+use crate::place::{Place, give_at, retire_each, take_at};
 use crate::seat::Seated;
 use std::alloc::{AllocFailed, Global};
 use std::marker::Model;
 use wm_worker::Worker;
 
-/// The most hands that a bench is made of.
-pub const MAX_HANDS: usize = 10_000;
-
-/// The instances of a run, numbered from 0, each idle at its place or out with a seat. A contract
-/// sees the list of the places.
+/// The instances of a run, numbered from 0, each idle at its place, out with a seat, or dropped
+/// because its class was retired. A contract sees the list of the places.
 #[derive(Drop)]
 pub struct Bench<B = Box<dyn Worker + Send>> {
     places: Vec<Place<B>>,
@@ -21,25 +19,26 @@ pub struct Bench<B = Box<dyn Worker + Send>> {
 
 impl<B> Model for Bench<B> {
     ghost use Rattle.std.specs.Prelude.{◌≡◌, ◌≤◌, List, [], vec_len, vec_capacity};
+    ghost use Rattle.wm_bench.specs.Places.{most_hands};
     ghost use Rattle.wm_bench.specs.declared.place.Place.{Place};
 
     ghost Value = { List (Place B) };
 
     ghost view = { λ b. b.places.items };
 
-    ghost invariant = { λ b. (b.room.items ≡ []) × (vec_len b.places ≤ vec_capacity b.room) };
+    ghost invariant = { λ b. (b.room.items ≡ []) × (vec_len b.places ≤ vec_capacity b.room) × (vec_len b.places ≤ most_hands) };
 }
 
 impl<B: Worker> Bench<B> {
-    ghost use Rattle.wm_bench.specs.Places.{place_of, idle_at, idle_hands, changed_at, made_away, made_idle, IsAwayAt};
+    ghost use Rattle.wm_bench.specs.Places.{place_of, idle_at, idle_hands, is_idle_of, changed_at, made_away, made_back, most_hands, retired_at, IsAwayAt};
 
-    /// A bench of these hands, all idle, numbered from 0 in order. Where memory is refused the hands
-    /// come back.
+    /// A bench of these hands, at most 10,000, all idle, numbered from 0 in order. Where memory is
+    /// refused the hands come back.
     pub fn new(
         alloc: Global,
         mut hands: Vec<Hand<B>>,
     ) -> Result<Bench<B>, AllocFailed<Vec<Hand<B>>>>
-        requires { vec_len hands ≤ MAX_HANDS }
+        requires { vec_len hands ≤ most_hands }
         ensures places { IfOk result (λ bench. bench ≡ map place_of hands.items) }
         ensures hands { IfErr result (λ failed. failed.value.items ≡ hands.items) }
     {
@@ -68,13 +67,27 @@ impl<B: Worker> Bench<B> {
         Some(Seated { number, worker })
     }
 
-    /// Puts a worker back at its place, which it was taken from: it is idle there again.
+    /// Puts a worker back at its place, which it was taken from: it is idle there again, or dropped
+    /// where its class was retired meanwhile.
     pub fn give(&mut self, seat: Seated<B>)
         requires { IsAwayAt seat.number (B.kind_of seat.worker) self.old }
-        ensures { self.new ≡ changed_at (made_idle seat.worker) seat.number self.old }
+        ensures { self.new ≡ changed_at (made_back B.kind_of seat.worker) seat.number self.old }
     {
         let Seated { number, worker } = seat;
         give_at(&mut self.places, number as usize, worker);
+    }
+
+    /// Retires a class: its instances that are idle are dropped, and those that are out when they
+    /// come back. How many were dropped. It takes no memory.
+    pub fn retire(&mut self, class: &str) -> u32
+        ensures count { result ≡ count_by (is_idle_of class.now) self.old }
+        ensures places { self.new ≡ map (retired_at B.kind_of class.now) self.old }
+
+        // Those that are out can still be given back.
+        ensures away { (number : ℕ) (kind : Kind)
+            → IsAwayAt number kind self.old → IsAwayAt number kind self.new }
+    {
+        retire_each(&mut self.places, class)
     }
 
     /// The instances that are on the bench, in order of their numbers.

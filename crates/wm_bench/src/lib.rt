@@ -12,7 +12,7 @@ pub mod hand;
 pub mod place;
 pub mod seat;
 
-pub use bench::{Bench, MAX_HANDS};
+pub use bench::Bench;
 pub use hand::Hand;
 pub use place::{Place, Presence};
 pub use seat::Seated;

@@ -1,17 +1,20 @@
 -- The workers that a run is given, as instances and at their places.
-use Rattle.std.proofs.Common.{◌≡◌, ℕ, ◌+◌, false, not, List, [], ◌∷◌, ◌++◌, length, map, refl, sym, ◌∙◌, ap, arith}
+use Rattle.std.proofs.Common.{◌≡◌, ℕ, ◌+◌, ◌≤◌, false, not, List, [], ◌∷◌, ◌++◌, length, map, refl, sym, ◌∙◌, ap, subst, arith, suc}
 use Rattle.std.specs.List.{AllByRecursion, filter}
-use Rattle.wm_bench.specs.Places.{place_of, idle_hands}
+use Rattle.wm_bench.specs.Places.{most_hands, place_of, idle_hands}
 use Rattle.wm_bench.specs.declared.hand.Hand.{Hand}
 use Rattle.wm_machine.specs.Valid.{AreNumberedInOrder}
-use Rattle.wm_machine.specs.Opened.{opening_state}
+use Rattle.wm_machine.specs.Opened.{AreFresh, IsFresh, opening_state}
+use Rattle.wm_machine.specs.declared.event.Event.{Event}
 use Rattle.wm_machine.specs.declared.state.Instance.{Instance}
 use Rattle.wm_machine.specs.declared.state.State.{State}
 use Rattle.wm_worker.specs.declared.kind.Kind.{Kind}
-use Rattle.wm_session.specs.Bench.{hand_diaries, hand_traits, instance_traits, place_diaries, place_traits}
-use Rattle.wm_session.specs.Ended.{AreHandsBack}
+use Rattle.wm_session.proofs.BoxLemmas.{boxes-given}
+use Rattle.wm_session.proofs.HandLemmas.{EachBack-all, NoneAway-hands}
+use Rattle.wm_session.specs.Bench.{hand_traits, instance_traits, place_traits}
+use Rattle.wm_session.specs.Boxes.{EachBack, IsBoxAfter}
+use Rattle.wm_session.specs.Ended.{AreBoxesBack, AreHandsBack, kept_numbers}
 use Rattle.wm_session.specs.Hands.{instance_of, instances_from}
-use Rattle.wm_table.specs.Table.{AreFresh, IsFresh}
 use Rattle.wm_worker.specs.declared.answer.Entry.{Entry}
 use Rattle.std.proofs.Common.{Option}
 
@@ -32,9 +35,17 @@ module _ {B : Type 0} (kind_of : B → Kind) where
   fresh number [] = tt
   fresh number (hand ∷ hands) = (record { out = refl; retired = refl }, fresh (number + 1) hands)
 
+  as_many : (number : ℕ) (hands : List (Hand B)) → length (instances_from kind_of number hands) ≡ length hands
+  as_many number [] = refl
+  as_many number (hand ∷ hands) = ap (λ n. suc n) (as_many (number + 1) hands)
+
   -- workers are fresh instances
-  pub AreFresh-instances_from : (hands : List (Hand B)) → AreFresh (instances_from kind_of 0 hands)
-  AreFresh-instances_from hands = record { in_order = in_order 0 hands; all = fresh 0 hands }
+  pub AreFresh-instances_from : (hands : List (Hand B)) → length hands ≤ most_hands → AreFresh (instances_from kind_of 0 hands)
+  AreFresh-instances_from hands few = record {
+    few = subst (λ n. n ≤ most_hands) (sym (as_many 0 hands)) few;
+    in_order = in_order 0 hands;
+    all = fresh 0 hands;
+  }
 
   -- none of them is out
   pub all_in : (number : ℕ) (hands : List (Hand B)) → AllByRecursion (λ (instance : Instance). instance.out ≡ false) (instances_from kind_of number hands)
@@ -66,7 +77,11 @@ pub idle_hands-places : {B : Type 0} (hands : List (Hand B)) → idle_hands (map
 idle_hands-places [] = refl
 idle_hands-places (hand ∷ hands) = ap (λ rest. hand ∷ rest) (idle_hands-places hands)
 
-pub place_diaries-places : {B : Type 0} (diary_of : B → Option (List Entry)) (hands : List (Hand B))
-    → place_diaries diary_of (map place_of hands) ≡ hand_diaries diary_of hands
-place_diaries-places diary_of [] = refl
-place_diaries-places diary_of (hand ∷ hands) = ap (λ rest. diary_of hand.worker ∷ rest) (place_diaries-places diary_of hands)
+-- where nothing has happened since an empty store was opened, each that comes back is the one that was given
+pub AreBoxesBack-opened : {B : Type 0} (kind_of : B → Kind) (diary_of : B → Option (List Entry)) (log : List Event) (last : State) (hands back : List (Hand B))
+    → last ≡ opening_state [] (instances_from kind_of 0 hands) → back ≡ hands → AreBoxesBack diary_of hands log last back
+AreBoxesBack-opened kind_of diary_of log last hands back is same =
+    let numbered = subst (λ (s : State). AreNumberedInOrder 0 s.instances) (sym is) (in_order kind_of 0 hands) in
+    let traits = traits-places kind_of 0 hands ∙ ap (λ (s : State). map instance_traits s.instances) (sym is) in
+    subst (EachBack (IsBoxAfter diary_of log) hands (kept_numbers last)) (idle_hands-places hands ∙ sym same)
+    (EachBack-all (IsBoxAfter diary_of log) hands kind_of (map place_of hands) last numbered (NoneAway-hands hands) traits (boxes-given diary_of log hands))

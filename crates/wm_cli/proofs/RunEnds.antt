@@ -1,10 +1,10 @@
 -- What a run hands back, from what the calls below it handed back.
-use Rattle.std.proofs.Common.{◌≡◌, ℕ, Bool, true, false, List, [], ◌∷◌, Option, map, Some, None, option_map, IfSome, Vec, Global, Err, refl, sym, ◌∙◌, ap, subst, inl, inr}
+use Rattle.std.proofs.Common.{◌≡◌, ℕ, Bool, true, false, List, [], ◌∷◌, Option, map, Some, None, option_map, IfSome, Vec, Global, Err, refl, sym, ◌∙◌, ap, subst, inl, inr, ◌≤◌, length}
 use Rattle.std.specs.List.{AllByRecursion}
-use Rattle.wm_bench.specs.Places.{place_of}
+use Rattle.wm_bench.specs.Places.{most_hands, idle_hands, place_of}
 use Rattle.wm_bench.specs.declared.hand.Hand.{Hand}
 use Rattle.wm_cli.proofs.RunsWithoutEvents.{HasCommands-nothing, IsTextWritten-nothing}
-use Rattle.wm_cli.proofs.Hands.{AreFresh-instances_from, AreHandsBack-opened, place_diaries-places}
+use Rattle.wm_cli.proofs.Hands.{AreBoxesBack-opened, AreFresh-instances_from, AreHandsBack-opened, idle_hands-places}
 use Rattle.wm_cli.proofs.Opening.{BeginsSerial-nothing, IsSerialRun-early, IsSerialRun-unopened}
 use Rattle.wm_cli.specs.Benched.{HasJustBegun}
 use Rattle.wm_cli.specs.Causes.{BeginsAt, IsOpeningStatus, IsUnlessMemory, StoreCause}
@@ -20,9 +20,8 @@ use Rattle.wm_machine.specs.Outcome.{IsBuilt}
 use Rattle.wm_machine.specs.Opened.{opening_state}
 use Rattle.wm_machine.specs.Replay.{Replay}
 use Rattle.wm_machine.specs.Rows.{rows_of}
-use Rattle.wm_session.specs.Bench.{place_diaries}
 use Rattle.wm_session.specs.Causes.{status_by_begin, status_by_keeper}
-use Rattle.wm_session.specs.Ended.{HaveTold, IsSerialEnd, IsSessionStatus, IsUnbegun}
+use Rattle.wm_session.specs.Ended.{IsSerialEnd, IsSessionStatus, IsUnbegun}
 use Rattle.wm_session.specs.Inputs.{inputs_of}
 use Rattle.wm_session.specs.Hands.{instances_from}
 use Rattle.wm_session.specs.Tells.{Tells}
@@ -33,7 +32,6 @@ use Rattle.wm_table.specs.Table.{BeginCause}
 use Rattle.wm_table.specs.TableState.{TableState}
 use Rattle.wm_table.specs.declared.table.BeginFault.{BeginFault}
 use Rattle.wm_table.specs.declared.table.BeginFault.TheVariants as begin
-use Rattle.wm_worker.specs.declared.answer.Entry.{Entry}
 
 -- ---- a run that ended at once
 
@@ -41,15 +39,17 @@ other_status : (ended other : Status) → ended ≡ status.Memory → (status.Me
 other_status ended other is differs same = differs (sym is ∙ same)
 
 -- where an empty store was opened with these workers, a run that ended for want of memory is a serial session that is over
-pub IsSerialEnd-at_once : {K W B : Type 0} (tells : Tells K W B) (commands : List Command) (hands : List (Hand B)) (had : List (Option (List Entry)))
-    (table : TableState K) (sink : W) (back : Vec (Hand B) Global) (ended : Ended K W B)
+pub IsSerialEnd-at_once : {K W B : Type 0} (tells : Tells K W B) (commands : List Command) (hands : List (Hand B)) (table : TableState K)
+    (sink : W) (back : Vec (Hand B) Global) (ended : Ended K W B)
     → IsEndedAtOnce table sink back ended → HasJustBegun tells.held table → AllByRecursion IsBuilt commands
-    → table.first ≡ opening_state [] (instances_from tells.kind_of 0 hands) → back.items ≡ hands
-    → IsSerialEnd tells (inputs_of tells table commands sink) had ended
-IsSerialEnd-at_once tells commands hands had table sink back ended at begun built opened same =
+    → length hands ≤ most_hands → table.first ≡ opening_state [] (instances_from tells.kind_of 0 hands) → back.items ≡ hands
+    → IsSerialEnd tells (inputs_of tells table commands sink) hands ended
+IsSerialEnd-at_once tells commands hands table sink back ended at begun built few opened same =
     let instances = instances_from tells.kind_of 0 hands in
     let first : ended.first ≡ opening_state [] instances = at.first ∙ opened in
     let none : ended.log ≡ [] = at.log ∙ begun.log in
+    let last : ended.last ≡ opening_state [] instances = at.last ∙ begun.state ∙ opened in
+    let back_are : ended.hands.items ≡ hands = ap (λ v. v.items) at.hands_are ∙ same in
     let early : ended.status ≡ status.Done → ⊥ = other_status ended.status status.Done at.status_is (λ clash. absurd (cc)) in
     record {
       session = record {
@@ -66,11 +66,11 @@ IsSerialEnd-at_once tells commands hands had table sink back ended at begun buil
         sink_fault = λ is. absurd (other_status ended.status status.SinkFault at.status_is (λ clash. absurd (cc)) is);
       };
       quiet = λ done. absurd (early done);
-      hands = AreHandsBack-opened tells.kind_of ended.last hands ended.hands.items
-          (at.last ∙ begun.state ∙ opened) (ap (λ v. v.items) at.hands_are ∙ same);
+      hands = AreHandsBack-opened tells.kind_of ended.last hands ended.hands.items last back_are;
+      boxes = AreBoxesBack-opened tells.kind_of tells.diary_of ended.log ended.last hands ended.hands.items last back_are;
       diaries = λ done. absurd (early done);
       serial = IsSerialRun-early commands ended.status ended.first ended.log ended.last early
-          (BeginsSerial-nothing commands instances ended.first ended.log built (AreFresh-instances_from tells.kind_of hands) first none);
+          (BeginsSerial-nothing commands instances ended.first ended.log built (AreFresh-instances_from tells.kind_of hands few) first none);
     }
 
 -- ---- a run whose table was begun
@@ -108,13 +108,14 @@ session_store (status.BadStore seq bad_row) held session = absurd session
 -- a serial session that is over ends its run, whose store was empty
 pub IsRunEnd-begun : {K W B : Type 0} (tells : Tells K W B) (commands : List Command) (hands : List (Hand B)) (keeper : K) (sink : W)
     (table : TableState K) (ended : Ended K W B)
-    → IsSerialEnd tells (inputs_of tells table commands sink) (place_diaries tells.diary_of (map place_of hands)) ended
+    → IsSerialEnd tells (inputs_of tells table commands sink) (idle_hands (map place_of hands)) ended
     → table.first ≡ opening_state [] (instances_from tells.kind_of 0 hands)
     → IsOpenedFrom (tells.held keeper) (instances_from tells.kind_of 0 hands) table.first → tells.held table.keeper ≡ tells.held keeper
     → tells.keeper_faults table.keeper ≡ tells.keeper_faults keeper
     → ((row : Row) (rest : List Row) → tells.held keeper ≡ Some (row ∷ rest) → ⊥)
     → IsRunEnd tells commands hands keeper sink ended
-IsRunEnd-begun tells commands hands keeper sink table ended over first opened held faults empty =
+IsRunEnd-begun tells commands hands keeper sink table ended by_places first opened held faults empty =
+    let over = rw (idle_hands-places hands) at by_places in
     let session = over.session in
     let instances = instances_from tells.kind_of 0 hands in
     let replayed : HasReplayed (tells.held keeper) instances ended.first ended.log ended.last = record {
@@ -132,8 +133,8 @@ IsRunEnd-begun tells commands hands keeper sink table ended over first opened he
       bytes = session.bytes;
       end = over.quiet;
       hands_back = subst (λ began. AreHandsOf tells.kind_of began ended.last hands ended.hands.items) (sym session.began) over.hands;
-      diaries = λ done. subst (λ had. HaveTold tells.diary_of had ended.first ended.log ended.hands.items)
-          (place_diaries-places tells.diary_of hands) (over.diaries done);
+      boxes = λ began. over.boxes;
+      diaries = over.diaries;
       serial = over.serial;
       opened = session_opening ended.status session.status_is;
       keeper_fault = λ is. subst (λ n. Failed n (tells.keeper_faults ended.keeper)) faults (session.keeper_fault is);
@@ -236,6 +237,7 @@ IsRunEnd-unbegun tells commands why hands keeper now sink ended unbegun built sa
       end = λ done. absurd (is.early done);
       hands_back = subst (λ began. AreHandsOf tells.kind_of began ended.last hands.items ended.hands.items) (sym unbegun.began)
           (ap (λ v. v.items) unbegun.hands_are);
+      boxes = λ began. let clash : true ≡ false = sym began ∙ unbegun.began in absurd (cc);
       diaries = λ done. absurd (is.early done);
       serial = IsSerialRun-unopened commands ended.status ended.first ended.log ended.last built is.early unbegun.first unbegun.log;
       opened = is.opened;

@@ -14,8 +14,7 @@ use Rattle.wm_machine.specs.declared.command.Command.{Command}
 use Rattle.wm_machine.specs.declared.event.Event.{Event}
 use Rattle.wm_machine.specs.declared.state.Instance.{Instance}
 use Rattle.wm_machine.specs.declared.state.State.{State}
-use Rattle.wm_session.specs.Bench.{hand_diaries}
-use Rattle.wm_session.specs.Ended.{AreHandsBack, HasCommands, HaveTold, IsSerialRun, IsTextWritten}
+use Rattle.wm_session.specs.Ended.{AreBoxesBack, AreHandsBack, HasCommands, HaveTold, IsSerialRun, IsTextWritten}
 use Rattle.wm_session.specs.Hands.{instances_from}
 use Rattle.wm_session.specs.Tells.{Tells}
 use Rattle.wm_session.specs.declared.ended.Ended.{Ended}
@@ -87,9 +86,14 @@ IsQuietOnDone ended last = ended ≡ status.Done → IsQuiet last
 abbrev pub AreHandsOf : {B : Type 0} → (B → Kind) → Bool → State → List (Hand B) → List (Hand B) → Type 0
 AreHandsOf kind_of began last hands back = MatchBool began (AreHandsBack kind_of last back) (back ≡ hands)
 
--- on `Done` each worker that tells a diary has written down its part of the log, after what it had written down before
-abbrev pub HaveToldOnDone : {B : Type 0} → (B → Option (List Entry)) → Status → List (Hand B) → State → List Event → List (Hand B) → Type 0
-HaveToldOnDone diary_of ended hands first log back = ended ≡ status.Done → HaveTold diary_of (hand_diaries diary_of hands) first log back
+-- where the table was begun, each worker that comes back is the very one that was given under its number, or, where a run started on it, its
+-- diary begins with what that one's was
+abbrev pub AreBoxesOf : {B : Type 0} → (B → Option (List Entry)) → Bool → List (Hand B) → List Event → State → List (Hand B) → Type 0
+AreBoxesOf diary_of began hands log last back = began ≡ true → AreBoxesBack diary_of hands log last back
+
+-- on `Done` each worker that comes back and tells a diary has written down its part of the log, after what it had written down before
+abbrev pub HaveToldOnDone : {B : Type 0} → (B → Option (List Entry)) → Status → List (Hand B) → State → List Event → State → List (Hand B) → Type 0
+HaveToldOnDone diary_of ended hands first log last back = ended ≡ status.Done → HaveTold diary_of hands first log last back
 
 -- ---- what is handed back
 
@@ -117,7 +121,8 @@ pub record IsRunEnd {K W B : Type 0} (tells : Tells K W B) (commands : List Comm
   pub bytes : IsTextWritten (tells.given sink) (tells.given ended.sink) ended.status ended.first ended.log
   pub end : IsQuietOnDone ended.status ended.last
   pub hands_back : AreHandsOf tells.kind_of ended.began ended.last hands ended.hands.items
-  pub diaries : HaveToldOnDone tells.diary_of ended.status hands ended.first ended.log ended.hands.items
+  pub boxes : AreBoxesOf tells.diary_of ended.began hands ended.log ended.last ended.hands.items
+  pub diaries : HaveToldOnDone tells.diary_of ended.status hands ended.first ended.log ended.last ended.hands.items
   pub serial : IsSerialRun commands ended.status ended.first ended.log ended.last
   pub opened : IsOpeningStatus ended.status
   pub keeper_fault : ended.status ≡ status.KeeperFault → Failed (tells.keeper_faults keeper) (tells.keeper_faults ended.keeper)

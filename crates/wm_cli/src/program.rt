@@ -1,10 +1,9 @@
 ghost use Rattle.std.specs.Prelude.{◌≡◌, ◌↔◌, ◌+◌, ◌≤◌, ◌<◌, ◌^◌, [], ◌∷◌, List, length, map, vec_len, true, false, None, Some, IfOk, IfErr, IsSome, OnOk, string_bytes};
 ghost use Rattle.std.specs.List.{AllByRecursion};
-ghost use Rattle.wm_bench.specs.Places.{place_of};
-ghost use Rattle.wm_bench.specs.declared.bench.TheConstants.{MAX_HANDS};
+ghost use Rattle.wm_bench.specs.Places.{idle_hands, most_hands, place_of};
 ghost use Rattle.wm_cli.specs.Benched.{AreBenched, HasJustBegun};
 ghost use Rattle.wm_cli.specs.Causes.{IsToldTooLong, IsToldWithin, IsUnlessMemory, LimitCause, StoreCause};
-ghost use Rattle.wm_cli.specs.Ended.{AreHandsOf, AreRowsKept, HasCommandsOf, HaveToldOnDone, IsBegunBy, IsEndedAtOnce, IsQuietOnDone, IsReplayed, IsRunEnd, IsSerialOver};
+ghost use Rattle.wm_cli.specs.Ended.{AreBoxesOf, AreHandsOf, AreRowsKept, HasCommandsOf, HaveToldOnDone, IsBegunBy, IsEndedAtOnce, IsQuietOnDone, IsReplayed, IsRunEnd, IsSerialOver};
 ghost use Rattle.wm_cli.specs.Reading.{AreCommandsOf, IsReadStatus};
 ghost use Rattle.wm_cli.specs.Script.{IsTakenWithin};
 ghost use Rattle.wm_cli.specs.Words.{options_of};
@@ -12,9 +11,8 @@ ghost use Rattle.wm_faults.specs.Faults.{Failed};
 ghost use Rattle.wm_keeper.specs.declared.row.Row.{Row};
 ghost use Rattle.wm_machine.specs.Outcome.{IsBuilt};
 ghost use Rattle.wm_machine.specs.Opened.{opening_state};
+ghost use Rattle.wm_script.specs.Limits.{most_script_bytes};
 ghost use Rattle.wm_script.specs.declared.limits.Limit.{Limit};
-ghost use Rattle.wm_script.specs.declared.limits.TheConstants.{MAX_SCRIPT_BYTES};
-ghost use Rattle.wm_session.specs.Bench.{place_diaries};
 ghost use Rattle.wm_session.specs.Inputs.{inputs_of};
 ghost use Rattle.wm_session.specs.Ended.{IsSerialEnd, IsTextWritten};
 ghost use Rattle.wm_session.specs.Hands.{instances_from};
@@ -42,7 +40,7 @@ fn read_commands<S: Source>(alloc: Global, source: &mut S) -> Result<Items<Comma
     ensures built { IfOk result (AllByRecursion IsBuilt) }
     ensures few { IfOk result (λ commands. length commands < 2 ^ 32) }
     ensures no_fault { OnOk result (S.faults source.new ≡ S.faults source.old) }
-    ensures reads { IsTakenWithin (MAX_SCRIPT_BYTES + 1) (S.left source.old) (S.left source.new) }
+    ensures reads { IsTakenWithin (most_script_bytes + 1) (S.left source.old) (S.left source.new) }
     ensures status { IfErr result (λ status. IsReadStatus status
         (S.faults source.old) (S.faults source.new) (S.left source.old)) }
 {
@@ -67,7 +65,7 @@ fn run_commands<W: Sink, K: Keeper, B: Worker>(
     sink: W,
     mut keeper: K,
 ) -> Ended<K, W, B>
-    requires few_hands { vec_len hands ≤ MAX_HANDS }
+    requires few_hands { vec_len hands ≤ most_hands }
     requires built { AllByRecursion IsBuilt commands }
     requires few { length commands < 2 ^ 32 }
     ensures { IsRunEnd (tells_of K.held K.faults W.given W.faults B.kind_of B.diary_of)
@@ -99,14 +97,14 @@ fn run_begun<W: Sink, K: Keeper, B: Worker>(
     hands: Vec<Hand<B>>,
     sink: W,
 ) -> Ended<K, W, B>
-    requires few_hands { vec_len hands ≤ MAX_HANDS }
+    requires few_hands { vec_len hands ≤ most_hands }
     requires built { AllByRecursion IsBuilt commands }
     requires few { length commands < 2 ^ 32 }
     requires first { table.first ≡ opening_state [] (instances_from B.kind_of 0 hands.items) }
     requires begun { HasJustBegun K.held table }
     ensures { let tells = tells_of K.held K.faults W.given W.faults B.kind_of B.diary_of in
         IsSerialEnd tells (inputs_of tells table commands sink)
-        (place_diaries B.diary_of (map place_of hands.items)) result }
+        (idle_hands (map place_of hands.items)) result }
 {
     match Bench::new(alloc, hands) {
         Ok(bench) => run_marked::<W, K, B, Brand>(alloc, table, bench, commands, sink),
@@ -132,7 +130,7 @@ fn run_marked<W: Sink, K: Keeper, B: Worker, M: Mark>(
     requires few { length commands < 2 ^ 32 }
     requires begun { HasJustBegun K.held table }
     ensures { IsSerialEnd (tells_of K.held K.faults W.given W.faults B.kind_of B.diary_of)
-        M.inputs (place_diaries B.diary_of bench) result }
+        M.inputs (idle_hands bench) result }
 {
     match Book::<K, W, B, M>::new(alloc, table, bench, commands, sink) {
         Ok(book) => run_serial(alloc, book),
@@ -185,7 +183,7 @@ pub fn run<S: Source, W: Sink + Send, K: Keeper + Send, B: Worker>(
     sink: W,
     keeper: K,
 ) -> Ended<K, W, B>
-    requires few_hands { vec_len hands ≤ MAX_HANDS }
+    requires few_hands { vec_len hands ≤ most_hands }
 
     // The log replays, from the state that the rows held opened to, as the state machine.
     ensures replay { IsReplayed (K.held keeper) (instances_from B.kind_of 0 hands.items)
@@ -204,16 +202,19 @@ pub fn run<S: Source, W: Sink + Send, K: Keeper + Send, B: Worker>(
         result.status result.first result.log }
     // On `Done` nothing is startable and no run is unreturned.
     ensures end { IsQuietOnDone result.status result.last }
-    // The workers come back, with what they wrote down.
+    // The workers whose class wasn't retired come back, each of them that was given, with what it
+    // wrote down.
     ensures hands { AreHandsOf B.kind_of result.began result.last hands.items result.hands.items }
+    ensures boxes { AreBoxesOf B.diary_of result.began hands.items
+        result.log result.last result.hands.items }
     ensures diaries { HaveToldOnDone B.diary_of result.status hands.items
-        result.first result.log result.hands.items }
+        result.first result.log result.last result.hands.items }
     // The log is that of a serial run over the script's commands, or a front of one.
     ensures serial { IsSerialOver (S.left source.old) result.status
         result.first result.log result.last }
 
     // At most one byte more than a script may have is read.
-    ensures reads { IsTakenWithin (MAX_SCRIPT_BYTES + 1) (S.left source.old) (S.left source.new) }
+    ensures reads { IsTakenWithin (most_script_bytes + 1) (S.left source.old) (S.left source.new) }
 
     // The causes: when each status comes. Memory alone is free.
     ensures done { result.status ≡ Status.Done → result.began ≡ true }

@@ -1,6 +1,6 @@
-ghost use Rattle.std.specs.Prelude.{◌≡◌, ◌+◌, ◌++◌, ◌<◌, ◌≤◌, length, option_map, IfOk, OnOk};
+ghost use Rattle.std.specs.Prelude.{◌≡◌, ◌+◌, ◌<◌, ◌≤◌, length, IfOk};
 ghost use Rattle.wm_cli.specs.Script.{IsPieceOf, IsReadFrom, IsTakenWithin, ReadCause};
-ghost use Rattle.wm_script.specs.declared.limits.TheConstants.{MAX_SCRIPT_BYTES};
+ghost use Rattle.wm_script.specs.Limits.{most_script_bytes};
 
 use std::alloc::{AllocError, Global};
 use wm_io::{Got, Source};
@@ -32,8 +32,8 @@ impl From<AllocError> for ReadFault {
 pub fn read_script<S: Source>(alloc: Global, source: &mut S) -> Result<Vec<u8>, ReadFault>
     ensures bytes { IfOk result
         (λ script. IsReadFrom (S.left source.old) (S.left source.new) script.items) }
-    ensures reads { IsTakenWithin (MAX_SCRIPT_BYTES + 1) (S.left source.old) (S.left source.new) }
-    ensures within { IfOk result (λ script. length script.items ≤ MAX_SCRIPT_BYTES + 1) }
+    ensures reads { IsTakenWithin (most_script_bytes + 1) (S.left source.old) (S.left source.new) }
+    ensures within { IfOk result (λ script. length script.items ≤ most_script_bytes + 1) }
     ensures cause { ReadCause result (S.faults source.old) (S.faults source.new) }
 {
     let mut script = Vec::new(alloc);

@@ -1,13 +1,14 @@
 -- What holds of each element of a list, of each and each later one, or of one of them, and what a change of the list makes of it. A fact of
 -- elements that a call can't tell from its other arguments is written `_` there.
-use Rattle.std.proofs.Common.{◌≡◌, ◌⊎◌, ℕ, ◌+◌, ◌<◌, ◌≤◌, cond, Bool, true, false, ◌||◌, List, [], ◌∷◌, ◌++◌, map, filter, filter_map, find, take, drop, reverse, length, Option, Some, None, option_map, Contains, refl, sym, ◌∙◌, ap, subst, inl, inr, arith, suc}
+use Rattle.std.proofs.Common.{◌≡◌, ◌⊎◌, ℕ, ◌+◌, ◌<◌, ◌≤◌, cond, Bool, true, false, ◌&&◌, ◌||◌, List, [], ◌∷◌, ◌++◌, map, filter, filter_map, find, take, drop, reverse, length, Option, Some, None, option_map, Contains, refl, sym, ◌∙◌, ap, subst, inl, inr, arith, suc}
 use Rattle.std.specs.List.{AllByRecursion, list_all, list_any}
 use Rattle.std.specs.Prelude.{count_by}
+use Rattle.std.proofs.Math.Bool.{and-false, and-true}
 use Rattle.std.proofs.lemmas.Bool.{and_from, and_parts, cond_both, false≢true, or_cases, or_left, or_parts, or_right}
 use Rattle.std.proofs.lemmas.List.{append-nil, drop_all, length-map, map-append, reverse-append, take_all}
 use Rattle.std.proofs.lemmas.List.Folds.{list_any-append}
 use Rattle.std.proofs.lemmas.List.Sums.{count_by-le-length, length-filter, sum_by-append, sum_by-cons}
-use Rattle.wm_collections.specs.Lists.{AllLater, HasOne}
+use Rattle.wm_collections.specs.Lists.{last_of, AllLater, HasOne}
 
 -- ---- each
 
@@ -252,6 +253,14 @@ HasOne-filter {P = P} test (x ∷ xs) passes all (inr one) =
     let rest = HasOne-filter test xs passes all.1 one in
     cond_both (test x) (x ∷ filter test xs) (filter test xs) (HasOne P) (λ e. inr rest) (λ e. rest)
 
+-- ---- the last
+
+-- an element that was put behind the others
+pub last_of-push : {T : Type 0} (xs : List T) (x : T) → last_of (xs ++ x ∷ []) ≡ Some x
+last_of-push [] x = refl
+last_of-push (y ∷ []) x = refl
+last_of-push (y ∷ z ∷ xs) x = last_of-push (z ∷ xs) x
+
 -- ---- whether any passes
 
 pub list_any-false : {T : Type 0} (test : T → Bool) (xs : List T) → AllByRecursion (λ x. test x ≡ false) xs → list_any test xs ≡ false
@@ -309,6 +318,16 @@ list_any-filter {T} test keep (x ∷ xs) all =
     let rest = list_any-filter test keep xs all.1 in
     cond_both (keep x) (x ∷ filter keep xs) (filter keep xs) (λ (l : List T). list_any test l ≡ (test x || list_any test xs)) (λ e. ap (λ b. test x || b) rest)
     (λ e. rw (all.0 e) rest)
+
+-- one passes among those that are kept
+pub list_any-kept : {T : Type 0} (test keep : T → Bool) (xs : List T) → list_any test (filter keep xs) ≡ list_any (λ x. test x && keep x) xs
+list_any-kept test keep [] = refl
+list_any-kept {T} test keep (x ∷ xs) =
+    let rest = list_any-kept test keep xs in
+    let here : Bool → Bool = λ b. b || list_any (λ y. test y && keep y) xs in
+    cond_both (keep x) (x ∷ filter keep xs) (filter keep xs) (λ (l : List T). list_any test l ≡ here (test x && keep x))
+    (λ e. ap (λ b. test x || b) rest ∙ sym (ap here (ap (λ b. test x && b) e ∙ and-true (test x))))
+    (λ e. rest ∙ sym (ap here (ap (λ b. test x && b) e ∙ and-false (test x))))
 
 pub or_swap : (a b : Bool) → (a || (b || false)) ≡ (b || a)
 or_swap true true = refl

@@ -1,5 +1,5 @@
--- What holds of each element of a list and of those after it, or of one of them.
-use Rattle.std.specs.Prelude.{◌≡◌, ◌⊎◌, ℕ, ◌==◌, Bool, List, [], ◌∷◌}
+-- What holds of each element of a list and of those after it, or of one of them, and which is the last.
+use Rattle.std.specs.Prelude.{◌≡◌, ◌⊎◌, ℕ, ◌==◌, Bool, List, [], ◌∷◌, Option, Some, None}
 use Rattle.std.specs.Cmp.Lexicographic.{slice_cmp}
 use Rattle.std.specs.List.{AllByRecursion, list_any}
 use Rattle.std.specs.Ordering.{nat_cmp}
@@ -14,6 +14,12 @@ AllLater R (x ∷ xs) = AllByRecursion (R x) xs × AllLater R xs
 abbrev pub HasOne : {T : Type 0} → (T → Type 0) → List T → Type 0
 HasOne P [] = ⊥
 HasOne P (x ∷ xs) = P x ⊎ HasOne P xs
+
+-- the last element, where there is one
+abbrev pub last_of : {T : Type 0} → List T → Option T
+last_of [] = None
+last_of (x ∷ []) = Some x
+last_of (x ∷ y ∷ xs) = last_of (y ∷ xs)
 
 -- whether a number is one of these
 abbrev pub is_among : List ℕ → ℕ → Bool

@@ -1,8 +1,7 @@
-ghost use Rattle.std.specs.Prelude.{◌≡◌, ◌==◌, ◌<◌, List, [], ◌∷◌, ◌++◌, length, take, remove, slice_get, slice_set, Some, IfErr, OnOk, OnErr};
+ghost use Rattle.std.specs.Prelude.{◌≡◌, ◌==◌, List, [], ◌∷◌, ◌++◌, length, IfErr, OnOk, OnErr};
 
 use std::alloc::{AllocError, AllocFailed, Global};
 use std::marker::Model;
-use std::mem;
 
 /// A list of values. A contract sees it as the list of its elements.
 #[derive(Debug, Drop)]
@@ -84,32 +83,5 @@ impl<T> Items<T> {
         ensures value_returned { IfErr result (λ failed. failed.value ≡ value) }
     {
         self.elements.push(value)
-    }
-
-    /// Puts a value in the place of the one at an index, which it hands back.
-    pub fn replace(&mut self, index: usize, value: T) -> T
-        requires { index < length self.old }
-        ensures elements { self.new ≡ slice_set self.old index value }
-        ensures replaced { slice_get self.old index ≡ Some result }
-    {
-        mem::replace(&mut self.elements[index], value)
-    }
-
-    /// Takes the value at an index out.
-    pub fn remove(&mut self, index: usize) -> T
-        requires { index < length self.old }
-        ensures elements { self.new ≡ remove self.old index }
-        ensures removed { slice_get self.old index ≡ Some result }
-    {
-        self.elements.remove(index)
-    }
-
-    /// Keeps the first `count` elements.
-    pub fn truncate(&mut self, count: usize)
-    where
-        T: Drop,
-        ensures { self.new ≡ take count self.old }
-    {
-        self.elements.truncate(count);
     }
 }

@@ -17,7 +17,7 @@ use Rattle.wm_machine.specs.Closed.{closed}
 use Rattle.wm_machine.specs.Group.{numbers_in}
 use Rattle.wm_machine.specs.Limits.{FitsRow}
 use Rattle.wm_machine.specs.Step.{Legal, after}
-use Rattle.wm_machine.specs.Valid.{IsBefore, IsRecord, Valid}
+use Rattle.wm_machine.specs.Valid.{IsBefore, Valid}
 use Rattle.wm_machine.specs.declared.event.Event.{Event}
 use Rattle.wm_machine.specs.declared.record.Record.{Record}
 use Rattle.wm_machine.specs.declared.state.State.{State}

@@ -1,14 +1,16 @@
 -- Works that are cancelled one after another, and others that are let go then: what becomes of each record, and the change that makes it so.
-use Rattle.std.proofs.Common.{◌≡◌, ◌&&◌, ◌||◌, ℕ, Bool, true, false, not, cond, eqb, List, [], ◌∷◌, map, filter, Option, Some, None, refl, sym, ◌∙◌, ap, inl, inr}
+use Rattle.std.proofs.Common.{◌≡◌, ◌&&◌, ◌||◌, ℕ, ◌+◌, Bool, true, false, not, cond, eqb, List, [], ◌∷◌, length, map, filter, Option, Some, None, refl, sym, ◌∙◌, ap, arith}
 use Rattle.std.specs.List.{list_any}
 use Rattle.std.specs.Prelude.{reverse}
-use Rattle.std.proofs.lemmas.Bool.{and_parts, and_right, cases_Bool, cond_both, eq-eqb, eqb-false, eqb-true, ne_eqb, or_parts}
+use Rattle.std.proofs.lemmas.Bool.{and_parts, and_right, cond_both, or_parts}
 use Rattle.std.proofs.lemmas.Simd.{map-map}
 use Rattle.wm_collections.specs.Lists.{AllLater, is_among}
-use Rattle.wm_commands.specs.Cleared.{becomes_cancelled, cancelled_in, cleared, cleared_by, clearing_of, is_needed_then, is_removed, is_touched, phase_then, replaced_by_clearing, stays, with_cleared}
+use Rattle.wm_commands.specs.Cleared.{becomes_cancelled, cancelled_in, cancelling, cleared, cleared_by, clearing_of, is_needed_then, is_removed, is_touched, phase_then, pruning, replaced_by_clearing, stays, with_cleared}
 use Rattle.wm_commands.specs.declared.clearing.Clearing.{Clearing}
 use Rattle.wm_machine.proofs.Groups.{closed_by, each_closed-at_once}
-use Rattle.wm_collections.proofs.Lists.{All-any, All-weaker, filter-all, filter-same, list_any-agree, list_any_after, map-same}
+use Rattle.wm_collections.proofs.Lists.{All-any, All-weaker, filter-all, filter-none, filter-same, list_any-agree, list_any-false, list_any_after, map-same}
+use Rattle.wm_graph.specs.Descendants.{descendants}
+use Rattle.wm_graph.specs.Nodes.{NodeFields}
 use Rattle.wm_machine.proofs.Runnings.{WorksAscend-in_order}
 use Rattle.wm_machine.specs.Closed.{closed, is_open, is_reached, with_each_closed}
 use Rattle.wm_machine.specs.Group.{is_dropped, numbers_in, unnamed, with_let_go}
@@ -22,7 +24,7 @@ use Rattle.wm_steps.proofs.Nodes.{open_not_succeeded}
 use Rattle.wm_steps.proofs.ReachedNodes.{reached_any-test}
 use Rattle.wm_steps.proofs.Tests.{eqb-swap}
 use Rattle.wm_steps.specs.Nodes.{nodes_of, reached_from, KeepsNode}
-use Rattle.wm_steps.specs.Replacements.{or_same}
+use Rattle.wm_steps.specs.Replacements.{at_index, or_same, replacements}
 use Rattle.wm_steps.specs.StepChanges.{other_works, with_replaced, without}
 use Rattle.wm_unique.proofs.Numbered.{among_filter, filter_both}
 
@@ -34,7 +36,8 @@ pub any_reached : (seqs : List ℕ) (works : List Record) (work : Record)
 any_reached seqs works work = sym (reached_any-test seqs works work)
 
 -- so each is cancelled at once
-pub cancelled-each : (seqs : List ℕ) (works : List Record) → with_each_closed how.Cancelled seqs works ≡ map (cancelled_in (reached_from seqs (nodes_of works))) works
+pub cancelled-each : (seqs : List ℕ) (works : List Record)
+    → with_each_closed how.Cancelled seqs works ≡ map (cancelled_in (reached_from seqs (nodes_of works))) works
 cancelled-each seqs works =
     each_closed-at_once how.Cancelled seqs works ∙ map-same (closed_by how.Cancelled seqs works) (cancelled_in (reached_from seqs (nodes_of works))) works
     (All-any works (λ work. ap (λ b. cond b (closed how.Cancelled work) work) (any_reached seqs works work)))
@@ -99,6 +102,46 @@ pub stays-passing : (test : Record → Bool) (works : List Record) → AllLater 
 stays-passing test works order =
     filter-same (stays (numbers_in (filter test works))) (λ work. not (test work)) works
     (All-weaker works (λ work same. ap not same) (among_filter test works (WorksAscend-in_order works order)))
+
+-- ---- where nothing is cancelled and none let go
+
+-- no work reaches none
+descendants-none : (nodes : List NodeFields) → descendants [] nodes ≡ []
+descendants-none [] = refl
+descendants-none (node ∷ earlier) =
+    ap (λ found. cond (list_any (is_among found) node.before) (node.seq ∷ found) found) (descendants-none earlier)
+    ∙ ap (λ b. cond b (node.seq ∷ []) []) (list_any-false (is_among []) node.before (All-any node.before (λ number. refl)))
+
+pub reached-none : (works : List Record) → reached_from [] (nodes_of works) ≡ []
+reached-none works = ap reverse (descendants-none (reverse (nodes_of works)))
+
+-- then nothing becomes of the records
+pub clearing-none : (works : List Record) (cancel let_go : List ℕ) → length cancel ≡ 0 → length let_go ≡ 0 → clearing_of works cancel let_go ≡ cancelling []
+clearing-none works [] [] no_cancel no_let_go =
+    rw (reached-none works, filter-none (is_removed [] [] works) works (All-any works (λ work. refl))) refl
+clearing-none works (number ∷ cancel) let_go no_cancel no_let_go = absurd (omega (arith, no_cancel))
+clearing-none works [] (number ∷ let_go) no_cancel no_let_go = absurd (omega (arith, no_let_go))
+
+-- and none takes the place of another, whichever are removed
+pub none-replaced : (removed : List ℕ) (i : ℕ) (works : List Record) → replacements (cleared_by (pruning removed)) i works ≡ []
+none-replaced removed i [] = refl
+none-replaced removed i (work ∷ works) =
+    let change = cleared_by (pruning removed) in
+    let untouched : is_touched (pruning removed) work ≡ false = and_right (stays removed work) _ (and_right (is_open work.phase) false refl) in
+    ap (λ b. at_index i (cond b (Some (cleared (pruning removed) work)) None) (replacements change (i + 1) works)) untouched
+    ∙ none-replaced removed (i + 1) works
+
+-- as where none is cancelled and none loses its name
+none-cleared-of : (cancelled unnamed removed : List ℕ) (works : List Record) → length cancelled ≡ 0 → length unnamed ≡ 0
+    → replaced_by_clearing (record { cancelled = cancelled; unnamed = unnamed; removed = removed }) works ≡ []
+none-cleared-of [] [] removed works no_cancel no_unnamed = none-replaced removed 0 works
+none-cleared-of (number ∷ cancelled) unnamed removed works no_cancel no_unnamed = absurd (omega (arith, no_cancel))
+none-cleared-of [] (number ∷ unnamed) removed works no_cancel no_unnamed = absurd (omega (arith, no_unnamed))
+
+pub none-cleared : (clearing : Clearing) (works : List Record) → length clearing.cancelled ≡ 0 → length clearing.unnamed ≡ 0
+    → replaced_by_clearing clearing works ≡ []
+none-cleared clearing works no_cancel no_unnamed =
+    none-cleared-of clearing.cancelled clearing.unnamed clearing.removed works no_cancel no_unnamed
 
 -- ---- the records made ready
 

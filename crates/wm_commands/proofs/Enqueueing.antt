@@ -1,12 +1,12 @@
 -- The step of an enqueue whose batch is placed: works are cancelled before and others let go, and then its own works are placed.
-use Rattle.std.proofs.Common.{◌≡◌, ◌≢◌, ℕ, ◌<◌, ◌≤◌, pos, true, List, [], ◌∷◌, ◌++◌, length, map, Option, Some, None, refl, sym, ◌∙◌, ap, subst, arith, inl}
+use Rattle.std.proofs.Common.{◌≡◌, ◌≢◌, ℕ, ◌≤◌, pos, true, List, [], ◌∷◌, ◌++◌, length, map, Option, Some, None, refl, sym, ◌∙◌, ap, subst, arith, inl}
 use Rattle.std.specs.List.{AllByRecursion}
 use Rattle.std.proofs.lemmas.Int.{ints}
 use Rattle.wm_commands.proofs.CheckedBatches.{outcome-enqueued}
 use Rattle.wm_commands.proofs.ClearingSteps.{clearing-step, passing-stored}
 use Rattle.wm_commands.proofs.Clearings.{made_ready-cleared}
 use Rattle.wm_commands.proofs.Executions.{Answers-outcome}
-use Rattle.wm_commands.proofs.Placings.{as_many, narrow-idle, named-earlier, numbered, placed-with, seqs-new, there-cleared}
+use Rattle.wm_commands.proofs.Placings.{as_many, named-earlier, numbered, placed-with, seqs-new, there-cleared}
 use Rattle.wm_commands.specs.Builds.{ChangesRows, IsExecuted}
 use Rattle.wm_commands.specs.Cleared.{cleared_state, clearing_of, is_removed, replaced_by_clearing, with_cleared}
 use Rattle.wm_commands.specs.Placed.{name_in, placed_records, with_placed}
@@ -19,8 +19,8 @@ use Rattle.wm_machine.specs.declared.record.Record.{Record}
 use Rattle.wm_machine.specs.declared.state.State.{State}
 use Rattle.wm_machine.proofs.Steps.{Valid-after}
 use Rattle.wm_machine.specs.Enqueued.{enqueued, made_ready, placing_in}
-use Rattle.wm_machine.specs.Limits.{FitsRow}
-use Rattle.wm_machine.specs.Outcome.{outcome, IsBuilt}
+use Rattle.wm_machine.specs.Narrow.{IsReached}
+use Rattle.wm_machine.specs.Outcome.{outcome, IsBuilt, IsLegalLine}
 use Rattle.wm_machine.specs.Plan.{Placing}
 use Rattle.wm_machine.specs.Replied.{Outcome}
 use Rattle.wm_machine.specs.Rows.{row_of, rows_of}
@@ -47,9 +47,13 @@ not_empty (Some unique) batch asked = let some = asked.asked.batch.not_empty in 
 
 -- ---- the step
 
-module _ (s : State) (line : ℕ) (named : Option UniqueName) (batch : Batch) (by : Placing) (valid : Valid s) (no_run : s.runs ≡ [])
-    (built : IsBuilt (command.Enqueue named batch)) (places : enqueued s named batch.works ≡ placing_in (made_ready s by) (name_in named) by.after batch.works)
+module _ (s : State) (line : ℕ) (named : Option UniqueName) (batch : Batch) (by : Placing) (reached : IsReached s)
+    (can : IsLegalLine s (command.Enqueue named batch))
+    (places : enqueued s named batch.works ≡ placing_in (made_ready s by) (name_in named) by.after batch.works)
     (after_there : AllByRecursion (λ number. is_there s.works number ≡ true) by.after) where
+  valid : Valid s
+  valid = reached.valid
+
   abbrev clearing : Clearing
   clearing = clearing_of s.works by.cancel by.let_go
 
@@ -67,7 +71,7 @@ module _ (s : State) (line : ℕ) (named : Option UniqueName) (batch : Batch) (b
 
   outcome-is : outcome s (command.Enqueue named batch) ≡ Some (placing_in cleared_s (name_in named) by.after batch.works)
   outcome-is =
-      outcome-enqueued s named batch no_run
+      outcome-enqueued s named batch can.answered
       ∙ ap (λ (o : Outcome). Some o) (places ∙ ap (λ (t : State). placing_in t (name_in named) by.after batch.works) ready)
 
   after-is : after s enqueue_event ≡ with_placed cleared_s new
@@ -75,13 +79,13 @@ module _ (s : State) (line : ℕ) (named : Option UniqueName) (batch : Batch) (b
 
   legal : Legal s enqueue_event
   legal = (
-    built,
+    can.built,
     Answers-outcome s (command.Enqueue named batch) (reply.Enqueued (seqs_of new)) (placing_in cleared_s (name_in named) by.after batch.works)
         outcome-is (ap reply.Enqueued (seqs-new cleared_s (name_in named) by.after batch.works)),
   )
 
   valid_after : Valid (with_placed cleared_s new)
-  valid_after = subst Valid after-is (Valid-after s enqueue_event valid (narrow-idle s no_run) legal)
+  valid_after = subst Valid after-is (Valid-after s enqueue_event valid reached.narrow legal)
 
   -- the new records are at the end
   new-numbered : HaveNextNumbers s.next new
@@ -102,7 +106,7 @@ module _ (s : State) (line : ℕ) (named : Option UniqueName) (batch : Batch) (b
       All-map _ row_of s.works (λ work below is. let clash : pos work.seq ≡ pos s.next = is in absurd (omega (arith, ints, below))) valid.works.numbers in
       let each = All-unmap _ row_of (with_cleared clearing s.works ++ new) (subst (AllByRecursion (λ (row : Row). row.seq ≢ pos s.next)) (sym rows) before) in
       let many = as_many cleared_s (name_in named) by.after batch.works in
-      let some = not_empty named batch built in
+      let some = not_empty named batch can.built in
       none_new s.next new new-numbered (omega (arith, many, some)) (All-back _ (with_cleared clearing s.works) new each)
 
   -- a batch is placed

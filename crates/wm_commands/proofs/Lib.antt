@@ -7,3 +7,4 @@ pub mod MemberUpdates
 pub mod NamedPlans
 pub mod Placings
 pub mod Updating
+pub mod Outcomes

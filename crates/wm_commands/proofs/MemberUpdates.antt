@@ -12,12 +12,12 @@ use Rattle.wm_commands.specs.Planned.{kind_refused_in}
 use Rattle.wm_commands.specs.declared.executed.Executed.{Executed}
 use Rattle.wm_collections.proofs.Lists.{find-stored, one_gives}
 use Rattle.wm_machine.proofs.Names.{alone_periodic, both_periodic, id_mismatched-none}
-use Rattle.wm_machine.specs.Built.{AreAskedUnder}
 use Rattle.wm_machine.specs.Enqueued.{plan_in}
 use Rattle.wm_machine.specs.Group.{members_of, numbers_in}
 use Rattle.wm_machine.specs.Input.{work_numbered}
 use Rattle.wm_machine.specs.Plan.{first_of_batch, is_unfinished, is_unfit, mismatch, plan_of, replacing, unfit_work, updating, Plan}
 use Rattle.wm_machine.specs.Plan as plan
+use Rattle.wm_machine.specs.Outcome.{IsLegalLine}
 use Rattle.wm_machine.specs.Replied.{Outcome}
 use Rattle.wm_machine.specs.Updated.{is_same_kind}
 use Rattle.wm_machine.specs.Valid.{IsBefore, Valid}
@@ -139,7 +139,7 @@ first-asked (first ∷ later) node request at is = let same : first ≡ node = c
 -- ---- the step
 
 module _ (s : State) (line : ℕ) (unique : UniqueName) (batch : Batch) (number index : ℕ) (work : Record) (request : RequestFields) (executed : Executed)
-    (valid : Valid s) (no_run : s.runs ≡ []) (asked : AreAskedUnder unique.name batch.works)
+    (valid : Valid s) (can : IsLegalLine s (command.Enqueue (Some unique) batch))
     (planned : (plan_fields (plan_in s unique)).update ≡ Some number) (fits : kind_refused_in s unique batch.works ≡ None)
     (at : slice_get s.works index ≡ Some work) (found : work_numbered number s.works ≡ slice_get s.works index)
     (updating : IsUpdating line (command.Enqueue (Some unique) batch) index work request executed) where
@@ -155,8 +155,8 @@ module _ (s : State) (line : ℕ) (unique : UniqueName) (batch : Batch) (number 
   updated_by_first (node ∷ later) is first =
       let member = member-is.member in
       updating-executed s line (command.Enqueue (Some unique) batch) index member node.request executed valid (at ∙ ap (λ (w : Record). Some w) itself)
-      (subst (AllByRecursion (λ n. IsRequest n.request)) is asked.asked.requests).0 (member-is.kind node later is) asked
-      (outcome-enqueued s (Some unique) batch no_run
+      (subst (AllByRecursion (λ n. IsRequest n.request)) is can.built.asked.requests).0 (member-is.kind node later is) can.built
+      (outcome-enqueued s (Some unique) batch can.answered
       ∙ ap (λ (o : Outcome). Some o) (updated-outcome s unique batch.works member node later is member-is.planned fits))
       (subst (λ w. IsUpdating line (command.Enqueue (Some unique) batch) index w node.request executed) itself
       (subst (λ r. IsUpdating line (command.Enqueue (Some unique) batch) index work r executed) first updating))

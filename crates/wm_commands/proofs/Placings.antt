@@ -1,7 +1,7 @@
 -- The records of a batch that are placed one after another, and those that they are placed after.
 use Rattle.std.proofs.Common.{◌≡◌, ◌≢◌, ℕ, ◌+◌, ◌<◌, pos, Bool, true, false, eqb, List, [], ◌∷◌, ◌++◌, append_assoc, drop, filter, get_or, length, length-append, map, take, ◌&&◌, ◌||◌, Option, refl, sym, ◌∙◌, ap, arith, inl, inr}
 use Rattle.std.specs.List.{AllByRecursion, list_any}
-use Rattle.std.proofs.lemmas.Bool.{and_parts, cond_both, false≢true, or_cases, or_left, or_right}
+use Rattle.std.proofs.lemmas.Bool.{and_parts, cond_both, or_cases, or_left, or_right}
 use Rattle.std.proofs.lemmas.Int.{ints}
 use Rattle.std.proofs.lemmas.List.{drop_more, flat_map_more, map-append, take_more}
 use Rattle.std.proofs.lemmas.List.Elements.{filter-append}
@@ -14,9 +14,8 @@ use Rattle.wm_commands.specs.Placed.{is_done, is_then, placed_record, placed_rec
 use Rattle.wm_commands.specs.declared.clearing.Clearing.{Clearing}
 use Rattle.wm_keeper.specs.Keeper.{changed_number, AreOfDifferentNumbers}
 use Rattle.wm_keeper.specs.declared.row.Change.{Change}
-use Rattle.wm_collections.proofs.Lists.{All-any, All-append, All-weaker, filter-same, list_any-agree, list_any_after, map-same}
+use Rattle.wm_collections.proofs.Lists.{All-any, All-append, All-weaker, HasOne-weaker, any_passes, filter-same, list_any-agree, list_any-kept, list_any-one, list_any_after, map-same}
 use Rattle.wm_machine.specs.Enqueued.{new_numbers, numbers_of, placed_after, prior_of, with_work}
-use Rattle.wm_machine.specs.Narrow.{IsNarrow}
 use Rattle.wm_machine.specs.Valid.{IsRecord}
 use Rattle.wm_machine.specs.declared.record.How.{How}
 use Rattle.wm_machine.specs.declared.record.Record.{Record}
@@ -34,18 +33,9 @@ and-swap true false = refl
 and-swap false true = refl
 and-swap false false = refl
 
-and-front : (a b c : Bool) → (a && (b && c)) ≡ (b && (a && c))
-and-front true b c = refl
-and-front false true c = refl
-and-front false false c = refl
-
--- whether one of those that are kept passes
-any-filter : {T : Type 0} (test keep : T → Bool) (xs : List T) → list_any test (filter keep xs) ≡ list_any (λ x. keep x && test x) xs
-any-filter test keep [] = refl
-any-filter {T} test keep (x ∷ xs) =
-    cond_both (keep x) (x ∷ filter keep xs) (filter keep xs) (λ (l : List T). list_any test l ≡ list_any (λ x. keep x && test x) (x ∷ xs))
-    (λ e. ap (λ rest. test x || rest) (any-filter test keep xs) ∙ sym (ap (λ b. (b && test x) || list_any (λ x. keep x && test x) xs) e))
-    (λ e. any-filter test keep xs ∙ sym (ap (λ b. (b && test x) || list_any (λ x. keep x && test x) xs) e))
+and-back : (a b c : Bool) → ((a && b) && c) ≡ (a && (c && b))
+and-back true b c = and-swap b c
+and-back false b c = refl
 
 -- ---- the records placed
 
@@ -130,12 +120,12 @@ any_cleared : (clearing : Clearing) (works : List Record) (number : ℕ) (way : 
     ≡ list_any (λ work. eqb work.seq number && is_then clearing way work) works
 any_cleared clearing works number way =
     list_any_after (λ work. eqb work.seq number && is_done way work.phase) (cleared clearing) (filter (stays clearing.removed) works)
-    ∙ any-filter (λ work. eqb (cleared clearing work).seq number && is_done way (cleared clearing work).phase) (stays clearing.removed) works
-    ∙ list_any-agree (λ work. stays clearing.removed work && (eqb (cleared clearing work).seq number && is_done way (cleared clearing work).phase))
+    ∙ list_any-kept (λ work. eqb (cleared clearing work).seq number && is_done way (cleared clearing work).phase) (stays clearing.removed) works
+    ∙ list_any-agree (λ work. (eqb (cleared clearing work).seq number && is_done way (cleared clearing work).phase) && stays clearing.removed work)
     (λ work. eqb work.seq number && is_then clearing way work) works (All-any works (λ work.
-    ap (λ n. stays clearing.removed work && (eqb n number && is_done way (cleared clearing work).phase)) (cleared-number clearing work)
-    ∙ ap (λ p. stays clearing.removed work && (eqb work.seq number && is_done way p)) (cleared-phase clearing work)
-    ∙ and-front (stays clearing.removed work) (eqb work.seq number) (is_done way (phase_then clearing.cancelled work))))
+    ap (λ n. (eqb n number && is_done way (cleared clearing work).phase) && stays clearing.removed work) (cleared-number clearing work)
+    ∙ ap (λ p. (eqb work.seq number && is_done way p) && stays clearing.removed work) (cleared-phase clearing work)
+    ∙ and-back (eqb work.seq number) (is_done way (phase_then clearing.cancelled work)) (stays clearing.removed work)))
 
 -- and so of one that is stored or placed
 pub any_either : (clearing : Clearing) (works placed : List Record) (number : ℕ) (way : How)
@@ -227,23 +217,12 @@ named-earlier s all name after (node ∷ nodes) more afters records =
           (All-weaker after (there-before all work) afters) records.1,
     )
 
-any-weaker : {T : Type 0} (test other : T → Bool) (xs : List T) → ((x : T) → test x ≡ true → other x ≡ true) → list_any test xs ≡ true
-    → list_any other xs ≡ true
-any-weaker test other [] gives is = absurd (false≢true is)
-any-weaker test other (x ∷ xs) gives is = elim (or_cases (test x) (list_any test xs) is) [
-  | inl here ↦ or_left _ _ (gives x here)
-  | inr later ↦ or_right _ _ (any-weaker test other xs gives later)
-]
-
 -- what is there once the records are cleared was there
 pub there-cleared : (clearing : Clearing) (works : List Record) (number : ℕ) → is_there (with_cleared clearing works) number ≡ true
     → is_there works number ≡ true
 there-cleared clearing works number is =
-    any-weaker (λ work. stays clearing.removed work && eqb (cleared clearing work).seq number) (λ work. eqb work.seq number) works
-    (λ work e. ap (λ n. eqb n number) (sym (cleared-number clearing work)) ∙ (and_parts _ _ e).1)
-    (sym (list_any_after (λ work. eqb work.seq number) (cleared clearing) (filter (stays clearing.removed) works)
-    ∙ any-filter (λ work. eqb (cleared clearing work).seq number) (stays clearing.removed) works) ∙ is)
-
--- where no run is unreturned the state is narrow
-pub narrow-idle : (s : State) → s.runs ≡ [] → IsNarrow s
-narrow-idle s no_run = record { runs = rw no_run tt }
+    let kept : Record → Bool = λ work. eqb (cleared clearing work).seq number && stays clearing.removed work in
+    let passes : list_any kept works ≡ true = sym (list_any_after (λ work. eqb work.seq number) (cleared clearing) (filter (stays clearing.removed) works)
+    ∙ list_any-kept (λ work. eqb (cleared clearing work).seq number) (stays clearing.removed) works) ∙ is in
+    list_any-one (λ work. eqb work.seq number) works
+    (HasOne-weaker works (λ work e. ap (λ n. eqb n number) (sym (cleared-number clearing work)) ∙ (and_parts _ _ e).0) (any_passes kept works passes))

@@ -2,7 +2,6 @@
 use Rattle.std.specs.Prelude.{◌≡◌, ◌≢◌, ◌⊎◌, ℕ, [], Some}
 use Rattle.wm_commands.specs.declared.executed.Executed.{Executed}
 use Rattle.wm_machine.specs.Outcome.{IsBuilt, outcome}
-use Rattle.wm_machine.specs.Quiet.{CanCome}
 use Rattle.wm_machine.specs.Replied.{Outcome}
 use Rattle.wm_machine.specs.Rows.{row_of, rows_of}
 use Rattle.wm_machine.specs.Step.{after_command}
@@ -27,11 +26,6 @@ ChangesNoRow s asked = rows_of (after_command s asked) ≡ rows_of s
 -- and where they are others, as with an enqueue that isn't
 abbrev pub ChangesRows : State → Command → Type 0
 ChangesRows s asked = ChangesNoRow s asked → ⊥
-
--- a command that is built, and can come in the state
-pub record IsExecutable (s : State) (asked : Command) : Type 0 where
-  pub built : IsBuilt asked
-  pub can : CanCome asked s
 
 -- a command that is built, and has this outcome
 pub record HasOutcome (s : State) (asked : Command) (out : Outcome) : Type 0 where

@@ -1,9 +1,9 @@
 //! Works are cancelled, each with its unfinished descendants: the one with an id, those with a tag
 //! or of a unique name, or all.
-ghost use Rattle.std.specs.Prelude.{◌≡◌, [], IfOk};
+ghost use Rattle.std.specs.Prelude.{◌≡◌, IfOk};
 ghost use Rattle.wm_commands.specs.Builds.{IsExecuted};
 ghost use Rattle.wm_machine.specs.Cancelled.{cancelled_each, is_cancellable, is_for, is_stored, targeted};
-ghost use Rattle.wm_machine.specs.Outcome.{outcome};
+ghost use Rattle.wm_machine.specs.Outcome.{outcome, IsLegalLine};
 
 use crate::clearing::{cancelling, reached_from, replaced_by_clearing};
 use crate::executed::Executed;
@@ -21,7 +21,7 @@ pub fn execute(
     line: u32,
     target: Target,
 ) -> Result<Executed, AllocError>
-    requires no_run { view.now.runs ≡ [] }
+    requires legal { IsLegalLine view.now (Command.Cancel target) }
     ensures { IfOk result (IsExecuted view.entry.now line (Command.Cancel target)) }
 {
     match target {
@@ -34,7 +34,7 @@ pub fn execute(
 
 /// What the cancelling of the work with this id comes to.
 fn cancel_id(alloc: Global, view: &View, line: u32, id: Uuid) -> Result<Executed, AllocError>
-    requires no_run { view.now.runs ≡ [] }
+    requires legal { IsLegalLine view.now (Command.Cancel (Target.Id id)) }
     ensures { IfOk result (IsExecuted view.entry.now line (Command.Cancel (Target.Id id))) }
 {
     if is_stored(view.state.works.as_slice(), id) {
@@ -46,14 +46,14 @@ fn cancel_id(alloc: Global, view: &View, line: u32, id: Uuid) -> Result<Executed
     }
 }
 
-/// Cancels the unfinished works that a target is for. No run is unreturned, so none is stopped.
+/// Cancels the unfinished works that a target is for, which stops no run.
 fn cancel_each(
     alloc: Global,
     view: &View,
     line: u32,
     target: Target,
 ) -> Result<Executed, AllocError>
-    requires no_run { view.now.runs ≡ [] }
+    requires legal { IsLegalLine view.now (Command.Cancel target) }
     requires accepted { outcome view.now (Command.Cancel target)
         ≡ cancelled_each view.now (targeted target view.now.works) }
     ensures { IfOk result (IsExecuted view.entry.now line (Command.Cancel target)) }

@@ -1,8 +1,9 @@
 //! A batch is checked, and placed where no check refuses it.
 ghost use Rattle.std.specs.Prelude.{◌≡◌, true, IfOk};
 ghost use Rattle.std.specs.List.{AllByRecursion};
-ghost use Rattle.wm_commands.specs.Builds.{IsExecutable, IsExecuted};
+ghost use Rattle.wm_commands.specs.Builds.{IsExecuted};
 ghost use Rattle.wm_commands.specs.Placed.{IsPlacedBy};
+ghost use Rattle.wm_machine.specs.Outcome.{IsLegalLine};
 ghost use Rattle.wm_machine.specs.Enqueued.{refusal_of_placing};
 ghost use Rattle.wm_steps.specs.Nodes.{is_there};
 ghost use Rattle.wm_unique.specs.Plans.{placing_by};
@@ -24,7 +25,7 @@ pub fn check_and_place(
     batch: Batch,
     plan: GroupPlan,
 ) -> Result<Executed, AllocError>
-    requires asked { IsExecutable view.now (Command.Enqueue named batch) }
+    requires asked { IsLegalLine view.now (Command.Enqueue named batch) }
     requires placed { IsPlacedBy view.now named (placing_by plan) batch.works }
     requires after { AllByRecursion (λ number. is_there view.now.works number ≡ true) plan.after }
     ensures { IfOk result (IsExecuted view.entry.now line (Command.Enqueue named batch)) }

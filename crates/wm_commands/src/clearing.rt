@@ -5,7 +5,7 @@
 //! made: the others are seen through a [`Clearing`].
 ghost use Rattle.std.specs.Prelude.{◌≡◌, ◌&&◌, IfOk};
 ghost use Rattle.wm_collections.specs.Lists.{is_among};
-ghost use Rattle.wm_commands.specs.Cleared.{becomes_cancelled, cancelled_in, cancelling, cleared, cleared_by, clearing_of, is_needed_then, is_removed, is_touched, phase_then, removed_by, replaced_by_clearing, stays};
+ghost use Rattle.wm_commands.specs.Cleared.{becomes_cancelled, cancelled_in, cancelling, cleared, clearing_of, is_needed_then, is_removed, is_touched, phase_then, removed_by, replaced_by_clearing, stays};
 ghost use Rattle.wm_machine.specs.Closed.{is_open};
 ghost use Rattle.wm_machine.specs.Group.{unnamed};
 ghost use Rattle.wm_steps.specs.Nodes.{nodes_of, reached_from};
@@ -14,7 +14,7 @@ use std::alloc::{AllocError, Global};
 use wm_collections::{Items, Replica, is_among};
 use wm_lifecycle::closed;
 use wm_machine::{How, Phase, Record};
-use wm_steps::{Replacement, View, put_at};
+use wm_steps::{Replacement, View};
 
 /// Which records change where works are cancelled and others are let go, by their numbers.
 #[derive(Drop)]
@@ -40,7 +40,7 @@ pub fn cancelling(alloc: Global, cancelled: Items<u64>) -> Clearing
 
 /// Which records change where the works of the first numbers are cancelled, and those of the second
 /// are let go then: who is finished and whom no unfinished work needs is removed, and the others
-/// lose their names.
+/// lose their names. Where both are none, no record is looked at.
 pub fn clearing_of(
     alloc: Global,
     view: &View,
@@ -50,6 +50,9 @@ pub fn clearing_of(
     ensures { IfOk result (λ clearing. clearing
         ≡ clearing_of view.entry.now.works cancel.entry.now let_go) }
 {
+    if cancel.is_empty() && let_go.is_empty() {
+        return Ok(cancelling(alloc, Items::new(alloc)));
+    }
     let works = view.state.works.as_slice();
     let cancelled = reached_from(view, cancel)?;
     let removed = removed_by(alloc, works, cancelled.as_slice(), let_go.as_slice())?;
@@ -134,7 +137,8 @@ pub fn stays(removed: &[u64], work: &Record) -> bool
     !is_among(removed, work.seq)
 }
 
-/// The records that take the place of others.
+/// The records that take the place of others. Where none is cancelled and none loses its name, no
+/// record is looked at.
 pub fn replaced_by_clearing(
     alloc: Global,
     works: &[Record],
@@ -144,26 +148,16 @@ pub fn replaced_by_clearing(
         ≡ replaced_by_clearing clearing.entry.now works.entry.now) }
 {
     let mut replaced = Items::new(alloc);
+    if clearing.cancelled.is_empty() && clearing.unnamed.is_empty() {
+        return Ok(replaced);
+    }
     for (index, work) in works.iter().enumerate() {
-        let changed = cleared_by(alloc, clearing, work)?;
-        put_at(&mut replaced, index, changed)?;
+        if is_touched(clearing, work) {
+            let work = cleared(alloc, clearing, work)?;
+            replaced.push(Replacement { index, work })?;
+        }
     }
     Ok(replaced)
-}
-
-/// What takes the place of a record; nothing where it is removed or stays as it is.
-fn cleared_by(
-    alloc: Global,
-    clearing: &Clearing,
-    work: &Record,
-) -> Result<Option<Record>, AllocError>
-    ensures { IfOk result (λ changed. changed ≡ cleared_by clearing.entry.now work.entry.now) }
-{
-    if is_touched(clearing, work) {
-        Ok(Some(cleared(alloc, clearing, work)?))
-    } else {
-        Ok(None)
-    }
 }
 
 /// Whether a record becomes another one.

@@ -1,6 +1,7 @@
 //! The conditions are set, all seven together.
-ghost use Rattle.std.specs.Prelude.{◌≡◌, [], IfOk};
+ghost use Rattle.std.specs.Prelude.{IfOk};
 ghost use Rattle.wm_commands.specs.Builds.{IsExecuted};
+ghost use Rattle.wm_machine.specs.Outcome.{IsLegalLine};
 
 use crate::executed::Executed;
 use std::alloc::{AllocError, Global};
@@ -8,14 +9,14 @@ use wm_conditions::Conditions;
 use wm_machine::{Command, Reply};
 use wm_steps::{SettingChange, View};
 
-/// What new conditions come to. No run is unreturned, so they stop none.
+/// What new conditions come to, which stop no run.
 pub fn execute(
     alloc: Global,
     view: &View,
     line: u32,
     conditions: Conditions,
 ) -> Result<Executed, AllocError>
-    requires no_run { view.now.runs ≡ [] }
+    requires legal { IsLegalLine view.now (Command.Conditions conditions) }
     ensures { IfOk result (IsExecuted view.entry.now line (Command.Conditions conditions)) }
 {
     let command = Command::Conditions(conditions);

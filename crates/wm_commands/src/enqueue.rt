@@ -1,6 +1,7 @@
 //! A batch is checked, and its works are placed.
 ghost use Rattle.std.specs.Prelude.{None, IfOk};
-ghost use Rattle.wm_commands.specs.Builds.{IsExecutable, IsExecuted};
+ghost use Rattle.wm_commands.specs.Builds.{IsExecuted};
+ghost use Rattle.wm_machine.specs.Outcome.{IsLegalLine};
 
 use crate::checking::check_and_place;
 use crate::executed::Executed;
@@ -19,7 +20,7 @@ pub fn execute(
     named: Option<UniqueName>,
     batch: Batch,
 ) -> Result<Executed, AllocError>
-    requires { IsExecutable view.now (Command.Enqueue named batch) }
+    requires { IsLegalLine view.now (Command.Enqueue named batch) }
     ensures { IfOk result (IsExecuted view.entry.now line (Command.Enqueue named batch)) }
 {
     match named {
@@ -30,7 +31,7 @@ pub fn execute(
 
 /// What the enqueue of a batch without a unique name comes to.
 fn unnamed(alloc: Global, view: &View, line: u32, batch: Batch) -> Result<Executed, AllocError>
-    requires { IsExecutable view.now (Command.Enqueue None batch) }
+    requires { IsLegalLine view.now (Command.Enqueue None batch) }
     ensures { IfOk result (IsExecuted view.entry.now line (Command.Enqueue None batch)) }
 {
     check_and_place(alloc, view, line, None, batch, GroupPlan::free(alloc))

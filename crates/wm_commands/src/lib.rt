@@ -5,7 +5,8 @@
 #![tactic(auto)]
 
 ghost use Rattle.std.specs.Prelude.{IfOk};
-ghost use Rattle.wm_commands.specs.Builds.{IsExecutable, IsExecuted};
+ghost use Rattle.wm_commands.specs.Builds.{IsExecuted};
+ghost use Rattle.wm_machine.specs.Outcome.{IsLegalLine};
 
 mod cancel;
 mod checking;
@@ -22,6 +23,7 @@ mod placement;
 mod placing;
 mod prune;
 mod query;
+mod retire;
 mod settle;
 mod summary;
 mod update;
@@ -38,7 +40,7 @@ pub fn execute(
     line: u32,
     command: Command,
 ) -> Result<Executed, AllocError>
-    requires { IsExecutable view.now command }
+    requires { IsLegalLine view.now command }
     ensures { IfOk result (IsExecuted view.entry.now line command) }
 {
     match command {
@@ -49,6 +51,7 @@ pub fn execute(
         Command::Conditions(conditions) => conditions::execute(alloc, view, line, conditions),
         Command::Prune => prune::execute(alloc, view, line),
         Command::Query(query) => query::execute(alloc, view, line, query),
+        Command::Retire(class) => retire::execute(alloc, view, line, class),
         Command::Settle => settle::execute(alloc, view, line),
         Command::Hush => hush::execute(alloc, view, line),
         Command::Summary => summary::execute(alloc, view, line),

@@ -1,7 +1,8 @@
 //! The work of a unique name is updated, where its policy says so.
 ghost use Rattle.std.specs.Prelude.{◌≡◌, ◌<◌, ◌≤◌, [], length, slice_get, Some, None, IfOk, IsSomeAnd};
-ghost use Rattle.wm_commands.specs.Builds.{IsExecutable, IsExecuted};
+ghost use Rattle.wm_commands.specs.Builds.{IsExecuted};
 ghost use Rattle.wm_commands.specs.Planned.{kind_refused_in};
+ghost use Rattle.wm_machine.specs.Outcome.{IsLegalLine};
 ghost use Rattle.wm_machine.specs.Enqueued.{plan_in};
 ghost use Rattle.wm_machine.specs.Input.{work_numbered};
 ghost use Rattle.wm_machine.specs.Plan.{first_of_batch};
@@ -24,7 +25,7 @@ pub fn update_member(
     batch: Batch,
     number: u64,
 ) -> Result<Executed, AllocError>
-    requires asked { IsExecutable view.now (Command.Enqueue (Some unique) batch) }
+    requires asked { IsLegalLine view.now (Command.Enqueue (Some unique) batch) }
     requires planned { (plan_fields (plan_in view.now unique)).update ≡ Some number }
     requires fits { kind_refused_in view.now unique batch.works ≡ None }
     ensures { IfOk result (IsExecuted view.entry.now line (Command.Enqueue (Some unique) batch)) }

@@ -4,8 +4,9 @@
 //! planned first; then the works that are there are kept, or one of them is updated, or the batch is
 //! checked and placed.
 ghost use Rattle.std.specs.Prelude.{◌≡◌, [], Some, None, IfErr, IfOk, OnOk};
-ghost use Rattle.wm_commands.specs.Builds.{IsExecutable, IsExecuted};
+ghost use Rattle.wm_commands.specs.Builds.{IsExecuted};
 ghost use Rattle.wm_commands.specs.Planned.{kind_refused_in};
+ghost use Rattle.wm_machine.specs.Outcome.{IsLegalLine};
 ghost use Rattle.wm_machine.specs.Enqueued.{plan_in};
 ghost use Rattle.wm_machine.specs.Group.{members_of, numbers_in};
 ghost use Rattle.wm_collections.specs.Lists.{AllLater};
@@ -31,7 +32,7 @@ pub fn execute(
     unique: UniqueName,
     batch: Batch,
 ) -> Result<Executed, AllocError>
-    requires asked { IsExecutable view.now (Command.Enqueue (Some unique) batch) }
+    requires asked { IsLegalLine view.now (Command.Enqueue (Some unique) batch) }
     ensures { IfOk result (IsExecuted view.entry.now line (Command.Enqueue (Some unique) batch)) }
 {
     let planned = planned(alloc, view, &unique, &batch);
@@ -50,7 +51,7 @@ fn not_planned(
     batch: Batch,
     fault: PlanFault,
 ) -> Result<Executed, AllocError>
-    requires asked { IsExecutable view.now (Command.Enqueue (Some unique) batch) }
+    requires asked { IsLegalLine view.now (Command.Enqueue (Some unique) batch) }
     requires fault { IsPlanFault (kind_refused_in view.now unique batch.works) fault }
     ensures { IfOk result (IsExecuted view.entry.now line (Command.Enqueue (Some unique) batch)) }
 {
@@ -114,7 +115,7 @@ fn carry_out(
     batch: Batch,
     plan: GroupPlan,
 ) -> Result<Executed, AllocError>
-    requires asked { IsExecutable view.now (Command.Enqueue (Some unique) batch) }
+    requires asked { IsLegalLine view.now (Command.Enqueue (Some unique) batch) }
     requires planned { plan ≡ plan_fields (plan_in view.now unique) }
     requires fits { kind_refused_in view.now unique batch.works ≡ None }
     ensures { IfOk result (IsExecuted view.entry.now line (Command.Enqueue (Some unique) batch)) }

@@ -1,8 +1,9 @@
 //! A batch is placed, and other records make way for it.
 ghost use Rattle.std.specs.Prelude.{◌≡◌, ◌^◌, ◌≤◌, ◌+◌, [], true, length, IfOk};
 ghost use Rattle.std.specs.List.{AllByRecursion};
-ghost use Rattle.wm_commands.specs.Builds.{IsExecutable, IsExecuted};
+ghost use Rattle.wm_commands.specs.Builds.{IsExecuted};
 ghost use Rattle.wm_commands.specs.Placed.{name_in, placement_of};
+ghost use Rattle.wm_machine.specs.Outcome.{IsLegalLine};
 ghost use Rattle.wm_machine.specs.Enqueued.{enqueued, made_ready, placing_in};
 ghost use Rattle.wm_steps.specs.Nodes.{is_there};
 ghost use Rattle.wm_unique.specs.Plans.{placing_by};
@@ -84,7 +85,7 @@ pub fn place(
     batch: Batch,
     plan: GroupPlan,
 ) -> Result<Executed, AllocError>
-    requires asked { IsExecutable view.now (Command.Enqueue named batch) }
+    requires asked { IsLegalLine view.now (Command.Enqueue named batch) }
     requires room { view.now.next + length batch.works ≤ 2 ^ 53 }
     requires places { enqueued view.now named batch.works
         ≡ placing_in (made_ready view.now (placing_by plan)) (name_in named) plan.after batch.works }

@@ -1,5 +1,5 @@
 -- What is owed for a cancel.
-use Rattle.std.proofs.Common.{◌≡◌, ℕ, cond, List, [], ◌∷◌, Option, Some, None, IsSomeAnd, refl, sym, ◌∙◌}
+use Rattle.std.proofs.Common.{◌≡◌, ℕ, cond, List, [], ◌∷◌, Option, Some, None, IsSome, refl, sym, ◌∙◌}
 use Rattle.std.proofs.lemmas.Bool.{and_parts, cond_both, true≢false}
 use Rattle.wm_machine.proofs.Closings.{no_run_reached, not_yet_passing}
 use Rattle.wm_machine.proofs.Groups.{reached-each_closed}
@@ -11,7 +11,7 @@ use Rattle.wm_machine.specs.Frame.{untouched}
 use Rattle.wm_machine.specs.Narrow.{IsReached}
 use Rattle.wm_machine.specs.Replied.{Outcome, unchanged}
 use Rattle.wm_machine.specs.Step.{state_by}
-use Rattle.wm_machine.specs.Types.{Command, Reply, State, Target}
+use Rattle.wm_machine.specs.Types.{Command, State, Target}
 use Rattle.wm_machine.specs.declared.command.Command.TheVariants as command
 use Rattle.wm_machine.specs.declared.command.Target.TheVariants as target
 use Rattle.wm_machine.specs.declared.record.How.TheVariants as how
@@ -20,7 +20,7 @@ use Rattle.wm_machine.specs.declared.reply.Reply.TheVariants as reply
 
 -- what is owed for an outcome
 record IsOwed (s : State) (commands : List Command) (o : Option Outcome) : Type 0 where
-  answered : s.runs ≡ [] → (answer : Reply) × IsSomeAnd o (λ outcome. answer ≡ outcome.reply)
+  answered : s.runs ≡ [] → IsSome o
   reached : IsReached s → IsReached (state_by s o)
   frame : untouched (state_by s o) commands ≡ untouched s commands
 
@@ -36,7 +36,7 @@ owed-each s commands target =
       reached = λ reached. reached;
       frame = refl;
     }) (λ none. record {
-      answered = λ no_run. (done.reply, refl);
+      answered = λ no_run. refl;
       reached = λ reached. reached-each_closed seqs s reached
           (not_yet_passing s (is_cancellable target) s.works reached.valid (λ work is. (and_parts (is_open work.phase) (is_for target work) is).0)
           (All-stored s.works)) none;
@@ -48,11 +48,11 @@ owed-id : (s : State) (commands : List Command) (id : List ℕ) → IsOwed s com
 owed-id s commands id =
     cond_both (is_stored s.works id) (cancelled_each s (targeted (target.Id id) s.works)) (Some (unchanged s (reply.Refused (NoSuchWork id))))
     (IsOwed s commands) (λ there. owed-each s commands (target.Id id))
-    (λ missing. record { answered = λ no_run. (reply.Refused (NoSuchWork id), refl); reached = λ reached. reached; frame = refl })
+    (λ missing. record { answered = λ no_run. refl; reached = λ reached. reached; frame = refl })
 
 -- what is owed for an outcome is owed for its command
 answered-by : (s : State) (target : Target) → IsOwed s (command.Cancel target ∷ []) (cancelled s target) → IsAnswered s (command.Cancel target)
-answered-by s target owed = record { answered = owed.answered; reached = owed.reached; frame = owed.frame }
+answered-by s target owed = record { answered = λ rest. owed.answered rest.no_run; reached = owed.reached; frame = owed.frame }
 
 pub cancel-answered : (s : State) (target : Target) → IsAnswered s (command.Cancel target)
 cancel-answered s (target.Id id) = answered-by s (target.Id id) (owed-id s (command.Cancel (target.Id id) ∷ []) id)

@@ -197,19 +197,19 @@ same_work one other is = record {
 }
 
 -- the records after a change
-pub AreWorks-changed : (s : State) (change : Record → Record) → Valid s → IsChange s.works change → AreWorks s.next (map change s.works)
-AreWorks-changed s change valid is =
-    let works = s.works in
+pub AreWorks-changed : (next : ℕ) (works : List Record) (change : Record → Record) → AreWorks next works → IsChange works change
+    → AreWorks next (map change works)
+AreWorks-changed next works change are is =
     record {
-      first = valid.works.first;
-      fits = valid.works.fits;
-      numbers = All-map _ change works (λ w below. subst (λ n. n < s.next) (sym (is.same w).seq) below) valid.works.numbers;
-      few = subst (λ n. n ≤ 100000) (sym (length-map works change)) valid.works.few;
+      first = are.first;
+      fits = are.fits;
+      numbers = All-map _ change works (λ w below. subst (λ n. n < next) (sym (is.same w).seq) below) are.numbers;
+      few = subst (λ n. n ≤ 100000) (sym (length-map works change)) are.few;
       records = All-map _ change works (λ w fine. fine) is.fits;
       in_order = AllLater-map _ change works (λ one other before. IsBefore-same one (change one) other (change other) (same_work one (change one) (is.same one))
-          (same_work other (change other) (is.same other)) before) valid.works.in_order;
+          (same_work other (change other) (is.same other)) before) are.in_order;
       sound = All-map2 _ change works (λ w sound moves. subst (ArePriorSound (map change works) (change w).phase) (sym (is.same w).prior)
-          (sound_then works change is valid.works.in_order w.phase w.prior (change w).phase sound moves)) valid.works.sound is.moves;
+          (sound_then works change is are.in_order w.phase w.prior (change w).phase sound moves)) are.sound is.moves;
     }
 
 -- ---- where no run begins or ends
@@ -235,7 +235,7 @@ reached-changed s change reached is keep =
     let valid = reached.valid in
     record {
       valid = record {
-        works = AreWorks-changed s change valid is;
+        works = AreWorks-changed s.next s.works change valid.works is;
         runs = AreRuns-beside s (map change s.works) valid
             (All-map2 _ change s.works (λ w has keeps running. subst (λ n. HasOne (IsCurrentOf n) s.runs) (sym (is.same w).seq) (has (keeps.ran running)))
             valid.runs.running keep) (λ r one. HasOne-map_with _ change s.works (λ w keeps of. IsWorkOf-kept r w (change w) (is.same w) keeps of) keep one);

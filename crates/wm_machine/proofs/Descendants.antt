@@ -226,4 +226,5 @@ running_descendant seq works order records sound not_yet =
 pub descendants_where : (s : State) (seq : ℕ) → Valid s → AllByRecursion (IsDescendantWhere seq s.works) s.works
 descendants_where s seq valid =
     All-with3 s.works (λ work reason reached closes. (reason, λ why. elim why [ inl self ↦ reached self | inr one ↦ closes one ]))
-    (descendant_by seq s.works valid.works.in_order valid.works.records) (descendant_self seq s.works) (descendant_after seq s.works valid.works.in_order valid.works.records)
+    (descendant_by seq s.works valid.works.in_order valid.works.records) (descendant_self seq s.works)
+    (descendant_after seq s.works valid.works.in_order valid.works.records)

@@ -3,12 +3,11 @@ use Rattle.std.proofs.Common.{◌≡◌, ℕ, ◌+◌, ◌-◌, ◌<◌, ◌≤�
 use Rattle.std.specs.List.{AllByRecursion}
 use Rattle.std.proofs.lemmas.Bool.{eq-eqb}
 use Rattle.wm_machine.specs.Types.{Cause, Command, DataEntry, End, Event, Instance, Record, Run, State}
-use Rattle.wm_machine.proofs.Commands.{answered}
+use Rattle.wm_machine.proofs.Commands.{answered, reply_at_rest}
 use Rattle.wm_machine.proofs.Firsts.{first_of-no_worker, start_refusal-no_worker}
 use Rattle.wm_machine.proofs.Inputs.{start_refusal-some}
 use Rattle.wm_machine.proofs.Runnings.{found_narrow, found_valid}
 use Rattle.wm_machine.proofs.Roles.{closed, Closes, continued, Continues, opened, Opens}
-use Rattle.wm_machine.proofs.Settles.{can-come}
 use Rattle.wm_machine.proofs.Steps.{framed, IsReached-after, kept}
 use Rattle.wm_machine.specs.Outcome.{IsBuilt}
 use Rattle.wm_machine.specs.Ends.{given_by}
@@ -242,9 +241,9 @@ goes_on (asked ∷ lines) s built reached few =
     let done = settle (suc (left_to_drain s)) s reached few (omega arith) in
     let t = done.last in
     let owed = answered t asked built.0 in
-    let answer = owed.answered (can-come asked t done.quiet.no_run (λ settles. done.quiet.nothing_startable)) in
+    let answer = reply_at_rest t asked 0 built.0 (record { no_run = done.quiet.no_run; settled = λ settles. done.quiet.nothing_startable }) in
     let e = event.Command 0 asked answer.0 in
-    let legal : Legal t e = (built.0, answer.1) in
+    let legal : Legal t e = answer.1 in
     let no_run : (after t e).runs ≡ [] = ap (λ (f : Frame). f.runs) owed.frame ∙ done.quiet.no_run in
     GoesOn-then s (asked ∷ lines) done (GoesOn-more t e lines legal done.quiet
     (goes_on lines (after t e) built.1 (IsReached-after t e done.reached legal) (subst (λ (runs : List Run). length runs ≤ 1) (sym no_run) (omega arith))))

@@ -1,7 +1,8 @@
 -- A state in which a run is over and the records were changed.
-use Rattle.std.proofs.Common.{◌≡◌, ◌≢◌, ℕ, Bool, map, true, false, not, eqb, Some, sym, ◌∙◌, ap, subst, inl, inr}
+use Rattle.std.proofs.Common.{◌≡◌, ◌≢◌, ℕ, Bool, map, true, false, not, eqb, Some, sym, ◌∙◌, ap, subst, inl, inr, ◌≤◌}
 use Rattle.std.specs.List.{AllByRecursion}
 use Rattle.std.proofs.lemmas.Bool.{cases_Bool, eqb-false, eqb-true, ne_eqb, not-true, true≢false}
+use Rattle.std.proofs.lemmas.List.{length-map}
 use Rattle.wm_machine.proofs.Changes.{AreWorks-changed, IsChange, IsWorkOf-kept, KeepsRun}
 use Rattle.wm_collections.proofs.Lists.{All-filter, All-map, All-weaker, All-with2, All-with3, AllLater-filter, HasOne-filter, HasOne-map_with, HasOne-weaker, find-passes, list_any-false, list_any-filter}
 use Rattle.wm_machine.proofs.Runnings.{all_of_number, AreNumberedInOrder-made, found_or_apart, found_valid, IsFoundOrApart, made, made_both, same_instance}
@@ -83,7 +84,7 @@ reached-ended s number run change reached is found current =
     (found_or_apart run.run run s.runs (subst (λ n. run_numbered n s.runs ≡ Some run) (sym same) found) valid.runs.apart) valid.runs.each in
     record {
       valid = record {
-        works = AreWorks-changed s change valid is.is_change;
+        works = AreWorks-changed s.next s.works change valid.works is.is_change;
         runs = record {
           running = All-map _ change s.works (λ w then. then) (All-with3 s.works (λ w has idle keeps running.
               elim (cases_Bool (eqb w.seq run.seq)) [
@@ -105,6 +106,7 @@ reached-ended s number run change reached is found current =
         };
         instances = record {
           out = All-map _ (made false run.instance) s.instances (λ i is. IsOutForRun-freed s run i told is) valid.instances.out;
+          few = subst (λ n. n ≤ 10000) (sym (length-map s.instances (made false run.instance))) valid.instances.few;
           numbered = AreNumberedInOrder-made false run.instance 0 s.instances valid.instances.numbered;
         };
         few_observers = valid.few_observers;

@@ -47,7 +47,8 @@ sound-with_work : (s : State) (work : Record) → Valid s → work.seq ≡ s.nex
     → AllByRecursion (λ other. ArePriorSound (s.works ++ work ∷ []) other.phase other.prior) (s.works ++ work ∷ [])
 sound-with_work s work valid numbered new =
     All-push _ s.works work (All-with3 s.works (λ other below fine sound. sound-front s.works work other.phase other.prior
-    (subst (λ n. AllByRecursion (λ number. number ≢ n) other.prior) (sym numbered) (names_before s other below fine)) sound) valid.works.numbers valid.works.records
+    (subst (λ n. AllByRecursion (λ number. number ≢ n) other.prior) (sym numbered) (names_before s other below fine)) sound)
+    valid.works.numbers valid.works.records
     valid.works.sound) new
 
 -- a record under the next number and with a new id, of one kind with those of its name, which isn't running, keeps what is valid, where there
@@ -400,7 +401,7 @@ frame-outcome s commands None works = frame-placed s commands None [] works
 
 pub enqueue-answered : (s : State) (batch : BatchFields) → AreAsked batch.works → IsAnswered s (command.Enqueue None batch)
 enqueue-answered s batch asked = record {
-  answered = λ can. ((enqueued s None batch.works).reply, refl);
+  answered = λ rest. refl;
   reached = λ reached. reached-outcome s batch.works (refusal_of s None batch.works) asked refl reached;
   frame = frame-outcome s (command.Enqueue None batch ∷ []) (refusal_of s None batch.works) batch.works;
 }

@@ -16,11 +16,13 @@ pub mod Logs
 pub mod NameLaws
 pub mod Names
 pub mod NumberPlaces
+pub mod Openings
 pub mod Owed
 pub mod Placings
 pub mod Records
 pub mod Removals
 pub mod Reports
+pub mod Retirings
 pub mod Roles
 pub mod Rows
 pub mod Runnings

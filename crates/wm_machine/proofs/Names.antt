@@ -1,5 +1,5 @@
 -- What is owed for an enqueue under a unique name.
-use Rattle.std.proofs.Common.{eqb, ◌≡◌, ◌⊎◌, ◌&&◌, ◌||◌, ℕ, ◌≤◌, Bool, true, false, not, ltb, List, [], ◌∷◌, filter, find, is_some, length, Option, Some, None, option_map, IsSomeAnd, refl, sym, ◌∙◌, ap, subst, arith, inl, inr}
+use Rattle.std.proofs.Common.{eqb, ◌≡◌, ◌⊎◌, ◌&&◌, ◌||◌, ℕ, ◌≤◌, Bool, true, false, not, ltb, List, [], ◌∷◌, filter, find, is_some, length, Option, Some, None, option_map, IsSome, refl, sym, ◌∙◌, ap, subst, arith, inl, inr}
 use Rattle.std.specs.List.{AllByRecursion, list_any}
 use Rattle.std.proofs.Math.Bool.{and-true}
 use Rattle.std.proofs.lemmas.Bool.{cond_both, eq-eqb, false≢true, ltb-false, or_parts, true≢false, or_left, or_right}
@@ -302,8 +302,8 @@ enqueue-named-answered s unique batch asked =
     let done = enqueued s (Some unique) batch.works in
     let refused = refusal_of s (Some unique) batch.works in
     record {
-      answered = λ can. cond_both stops None (Some done) (λ (o : Option Outcome). (answer : Reply) × IsSomeAnd o (λ outcome. answer ≡ outcome.reply))
-          (λ e. absurd (true≢false (sym e ∙ no_run_stopped s (Some unique) batch.works can))) (λ e. (done.reply, refl));
+      answered = λ rest. cond_both stops None (Some done) (λ (o : Option Outcome). IsSome o)
+          (λ e. absurd (true≢false (sym e ∙ no_run_stopped s (Some unique) batch.works rest.no_run))) (λ e. refl);
       reached = λ reached. cond_both stops None (Some done) (λ (o : Option Outcome). IsReached (state_by s o)) (λ e. reached)
           (λ e. reached-named s unique batch.works refused asked reached refl e);
       frame = cond_both stops None (Some done) (λ (o : Option Outcome). untouched (state_by s o) (asked_for ∷ []) ≡ untouched s (asked_for ∷ []))

@@ -41,7 +41,8 @@ asked_of work = (work.seq, (work.request, (work.prior, work.generation)))
 
 -- a change that leaves that makes a record, where the rest is within its limits
 pub IsRecord-kept : (work now : Record) → asked_of now ≡ asked_of work → IsRecord work → IfSome now.name IsShortText → now.enqueued_at < 2 ^ 53
-    → now.attempt ≤ 1000000 → IsAttemptIn now.phase now.attempt → now.backoff_n ≤ now.attempt → now.runs ≤ 1000000 → IsOfKind work.request.period now → IsOutputIn now.phase now.output
+    → now.attempt ≤ 1000000 → IsAttemptIn now.phase now.attempt → now.backoff_n ≤ now.attempt → now.runs ≤ 1000000
+    → IsOfKind work.request.period now → IsOutputIn now.phase now.output
     → IsProgressIn now.phase now.progress → IsRecord now
 IsRecord-kept work now same is name enqueued_at attempt started backoff_n runs kind output progress =
     let seq = ap (λ l. l.0) same in
@@ -125,13 +126,15 @@ output-open (phase.Done how) output unfinished is = absurd (false≢true unfinis
 pub IsRecord-cancelled : (work : Record) → is_open work.phase ≡ true → IsRecord work → IsRecord (closed how.Cancelled work)
 IsRecord-cancelled work unfinished is =
     IsRecord-kept work (closed how.Cancelled work) refl is is.name is.fits.enqueued_at is.attempt tt is.backoff_n is.runs
-    (IsOfKind-kept work.request.period work (closed how.Cancelled work) tt refl refl refl is.kind) (output-open work.phase work.output unfinished is.output) refl
+    (IsOfKind-kept work.request.period work (closed how.Cancelled work) tt refl refl refl is.kind)
+    (output-open work.phase work.output unfinished is.output) refl
 
 -- a one-time work that succeeds
 pub IsRecord-succeeded : (output : List DataEntry) (work : Record) → IsData output → work.phase ≡ phase.Running → work.request.period ≡ None → IsRecord work
     → IsRecord (succeeded output work)
 IsRecord-succeeded output work gave running one_time is =
-    IsRecord-kept work (succeeded output work) refl is is.name is.fits.enqueued_at is.attempt (subst (λ phase. IsAttemptIn phase work.attempt) running is.started)
+    IsRecord-kept work (succeeded output work) refl is is.name is.fits.enqueued_at is.attempt
+    (subst (λ phase. IsAttemptIn phase work.attempt) running is.started)
     is.backoff_n is.runs (IsOfKind-one_time work (succeeded output work) one_time refl is.kind) gave refl
 
 pub IsRecord-again : (period : Period) (now : ℕ) (work : Record) → now < 2 ^ 53 → work.request.period ≡ Some period → IsRecord work

@@ -10,7 +10,7 @@ use Rattle.wm_machine.proofs.Steps.{framed, IsReached-after}
 use Rattle.wm_machine.proofs.Turns.{turned_at, turned_both}
 use Rattle.wm_machine.specs.Diaries.{DiaryLine}
 use Rattle.wm_machine.specs.Ends.{given_by}
-use Rattle.wm_machine.specs.Frame.{Frame, frame_of, frame_to, IsEndedIn, untouched}
+use Rattle.wm_machine.specs.Frame.{Frame, frame_of, frame_to, lined_frame, IsEndedIn, untouched}
 use Rattle.wm_machine.specs.Narrow.{IsNarrow, IsReached}
 use Rattle.wm_machine.specs.Replay.{Replay}
 use Rattle.wm_machine.specs.Reports.{is_report_of, is_start_of, reports_in, starts_in, IsReportedOnce}
@@ -99,8 +99,10 @@ record LeavesRuns (s t : State) : Type 0 where
   runs_are : t.runs ≡ s.runs
   next_is : t.next_run ≡ s.next_run
 
-untouched_runs : (s t : State) (commands : List Command) (lines : ℕ → List DiaryLine) → frame_to t commands lines ≡ untouched s commands → LeavesRuns s t
-untouched_runs s t commands lines same = record { runs_are = ap (λ (f : Frame). f.runs) same; next_is = ap (λ (f : Frame). f.next_run) same }
+untouched_runs : (s t : State) (f : Frame) (commands : List Command) (lines : ℕ → List DiaryLine) → frame_to t commands lines ≡ f → f.runs ≡ s.runs
+    → f.next_run ≡ s.next_run → LeavesRuns s t
+untouched_runs s t f commands lines same runs next =
+    record { runs_are = ap (λ (f : Frame). f.runs) same ∙ runs; next_is = ap (λ (f : Frame). f.next_run) same ∙ next }
 
 early_untouched : (number : ℕ) (s t : State) (e : Event) → LeavesRuns s t → is_start_of number e ≡ false → is_report_of number e ≡ false → IsEarly number s e t
 early_untouched number s t e same start report =
@@ -134,7 +136,7 @@ counted_ended number ended told s e valid start report is =
 early : (number : ℕ) (s : State) (e : Event) → Valid s → Legal s e → IsEarly number s e (after s e)
 early number s (event.Command line asked answer) valid legal =
     let e = event.Command line asked answer in
-    early_untouched number s (after s e) e (untouched_runs s (after s e) (asked ∷ []) (λ w. []) (framed s e legal)) refl refl
+    early_untouched number s (after s e) e (untouched_runs s (after s e) (lined_frame s asked) (asked ∷ []) (λ w. []) (framed s e legal) refl refl) refl refl
 early number s (event.Start run seq instance input) valid legal =
     let e = event.Start run seq instance input in
     let is = framed s e legal in
@@ -147,7 +149,7 @@ early number s (event.Start run seq instance input) valid legal =
     }
 early number s (event.StartFailed seq cause) valid legal =
     let e = event.StartFailed seq cause in
-    early_untouched number s (after s e) e (untouched_runs s (after s e) [] (λ w. []) (framed s e legal)) refl refl
+    early_untouched number s (after s e) e (untouched_runs s (after s e) (untouched s []) [] (λ w. []) (framed s e legal) refl refl) refl refl
 early number s (event.Turn run progress) valid legal =
     let e = event.Turn run progress in
     let next : (after s e).next_run ≡ s.next_run = ap (λ (f : Frame). f.next_run) (framed s e legal).frame_is in
@@ -160,7 +162,7 @@ early number s (event.Late run) valid legal = absurd legal
 counted : (number : ℕ) (s : State) (e : Event) → Valid s → Legal s e → number < s.next_run → IsCounted number s e (after s e)
 counted number s (event.Command line asked answer) valid legal earlier =
     let e = event.Command line asked answer in
-    counted_untouched number s (after s e) e (untouched_runs s (after s e) (asked ∷ []) (λ w. []) (framed s e legal)) refl refl
+    counted_untouched number s (after s e) e (untouched_runs s (after s e) (lined_frame s asked) (asked ∷ []) (λ w. []) (framed s e legal) refl refl) refl refl
 counted number s (event.Start run seq instance input) valid legal earlier =
     let e = event.Start run seq instance input in
     let is = framed s e legal in
@@ -171,7 +173,7 @@ counted number s (event.Start run seq instance input) valid legal earlier =
     record { no_start = other; left = rw runs (omega (arith, more, none)) }
 counted number s (event.StartFailed seq cause) valid legal earlier =
     let e = event.StartFailed seq cause in
-    counted_untouched number s (after s e) e (untouched_runs s (after s e) [] (λ w. []) (framed s e legal)) refl refl
+    counted_untouched number s (after s e) e (untouched_runs s (after s e) (untouched s []) [] (λ w. []) (framed s e legal) refl refl) refl refl
 counted number s (event.Turn run progress) valid legal earlier =
     let e = event.Turn run progress in
     let is = framed s e legal in

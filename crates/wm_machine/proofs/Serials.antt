@@ -2,9 +2,9 @@
 use Rattle.std.proofs.Common.{◌≡◌, ℕ, ◌≤◌, Bool, true, false, List, [], ◌∷◌, ◌++◌, length, refl, sym, ◌∙◌, ap, subst, arith, inl, inr}
 use Rattle.std.specs.List.{AllByRecursion}
 use Rattle.std.proofs.lemmas.Bool.{cases_Bool, false≢true}
-use Rattle.wm_machine.proofs.Commands.{answered}
+use Rattle.wm_machine.proofs.Commands.{answered, reply_at_rest}
 use Rattle.wm_machine.proofs.Drains.{AreInTurn-append, commands_of-append, goes_on, Replay-append}
-use Rattle.wm_machine.proofs.Settles.{can-come, quiet-settled}
+use Rattle.wm_machine.proofs.Settles.{quiet-settled}
 use Rattle.wm_machine.proofs.Steps.{IsReached-after}
 use Rattle.wm_machine.specs.Outcome.{IsBuilt}
 use Rattle.wm_machine.specs.Frame.{Frame}
@@ -90,9 +90,11 @@ unbegun : (asked : Command) (lines : List Command) (first : State) → drains_fi
     → IsReached first → first.runs ≡ [] → BeginsSerial (asked ∷ lines) first []
 unbegun asked lines first drains built reached no_run =
     let owed = answered first asked built.0 in
-    let answer = owed.answered (can-come asked first no_run (λ settles. absurd (false≢true (sym drains ∙ ap (λ a. drains_first (a ∷ lines)) settles)))) in
+    let answer =
+    reply_at_rest first asked 0 built.0
+    (record { no_run = no_run; settled = λ settles. absurd (false≢true (sym drains ∙ ap (λ a. drains_first (a ∷ lines)) settles)) }) in
     let e = event.Command 0 asked answer.0 in
-    let legal : Legal first e = (built.0, answer.1) in
+    let legal : Legal first e = answer.1 in
     let rest =
     goes_on lines (after first e) built.1 (IsReached-after first e reached legal)
     (subst (λ (runs : List Run). length runs ≤ 1) (sym (ap (λ (f : Frame). f.runs) owed.frame ∙ no_run)) (omega arith)) in

@@ -1,13 +1,14 @@
 -- What is owed for the commands that set the moment and the conditions, and for the one that hushes.
-use Rattle.std.proofs.Common.{◌≡◌, ℕ, ◌^◌, ◌<◌, Bool, true, false, cond, ltb, List, [], ◌∷◌, Option, Some, None, refl}
+use Rattle.std.proofs.Common.{◌≡◌, ℕ, ◌^◌, ◌<◌, Bool, true, false, cond, ltb, List, [], ◌∷◌, Option, Some, None, IsSome, refl}
 use Rattle.std.specs.List.{list_any}
 use Rattle.wm_conditions.specs.declared.conditions.Conditions.{Conditions}
 use Rattle.wm_machine.proofs.Owed.{IsAnswered}
 use Rattle.wm_machine.specs.Frame.{untouched}
 use Rattle.wm_machine.specs.Narrow.{IsReached}
+use Rattle.wm_machine.specs.Outcome.{outcome}
 use Rattle.wm_machine.specs.Replied.{Outcome, unchanged}
 use Rattle.wm_machine.specs.Settings.{is_stopped_by, moved}
-use Rattle.wm_machine.specs.Step.{Answers, state_by}
+use Rattle.wm_machine.specs.Step.{state_by}
 use Rattle.wm_machine.specs.Types.{Command, State}
 use Rattle.wm_machine.specs.declared.command.Command.TheVariants as command
 use Rattle.wm_machine.specs.declared.reply.Refusal.TheVariants.{MomentBack}
@@ -43,7 +44,7 @@ frame-moved s at false commands = refl
 pub moment-answered : (s : State) (at : ℕ) → at < 2 ^ 53 → IsAnswered s (command.Moment at)
 unfolding moved_by
 moment-answered s at below = record {
-  answered = λ can. ((moved s at).reply, refl);
+  answered = λ rest. refl;
   reached = λ reached. reached-moved s at (ltb at s.now) below reached;
   frame = frame-moved s at (ltb at s.now) (command.Moment at ∷ []);
 }
@@ -65,13 +66,13 @@ frame-conditioned s conditions true commands = refl
 frame-conditioned s conditions false commands = refl
 
 -- where no run is unreturned, none is stopped
-answers-conditioned : (s : State) (conditions : Conditions) → s.runs ≡ [] → Answers s (command.Conditions conditions) (reply.Conditions 0)
+answers-conditioned : (s : State) (conditions : Conditions) → s.runs ≡ [] → IsSome (outcome s (command.Conditions conditions))
 answers-conditioned s conditions no_run = rw no_run refl
 
 pub conditions-answered : (s : State) (conditions : Conditions) → IsAnswered s (command.Conditions conditions)
 unfolding conditioned_by
 conditions-answered s conditions = record {
-  answered = λ can. (reply.Conditions 0, answers-conditioned s conditions can);
+  answered = λ rest. answers-conditioned s conditions rest.no_run;
   reached = λ reached. reached-conditioned s conditions (list_any (is_stopped_by conditions) s.runs) reached;
   frame = frame-conditioned s conditions (list_any (is_stopped_by conditions) s.runs) (command.Conditions conditions ∷ []);
 }
@@ -80,7 +81,7 @@ conditions-answered s conditions = record {
 
 pub hush-answered : (s : State) → IsAnswered s command.Hush
 hush-answered s = record {
-  answered = λ can. (reply.Hushed, refl);
+  answered = λ rest. refl;
   reached = λ reached. reached-set s s.now s.conditions true reached.valid.now reached;
   frame = refl;
 }

@@ -1,11 +1,12 @@
--- What is owed for a line that settles, what its reply tells, and where a command can come.
-use Rattle.std.proofs.Common.{◌≡◌, List, [], ◌∷◌, Option, Some, None, IsSomeAnd, refl, subst, sym}
+-- What is owed for a line that settles, and what its reply tells.
+use Rattle.std.proofs.Common.{◌≡◌, List, [], ◌∷◌, Option, Some, None, IsSomeAnd, is_some, refl, ap, IsSome}
+use Rattle.std.proofs.lemmas.Bool.{false≢true}
 use Rattle.wm_machine.proofs.Owed.{IsAnswered}
-use Rattle.wm_machine.specs.Frame.{untouched}
 use Rattle.wm_machine.specs.First.{first_of}
+use Rattle.wm_machine.specs.Frame.{untouched}
 use Rattle.wm_machine.specs.Narrow.{IsReached}
 use Rattle.wm_machine.specs.Outcome.{outcome}
-use Rattle.wm_machine.specs.Quiet.{settled_by, CanCome, IsQuiet}
+use Rattle.wm_machine.specs.Quiet.{settled_by, IsQuiet}
 use Rattle.wm_machine.specs.Replied.{Outcome, unchanged}
 use Rattle.wm_machine.specs.Step.{state_by, Answers}
 use Rattle.wm_machine.specs.Types.{Command, Record, Reply, Run, State}
@@ -16,8 +17,15 @@ use Rattle.wm_machine.specs.declared.reply.Reply.TheVariants as reply
 settled-is : (s : State) (first : Option Record) (runs : List Run) → first ≡ None → runs ≡ [] → settled_by s first runs ≡ Some (unchanged s reply.Settled)
 settled-is s first runs none no_run = rw (none, no_run) refl
 
-pub settled-unchanged : (s : State) → IsQuiet s → outcome s command.Settle ≡ Some (unchanged s reply.Settled)
-settled-unchanged s quiet = settled-is s (first_of s) s.runs quiet.nothing_startable quiet.no_run
+-- where it has an outcome it is that one
+settled-some : (s : State) (first : Option Record) (runs : List Run) → IsSome (settled_by s first runs)
+    → settled_by s first runs ≡ Some (unchanged s reply.Settled)
+settled-some s None [] some = refl
+settled-some s None (run ∷ runs) some = absurd (false≢true some)
+settled-some s (Some work) runs some = absurd (false≢true some)
+
+pub settled-unchanged : (s : State) → IsSome (outcome s command.Settle) → outcome s command.Settle ≡ Some (unchanged s reply.Settled)
+settled-unchanged s some = settled-some s (first_of s) s.runs some
 
 -- whether it is answered or not, the state stays
 stays : (P : State → Type 0) (s : State) (first : Option Record) (runs : List Run) → P s → P (state_by s (settled_by s first runs))
@@ -27,10 +35,7 @@ stays P s (Some work) runs p = p
 
 pub settle-answered : (s : State) → IsAnswered s command.Settle
 settle-answered s = record {
-  answered = λ quiet. (
-    reply.Settled,
-    subst (λ (o : Option Outcome). IsSomeAnd o (λ outcome. reply.Settled ≡ outcome.reply)) (sym (settled-unchanged s quiet)) refl,
-  );
+  answered = λ rest. ap is_some (settled-is s (first_of s) s.runs (rest.settled refl) rest.no_run);
   reached = λ reached. stays IsReached s (first_of s) s.runs reached;
   frame = stays (λ t. untouched t (command.Settle ∷ []) ≡ untouched s (command.Settle ∷ [])) s (first_of s) s.runs refl;
 }
@@ -45,10 +50,3 @@ quiet-by s answer (Some work) runs answers = absurd answers
 pub quiet-settled : (s : State) (answer : Reply) → Answers s command.Settle answer → IsQuiet s
 quiet-settled s answer answers =
     let both = quiet-by s answer (first_of s) s.runs answers in record { nothing_startable = both.0; no_run = both.1 }
-
--- ---- where a command can come
-
--- it can come where none is, and where it settles nothing is startable either
-pub can-come : (asked : Command) (s : State) → s.runs ≡ [] → (asked ≡ command.Settle → first_of s ≡ None) → CanCome asked s
-can-come command.Settle s no_run quiet = record { nothing_startable = quiet refl; no_run = no_run }
-can-come _ s no_run quiet = no_run

@@ -71,9 +71,11 @@ module _ (s : State) (work : Record) (valid : Valid s) (first : first_of s ≡ S
       let then = map change s.works in
       let open_then = All-any s.works (λ other before. changed_both (λ c. MaySucceedOrHas c.phase) back work.seq other (λ e. tt) (λ differs. before)) in
       let gone : AllByRecursion (OfNumber work.seq (λ other. is_left s.now then (back other) ≡ false)) s.works =
-      All-with2 s.works (λ other kind fine e. left-again period s.now then other (kind e) (no_prior period other (kind e) fine) fine) repeats valid.works.records in
+      All-with2 s.works (λ other kind fine e. left-again period s.now then other (kind e) (no_prior period other (kind e) fine) fine) repeats
+      valid.works.records in
       let is =
-      IsChange-one s.works work.seq back (λ other. record { seq = refl; name = λ text is. is; request = refl; prior = refl }) valid.works.records valid.works.sound
+      IsChange-one s.works work.seq back (λ other. record { seq = refl; name = λ text is. is; request = refl; prior = refl })
+      valid.works.records valid.works.sound
       (All-with2 s.works (λ other kind fine e. IsRecord-again period s.now other valid.now (kind e) fine) repeats valid.works.records)
       (All-weaker s.works (λ other is e. (is e, all_open s.works change other.prior open_then)) unfinished) not_yet (All-any s.works (λ other e. tt)) in
       let here : change work ≡ back work = ap (λ b. cond b (back work) work) (eq-eqb work.seq work.seq refl) in

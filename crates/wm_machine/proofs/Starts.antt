@@ -1,8 +1,9 @@
 -- The start of a run.
-use Rattle.std.proofs.Common.{◌≡◌, ℕ, ◌+◌, Bool, true, false, eqb, cond, ◌||◌, List, [], ◌∷◌, ◌++◌, map, Some, refl, sym, ◌∙◌, ap, subst, arith}
+use Rattle.std.proofs.Common.{◌≡◌, ℕ, ◌+◌, Bool, true, false, eqb, cond, ◌||◌, List, [], ◌∷◌, ◌++◌, map, Some, refl, sym, ◌∙◌, ap, subst, arith, ◌≤◌}
 use Rattle.std.specs.List.{AllByRecursion}
 use Rattle.std.proofs.lemmas.Bool.{eq-eqb, ne_eqb, eqb-false, or_left, or_right}
 use Rattle.std.proofs.lemmas.List.Folds.{list_any-append}
+use Rattle.std.proofs.lemmas.List.{length-map}
 use Rattle.wm_data.specs.Size.{IsData}
 use Rattle.wm_machine.specs.Types.{DataEntry, Instance, Record, Run, State}
 use Rattle.wm_machine.proofs.Changes.{AreWorks-changed, IsChange, IsChange-one, MovesTo}
@@ -86,7 +87,8 @@ IsChange-started s work valid first =
     let startable = IsStartable-from s work (first_of-startable s work first) in
     let alone = IsAlone-stored work s.works valid.works.in_order (first_of-stored s work first) in
     let met = met-succeeded s.works work startable.prerequisites in
-    IsChange-one s.works work.seq started (λ other. record { seq = refl; name = λ text is. is; request = refl; prior = refl }) valid.works.records valid.works.sound
+    IsChange-one s.works work.seq started (λ other. record { seq = refl; name = λ text is. is; request = refl; prior = refl })
+    valid.works.records valid.works.sound
     (All-with2 s.works (λ other same fine e. IsRecord-started other (ap (λ (w : Record). is_waiting w.phase) (same e) ∙ startable.waiting) fine) alone
     valid.works.records)
     (All-weaker s.works (λ other same e. subst (λ (w : Record). MovesTo s.works (changed started work.seq) w.phase w.prior phase.Running) (sym (same e))
@@ -105,7 +107,7 @@ reached-start s work idle input reached first found data_is =
     let run = run_on s work idle input in
     record {
       valid = record {
-        works = AreWorks-changed s (changed started work.seq) valid (IsChange-started s work valid first);
+        works = AreWorks-changed s.next s.works (changed started work.seq) valid.works (IsChange-started s work valid first);
         runs = record {
           running = All-map _ (changed started work.seq) s.works (λ w has.
               changed_both (λ c. c.phase ≡ phase.Running → HasOne (IsCurrentOf c.seq) (s.runs ++ run ∷ [])) started work.seq w
@@ -132,6 +134,7 @@ reached-start s work idle input reached first found data_is =
         };
         instances = record {
           out = All-map _ (made true idle.number) s.instances (IsOutForRun-made s.runs run) valid.instances.out;
+          few = subst (λ n. n ≤ 10000) (sym (length-map s.instances (made true idle.number))) valid.instances.few;
           numbered = AreNumberedInOrder-made true idle.number 0 s.instances valid.instances.numbered;
         };
         few_observers = valid.few_observers;

@@ -154,7 +154,7 @@ reached-turned s number run progress told early reached found current =
     let is = IsChange-telling s run progress told valid (running_of s number run valid found current) in
     record {
       valid = record {
-        works = AreWorks-changed s (changed (telling progress) run.seq) valid is;
+        works = AreWorks-changed s.next s.works (changed (telling progress) run.seq) valid.works is;
         runs = record {
           running = All-map _ (changed (telling progress) run.seq) s.works (λ w has. running_stays progress run.run run.seq s.runs w has) valid.runs.running;
           each = All-map2 _ (turned_at run.run) s.runs (λ r told fine. IsValidRun-turned s run r progress early told fine)
@@ -163,6 +163,7 @@ reached-turned s number run progress told early reached found current =
         };
         instances = record {
           out = All-weaker s.instances (IsOutForRun-turned run.run s.runs) valid.instances.out;
+          few = valid.instances.few;
           numbered = valid.instances.numbered;
         };
         few_observers = valid.few_observers;

@@ -106,7 +106,7 @@ frame-by s request (Some work) commands = found_both (λ o. untouched o.state co
 
 pub update-answered : (s : State) (request : RequestFields) → IsRequest request → IsAnswered s (command.Update request)
 update-answered s request asked = record {
-  answered = λ can. ((update s request).reply, refl);
+  answered = λ rest. refl;
   reached = λ reached. reached-by s request (work_with_id s.works request.id) asked refl reached;
   frame = frame-by s request (work_with_id s.works request.id) (command.Update request ∷ []);
 }

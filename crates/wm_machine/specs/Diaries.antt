@@ -1,5 +1,5 @@
 -- What the workers of a run write down.
-use Rattle.std.specs.Prelude.{◌≡◌, ℕ, ◌+◌, ◌==◌, List, [], ◌∷◌, ◌++◌, if◌then◌else◌, Option, Some, None}
+use Rattle.std.specs.Prelude.{◌≡◌, ℕ, ◌==◌, List, [], ◌∷◌, ◌++◌, if◌then◌else◌, Option, Some, None}
 use Rattle.wm_machine.specs.Role as role
 use Rattle.wm_machine.specs.Role.{HasGiven, Reported, Role, This}
 use Rattle.wm_machine.specs.Runs.{run_numbered}
@@ -55,10 +55,3 @@ AreEntries (line ∷ lines) (written ∷ entries) = IsEntry line written × AreE
 abbrev pub IsDiaryWith : List DiaryLine → Option (List Entry) → Option (List Entry) → Type 0
 IsDiaryWith lines None diary = diary ≡ None
 IsDiaryWith lines (Some before) diary = (entries : List Entry) × AreEntries lines entries × (diary ≡ Some (before ++ entries))
-
--- the diaries of the workers of the instances from this number on, before a log and after it
-abbrev pub AreDiariesAfter : ℕ → State → List Event → List (Option (List Entry)) → List (Option (List Entry)) → Type 0
-AreDiariesAfter number first log [] diaries = diaries ≡ []
-AreDiariesAfter number first log (before ∷ others) [] = ⊥
-AreDiariesAfter number first log (before ∷ others) (diary ∷ diaries) =
-    IsDiaryWith (log_lines number first log) before diary × AreDiariesAfter (number + 1) first log others diaries

@@ -2,12 +2,14 @@
 use Rattle.std.specs.Prelude.{◌≡◌, ℕ, ◌+◌, ◌==◌, true, false, List, [], ◌∷◌, ◌++◌, Some, if◌then◌else◌}
 use Rattle.wm_machine.specs.Diaries.{event_lines, given_lines, DiaryLine, Began}
 use Rattle.wm_machine.specs.Log.{command_in}
+use Rattle.wm_machine.specs.Retired.{with_retired}
 use Rattle.wm_machine.specs.Role as role
 use Rattle.wm_machine.specs.Role.{Reported, Role, This}
 use Rattle.wm_machine.specs.Runs.{other_runs, run_numbered, with_out}
 use Rattle.wm_machine.specs.Step.{after}
 use Rattle.wm_machine.specs.Turns.{with_turned}
 use Rattle.wm_machine.specs.declared.command.Command.{Command}
+use Rattle.wm_machine.specs.declared.command.Command.TheVariants as command
 use Rattle.wm_machine.specs.declared.event.Event.{Event}
 use Rattle.wm_machine.specs.declared.state.Instance.{Instance}
 use Rattle.wm_machine.specs.declared.state.Run.{Run}
@@ -34,6 +36,15 @@ frame_of s e = frame_to (after s e) (command_in e) (λ worker. event_lines worke
 -- a frame that leaves all as it is, but for these commands
 abbrev pub untouched : State → List Command → Frame
 untouched s commands = frame_to s commands (λ worker. [])
+
+-- the instances after a line: those of a class that it retires are retired, which leaves them as they are where the class isn't live
+abbrev pub instances_after : Command → List Instance → List Instance
+instances_after (command.Retire class) instances = with_retired class instances
+instances_after _ instances = instances
+
+-- the frame of a line
+abbrev pub lined_frame : State → Command → Frame
+lined_frame s asked = record (untouched s (asked ∷ [])) { instances = instances_after asked s.instances }
 
 -- the frame in which this run begins, under these numbers of a run and an instance: the instance is out, and its worker writes that it began
 abbrev pub begun_frame : State → ℕ → ℕ → Run → Frame
@@ -84,7 +95,7 @@ pub record IsEndedIn (number : ℕ) (gave : Reported) (s : State) (frame : Frame
 
 -- what an event of this role makes of a state
 abbrev pub IsFramed : Role → State → Frame → Type 0
-IsFramed (role.Line asked) s frame = frame ≡ untouched s (asked ∷ [])
+IsFramed (role.Line asked) s frame = frame ≡ lined_frame s asked
 IsFramed (role.Begins run instance) s frame = IsBegunIn run instance s frame
 IsFramed role.Refuses s frame = frame ≡ untouched s []
 IsFramed (role.GoesOn run gave) s frame = IsTurnedIn run gave s frame

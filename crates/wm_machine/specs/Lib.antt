@@ -22,6 +22,7 @@ pub mod Quiet
 pub mod Replay
 pub mod Replied
 pub mod Reports
+pub mod Retired
 pub mod Role
 pub mod Rows
 pub mod Runs

@@ -1,8 +1,12 @@
 -- The state that a store opens to. What becomes of running work is this project's own choice.
-use Rattle.std.specs.Prelude.{◌≡◌, ℕ, ◌+◌, max, false, List, [], ◌∷◌, map}
-use Rattle.wm_conditions.specs.declared.conditions.TheConstants.Conditions.{OPENING}
+use Rattle.std.specs.Prelude.{◌≡◌, ℕ, ◌+◌, max, ◌≤◌, false, List, [], ◌∷◌, length, map}
+use Rattle.std.specs.List.{AllByRecursion}
+use Rattle.wm_conditions.specs.Defaults.{opening_conditions}
 use Rattle.wm_keeper.specs.declared.row.Row.{Row}
+use Rattle.wm_machine.specs.Replay.{Replay}
 use Rattle.wm_machine.specs.Rows.{row_of}
+use Rattle.wm_machine.specs.Valid.{AreNumberedInOrder, AreWorks}
+use Rattle.wm_machine.specs.declared.event.Event.{Event}
 use Rattle.wm_machine.specs.declared.record.Phase.{Phase}
 use Rattle.wm_machine.specs.declared.record.Phase.TheVariants as phase
 use Rattle.wm_machine.specs.declared.record.Record.{Record}
@@ -27,7 +31,7 @@ next_number (work ∷ works) = max (work.seq + 1) (next_number works)
 abbrev pub opening_state : List Record → List Instance → State
 opening_state works instances = record {
   works = works;
-  conditions = OPENING;
+  conditions = opening_conditions;
   now = 0;
   runs = [];
   instances = instances;
@@ -37,8 +41,30 @@ opening_state works instances = record {
   hushed = false;
 }
 
--- the state is the one that these rows open to, with these instances
+-- an instance that a run is given: neither out nor retired
+pub record IsFresh (instance : Instance) : Type 0 where
+  pub out : instance.out ≡ false
+  pub retired : instance.retired ≡ false
+
+-- the instances that a run is given: at most 10,000, numbered from 0
+pub record AreFresh (instances : List Instance) : Type 0 where
+  pub few : length instances ≤ 10000
+  pub in_order : AreNumberedInOrder 0 instances
+  pub all : AllByRecursion IsFresh instances
+
+-- the state is the one that these rows open to, which are those of sound records, with these instances
 pub record Opened (rows : List Row) (instances : List Instance) (first : State) : Type 0 where
   pub stored : List Record
   pub rows_are_theirs : rows ≡ map row_of stored
+  pub sound : AreWorks (next_number stored) stored
+  pub fresh : AreFresh instances
   pub state : first ≡ opening_state (map reopened stored) instances
+
+-- a state that a log comes to, which begins with an opened one
+pub record IsOfLog (s : State) : Type 0 where
+  pub rows : List Row
+  pub instances : List Instance
+  pub first : State
+  pub log : List Event
+  pub opened : Opened rows instances first
+  pub replay : Replay first log s

@@ -1,6 +1,6 @@
 -- What a command does: the one reply to it in a state, and the state after it; and which commands are built. Each has its rule in a file of
 -- its own.
-use Rattle.std.specs.Prelude.{◌^◌, ◌<◌, if◌then◌else◌, Option, Some, None}
+use Rattle.std.specs.Prelude.{◌^◌, ◌<◌, if◌then◌else◌, Option, Some, None, IsSome}
 use Rattle.wm_machine.specs.Built.{AreAsked, AreAskedUnder}
 use Rattle.wm_machine.specs.Cancelled.{cancelled}
 use Rattle.wm_machine.specs.Enqueued.{enqueued, stops_run}
@@ -8,6 +8,7 @@ use Rattle.wm_machine.specs.Pruned.{pruned}
 use Rattle.wm_machine.specs.Queried.{answer_to}
 use Rattle.wm_machine.specs.Quiet.{settled}
 use Rattle.wm_machine.specs.Replied.{Outcome, unchanged}
+use Rattle.wm_machine.specs.Retired.{retired}
 use Rattle.wm_machine.specs.Settings.{conditioned, hushed, moved}
 use Rattle.wm_machine.specs.Summarized.{counts_of}
 use Rattle.wm_machine.specs.Updated.{update}
@@ -27,6 +28,7 @@ outcome s (command.Moment at) = Some (moved s at)
 outcome s (command.Conditions conditions) = conditioned s conditions
 outcome s command.Prune = Some (pruned s)
 outcome s (command.Query query) = Some (unchanged s (reply.Query (answer_to s query)))
+outcome s (command.Retire class) = Some (retired s class)
 outcome s command.Settle = settled s
 outcome s command.Hush = Some (hushed s)
 outcome s command.Summary = Some (unchanged s (reply.Summary (counts_of s)))
@@ -43,8 +45,15 @@ IsBuilt (command.Moment at) = at < 2 ^ 53
 IsBuilt (command.Conditions conditions) = Unit {0}
 IsBuilt command.Prune = Unit {0}
 IsBuilt (command.Query query) = Unit {0}
+IsBuilt (command.Retire class) = Unit {0}
 IsBuilt command.Settle = Unit {0}
 IsBuilt command.Hush = Unit {0}
 IsBuilt command.Summary = Unit {0}
 IsBuilt (command.Faulty fault) = Unit {0}
 IsBuilt _ = ⊥
+
+-- A command is legal in a state: it is built, and has an outcome there. Between runs each has, but for one that settles, which has one in a
+-- quiet state alone.
+pub record IsLegalLine (s : State) (asked : Command) : Type 0 where
+  pub built : IsBuilt asked
+  pub answered : IsSome (outcome s asked)

@@ -2,8 +2,6 @@
 use Rattle.std.specs.Prelude.{◌≡◌, List, [], Option, Some, None}
 use Rattle.wm_machine.specs.First.{first_of}
 use Rattle.wm_machine.specs.Replied.{Outcome, unchanged}
-use Rattle.wm_machine.specs.declared.command.Command.{Command}
-use Rattle.wm_machine.specs.declared.command.Command.TheVariants as command
 use Rattle.wm_machine.specs.declared.record.Record.{Record}
 use Rattle.wm_machine.specs.declared.reply.Reply.TheVariants as reply
 use Rattle.wm_machine.specs.declared.state.Run.{Run}
@@ -21,8 +19,3 @@ settled_by s _ _ = None
 
 abbrev pub settled : State → Option Outcome
 settled s = settled_by s (first_of s) s.runs
-
--- where a command can come for now: where no run is unreturned, and one that settles in a quiet state alone
-abbrev pub CanCome : Command → State → Type 0
-CanCome command.Settle s = IsQuiet s
-CanCome _ s = s.runs ≡ []

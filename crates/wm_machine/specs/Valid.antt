@@ -170,8 +170,9 @@ pub record AreRuns (works : List Record) (instances : List Instance) (next : ℕ
   pub each : AllByRecursion (IsValidRun works instances next) runs
   pub apart : AllLater AreApart runs
 
--- the instances beside these runs: numbered in order, and out exactly where a run is on them
+-- the instances beside these runs: at most 10,000, numbered in order, and out exactly where a run is on them
 pub record AreInstances (runs : List Run) (instances : List Instance) : Type 0 where
+  pub few : length instances ≤ 10000
   pub out : AllByRecursion (IsOutForRun runs) instances
   pub numbered : AreNumberedInOrder 0 instances
 

@@ -8,6 +8,7 @@ ghost use Rattle.wm_machine.specs.Group.{is_name, members_of, AreAloneOrOneTime,
 ghost use Rattle.wm_machine.specs.Outcome.{IsBuilt};
 ghost use Rattle.wm_machine.specs.Log.{commands_of};
 ghost use Rattle.wm_machine.specs.Narrow.{IsNarrow};
+ghost use Rattle.wm_machine.specs.Opened.{IsOfLog, Opened};
 ghost use Rattle.wm_machine.specs.Plan.{replacing, Places};
 ghost use Rattle.wm_machine.specs.Replay.{Replay};
 ghost use Rattle.wm_machine.specs.Reports.{IsReportedOnce};
@@ -23,7 +24,17 @@ ghost use Rattle.wm_machine.specs.declared.event.Event.TheVariants as event;
 ghost use Rattle.wm_data.specs.declared.data.DataEntry.{DataEntry};
 ghost use Rattle.wm_request.specs.declared.request.Node.{Node};
 ghost use Rattle.wm_machine.specs.declared.record.Record.{Record};
+ghost use Rattle.wm_keeper.specs.declared.row.Row.{Row};
+ghost use Rattle.wm_machine.specs.declared.state.Instance.{Instance};
 ghost use Rattle.wm_machine.specs.declared.state.State.{State};
+
+/// A state that a store opens to is valid, and narrow for now, and no run is unreturned in it. So is
+/// every state of a log that replays from there.
+pub fn an_opened_state_is_valid()
+    ensures opened { (rows : List Row) (instances : List Instance) (first : State)
+        → Opened rows instances first → Valid first × IsNarrow first × (first.runs ≡ []) }
+    ensures of_log { (s : State) → IsOfLog s → Valid s × IsNarrow s }
+{}
 
 /// Every step keeps what holds of every state that the machine reaches, and what is narrower for now.
 pub fn every_step_keeps_valid()
@@ -37,17 +48,27 @@ pub fn every_step_keeps_valid()
 /// on to the log of a whole serial run over its lines and those that are left. So a run that stops early, whatever stopped
 /// it, leaves a front of a serial log.
 pub fn serial_order_goes_on()
-    ensures { (lines left : List Command) (first now : State) (log : List Event)
+    ensures from_rest { (lines left : List Command) (first now : State) (log : List Event)
         → AllByRecursion IsBuilt left → lines ≡ commands_of log ++ left
         → first.runs ≡ [] → Replay first log now → Valid now → IsNarrow now → length now.runs ≤ 1
+        → AreInOrder lines first log → BeginsSerial lines first log }
+    ensures from_opened { (lines left : List Command) (rows : List Row) (instances : List Instance)
+        (first now : State) (log : List Event)
+        → AllByRecursion IsBuilt left → lines ≡ commands_of log ++ left
+        → Opened rows instances first → Replay first log now → length now.runs ≤ 1
         → AreInOrder lines first log → BeginsSerial lines first log }
 {}
 
 /// Each run that a log starts is reported once: its number is no other start's, no report of it
 /// precedes its start, at most one follows, and just one where there is nothing left to do in the end.
 pub fn each_run_is_reported_once()
-    ensures { (first last : State) (before later : List Event) (run seq instance : ℕ) (input : List DataEntry)
+    ensures from_valid { (first last : State) (before later : List Event) (run seq instance : ℕ) (input : List DataEntry)
         → Valid first → IsNarrow first
+        → Replay first (before ++ event.Start run seq instance input ∷ later) last
+        → IsReportedOnce run before later last }
+    ensures from_opened { (rows : List Row) (instances : List Instance) (first last : State)
+        (before later : List Event) (run seq instance : ℕ) (input : List DataEntry)
+        → Opened rows instances first
         → Replay first (before ++ event.Start run seq instance input ∷ later) last
         → IsReportedOnce run before later last }
 {}

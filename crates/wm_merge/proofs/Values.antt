@@ -2,6 +2,8 @@
 use Rattle.std.proofs.Common.{◌≡◌, Bool, true, false, ◌||◌, not, List, [], ◌∷◌, ◌++◌, flat_map, Option, None, Some, is_some, option_map, unwrap_or, refl, sym, ap, ◌∙◌, append-nil, true≢false}
 use Rattle.std.proofs.lemmas.List.Concat.{flat_map-append}
 use Rattle.std.proofs.lemmas.List.Folds.{list_any-append}
+use Rattle.wm_collections.proofs.Lists.{last_of-push}
+use Rattle.wm_collections.specs.Lists.{last_of}
 use Rattle.wm_data.specs.declared.merger.Merger.{Merger}
 use Rattle.wm_data.specs.declared.merger.Merger.TheVariants as merger
 use Rattle.wm_data.specs.declared.value.Value.{Value}
@@ -9,7 +11,6 @@ use Rattle.wm_data.specs.declared.value.Value.TheVariants as value
 use Rattle.wm_merge.specs.Elements.{array_of, bools_of, bytes_of, element_type, ints_of, is_same, longs_of, texts_of}
 use Rattle.wm_merge.specs.Growing.{appended, differs, first_value, next_value}
 use Rattle.wm_merge.specs.Merged.{are_mixed, array_of_all}
-use Rattle.wm_merge.specs.Overwriting.{last_of}
 use Rattle.wm_merge.specs.declared.element.ElementType.{ElementType}
 use Rattle.wm_merge.specs.declared.element.ElementType.TheVariants as kind
 
@@ -24,11 +25,6 @@ conflict merger.Overwriting values = false
 conflict merger.ArrayCreating values = are_mixed values
 
 -- ---- lists of values
-
-last_of-more : {T : Type 0} (xs : List T) (x : T) → last_of (xs ++ x ∷ []) ≡ Some x
-last_of-more [] x = refl
-last_of-more (y ∷ []) x = refl
-last_of-more (y ∷ z ∷ xs) x = last_of-more (z ∷ xs) x
 
 last_of-some : {T : Type 0} (x : T) (xs : List T) → last_of (x ∷ xs) ≡ None → ⊥
 last_of-some x [] e = true≢false (ap is_some e)
@@ -59,7 +55,7 @@ merged_value-first merger.ArrayCreating v = ap Some (sym (appended-array_of (ele
 
 pub merged_value-next : (how : Merger) (values : List Value) (there v : Value) → merged_value how values ≡ Some there
     → merged_value how (values ++ v ∷ []) ≡ Some (next_value how there v)
-merged_value-next merger.Overwriting values there v e = last_of-more values v
+merged_value-next merger.Overwriting values there v e = last_of-push values v
 merged_value-next merger.ArrayCreating [] there v e = absurd (true≢false (sym (ap is_some e)))
 merged_value-next merger.ArrayCreating (first ∷ values) there v e =
     ap Some (sym (appended-array_of (element_type first) (first ∷ values) v)) ∙ ap (option_map (λ grown. appended grown v)) e

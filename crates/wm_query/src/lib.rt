@@ -14,4 +14,4 @@ mod scan;
 pub use counts::counts_of;
 pub use infos::info;
 pub use queries::{answer, answer_to, has_tag, is_name, matches};
-pub use scan::{all_met, due, first_index, idle_in};
+pub use scan::{all_met, due, first_index, idle_in, is_idle, is_live};

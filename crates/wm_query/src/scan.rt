@@ -61,13 +61,14 @@ pub fn all_met(works: &[Record], work: &Record) -> bool
 
 /// Whether some instance of the class isn't retired.
 #[tactic(auto, unfolding(wm_machine::specs::First::is_live))]
-fn is_live(instances: &[Instance], class: &str) -> bool
+pub fn is_live(instances: &[Instance], class: &str) -> bool
     ensures { result ≡ is_live instances.now class.now }
 {
     instances.iter().any(|instance| instance.class.as_str() == class && !instance.retired)
 }
 
-fn is_idle(instance: &Instance, class: &str) -> bool
+/// Whether an instance of the class is neither out nor retired.
+pub fn is_idle(instance: &Instance, class: &str) -> bool
     ensures { result ≡ is_idle class.now instance.now }
 {
     instance.class.as_str() == class && !instance.out && !instance.retired

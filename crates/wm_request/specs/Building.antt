@@ -3,16 +3,16 @@
 use Rattle.std.specs.Prelude.{◌≡◌, ℕ, ◌&&◌, ◌||◌, Bool, false, not, List, [], ◌∷◌, length, nat_lt, nat_le, if◌then◌else◌, Option, Some, None, option_map, unwrap_or, IfSome, Result, Ok, Err}
 use Rattle.std.specs.Cmp.Lexicographic.{slice_cmp}
 use Rattle.std.specs.Ordering.{match_ordering, nat_cmp}
-use Rattle.wm_conditions.specs.declared.conditions.TheConstants.Constraints.{NONE}
+use Rattle.wm_conditions.specs.Defaults.{unconstrained}
 use Rattle.wm_data.specs.declared.merger.Merger.TheVariants.{Overwriting}
 use Rattle.wm_request.specs.Requests.{AreSortedTags, RequestFields}
 use Rattle.wm_request.specs.declared.fault.RequestFault.{RequestFault}
 use Rattle.wm_request.specs.declared.fault.RequestFault.TheVariants as fault
 use Rattle.wm_schedule.specs.Clamped.{clamped_delay, clamped_period, IsBackoffDelay, IsPeriod}
+use Rattle.wm_schedule.specs.Defaults.{default_backoff}
 use Rattle.wm_schedule.specs.declared.schedule.Backoff.{Backoff}
 use Rattle.wm_schedule.specs.declared.schedule.BackoffPolicy.{BackoffPolicy}
 use Rattle.wm_schedule.specs.declared.schedule.Period.{Period}
-use Rattle.wm_schedule.specs.declared.schedule.TheConstants.Backoff.{DEFAULT}
 
 -- ---- the fields
 
@@ -24,8 +24,8 @@ one_time_of id class = record {
   input = [];
   merger = Overwriting;
   tags = [];
-  constraints = NONE;
-  backoff = DEFAULT;
+  constraints = unconstrained;
+  backoff = default_backoff;
   initial_delay = 0;
   period = None;
 }

@@ -1,7 +1,7 @@
 //! What the end of a work makes of the records: of the work itself, and of those that it reaches.
 //!
 //! After the guide's page "Chaining work". Which those are is asked of the graph of the records.
-ghost use Rattle.std.specs.Prelude.{◌≡◌, ◌∷◌, [], IfOk};
+ghost use Rattle.std.specs.Prelude.{◌≡◌, ◌∷◌, [], is_some, Some, IfOk, IsSome};
 ghost use Rattle.wm_graph.specs.Marks.{freed_by};
 ghost use Rattle.wm_graph.specs.Nodes.{HasNode};
 ghost use Rattle.wm_runs.specs.Reached.{change_by, end_reach, not_started_reach, reached_by, replaced_by};
@@ -12,7 +12,7 @@ use wm_collections::{Items, Replica, is_among};
 use wm_graph::Graph;
 use wm_lifecycle::{closed, freed};
 use wm_machine::{End, How, Record};
-use wm_steps::{Replacement, View, put_at};
+use wm_steps::{Replacement, View};
 
 /// What the end of a work makes of the other records.
 #[derive(Drop)]
@@ -86,47 +86,52 @@ pub fn replaced_by(
 {
     let mut replaced = Items::new(alloc);
     for (index, work) in works.iter().enumerate() {
-        let changed = change_by(alloc, itself, reach, work)?;
-        put_at(&mut replaced, index, changed)?;
+        if is_changed(itself, reach, work) {
+            let work = changed(alloc, itself, reach, work)?;
+            replaced.push(Replacement { index, work })?;
+        }
     }
     Ok(replaced)
 }
 
-/// What becomes of one of the records.
-fn change_by(
+/// Whether one of the records becomes another one.
+fn is_changed(itself: &Record, reach: &Reach, work: &Record) -> bool
+    ensures { result ≡ is_some (change_by itself.now reach.now work.now) }
+{
+    work.seq == itself.seq || is_reached(reach, work)
+}
+
+/// Whether another record becomes another one.
+fn is_reached(reach: &Reach, work: &Record) -> bool
+    ensures { result ≡ is_some (reached_by reach.now work.now) }
+{
+    match reach {
+        Reach::Stays => false,
+        Reach::Closes { numbers, .. } => {
+            work.phase.is_open() && is_among(numbers.as_slice(), work.seq)
+        }
+        Reach::Frees { numbers, .. } => {
+            work.phase.is_waiting() && is_among(numbers.as_slice(), work.seq)
+        }
+    }
+}
+
+/// What becomes of one of the records that become another one.
+fn changed(
     alloc: Global,
     itself: &Record,
     reach: &Reach,
     work: &Record,
-) -> Result<Option<Record>, AllocError>
-    ensures { IfOk result (λ changed. changed
-        ≡ change_by itself.entry.now reach.entry.now work.entry.now) }
+) -> Result<Record, AllocError>
+    requires { IsSome (change_by itself.now reach.now work.now) }
+    ensures { IfOk result (λ changed. change_by itself.entry.now reach.entry.now work.entry.now ≡ Some changed) }
 {
     if work.seq == itself.seq {
-        return Ok(Some(itself.replica(alloc)?));
+        return itself.replica(alloc);
     }
-    reached_by(alloc, reach, work)
-}
-
-/// What becomes of another record; nothing where it stays.
-fn reached_by(alloc: Global, reach: &Reach, work: &Record) -> Result<Option<Record>, AllocError>
-    ensures { IfOk result (λ changed. changed ≡ reached_by reach.entry.now work.entry.now) }
-{
     match reach {
-        Reach::Stays => Ok(None),
-        Reach::Closes { how, numbers } => {
-            if work.phase.is_open() && is_among(numbers.as_slice(), work.seq) {
-                Ok(Some(closed(alloc, work, *how)?))
-            } else {
-                Ok(None)
-            }
-        }
-        Reach::Frees { numbers, now } => {
-            if work.phase.is_waiting() && is_among(numbers.as_slice(), work.seq) {
-                Ok(Some(freed(alloc, work, *now)?))
-            } else {
-                Ok(None)
-            }
-        }
+        Reach::Stays => unreachable!(),
+        Reach::Closes { how, .. } => closed(alloc, work, *how),
+        Reach::Frees { now, .. } => freed(alloc, work, *now),
     }
 }

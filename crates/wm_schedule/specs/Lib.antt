@@ -1,4 +1,5 @@
 -- What no head of these files takes from a page of the guide is this project's own choice.
 pub mod Clamped
+pub mod Defaults
 pub mod Due
 pub mod Moments

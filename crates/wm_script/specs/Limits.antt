@@ -7,6 +7,10 @@ use Rattle.wm_script.specs.declared.limits.Limit.TheVariants as limit
 use Rattle.wm_script.specs.declared.limits.ScriptFault.{ScriptFault}
 use Rattle.wm_script.specs.declared.limits.ScriptFault.TheVariants.{TooLong, Memory}
 
+-- the most bytes that a script has
+abbrev pub most_script_bytes : ℕ
+most_script_bytes = 16777216
+
 -- a line has more bytes than it may have, without its LF
 abbrev pub is_long : List ℕ → Bool
 is_long line = nat_lt 1048576 (length line)
@@ -14,7 +18,7 @@ is_long line = nat_lt 1048576 (length line)
 -- the first limit that a script passes: on its bytes, then on the bytes of a line, then on its lines
 unfoldable pub first_limit : List ℕ → Option Limit
 first_limit bytes =
-    if nat_lt 16777216 (length bytes) then Some limit.Bytes
+    if nat_lt most_script_bytes (length bytes) then Some limit.Bytes
     else if list_any is_long (cut bytes) then Some limit.Line
     else if nat_lt 100000 (length (cut bytes)) then Some limit.Lines
     else None

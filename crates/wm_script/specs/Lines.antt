@@ -8,7 +8,7 @@ use Rattle.serde_json.specs.Data as json
 use Rattle.serde_json.specs.Find.{as_bool, as_str, get}
 use Rattle.serde_json.specs.Read.{read}
 use Rattle.wm_machine.specs.declared.command.Command.{Command}
-use Rattle.wm_machine.specs.declared.command.Command.TheVariants.{Cancel, Conditions, Enqueue, Faulty, Hush, Moment, Prune, Query, Settle, Summary, Update}
+use Rattle.wm_machine.specs.declared.command.Command.TheVariants.{Cancel, Conditions, Enqueue, Faulty, Hush, Moment, Prune, Query, Retire, Settle, Summary, Update}
 use Rattle.wm_machine.specs.declared.command.LineFault.TheVariants as fault
 use Rattle.wm_machine.specs.declared.command.Target.{Target}
 use Rattle.wm_machine.specs.declared.command.Target.TheVariants.{All, Id, Name, Tag}
@@ -104,7 +104,7 @@ cancel_of d = do
   target ← formed (target_of d)
   Ok (Cancel target)
 
--- ---- the moment, the conditions and a query
+-- ---- the moment, the conditions, a query and a retire
 
 abbrev pub moment_of : json.Data → Result Command Unread
 moment_of d = do
@@ -121,16 +121,16 @@ query_of d = do
   query ← query_in d
   Ok (Query query)
 
+abbrev pub retire_of : json.Data → Result Command Unread
+retire_of d = do
+  class ← formed (text_under (codes "class") d)
+  Ok (Retire class)
+
 -- ---- what is in the grammar, and not built yet
 
 abbrev pub observe_of : json.Data → Result Command Unread
 observe_of d = do
   query ← query_in d
-  Ok (Faulty fault.NotBuilt)
-
-abbrev pub retire_of : json.Data → Result Command Unread
-retire_of d = do
-  class ← formed (text_under (codes "class") d)
   Ok (Faulty fault.NotBuilt)
 
 -- ---- a line
@@ -152,8 +152,8 @@ readers =
     (codes "hush", alone Hush) ∷
     (codes "summary", alone Summary) ∷
     (codes "query", query_of) ∷
-    (codes "observe", observe_of) ∷
-    (codes "retire", retire_of) ∷ []
+    (codes "retire", retire_of) ∷
+    (codes "observe", observe_of) ∷ []
 
 -- what a value of this name asks for
 abbrev pub named_command : List ℕ → json.Data → Result Command Unread

@@ -3,16 +3,16 @@ use Rattle.std.specs.Prelude.{ℕ, List, [], ◌∷◌, codes, if◌then◌else�
 use Rattle.serde_json.specs.Data as json
 use Rattle.serde_json.specs.Find.{as_str, get}
 use Rattle.serde_json.specs.View.{view}
+use Rattle.wm_conditions.specs.Defaults.{unconstrained}
 use Rattle.wm_conditions.specs.declared.conditions.Constraints.{Constraints}
 use Rattle.wm_conditions.specs.declared.conditions.Network.{Network}
 use Rattle.wm_conditions.specs.declared.conditions.Network.TheVariants as network
-use Rattle.wm_conditions.specs.declared.conditions.TheConstants.Constraints.{NONE}
 use Rattle.wm_data.specs.declared.merger.Merger.{Merger}
 use Rattle.wm_data.specs.declared.merger.Merger.TheVariants.{Overwriting, ArrayCreating}
+use Rattle.wm_schedule.specs.Defaults.{default_backoff}
 use Rattle.wm_schedule.specs.declared.schedule.Backoff.{Backoff}
 use Rattle.wm_schedule.specs.declared.schedule.BackoffPolicy.{BackoffPolicy}
 use Rattle.wm_schedule.specs.declared.schedule.BackoffPolicy.TheVariants.{Linear, Exponential}
-use Rattle.wm_schedule.specs.declared.schedule.TheConstants.Backoff.{DEFAULT}
 use Rattle.wm_script.specs.Objects.{has_only}
 use Rattle.wm_script.specs.Values.{◌>>=◌, flag_at, id_in, named_at, whole_at, whole_in}
 use Rattle.wm_script.specs.declared.works.PeriodForm.{PeriodForm as ReadPeriod}
@@ -56,7 +56,7 @@ constraint_keys =
 
 -- constraints, each of which may be absent; no constraint where there are none
 unfoldable pub constraints_at : Option json.Data → Option Constraints
-constraints_at None = Some NONE
+constraints_at None = Some unconstrained
 constraints_at (Some d) = if has_only constraint_keys d then (do
   network ← network_at (get (codes "network") d)
   charging ← flag_at (get (codes "charging") d)
@@ -80,7 +80,7 @@ backoff_policy_at value = named_at backoff_policies Exponential value
 
 -- a backoff with its delay as it is asked for; EXPONENTIAL from 30,000 ms where there is none
 unfoldable pub backoff_at : Option json.Data → Option Backoff
-backoff_at None = Some DEFAULT
+backoff_at None = Some default_backoff
 backoff_at (Some d) = if has_only (codes "delay" ∷ codes "policy" ∷ []) d then (do
   policy ← backoff_policy_at (get (codes "policy") d)
   delay ← whole_at 30000 (get (codes "delay") d)

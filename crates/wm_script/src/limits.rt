@@ -3,7 +3,6 @@ ghost use Rattle.std.specs.Prelude.{◌≡◌};
 ghost use Rattle.wm_script.specs.Limits.{first_limit};
 
 use crate::lines::first_line;
-use std::alloc::{AllocError, AllocFailed};
 
 /// The most bytes that a script has.
 pub const MAX_SCRIPT_BYTES: usize = 16_777_216;
@@ -32,26 +31,6 @@ pub enum ScriptFault {
     TooLong(Limit),
     /// Memory was refused.
     Memory,
-}
-
-impl From<AllocError> for ScriptFault {
-    ghost use Rattle.wm_script.specs.declared.limits.ScriptFault.TheVariants.{Memory};
-
-    ghost from_gives = { λ _ fault. fault ≡ Memory };
-
-    fn from(_refused: AllocError) -> ScriptFault {
-        ScriptFault::Memory
-    }
-}
-
-impl<T: Drop> From<AllocFailed<T>> for ScriptFault {
-    ghost use Rattle.wm_script.specs.declared.limits.ScriptFault.TheVariants.{Memory};
-
-    ghost from_gives = { λ _ fault. fault ≡ Memory };
-
-    fn from(_refused: AllocFailed<T>) -> ScriptFault {
-        ScriptFault::Memory
-    }
 }
 
 /// The first limit that a script passes, if it passes one: on its bytes, then on the bytes of a

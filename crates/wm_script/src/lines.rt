@@ -1,5 +1,5 @@
 //! The lines of a script as commands.
-ghost use Rattle.std.specs.Prelude.{◌≡◌, ◌==◌, position, ◌∷◌, ◌<◌, ◌≤◌, length, option_map, Err, IfOk, IfErr, None, Ok, OnOk, Some};
+ghost use Rattle.std.specs.Prelude.{◌≡◌, ◌==◌, position, ◌∷◌, ◌<◌, ◌≤◌, length, option_map, Err, IfOk, IfErr, None, Ok, OnErr, OnOk, Some};
 ghost use Rattle.std.specs.List.{AllByRecursion};
 ghost use Rattle.serde_json.specs.View.{view};
 ghost use Rattle.wm_machine.specs.Outcome.{IsBuilt};
@@ -45,6 +45,18 @@ pub fn read_lines(alloc: Global, bytes: &[u8]) -> Result<Items<Command>, ScriptF
     if let Some(limit) = first_limit(bytes) {
         return Err(ScriptFault::TooLong(limit));
     }
+    match commands_in(alloc, bytes) {
+        Ok(commands) => Ok(commands),
+        Err(_refused) => Err(ScriptFault::Memory),
+    }
+}
+
+/// The commands of lines, in their order. Where there is no line it takes no memory.
+fn commands_in(alloc: Global, bytes: &[u8]) -> Result<Items<Command>, AllocError>
+    ensures commands { IfOk result (λ commands. commands ≡ commands_in bytes.now) }
+    ensures some { OnErr result (0 < length bytes.now) }
+    ensures few { IfOk result (λ commands. length commands ≤ length bytes.now) }
+{
     let mut commands = Items::new(alloc);
     let mut rest = bytes;
     'lines: while !rest.is_empty() {
@@ -144,8 +156,8 @@ fn named_command(alloc: Global, name: &str, value: &Value) -> Result<Command, Un
         "hush" => alone(Command::Hush, value),
         "summary" => alone(Command::Summary, value),
         "query" => query_of(alloc, value),
+        "retire" => retire_of(alloc, value),
         "observe" => observe_of(alloc, value),
-        "retire" => retire_of(value),
         _ => Err(Unread::Form),
     }
 }
@@ -284,6 +296,17 @@ fn query_of(alloc: Global, value: &Value) -> Result<Command, Unread>
     Ok(Command::Query(query_in(alloc, value)?))
 }
 
+/// The command that retires a class of workers.
+fn retire_of(alloc: Global, value: &Value) -> Result<Command, Unread>
+    ensures ok { IfOk result (λ command. retire_of (view value.now) ≡ Ok command) }
+    ensures err { IfErr result (IsFaultOf (retire_of (view value.now))) }
+{
+    match text_under(value, "class") {
+        Some(class) => Ok(Command::Retire(Text::from_str(alloc, class)?)),
+        None => Err(Unread::Form),
+    }
+}
+
 /// What an observe asks for, which has the keys of a query. It isn't built yet.
 fn observe_of(alloc: Global, value: &Value) -> Result<Command, Unread>
     ensures ok { IfOk result (λ command. observe_of (view value.now) ≡ Ok command) }
@@ -291,14 +314,4 @@ fn observe_of(alloc: Global, value: &Value) -> Result<Command, Unread>
 {
     drop(query_in(alloc, value)?);
     Ok(Command::Faulty(LineFault::NotBuilt))
-}
-
-/// What a retire asks for, of a class of 1 to 200 bytes. It isn't built yet.
-fn retire_of(value: &Value) -> Result<Command, Unread>
-    ensures { result ≡ retire_of (view value.now) }
-{
-    match text_under(value, "class") {
-        Some(_) => Ok(Command::Faulty(LineFault::NotBuilt)),
-        None => Err(Unread::Form),
-    }
 }

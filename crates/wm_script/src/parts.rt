@@ -7,7 +7,7 @@ ghost use Rattle.wm_script.specs.Onto.{IsOneMore, IsStopped, with_fault, with_pa
 ghost use Rattle.wm_script.specs.Parts.{each_in, formed, IsFaultOf, is_count, items_in, list_at, some_in};
 
 use serde_json::Value;
-use std::alloc::{AllocError, AllocFailed, Global};
+use std::alloc::{AllocError, Global};
 use wm_chain::ChainFault;
 use wm_collections::Items;
 use wm_data::DataFault;
@@ -34,16 +34,6 @@ impl From<AllocError> for Unread {
     ghost from_gives = { λ _ fault. fault ≡ Memory };
 
     fn from(_refused: AllocError) -> Unread {
-        Unread::Memory
-    }
-}
-
-impl<T: Drop> From<AllocFailed<T>> for Unread {
-    ghost use Rattle.wm_script.specs.declared.parts.Unread.TheVariants.{Memory};
-
-    ghost from_gives = { λ _ fault. fault ≡ Memory };
-
-    fn from(_refused: AllocFailed<T>) -> Unread {
         Unread::Memory
     }
 }

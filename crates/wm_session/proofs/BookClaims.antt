@@ -53,9 +53,9 @@ module _ {K W B : Type 0} {run : Inputs} {tells : Tells K W B} where
       let start = step.legal in
       let instances = old.table.state.instances in
       let is : start.idle.number ≡ 0 + place = sym start.instance_is ∙ sym same ∙ omega arith in
-      idle_at-in start.idle place 0 old.places instances kept.valid.instances.numbered (away_now old going kept.away)
-      (idle_instance-stored instances start.work.request.class start.idle start.is_idle)
-      (idle_instance-idle instances start.work.request.class start.idle start.is_idle).is_in is
+      let idle = idle_instance-idle instances start.work.request.class start.idle start.is_idle in
+      idle_at-in tells.kind_of start.idle place 0 old.places instances kept.valid.instances.numbered (away_now old going kept.away) kept.workers
+      (idle_instance-stored instances start.work.request.class start.idle start.is_idle) idle.is_in idle.not_retired is
       (no_seat place (idle_at place old.places) none)
 
   -- the workers are those of the instances after a claim
@@ -73,27 +73,30 @@ module _ {K W B : Type 0} {run : Inputs} {tells : Tells K W B} where
 
   -- a run began and was told
   pub BookInvariant-begun : {old : BookState K W B} (table : TableState K) (places : List (Place B)) (pending : List ℕ) (sink : W)
-      (number seq instance place : ℕ) (input : List DataEntry)
+      (number seq instance place : ℕ) (input : List DataEntry) (seat : Seat B)
       → BookInvariant run tells old → old.status ≡ None
       → IsOneStep tells.held (event.Start number seq instance input) old.table table → place ≡ instance
+      → Some seat ≡ option_map (λ worker. record { number = place; worker = worker }) (idle_at place old.places)
       → places ≡ changed_at (made_away tells.kind_of) place old.places
       → IsTold run tells (event.Start number seq instance input) old table pending sink old.status
       → tells.keeper_faults table.keeper ≡ tells.keeper_faults old.table.keeper
       → BookInvariant run tells (record old { table = table; places = places; pending = pending; sink = sink })
-  BookInvariant-begun {old = old} table places pending sink number seq instance place input kept going step same there told no_fault =
+  BookInvariant-begun {old = old} table places pending sink number seq instance place input seat kept going step same taken there told no_fault =
       let s = old.table.state in
       let instances : table.state.instances ≡ with_out true instance s.instances =
       ap (λ (t : State). t.instances) step.state
       ∙ ap (λ (f : Frame). f.instances) (framed s (event.Start number seq instance input) step.legal).frame_is in
       let from_zero : 0 + instance ≡ instance = omega arith in
+      let idle : idle_at instance old.places ≡ Some seat.worker =
+      ap (λ n. idle_at n old.places) (sym same) ∙ (seat_is place (idle_at place old.places) seat taken).0 in
       let are : places ≡ changed_at (made_away tells.kind_of) instance old.places = there ∙ ap (λ n. changed_at (made_away tells.kind_of) n old.places) same in
       BookInvariant-event (event.Start number seq instance input) old table places pending sink old.status kept going step refl told
       (ap (map (place_traits tells.kind_of)) are ∙ traits-taken tells.kind_of instance old.places ∙ kept.workers
       ∙ sym (traits-with_out true instance s.instances) ∙ ap (map instance_traits) (sym instances))
       (AwayInvariant-from old.status (record old { table = table; places = places; pending = pending; sink = sink })
       (ap (map (λ place. is_away place.presence)) are
-      ∙ away-changed (made_away tells.kind_of) true instance 0 old.places s.instances (away-taken tells.kind_of) kept.valid.instances.numbered
-      (away_now old going kept.away)
+      ∙ away-changed (made_away tells.kind_of) true instance 0 old.places s.instances (away-taken tells.kind_of seat.worker instance old.places idle)
+      kept.valid.instances.numbered (away_now old going kept.away)
       ∙ ap (λ n. map (λ instance. instance.out) (with_out true n s.instances)) from_zero
       ∙ ap (map (λ instance. instance.out)) (sym instances)))
       no_fault

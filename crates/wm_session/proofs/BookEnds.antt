@@ -11,7 +11,7 @@ use Rattle.wm_machine.specs.declared.state.State.{State}
 use Rattle.wm_session.proofs.BookParts.{LinesInvariant-front, failed_since}
 use Rattle.wm_session.proofs.WrittenTexts.{IsAppended-kept, IsPartAppended-kept}
 use Rattle.wm_session.specs.BookState.{BookState}
-use Rattle.wm_session.specs.Causes.{status_by_stop, stop_by_fault, StopCause}
+use Rattle.wm_session.specs.Causes.{status_by_stop, stop_by_fault, EndsBy, StopCause}
 use Rattle.wm_session.specs.Ended.{HasCommands, IsSessionStatus, IsTextWritten}
 use Rattle.wm_session.specs.Inputs.{Inputs}
 use Rattle.wm_session.specs.Invariant.{LinesInvariant, TextsInvariant, BookInvariant}
@@ -56,19 +56,19 @@ all_written None (Err fault.Memory) ended refused going done ok = let is : ended
 pub IsTextWritten-kept : {K W B : Type 0} {run : Inputs} {tells : Tells K W B} {book : BookState K W B} (ended : Status) (first : State) (log : List Event)
     (now : Option (List ℕ)) (left : List ℕ) (written : Result (Unit {0}) WriteFault)
     → BookInvariant run tells book → first ≡ book.table.first → log ≡ book.table.log
-    → TextsInvariant None (tells.given book.sink) now book.pending left → OnOk written (left ≡ []) → IfSome book.status (λ why. ended ≡ status_by_stop why)
-    → (IsNone book.status → IfErr written (λ fault. ended ≡ status_by_stop (stop_by_fault fault))) → IsTextWritten run.written now ended first log
-IsTextWritten-kept {run = run} {tells = tells} {book = book} ended first log now left written kept first_is log_is told all stopped refused =
+    → TextsInvariant None (tells.given book.sink) now book.pending left → OnOk written (left ≡ []) → EndsBy book.status written ended
+    → IsTextWritten run.written now ended first log
+IsTextWritten-kept {run = run} {tells = tells} {book = book} ended first log now left written kept first_is log_is told all ends =
     let text : log_text book.table.first book.table.log ≡ log_text first log =
     ap (log_text book.table.first) (sym log_is) ∙ ap (λ s. log_text s log) (sym first_is) in
     let texts = subst (λ l. TextsInvariant book.status run.written (tells.given book.sink) l book.pending) text kept.texts in
     record {
       front = IsPartAppended-kept book.status run.written (tells.given book.sink) now (log_text first log) book.pending left texts told;
       all = λ is.
-          let going = done_is book.status ended stopped is in
+          let going = done_is book.status ended ends.stopped is in
           IsAppended-kept run.written (tells.given book.sink) now (log_text first log) book.pending left
           (subst (λ status. TextsInvariant status run.written (tells.given book.sink) (log_text first log) book.pending) going texts) told
-          (all_written book.status written ended refused going is all);
+          (all_written book.status written ended ends.refused going is all);
     }
 
 -- ---- how it ends
@@ -77,12 +77,6 @@ stop_status : (why : Stop) → IsSessionStatus (status_by_stop why)
 stop_status why.KeeperFault = tt
 stop_status why.SinkFault = tt
 stop_status why.Memory = tt
-
--- how a book ends that stopped for this, or whose last write was answered so
-pub record EndsBy (stop : Option Stop) (written : Result (Unit {0}) WriteFault) (ended : Status) : Type 0 where
-  pub stopped : IfSome stop (λ why. ended ≡ status_by_stop why)
-  pub refused : IsNone stop → IfErr written (λ fault. ended ≡ status_by_stop (stop_by_fault fault))
-  pub done : IsNone stop → OnOk written (ended ≡ status.Done)
 
 pub IsSessionStatus-ends : (stop : Option Stop) (written : Result (Unit {0}) WriteFault) (ended : Status) → EndsBy stop written ended → IsSessionStatus ended
 IsSessionStatus-ends (Some why) written ended ends = subst IsSessionStatus (sym ends.stopped) (stop_status why)

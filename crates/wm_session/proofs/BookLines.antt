@@ -5,7 +5,7 @@ use Rattle.wm_bench.specs.declared.place.Place.{Place}
 use Rattle.wm_machine.proofs.Logs.{AreNumberedFrom-push}
 use Rattle.wm_machine.proofs.Steps.{framed}
 use Rattle.wm_machine.specs.Outcome.{IsBuilt}
-use Rattle.wm_machine.specs.Frame.{Frame}
+use Rattle.wm_machine.specs.Frame.{instances_after, Frame}
 use Rattle.wm_machine.specs.Log.{commands_of, AreNumberedFrom}
 use Rattle.wm_machine.specs.Narrow.{IsNarrow}
 use Rattle.wm_machine.specs.Replay.{Replay}
@@ -17,9 +17,10 @@ use Rattle.wm_machine.specs.declared.reply.Reply.{Reply}
 use Rattle.wm_machine.specs.declared.state.State.{State}
 use Rattle.wm_machine.specs.declared.event.Event.TheVariants as event
 use Rattle.wm_session.proofs.PlacesAndInstances.{all_here}
+use Rattle.wm_session.proofs.RetiredPlaces.{away-after, workers-after}
 use Rattle.wm_session.proofs.BookParts.{AwayInvariant-from}
 use Rattle.wm_session.proofs.WrittenTexts.{TextsInvariant-unwritten}
-use Rattle.wm_session.specs.Bench.{instance_traits, place_traits, AreIdle}
+use Rattle.wm_session.specs.Bench.{instance_traits, place_traits, places_after, NoneAway}
 use Rattle.wm_session.specs.BookState.{BookState}
 use Rattle.wm_session.specs.Inputs.{Inputs}
 use Rattle.wm_session.specs.Invariant.{TextsInvariant, BookInvariant}
@@ -31,20 +32,22 @@ use Rattle.wm_session.proofs.BookSteps.{IsTold, away_now, BookInvariant-step}
 
 module _ {K W B : Type 0} {run : Inputs} {tells : Tells K W B} where
   -- a line was executed, and its text told or not
-  pub BookInvariant-line : {old : BookState K W B} (table : TableState K) (left : List Command) (pending : List ℕ) (sink : W) (status : Option Stop)
-      (command : Command) (reply : Reply)
+  pub BookInvariant-line : {old : BookState K W B} (table : TableState K) (places : List (Place B)) (left : List Command) (pending : List ℕ) (sink : W)
+      (status : Option Stop) (command : Command) (reply : Reply)
       → BookInvariant run tells old → old.status ≡ None
       → IsOneStep tells.held (event.Command (old.line + 1) command reply) old.table table → old.left ≡ command ∷ left
       → tells.keeper_faults table.keeper ≡ tells.keeper_faults old.table.keeper
-      → IsTold run tells (event.Command (old.line + 1) command reply) old table pending sink status
+      → IsTold run tells (event.Command (old.line + 1) command reply) old table pending sink status → places ≡ places_after tells.kind_of command old.places
       → BookInvariant run tells
-      (record old { table = table; left = left; line = old.line + 1; pending = pending; sink = sink; status = status })
-  BookInvariant-line {old = old} table left pending sink status command reply kept going step next no_fault told =
-      let new : BookState K W B = record old { table = table; left = left; line = old.line + 1; pending = pending; sink = sink; status = status } in
+      (record old { table = table; places = places; left = left; line = old.line + 1; pending = pending; sink = sink; status = status })
+  BookInvariant-line {old = old} table places left pending sink status command reply kept going step next no_fault told places_are =
+      let new : BookState K W B =
+      record old { table = table; places = places; left = left; line = old.line + 1; pending = pending; sink = sink; status = status } in
       let e = event.Command (old.line + 1) command reply in
       let built : AllByRecursion IsBuilt (command ∷ left) = subst (AllByRecursion IsBuilt) next kept.built in
       let number : old.line + 1 ≡ 1 + length (commands_of old.table.log) = ap (λ n. n + 1) kept.line ∙ omega arith in
-      let instances : table.state.instances ≡ old.table.state.instances =
+      let before = old.table.state.instances in
+      let instances : table.state.instances ≡ instances_after command before =
       ap (λ (t : State). t.instances) step.state ∙ ap (λ (f : Frame). f.instances) (framed old.table.state e step.legal) in
       BookInvariant-step e old new kept (record {
         going = going;
@@ -52,18 +55,18 @@ module _ {K W B : Type 0} {run : Inputs} {tells : Tells K W B} where
         left = next;
         built = built.1;
         line = refl;
-        workers = kept.workers ∙ ap (map instance_traits) (sym instances);
+        workers = rw (places_are, instances) (workers-after tells.kind_of command old.places before kept.workers);
         no_fault = no_fault;
       })
       (AreNumberedFrom-push 1 old.table.log (old.line + 1) command reply kept.numbered number)
       told
-      (AwayInvariant-from status new (away_now old going kept.away ∙ ap (map (λ instance. instance.out)) (sym instances)))
+      (AwayInvariant-from status new (rw (places_are, instances) (away-after tells.kind_of command old.places before (away_now old going kept.away))))
 
 -- ---- the begin
 
 pub BookInvariant-new : {K W B : Type 0} (run : Inputs) (tells : Tells K W B) (table : TableState K) (places : List (Place B)) (left : List Command)
     (pending : List ℕ) (sink : W)
-    → table.log ≡ [] → left ≡ run.lines → pending ≡ [] → map (place_traits tells.kind_of) places ≡ map instance_traits table.state.instances → AreIdle places
+    → table.log ≡ [] → left ≡ run.lines → pending ≡ [] → map (place_traits tells.kind_of) places ≡ map instance_traits table.state.instances → NoneAway places
     → AllByRecursion (λ instance. instance.out ≡ false) table.state.instances → Valid table.state → IsNarrow table.state
     → 0 + length left < 2 ^ 32 → AllByRecursion IsBuilt left
     → table.state ≡ table.first → table.first ≡ run.first → tells.held table.keeper ≡ option_map (λ _. rows_of table.state) run.rows

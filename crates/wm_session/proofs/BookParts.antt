@@ -1,6 +1,8 @@
 -- Parts of what a book keeps, after a change.
-use Rattle.std.proofs.Common.{◌≡◌, ◌⊎◌, ℕ, ◌+◌, ◌-◌, ◌^◌, ◌≤◌, min, List, [], ◌∷◌, ◌++◌, map, Option, Some, None, IsSome, IsSomeAnd, option_map, Err, refl, sym, ◌∙◌, ap, subst, inr, arith}
+use Rattle.std.proofs.Common.{◌≡◌, ◌⊎◌, ℕ, ◌+◌, ◌-◌, ◌^◌, ◌≤◌, min, List, [], ◌++◌, map, Option, Some, None, IsSome, IsSomeAnd, option_map, Err, refl, sym, ◌∙◌, ap, subst, inr, arith}
 use Rattle.std.proofs.Math.Nat.{le-min, le_trans, min-le_left, min-le_right}
+use Rattle.wm_collections.proofs.Lists.{last_of-push}
+use Rattle.wm_collections.specs.Lists.{last_of}
 use Rattle.wm_faults.specs.Faults.{Failed}
 use Rattle.wm_keeper.specs.declared.row.Row.{Row}
 use Rattle.wm_machine.specs.declared.command.Command.{Command}
@@ -19,7 +21,7 @@ use Rattle.wm_session.specs.Book as book
 use Rattle.wm_session.specs.BookState.{BookState}
 use Rattle.wm_session.specs.Causes.{stop_by_fault, stop_by_trouble, StopCause}
 use Rattle.wm_session.specs.Invariant.{AwayInvariant, LinesInvariant, TextsInvariant}
-use Rattle.wm_table.specs.Table.{last_of, IsClaimAnswer, IsOneStep, IsUntouched, TurnCause}
+use Rattle.wm_table.specs.Table.{IsClaimAnswer, IsOneStep, IsUntouched, TurnCause}
 use Rattle.wm_table.specs.TableState.{TableState, TicketState, ticket_of}
 use Rattle.wm_session.specs.Writing.{WriteCause}
 use Rattle.wm_session.specs.declared.book.Stop.{Stop}
@@ -99,11 +101,6 @@ Replay-step held e old new replays step =
 pub Replay-same : {K : Type 0} (held : K → Option (List Row)) (old new : TableState K) → Replay old.first old.log old.state → IsUntouched held old new
     → Replay new.first new.log new.state
 Replay-same held old new replays same = rw (same.first, same.log, same.state) replays
-
-last_of-push : {T : Type 0} (xs : List T) (x : T) → last_of (xs ++ x ∷ []) ≡ Some x
-last_of-push [] x = refl
-last_of-push (y ∷ []) x = refl
-last_of-push (y ∷ z ∷ xs) x = last_of-push (z ∷ xs) x
 
 -- the last event is that of the step
 pub last_of-step : {K : Type 0} (held : K → Option (List Row)) (e : Event) (old new : TableState K) → IsOneStep held e old new → last_of new.log ≡ Some e

@@ -1,6 +1,6 @@
 -- A book after the end of a run, and after a turn by which it goes on.
 use Rattle.std.proofs.Common.{◌≡◌, ◌⊎◌, ℕ, ◌+◌, Bool, true, false, List, map, Option, Some, None, IsSomeAnd, refl, sym, ◌∙◌, ap, subst, inl, inr, arith, []}
-use Rattle.wm_bench.specs.Places.{changed_at, made_idle, IsAwayAt}
+use Rattle.wm_bench.specs.Places.{changed_at, made_back, IsAwayAt}
 use Rattle.wm_bench.specs.Seat.{Seat}
 use Rattle.wm_bench.specs.declared.place.Place.{Place}
 use Rattle.wm_keeper.specs.declared.row.Row.{Row}
@@ -11,7 +11,7 @@ use Rattle.wm_machine.proofs.Turns.{after_turn}
 use Rattle.wm_machine.specs.Frame.{Frame}
 use Rattle.wm_machine.specs.Runs.{with_out}
 use Rattle.wm_machine.specs.declared.event.Event.TheVariants as event
-use Rattle.wm_session.proofs.PlacesAndInstances.{away-changed, traits-given, traits-with_out}
+use Rattle.wm_session.proofs.PlacesAndInstances.{away-changed, here-back, traits-given, traits-with_out}
 use Rattle.wm_session.proofs.BookEvents.{framed_end, no_more_after_end, no_more_after_turn, silent_end}
 use Rattle.wm_session.proofs.BookParts.{AwayInvariant-from}
 use Rattle.wm_session.specs.Bench.{instance_traits, is_away, place_traits}
@@ -59,8 +59,8 @@ module _ {K W B : Type 0} {run : Inputs} {tells : Tells K W B} where
   pub IsOver-ended : {old : BookState K W B} (table : TableState K) (places : List (Place B)) (pending : List ℕ) (sink : W) (ticket : TicketState)
       (seat : Seat B) (told : Report) (answer : TurnAnswer)
       → BookInvariant run tells old → old.status ≡ None → IsEndAnswer answer → IsTurnAnswer tells.held ticket told answer old.table table
-      → places ≡ changed_at (made_idle seat.worker) seat.number old.places → pending ≡ []
-      → book.IsOver tells.held ticket seat told old (record old { table = table; places = places; pending = pending; sink = sink })
+      → places ≡ changed_at (made_back tells.kind_of seat.worker) seat.number old.places → pending ≡ []
+      → book.IsOver tells.held tells.kind_of ticket seat told old (record old { table = table; places = places; pending = pending; sink = sink })
   IsOver-ended {old = old} table places pending sink ticket seat told answer kept going ends answered are written =
       let over = ended_by tells.held ticket told answer old.table table ends answered in
       let ended = over.over.finished in
@@ -99,7 +99,7 @@ module _ {K W B : Type 0} {run : Inputs} {tells : Tells K W B} where
   pub BookInvariant-over : {old : BookState K W B} (table : TableState K) (places : List (Place B)) (pending : List ℕ) (sink : W) (status : Option Stop)
       (ticket : TicketState) (place : ℕ) (told : Report) (worker : B) (answer : TurnAnswer)
       → BookInvariant run tells old → old.status ≡ None → Stands old.table.state ticket → place ≡ ticket.instance
-      → IsAwayAt place (tells.kind_of worker) old.places → places ≡ changed_at (made_idle worker) place old.places
+      → IsAwayAt place (tells.kind_of worker) old.places → places ≡ changed_at (made_back tells.kind_of worker) place old.places
       → IsEndAnswer answer → IsTurnAnswer tells.held ticket told answer old.table table
       → TurnCause answer (tells.keeper_faults old.table.keeper) (tells.keeper_faults table.keeper)
       → ((e : Event) → IsOneStep tells.held e old.table table → IsTold run tells e old table pending sink status)
@@ -122,7 +122,8 @@ module _ {K W B : Type 0} {run : Inputs} {tells : Tells K W B} where
       (traits-with_out false ticket.instance s.instances) ∙ ap (map instance_traits) (sym instances))
       (AwayInvariant-from status (record old { table = table; places = places; pending = pending; sink = sink; status = status })
       (ap (map (λ place. is_away place.presence)) are
-      ∙ away-changed (made_idle worker) false place 0 old.places s.instances (λ place. refl) kept.valid.instances.numbered (away_now old going kept.away)
+      ∙ away-changed (made_back tells.kind_of worker) false place 0 old.places s.instances (λ place is. here-back tells.kind_of worker place)
+      kept.valid.instances.numbered (away_now old going kept.away)
       ∙ ap (λ n. map (λ instance. instance.out) (with_out false n s.instances)) from_zero
       ∙ ap (map (λ instance. instance.out)) (sym instances)))
       (unfaulted_end answer (tells.keeper_faults old.table.keeper) (tells.keeper_faults table.keeper) ends cause)

@@ -6,9 +6,11 @@ pub mod BookParts
 pub mod BookReports
 pub mod BookSteps
 pub mod BookStops
+pub mod BoxLemmas
 pub mod DiaryLemmas
 pub mod HandLemmas
 pub mod NextLines
 pub mod PlacesAndInstances
+pub mod RetiredPlaces
 pub mod SerialLemmas
 pub mod WrittenTexts

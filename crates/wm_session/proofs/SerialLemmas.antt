@@ -3,8 +3,9 @@ use Rattle.std.proofs.Common.{◌≡◌, ◌⊎◌, ℕ, ◌+◌, ◌<◌, ◌�
 use Rattle.std.specs.List.{AllByRecursion}
 use Rattle.std.specs.declared.alloc.AllocError.{AllocError}
 use Rattle.std.proofs.lemmas.Bool.{eq-eqb}
-use Rattle.wm_bench.specs.Places.{changed_at, made_away, made_idle, IsAwayAt}
+use Rattle.wm_bench.specs.Places.{idle_at, changed_at, idle_hands, made_back, IsAwayAt}
 use Rattle.wm_bench.specs.Seat.{Seat}
+use Rattle.wm_bench.specs.declared.hand.Hand.{Hand}
 use Rattle.wm_data.specs.declared.data.DataEntry.{DataEntry}
 use Rattle.wm_keeper.specs.declared.row.Row.{Row}
 use Rattle.wm_machine.specs.declared.command.Command.{Command}
@@ -30,14 +31,17 @@ use Rattle.wm_machine.proofs.Steps.{framed}
 use Rattle.wm_machine.proofs.Turns.{after_turn}
 use Rattle.wm_session.proofs.BookEvents.{end_in_turn, framed_end, length-turned, other_runs-turned, run_numbered-turned}
 use Rattle.wm_session.proofs.BookParts.{claimed_step, Replay-same, Replay-step}
-use Rattle.wm_session.proofs.DiaryLemmas.{AreDiariesAfter-nothing, KeepDiaries-last, KeepDiaries-turned, no_longer, ticket-found}
-use Rattle.wm_session.proofs.HandLemmas.{AreIdle-back, IsAwayAt-taken, NoneRetired-changed}
-use Rattle.wm_session.specs.Bench.{AreIdle, place_diaries}
+use Rattle.wm_session.proofs.BoxLemmas.{no_longer, KeepBoxes-cut, KeepBoxes-given_up, KeepBoxes-last, KeepBoxes-same, KeepBoxes-silent, KeepBoxes-turned, KeepBoxesOut-later}
+use Rattle.wm_session.proofs.DiaryLemmas.{ticket-found, IsDiaryLater-same}
+use Rattle.wm_session.proofs.HandLemmas.{IsAwayAt-taken, NoneAway-back, NoneAway-hands}
+use Rattle.wm_session.specs.Bench.{NoneAway}
+use Rattle.wm_session.proofs.RetiredPlaces.{idle_at-after, NoneAway-after}
 use Rattle.wm_session.specs.Book.{IsBegun, IsClaimStopped, IsFrontStopped, IsGivenBack, IsLineDone, IsReported, IsStartFailed, IsTurnUntold}
 use Rattle.wm_session.specs.BookState.{BookState}
+use Rattle.wm_session.specs.Boxes.{IsDiaryLater}
 use Rattle.wm_session.specs.Drive.{HasWritten, IsCutShort, IsDriven, IsGivenUp, IsLastTurn, IsNoTurn, IsOtherTurn, IsUnderWay}
 use Rattle.wm_session.specs.Ended.{HasCommands, IsSerialRun}
-use Rattle.wm_session.specs.BetweenRuns.{GoesInOrder, IsAtBegin, IsBetweenRuns, IsInOrder, IsReady, KeepDiaries}
+use Rattle.wm_session.specs.BetweenRuns.{GoesInOrder, IsAtBegin, IsBetweenRuns, IsInOrder, IsReady, KeepBoxes}
 use Rattle.wm_table.specs.Table.{IsClaimAnswer, IsFinished, IsOneStep, IsUntouched}
 use Rattle.wm_table.specs.TableState.{TicketState}
 use Rattle.wm_table.specs.declared.table.Claim.{Claim}
@@ -59,13 +63,15 @@ use Rattle.std.specs.Prelude.{map, option_to_list}
 
 -- ---- a turn is reported
 
-module _ {K W B : Type 0} (held : K → Option (List Row)) (diary_of : B → Option (List Entry)) (ticket : TicketState) (worker : B) (seat : Seat B)
-    (number : seat.number ≡ ticket.instance) (old new : BookState K W B) where
-  at_place : new.places ≡ changed_at (made_idle seat.worker) seat.number old.places → new.places ≡ changed_at (made_idle seat.worker) ticket.instance old.places
-  at_place places = places ∙ ap (λ n. changed_at (made_idle seat.worker) n old.places) number
+module _ {K W B : Type 0} (held : K → Option (List Row)) (kind_of : B → Kind) (diary_of : B → Option (List Entry)) (ticket : TicketState) (worker : B)
+    (seat : Seat B) (number : seat.number ≡ ticket.instance) (old new : BookState K W B) where
+  at_place : new.places ≡ changed_at (made_back kind_of seat.worker) seat.number old.places
+      → new.places ≡ changed_at (made_back kind_of seat.worker) ticket.instance old.places
+  at_place places = places ∙ ap (λ n. changed_at (made_back kind_of seat.worker) n old.places) number
 
-  given_up : IsGivenBack held seat old new → IsGivenUp held ticket old new
-  given_up given = record { back = seat.worker; stopped = given.stopped; places = at_place given.places }
+  given_up : IsDiaryLater (diary_of worker) (diary_of seat.worker) → IsGivenBack held kind_of seat old new
+      → IsGivenUp held kind_of diary_of ticket (diary_of worker) old new
+  given_up later given = record { back = seat.worker; diary_later = later; stopped = given.stopped; places = at_place given.places }
 
   -- what a worker has written down that gave this
   wrote : (gave : Given) (answered : Answer) → given_of answered ≡ Some gave
@@ -75,10 +81,10 @@ module _ {K W B : Type 0} (held : K → Option (List Row)) (diary_of : B → Opt
       written ∙ ap (λ given. diary_with (map (λ given. Gave ticket.task.run ticket.k given) (option_to_list given)) (diary_of worker)) is
 
   last_turn : (told : Report) (timed_out : Bool) → old.status ≡ None → IsFinished held ticket.task.run told timed_out old.table new.table
-      → new.places ≡ changed_at (made_idle seat.worker) seat.number old.places → new.left ≡ old.left
+      → new.places ≡ changed_at (made_back kind_of seat.worker) seat.number old.places → new.left ≡ old.left
       → left_to_drain new.table.state ≤ left_to_drain old.table.state
       → diary_of seat.worker ≡ diary_with (turn_entries ticket.task.run ticket.k told.answer) (diary_of worker)
-      → IsLastTurn held diary_of ticket worker old new
+      → IsLastTurn held kind_of diary_of ticket worker old new
   last_turn told timed_out before ended places left no_more written = record {
     ending = ended.ending;
     reported = ended.reported;
@@ -94,11 +100,12 @@ module _ {K W B : Type 0} (held : K → Option (List Row)) (diary_of : B → Opt
     no_more = no_more;
   }
 
-  cut_short : (told : Report) → IsTurnUntold held ticket told old new → new.places ≡ changed_at (made_idle seat.worker) seat.number old.places
-      → IsCutShort held ticket old new
-  cut_short told untold places = record {
+  cut_short : (told : Report) → IsTurnUntold held ticket told old new → new.places ≡ changed_at (made_back kind_of seat.worker) seat.number old.places
+      → IsDiaryLater (diary_of worker) (diary_of seat.worker) → IsCutShort held kind_of diary_of ticket (diary_of worker) old new
+  cut_short told untold places later = record {
     progress = untold.turn.progress;
     back = seat.worker;
+    diary_later = later;
     before = untold.before;
     status = untold.status;
     step = untold.turn.step;
@@ -108,9 +115,9 @@ module _ {K W B : Type 0} (held : K → Option (List Row)) (diary_of : B → Opt
   }
 
   -- once a worker's report is given, and the run doesn't go on, it is over, or the session has stopped early
-  pub IsNoTurn-reported : (told : Result Report AllocError) (result : After B) → IsReported held ticket seat told result old new
+  pub IsNoTurn-reported : (told : Result Report AllocError) (result : After B) → IsReported held kind_of ticket seat told result old new
       → (result ≡ report.Over) ⊎ (result ≡ report.Stopped) → HasWritten diary_of ticket worker seat.worker told
-      → IsNoTurn held diary_of ticket worker old new
+      → IsNoTurn held kind_of diary_of ticket worker old new
   IsNoTurn-reported (Ok told) report.Over done ends written =
       inl (last_turn told done.timed_out done.goes_on.before done.ended done.places done.left done.no_more written)
   IsNoTurn-reported (Ok told) (report.Go next kept) done (inl ends) written = absurd (cc)
@@ -119,13 +126,15 @@ module _ {K W B : Type 0} (held : K → Option (List Row)) (diary_of : B → Opt
   IsNoTurn-reported (Ok told) (report.Again same kept) done (inr ends) written = absurd (cc)
   IsNoTurn-reported (Ok told) report.Stopped done ends written =
       elim done.how [
-        | inl stopped ↦ inr (inl (given_up (record { stopped = stopped; places = done.places })))
+        | inl stopped ↦
+            inr (inl (given_up (turn_entries ticket.task.run ticket.k told.answer, written) (record { stopped = stopped; places = done.places })))
         | inr untold ↦ elim untold [
           | inl ended ↦ inl (last_turn told ended.timed_out ended.before ended.ended done.places ended.left ended.no_more written)
-          | inr turned ↦ inr (inr (cut_short told turned done.places))
+          | inr turned ↦ inr (inr (cut_short told turned done.places (turn_entries ticket.task.run ticket.k told.answer, written)))
         ]
       ]
-  IsNoTurn-reported (Err refused) report.Stopped done ends written = inr (inl (given_up done))
+  IsNoTurn-reported (Err refused) report.Stopped done ends written =
+      inr (inl (given_up (IsDiaryLater-same (diary_of worker) (diary_of seat.worker) written) done))
   IsNoTurn-reported (Err refused) _ done ends written = absurd done
 
   -- the runs of a turn that was made
@@ -135,10 +144,10 @@ module _ {K W B : Type 0} (held : K → Option (List Row)) (diary_of : B → Opt
       ap (λ (t : State). t.runs) (step.state ∙ after_turn old.table.state ticket.task.run progress step.legal)
 
   -- where it goes on, the next ticket is at the next turn
-  pub IsOtherTurn-reported : (kind_of : B → Kind) (told : Result Report AllocError) (next : TicketState) (kept : Seat B) → IsUnderWay ticket old
-      → kind_of seat.worker ≡ ticket.kind → IsReported held ticket seat told (report.Go next kept) old new
+  pub IsOtherTurn-reported : (told : Result Report AllocError) (next : TicketState) (kept : Seat B) → IsUnderWay kind_of ticket old
+      → kind_of seat.worker ≡ ticket.kind → IsReported held kind_of ticket seat told (report.Go next kept) old new
       → HasWritten diary_of ticket worker seat.worker told → IsOtherTurn held kind_of diary_of ticket worker next kept old new
-  IsOtherTurn-reported kind_of (Ok told) next kept under_way kind done written =
+  IsOtherTurn-reported (Ok told) next kept under_way kind done written =
       let on = done.turn in
       let its = on.step.legal.report in
       let run = its.run in
@@ -169,7 +178,7 @@ module _ {K W B : Type 0} (held : K → Option (List Row)) (diary_of : B → Opt
         left = done.left;
         no_more = done.no_more;
       }
-  IsOtherTurn-reported kind_of (Err refused) next kept under_way kind done written = absurd done
+  IsOtherTurn-reported (Err refused) next kept under_way kind done written = absurd done
 
 -- ---- the order
 
@@ -227,7 +236,7 @@ GoesInOrder-ready lines book drains ready = record {
 rest_again : {K W B : Type 0} {old new : BookState K W B} → IsBetweenRuns old → Replay new.table.first new.table.log new.table.state
     → (new.status ≡ None → new.table.state.runs ≡ []) → new.places ≡ old.places → IsBetweenRuns new
 rest_again rest replays none places =
-    record { replay = replays; no_run = none; idle = rw places rest.idle; not_retired = rw places rest.not_retired }
+    record { replay = replays; no_run = none; none_away = rw places rest.none_away }
 
 module _ {K W B : Type 0} (held : K → Option (List Row)) (old new : BookState K W B) (rest : IsBetweenRuns old) (going : old.status ≡ None) where
   -- where a run began, it alone is unreturned
@@ -254,7 +263,7 @@ module _ {K W B : Type 0} (held : K → Option (List Row)) (old new : BookState 
 
 -- a run that starts in a book at rest is under way
 pub IsUnderWay-begun : {K W B : Type 0} {held : K → Option (List Row)} {kind_of : B → Kind} {ticket : TicketState} {seat : Seat B} {signal : SignalState}
-    {old new : BookState K W B} → IsBetweenRuns old → IsBegun held kind_of ticket seat signal old new → IsUnderWay ticket new
+    {old new : BookState K W B} → IsBetweenRuns old → IsBegun held kind_of ticket seat signal old new → IsUnderWay kind_of ticket new
 IsUnderWay-begun {held = held} {kind_of = kind_of} {ticket = ticket} {seat = seat} {old = old} {new = new} rest begun =
     let task = ticket.task in
     let start = event.Start task.run ticket.seq ticket.instance task.input in
@@ -265,8 +274,7 @@ IsUnderWay-begun {held = held} {kind_of = kind_of} {ticket = ticket} {seat = sea
       ticket_in = begun.ticket_in;
       alone = rw (one, eq-eqb its.run.run task.run (sym its.number_is)) refl;
       away = rw (begun.places, ← begun.kind) (IsAwayAt-taken kind_of seat.worker ticket.instance old.places begun.worker);
-      others = λ back. rw begun.places (AreIdle-back kind_of back ticket.instance old.places rest.idle);
-      not_retired = rw begun.places (NoneRetired-changed (made_away kind_of) ticket.instance old.places (λ place. refl) rest.not_retired);
+      others = λ back. rw begun.places (NoneAway-back kind_of back ticket.instance old.places rest.none_away);
     }
 
 -- a work that couldn't start
@@ -301,23 +309,45 @@ module _ {K W B : Type 0} (held : K → Option (List Row)) (old new : BookState 
         | inr untold ↦ GoesInOrder-claimed held old new rest untold.before untold.made untold.claimed lines
       ]
 
+  pub KeepBoxes-halted : (diary_of : B → Option (List Entry)) (given : List (Hand B)) → IsBetweenRuns old → IsClaimStopped held old new
+      → KeepBoxes diary_of given old → KeepBoxes diary_of given new
+  KeepBoxes-halted diary_of given rest halted =
+      elim halted.how [
+        | inl stopped ↦ KeepBoxes-same diary_of given old new stopped.table stopped.status halted.places
+        | inr untold ↦
+            let step = claimed_step held untold.made old.table new.table untold.claimed in
+            KeepBoxes-silent diary_of given old new rest.replay step.1 (no_longer new.status untold.status) (no_longer new.status untold.status)
+            (λ number worker idle. rw halted.places at idle)
+      ]
+
 -- ---- a run under way
 
 -- its worker is back
-rest_back : {K W B : Type 0} {ticket : TicketState} {old new : BookState K W B} (back : B) → IsUnderWay ticket old
+rest_back : {K W B : Type 0} {kind_of : B → Kind} {ticket : TicketState} {old new : BookState K W B} (back : B) → IsUnderWay kind_of ticket old
     → Replay new.table.first new.table.log new.table.state → (new.status ≡ None → new.table.state.runs ≡ [])
-    → new.places ≡ changed_at (made_idle back) ticket.instance old.places → IsBetweenRuns new
-rest_back {ticket = ticket} {old = old} back under_way replays none places = record {
+    → new.places ≡ changed_at (made_back kind_of back) ticket.instance old.places → IsBetweenRuns new
+rest_back back under_way replays none places = record {
   replay = replays;
   no_run = none;
-  idle = rw places (under_way.others back);
-  not_retired = rw places (NoneRetired-changed (made_idle back) ticket.instance old.places (λ place. refl) under_way.not_retired);
+  none_away = rw places (under_way.others back);
+}
+
+-- a run whose worker has come to have the diary that it was to have
+pub IsDriven-begun : {K W B : Type 0} {old new : BookState K W B} (diary_of : B → Option (List Entry)) (number : ℕ) (has owes : Option (List Entry))
+    → IsDiaryLater has owes → IsDriven diary_of number owes owes old new → IsDriven diary_of number has owes old new
+IsDriven-begun {old = old} diary_of number has owes later driven = record {
+  rest = driven.rest;
+  left = driven.left;
+  no_more = driven.no_more;
+  order = driven.order;
+  boxes = λ given keep. driven.boxes given (KeepBoxesOut-later diary_of number has owes given old later keep);
 }
 
 -- the session has stopped early
-pub IsDriven-given_up : {K W B : Type 0} {held : K → Option (List Row)} {ticket : TicketState} {old new : BookState K W B} (diary_of : B → Option (List Entry))
-    (diary : Option (List Entry)) → IsUnderWay ticket old → IsGivenUp held ticket old new → IsDriven diary_of ticket.instance diary old new
-IsDriven-given_up {held = held} {old = old} {new = new} diary_of diary under_way over =
+pub IsDriven-given_up : {K W B : Type 0} {held : K → Option (List Row)} {kind_of : B → Kind} {ticket : TicketState} {old new : BookState K W B}
+    (diary_of : B → Option (List Entry)) (has owes : Option (List Entry)) → IsUnderWay kind_of ticket old
+    → IsGivenUp held kind_of diary_of ticket has old new → IsDriven diary_of ticket.instance has owes old new
+IsDriven-given_up {held = held} {old = old} {new = new} diary_of has owes under_way over =
     let same = over.stopped.table in
     let stopped = over.stopped.status in
     record {
@@ -325,7 +355,7 @@ IsDriven-given_up {held = held} {old = old} {new = new} diary_of diary under_way
       left = over.stopped.left;
       no_more = rw same.state (omega arith);
       order = λ lines. GoesInOrder-stopped held lines old new same stopped;
-      diaries = λ diaries keep. no_longer new.status stopped;
+      boxes = λ given. KeepBoxes-given_up owes given over;
     }
 
 -- the order is kept by a turn of the run that there is
@@ -340,9 +370,10 @@ GoesInOrder-turned held number progress lines old new step replays going goes =
     GoesInOrder-step held lines (event.Turn number progress) old new step (subst (λ n. n ≤ 1) (sym as_many) goes.order.few_runs) replays going tt goes
 
 -- the session has stopped early while a turn was told
-IsDriven-cut : {K W B : Type 0} {held : K → Option (List Row)} {ticket : TicketState} {old new : BookState K W B} (diary_of : B → Option (List Entry))
-    (diary : Option (List Entry)) → IsUnderWay ticket old → IsCutShort held ticket old new → IsDriven diary_of ticket.instance diary old new
-IsDriven-cut {held = held} {ticket = ticket} {old = old} {new = new} diary_of diary under_way cut =
+IsDriven-cut : {K W B : Type 0} {held : K → Option (List Row)} {kind_of : B → Kind} {ticket : TicketState} {old new : BookState K W B}
+    (diary_of : B → Option (List Entry)) (has owes : Option (List Entry)) → IsUnderWay kind_of ticket old
+    → IsCutShort held kind_of diary_of ticket has old new → IsDriven diary_of ticket.instance has owes old new
+IsDriven-cut {held = held} {ticket = ticket} {old = old} {new = new} diary_of has owes under_way cut =
     let number = ticket.task.run in
     record {
       rest = rest_back cut.back under_way (Replay-step held (event.Turn number cut.progress) old.table new.table under_way.replay cut.step)
@@ -350,13 +381,14 @@ IsDriven-cut {held = held} {ticket = ticket} {old = old} {new = new} diary_of di
       left = cut.left;
       no_more = cut.no_more;
       order = λ lines. GoesInOrder-turned held number cut.progress lines old new cut.step under_way.replay cut.before;
-      diaries = λ diaries keep. no_longer new.status cut.status;
+      boxes = λ given. KeepBoxes-cut owes given under_way.replay cut;
     }
 
-module _ {K W B : Type 0} {held : K → Option (List Row)} {diary_of : B → Option (List Entry)} {ticket : TicketState} {worker : B}
+module _ {K W B : Type 0} {held : K → Option (List Row)} {kind_of : B → Kind} {diary_of : B → Option (List Entry)} {ticket : TicketState} {worker : B}
     {old new : BookState K W B} where
   -- its last turn
-  IsDriven-last : IsUnderWay ticket old → IsLastTurn held diary_of ticket worker old new → IsDriven diary_of ticket.instance (diary_of worker) old new
+  IsDriven-last : IsUnderWay kind_of ticket old → IsLastTurn held kind_of diary_of ticket worker old new
+      → IsDriven diary_of ticket.instance (diary_of worker) (diary_of worker) old new
   IsDriven-last under_way last =
       let s = old.table.state in
       let number = ticket.task.run in
@@ -372,19 +404,20 @@ module _ {K W B : Type 0} {held : K → Option (List Row)} {diary_of : B → Opt
         no_more = last.no_more;
         order = λ lines. GoesInOrder-step held lines last.ending old new last.step (rw none (omega arith)) under_way.replay last.before
             (end_in_turn s number last.reported last.ending last.ends);
-        diaries = λ diaries. KeepDiaries-last diaries under_way last;
+        boxes = λ given. KeepBoxes-last given under_way last;
       }
 
   -- a turn after which no turn follows
-  pub IsDriven-turned : IsUnderWay ticket old → IsNoTurn held diary_of ticket worker old new → IsDriven diary_of ticket.instance (diary_of worker) old new
+  pub IsDriven-turned : IsUnderWay kind_of ticket old → IsNoTurn held kind_of diary_of ticket worker old new
+      → IsDriven diary_of ticket.instance (diary_of worker) (diary_of worker) old new
   IsDriven-turned under_way (inl last) = IsDriven-last under_way last
-  IsDriven-turned under_way (inr (inl over)) = IsDriven-given_up diary_of (diary_of worker) under_way over
-  IsDriven-turned under_way (inr (inr cut)) = IsDriven-cut diary_of (diary_of worker) under_way cut
+  IsDriven-turned under_way (inr (inl over)) = IsDriven-given_up diary_of (diary_of worker) (diary_of worker) under_way over
+  IsDriven-turned under_way (inr (inr cut)) = IsDriven-cut diary_of (diary_of worker) (diary_of worker) under_way cut
 
 module _ {K W B : Type 0} {held : K → Option (List Row)} {kind_of : B → Kind} {diary_of : B → Option (List Entry)} {ticket next : TicketState} {worker : B}
     {seat : Seat B} {old new : BookState K W B} where
   -- after another turn the run is under way
-  pub IsUnderWay-turned : IsUnderWay ticket old → IsOtherTurn held kind_of diary_of ticket worker next seat old new → IsUnderWay next new
+  pub IsUnderWay-turned : IsUnderWay kind_of ticket old → IsOtherTurn held kind_of diary_of ticket worker next seat old new → IsUnderWay kind_of next new
   IsUnderWay-turned under_way turned =
       let s = old.table.state in
       let number = ticket.task.run in
@@ -401,40 +434,47 @@ module _ {K W B : Type 0} {held : K → Option (List Row)} {kind_of : B → Kind
             ∙ other_runs-turned number s.runs
             ∙ under_way.alone;
         away = subst (λ (t : TicketState). IsAwayAt t.instance t.kind new.places) (sym turned.next_is) (rw turned.places under_way.away);
-        others = λ back. subst (λ (t : TicketState). AreIdle (changed_at (made_idle back) t.instance new.places)) (sym turned.next_is)
+        others = λ back. subst (λ (t : TicketState). NoneAway (changed_at (made_back kind_of back) t.instance new.places)) (sym turned.next_is)
             (rw turned.places (under_way.others back));
-        not_retired = rw turned.places under_way.not_retired;
       }
 
   -- what drives it to its end from there has driven it from here
-  pub IsDriven-further : (last : BookState K W B) → IsUnderWay ticket old → IsOtherTurn held kind_of diary_of ticket worker next seat old new
-      → IsDriven diary_of next.instance (diary_of seat.worker) new last → IsDriven diary_of ticket.instance (diary_of worker) old last
+  pub IsDriven-further : (last : BookState K W B) → IsUnderWay kind_of ticket old → IsOtherTurn held kind_of diary_of ticket worker next seat old new
+      → IsDriven diary_of next.instance (diary_of seat.worker) (diary_of seat.worker) new last
+      → IsDriven diary_of ticket.instance (diary_of worker) (diary_of worker) old last
   IsDriven-further last under_way turned driven = record {
     rest = driven.rest;
     left = driven.left ∙ turned.left;
     no_more = omega (arith, driven.no_more, turned.no_more);
     order = λ lines goes. driven.order lines
         (GoesInOrder-turned held ticket.task.run turned.progress lines old new turned.step under_way.replay turned.goes_on.before goes);
-    diaries = λ diaries keep. driven.diaries diaries (KeepDiaries-turned diaries under_way turned keep);
+    boxes = λ given keep. driven.boxes given (KeepBoxes-turned given under_way turned keep);
   }
 
 -- ---- a line
 
-module _ {K W B : Type 0} {held : K → Option (List Row)} {old new : BookState K W B} (rest : IsBetweenRuns old) where
-  line_none : old.status ≡ None → IsLineDone held old new → new.table.state.runs ≡ []
+module _ {K W B : Type 0} {held : K → Option (List Row)} {kind_of : B → Kind} {old new : BookState K W B} (rest : IsBetweenRuns old) where
+  line_none : old.status ≡ None → IsLineDone held kind_of old new → new.table.state.runs ≡ []
   line_none going done =
       ap (λ (t : State). t.runs) done.step.state
       ∙ ap (λ (f : Frame). f.runs) (framed old.table.state (event.Command (old.line + 1) done.command done.reply) done.step.legal)
       ∙ rest.no_run going
 
   -- a line was executed
-  pub IsBetweenRuns-line : old.status ≡ None → IsLineDone held old new → new.places ≡ old.places → IsBetweenRuns new
-  IsBetweenRuns-line going done =
-      rest_again rest (Replay-step held (event.Command (old.line + 1) done.command done.reply) old.table new.table rest.replay done.step)
-      (λ still. line_none going done)
+  pub IsBetweenRuns-line : old.status ≡ None → IsLineDone held kind_of old new → IsBetweenRuns new
+  IsBetweenRuns-line going done = record {
+    replay = Replay-step held (event.Command (old.line + 1) done.command done.reply) old.table new.table rest.replay done.step;
+    no_run = λ still. line_none going done;
+    none_away = rw done.places (NoneAway-after kind_of done.command old.places rest.none_away);
+  }
+
+  -- who is at its place was there before
+  pub idle_at-line : (done : IsLineDone held kind_of old new) (number : ℕ) (worker : B) → idle_at number new.places ≡ Some worker
+      → idle_at number old.places ≡ Some worker
+  idle_at-line done number worker idle = idle_at-after kind_of done.command worker number old.places (rw done.places at idle)
 
   -- it came in its turn, or as the first, and runs may start
-  pub GoesInOrder-line : (lines : List Command) → old.status ≡ None → IsLineDone held old new → IsReady lines old → GoesInOrder lines new
+  pub GoesInOrder-line : (lines : List Command) → old.status ≡ None → IsLineDone held kind_of old new → IsReady lines old → GoesInOrder lines new
   GoesInOrder-line lines going done ready =
       let e = event.Command (old.line + 1) done.command done.reply in
       GoesInOrder-event held lines e old new done.step (rw (line_none going done) (omega arith)) ready.order.from_rest
@@ -447,26 +487,40 @@ module _ {K W B : Type 0} {held : K → Option (List Row)} {old new : BookState 
       ])
 
   -- the session has stopped early, with or without a line
-  pub IsBetweenRuns-front : IsFrontStopped held old new → IsBetweenRuns new
+  pub IsBetweenRuns-front : IsFrontStopped held kind_of old new → IsBetweenRuns new
   IsBetweenRuns-front stopped =
       elim stopped.how [
-        | inl same ↦ rest_again rest (Replay-same held old.table new.table rest.replay same) (no_longer new.status stopped.status) stopped.places
-        | inr untold ↦ IsBetweenRuns-line untold.before untold.line stopped.places
+        | inl same ↦ rest_again rest (Replay-same held old.table new.table rest.replay same.table) (no_longer new.status stopped.status) same.places
+        | inr untold ↦ IsBetweenRuns-line untold.before untold.line
       ]
 
-  pub IsReady-front : (lines : List Command) → IsFrontStopped held old new → IsReady lines old → IsReady lines new
+  pub IsReady-front : (lines : List Command) → IsFrontStopped held kind_of old new → IsReady lines old → IsReady lines new
   IsReady-front lines stopped ready =
       elim stopped.how [
-        | inl same ↦ record { order = IsInOrder-same held lines old new same ready.order; next = no_longer new.status stopped.status }
+        | inl same ↦ record { order = IsInOrder-same held lines old new same.table ready.order; next = no_longer new.status stopped.status }
         | inr untold ↦ record { order = (GoesInOrder-line lines untold.before untold.line ready).order; next = no_longer new.status stopped.status }
+      ]
+
+  pub KeepBoxes-front : (diary_of : B → Option (List Entry)) (given : List (Hand B)) → IsFrontStopped held kind_of old new → KeepBoxes diary_of given old
+      → KeepBoxes diary_of given new
+  KeepBoxes-front diary_of given stopped =
+      elim stopped.how [
+        | inl same ↦ KeepBoxes-same diary_of given old new same.table stopped.status same.places
+        | inr untold ↦
+            KeepBoxes-silent diary_of given old new rest.replay untold.line.step (no_longer new.status stopped.status) (no_longer new.status stopped.status)
+            (idle_at-line untold.line)
       ]
 
 -- ---- begin and end
 
 -- a session that begins is at rest
 pub IsBetweenRuns-begin : {K W B : Type 0} {lines : List Command} {book : BookState K W B} → IsAtBegin lines book → IsBetweenRuns book
-IsBetweenRuns-begin begins =
-    record { replay = rw begins.log begins.begun; no_run = λ going. begins.no_run; idle = begins.idle; not_retired = begins.not_retired }
+IsBetweenRuns-begin {book = book} begins =
+    record {
+      replay = rw begins.log begins.begun;
+      no_run = λ going. begins.no_run;
+      none_away = subst NoneAway (sym begins.all_idle) (NoneAway-hands (idle_hands book.places));
+    }
 
 -- and in order, for its lines
 pub IsReady-begin : {K W B : Type 0} {lines : List Command} {book : BookState K W B} → IsAtBegin lines book → IsReady lines book
@@ -478,11 +532,6 @@ IsReady-begin {lines = lines} {book = book} begins = record {
   };
   next = λ going. inr (begins.log, begins.lines_are);
 }
-
--- and keeps the diaries that its workers have
-pub KeepDiaries-begin : {K W B : Type 0} (diary_of : B → Option (List Entry)) (book : BookState K W B) → book.table.log ≡ []
-    → KeepDiaries diary_of (place_diaries diary_of book.places) book
-KeepDiaries-begin diary_of book empty going = rw empty (AreDiariesAfter-nothing 0 book.table.first (place_diaries diary_of book.places))
 
 -- all lines that are left are built
 built_left : (done left : List Command) → AllByRecursion IsBuilt (done ++ left) → AllByRecursion IsBuilt left

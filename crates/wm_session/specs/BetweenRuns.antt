@@ -1,40 +1,41 @@
 -- A book between the runs of a session, and when its log is in serial order.
-use Rattle.std.specs.Prelude.{◌≡◌, ◌⊎◌, ◌≤◌, false, List, [], length, Option, None}
-use Rattle.std.specs.List.{AllByRecursion}
-use Rattle.wm_bench.specs.declared.place.Place.{Place}
-use Rattle.wm_machine.specs.Diaries.{AreDiariesAfter}
+use Rattle.std.specs.Prelude.{◌≡◌, ◌⊎◌, ℕ, ◌≤◌, List, [], length, map, Option, None}
+use Rattle.wm_bench.specs.Places.{idle_hands, place_of}
+use Rattle.wm_bench.specs.declared.hand.Hand.{Hand}
 use Rattle.wm_machine.specs.Quiet.{IsQuiet}
 use Rattle.wm_machine.specs.Replay.{Replay}
 use Rattle.wm_machine.specs.Serial.{AreInOrder, MayGoOn}
 use Rattle.wm_machine.specs.declared.command.Command.{Command}
-use Rattle.wm_session.specs.Bench.{AreIdle, place_diaries}
+use Rattle.wm_session.specs.Bench.{NoneAway}
 use Rattle.wm_session.specs.BookState.{BookState}
+use Rattle.wm_session.specs.Boxes.{EachAtPlace, HasTold, IsBoxAfter}
 use Rattle.wm_worker.specs.declared.answer.Entry.{Entry}
-
--- no place's class was retired
-abbrev pub NoneRetired : {B : Type 0} → List (Place B) → Type 0
-NoneRetired places = AllByRecursion (λ place. place.retired ≡ false) places
 
 -- a session that begins: nothing has happened, every worker is at its place, and all of these lines are left
 pub record IsAtBegin {K W B : Type 0} (lines : List Command) (book : BookState K W B) : Type 0 where
   pub log : book.table.log ≡ []
   pub no_run : book.table.state.runs ≡ []
-  pub idle : AreIdle book.places
-  pub not_retired : NoneRetired book.places
+  pub all_idle : book.places ≡ map place_of (idle_hands book.places)
   pub begun : book.table.state ≡ book.table.first
   pub lines_are : lines ≡ book.left
 
--- the log replays, every worker is at its place, and while the session goes on no run is unreturned
+-- the log replays, no worker is away, and while the session goes on no run is unreturned
 pub record IsBetweenRuns {K W B : Type 0} (book : BookState K W B) : Type 0 where
   pub replay : Replay book.table.first book.table.log book.table.state
   pub no_run : book.status ≡ None → book.table.state.runs ≡ []
-  pub idle : AreIdle book.places
-  pub not_retired : NoneRetired book.places
+  pub none_away : NoneAway book.places
 
--- while the session goes on, each worker that tells a diary has written down its part of the log after these
-abbrev pub KeepDiaries : {K W B : Type 0} → (B → Option (List Entry)) → List (Option (List Entry)) → BookState K W B → Type 0
-KeepDiaries diary_of diaries book =
-    book.status ≡ None → AreDiariesAfter 0 book.table.first book.table.log diaries (place_diaries diary_of book.places)
+-- ---- the workers
+
+-- a worker is what the log leaves of the one that was given under this number, and while the session goes on it has written down its part of
+-- the log
+pub record IsOfGiven {K W B : Type 0} (diary_of : B → Option (List Entry)) (book : BookState K W B) (number : ℕ) (given now : B) : Type 0 where
+  pub box : IsBoxAfter diary_of book.table.log number given now
+  pub told : book.status ≡ None → HasTold diary_of book.table.first book.table.log number given now
+
+-- so is each worker that is at its place, of these hands
+abbrev pub KeepBoxes : {K W B : Type 0} → (B → Option (List Entry)) → List (Hand B) → BookState K W B → Type 0
+KeepBoxes diary_of given book = EachAtPlace (IsOfGiven diary_of book) given book.places
 
 -- ---- the serial order
 

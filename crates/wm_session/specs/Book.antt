@@ -1,7 +1,7 @@
 -- What the calls of a book do.
 use Rattle.std.specs.Prelude.{◌≡◌, ◌⊎◌, ℕ, ◌+◌, ◌<◌, ◌≤◌, Bool, true, List, [], ◌∷◌, Option, Some, None, IsSome, Result, Ok, Err}
 use Rattle.std.specs.declared.alloc.AllocError.{AllocError}
-use Rattle.wm_bench.specs.Places.{changed_at, idle_at, made_away, made_idle}
+use Rattle.wm_bench.specs.Places.{changed_at, idle_at, made_away, made_back}
 use Rattle.wm_bench.specs.Seat.{Seat}
 use Rattle.wm_keeper.specs.declared.row.Row.{Row}
 use Rattle.wm_machine.specs.First.{first_of}
@@ -13,6 +13,7 @@ use Rattle.wm_machine.specs.declared.event.Cause.{Cause}
 use Rattle.wm_machine.specs.declared.event.Event.TheVariants as event
 use Rattle.wm_machine.specs.declared.reply.Reply.{Reply}
 use Rattle.wm_machine.specs.declared.state.State.{State}
+use Rattle.wm_session.specs.Bench.{places_after}
 use Rattle.wm_session.specs.BookState.{BookState}
 use Rattle.wm_runs.specs.Reports.{CountsIn}
 use Rattle.wm_table.specs.Table.{HasGoneOn, IsClaimAnswer, IsFinished, IsOneStep, IsUntouched, IsTicketIn, Stands}
@@ -43,18 +44,18 @@ pub record StaysStopped {K W B : Type 0} (old new : BookState K W B) : Type 0 wh
 
 -- ---- a line
 
--- the next line was executed, in one step
-pub record IsLineDone {K W B : Type 0} (held : K → Option (List Row)) (old new : BookState K W B) : Type 0 where
+-- the next line was executed, in one step, and a class that it retires is retired on the bench
+pub record IsLineDone {K W B : Type 0} (held : K → Option (List Row)) (kind_of : B → Kind) (old new : BookState K W B) : Type 0 where
   pub command : Command
   pub reply : Reply
   pub next : old.left ≡ command ∷ new.left
   pub step : IsOneStep held (event.Command (old.line + 1) command reply) old.table new.table
+  pub places : new.places ≡ places_after kind_of command old.places
 
--- the next line was executed and its reply told, and the bench is as it was
-pub record HasMoved {K W B : Type 0} (held : K → Option (List Row)) (old new : BookState K W B) : Type 0 where
+-- the next line was executed and its reply told
+pub record HasMoved {K W B : Type 0} (held : K → Option (List Row)) (kind_of : B → Kind) (old new : BookState K W B) : Type 0 where
   pub goes_on : GoesOn old new
-  pub line : IsLineDone held old new
-  pub places : new.places ≡ old.places
+  pub line : IsLineDone held kind_of old new
 
 -- the first of these lines settles
 abbrev pub SettlesNext : List Command → Type 0
@@ -79,24 +80,28 @@ pub record HasNoLine {K W B : Type 0} (old new : BookState K W B) : Type 0 where
   pub book_is : new ≡ old
 
 -- a line was executed, and the session stopped while its reply was told
-pub record IsLineUntold {K W B : Type 0} (held : K → Option (List Row)) (old new : BookState K W B) : Type 0 where
+pub record IsLineUntold {K W B : Type 0} (held : K → Option (List Row)) (kind_of : B → Kind) (old new : BookState K W B) : Type 0 where
   pub before : old.status ≡ None
-  pub line : IsLineDone held old new
+  pub line : IsLineDone held kind_of old new
 
--- the session has stopped early, with or without the next line's event, or had before; the bench is as it was
-pub record IsFrontStopped {K W B : Type 0} (held : K → Option (List Row)) (old new : BookState K W B) : Type 0 where
+-- no line was executed
+pub record IsNoLineDone {K W B : Type 0} (held : K → Option (List Row)) (old new : BookState K W B) : Type 0 where
+  pub table : IsUntouched held old.table new.table
+  pub places : new.places ≡ old.places
+
+-- the session has stopped early, with or without the next line's event, or had before
+pub record IsFrontStopped {K W B : Type 0} (held : K → Option (List Row)) (kind_of : B → Kind) (old new : BookState K W B) : Type 0 where
   pub status : IsSome new.status
   pub stays : IsSome old.status → StaysStopped old new
-  pub how : IsUntouched held old.table new.table ⊎ IsLineUntold held old new
-  pub places : new.places ≡ old.places
+  pub how : IsNoLineDone held old new ⊎ IsLineUntold held kind_of old new
 
 -- Moved where a line was executed; NotSettled where the next one settles and can't come yet; Ended where none is left; Stopped where the
 -- session has stopped early
-abbrev pub IsFronted : {K W B : Type 0} → (K → Option (List Row)) → Front → BookState K W B → BookState K W B → Type 0
-IsFronted held front.Moved old new = HasMoved held old new
-IsFronted held front.NotSettled old new = IsNotSettled old new
-IsFronted held front.Ended old new = HasNoLine old new
-IsFronted held front.Stopped old new = IsFrontStopped held old new
+abbrev pub IsFronted : {K W B : Type 0} → (K → Option (List Row)) → (B → Kind) → Front → BookState K W B → BookState K W B → Type 0
+IsFronted held kind_of front.Moved old new = HasMoved held kind_of old new
+IsFronted held kind_of front.NotSettled old new = IsNotSettled old new
+IsFronted held kind_of front.Ended old new = HasNoLine old new
+IsFronted held kind_of front.Stopped old new = IsFrontStopped held kind_of old new
 
 -- ---- a start
 
@@ -185,14 +190,14 @@ pub record IsTurnUntold {K W B : Type 0} (held : K → Option (List Row)) (ticke
   pub left : new.left ≡ old.left
   pub no_more : left_to_drain new.table.state ≤ left_to_drain old.table.state
 
--- a run is over, for want of a turn or not, its worker is at its place again, and no more works are left to drain
-pub record IsOver {K W B : Type 0} (held : K → Option (List Row)) (ticket : TicketState) (seat : Seat B) (told : Report)
+-- a run is over, for want of a turn or not, its worker is back, and no more works are left to drain
+pub record IsOver {K W B : Type 0} (held : K → Option (List Row)) (kind_of : B → Kind) (ticket : TicketState) (seat : Seat B) (told : Report)
     (old new : BookState K W B) : Type 0 where
   pub timed_out : Bool
   pub goes_on : GoesOn old new
   pub counts : CountsIn old.table.state ticket.task.run told
   pub ended : IsFinished held ticket.task.run told timed_out old.table new.table
-  pub places : new.places ≡ changed_at (made_idle seat.worker) seat.number old.places
+  pub places : new.places ≡ changed_at (made_back kind_of seat.worker) seat.number old.places
   pub left : new.left ≡ old.left
   pub no_more : left_to_drain new.table.state ≤ left_to_drain old.table.state
 
@@ -214,25 +219,24 @@ pub record IsAskedAgain {K W B : Type 0} (ticket same : TicketState) (seat kept 
   pub seat_is : kept ≡ seat
   pub book_is : new ≡ old
 
--- the session has stopped early without an event of the run, or had before, and the worker is at its place again
-pub record IsGivenBack {K W B : Type 0} (held : K → Option (List Row)) (seat : Seat B) (old new : BookState K W B) : Type 0 where
+-- the session has stopped early without an event of the run, or had before, and the worker is back
+pub record IsGivenBack {K W B : Type 0} (held : K → Option (List Row)) (kind_of : B → Kind) (seat : Seat B) (old new : BookState K W B) : Type 0 where
   pub stopped : HasStopped held old new
-  pub places : new.places ≡ changed_at (made_idle seat.worker) seat.number old.places
+  pub places : new.places ≡ changed_at (made_back kind_of seat.worker) seat.number old.places
 
--- the session has stopped early, without an event of the run, or with the one by which it is over or goes on, and the worker is at its
--- place again
-pub record IsReportStopped {K W B : Type 0} (held : K → Option (List Row)) (ticket : TicketState) (seat : Seat B) (told : Report)
+-- the session has stopped early, without an event of the run, or with the one by which it is over or goes on, and the worker is back
+pub record IsReportStopped {K W B : Type 0} (held : K → Option (List Row)) (kind_of : B → Kind) (ticket : TicketState) (seat : Seat B) (told : Report)
     (old new : BookState K W B) : Type 0 where
   pub how : HasStopped held old new ⊎ (IsEndUntold held ticket told old new ⊎ IsTurnUntold held ticket told old new)
-  pub places : new.places ≡ changed_at (made_idle seat.worker) seat.number old.places
+  pub places : new.places ≡ changed_at (made_back kind_of seat.worker) seat.number old.places
 
 -- Go and Over where what was told counts, with its event; Again where it doesn't; Stopped where the session has stopped early, as it has where
 -- memory was refused to the worker
-abbrev pub IsReported : {K W B : Type 0} → (K → Option (List Row)) → TicketState → Seat B → Result Report AllocError → After B → BookState K W B
-    → BookState K W B → Type 0
-IsReported held ticket seat (Ok told) (after.Go next kept) old new = IsTurnTold held ticket next seat kept told old new
-IsReported held ticket seat (Ok told) after.Over old new = IsOver held ticket seat told old new
-IsReported held ticket seat (Ok told) (after.Again same kept) old new = IsAskedAgain ticket same seat kept told old new
-IsReported held ticket seat (Ok told) after.Stopped old new = IsReportStopped held ticket seat told old new
-IsReported held ticket seat (Err refused) after.Stopped old new = IsGivenBack held seat old new
-IsReported held ticket seat (Err refused) _ old new = ⊥
+abbrev pub IsReported : {K W B : Type 0} → (K → Option (List Row)) → (B → Kind) → TicketState → Seat B → Result Report AllocError → After B
+    → BookState K W B → BookState K W B → Type 0
+IsReported held kind_of ticket seat (Ok told) (after.Go next kept) old new = IsTurnTold held ticket next seat kept told old new
+IsReported held kind_of ticket seat (Ok told) after.Over old new = IsOver held kind_of ticket seat told old new
+IsReported held kind_of ticket seat (Ok told) (after.Again same kept) old new = IsAskedAgain ticket same seat kept told old new
+IsReported held kind_of ticket seat (Ok told) after.Stopped old new = IsReportStopped held kind_of ticket seat told old new
+IsReported held kind_of ticket seat (Err refused) after.Stopped old new = IsGivenBack held kind_of seat old new
+IsReported held kind_of ticket seat (Err refused) _ old new = ⊥

@@ -1,22 +1,18 @@
 -- Which status a fault gives, and why a session ends early.
-use Rattle.std.specs.Prelude.{ℕ, Option, Some, None}
+use Rattle.std.specs.Prelude.{◌≡◌, ℕ, Option, Some, None, IsNone, IfSome, Result, OnOk, IfErr}
 use Rattle.wm_faults.specs.Faults.{Failed}
 use Rattle.wm_keeper.specs.declared.keeper.KeepFault.{KeepFault}
-use Rattle.wm_keeper.specs.declared.keeper.KeepFault.TheVariants as keep
 use Rattle.wm_session.specs.declared.book.Stop.{Stop}
 use Rattle.wm_session.specs.declared.book.Stop.TheVariants as stop
 use Rattle.wm_session.specs.declared.status.Status.{Status}
 use Rattle.wm_session.specs.declared.status.Status.TheVariants as status
+use Rattle.wm_table.specs.Trouble.{trouble_of}
 use Rattle.wm_table.specs.declared.table.BeginFault.{BeginFault}
 use Rattle.wm_table.specs.declared.table.BeginFault.TheVariants as begin
 use Rattle.wm_table.specs.declared.table.Trouble.{Trouble}
 use Rattle.wm_table.specs.declared.table.Trouble.TheVariants as trouble
 use Rattle.wm_session.specs.declared.writing.WriteFault.{WriteFault}
 use Rattle.wm_session.specs.declared.writing.WriteFault.TheVariants as fault
-
-abbrev pub status_by_keeper : KeepFault → Status
-status_by_keeper keep.Failed = status.KeeperFault
-status_by_keeper keep.Memory = status.Memory
 
 abbrev pub status_by_begin : BeginFault → Status
 status_by_begin (begin.Bad seq bad_row) = status.BadStore seq bad_row
@@ -31,6 +27,10 @@ abbrev pub stop_by_trouble : Trouble → Stop
 stop_by_trouble trouble.KeeperFault = stop.KeeperFault
 stop_by_trouble trouble.Memory = stop.Memory
 
+-- a fault of the keeper, as before the table is begun, is what it would be of the table
+abbrev pub status_by_keeper : KeepFault → Status
+status_by_keeper fault = status_by_stop (stop_by_trouble (trouble_of fault))
+
 abbrev pub stop_by_fault : WriteFault → Stop
 stop_by_fault fault.Failed = stop.SinkFault
 stop_by_fault fault.Memory = stop.Memory
@@ -41,3 +41,9 @@ StopCause (Some stop.KeeperFault) keeper keeper_now sink sink_now = Failed keepe
 StopCause (Some stop.SinkFault) keeper keeper_now sink sink_now = Failed sink sink_now
 StopCause (Some stop.Memory) keeper keeper_now sink sink_now = Unit {0}
 StopCause None keeper keeper_now sink sink_now = Unit {0}
+
+-- how a session ends that had stopped for this, or whose last write was answered so
+pub record EndsBy (stop : Option Stop) (written : Result (Unit {0}) WriteFault) (ended : Status) : Type 0 where
+  pub stopped : IfSome stop (λ why. ended ≡ status_by_stop why)
+  pub refused : IsNone stop → IfErr written (λ fault. ended ≡ status_by_stop (stop_by_fault fault))
+  pub done : IsNone stop → OnOk written (ended ≡ status.Done)

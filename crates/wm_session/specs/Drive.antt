@@ -1,11 +1,13 @@
 -- What driving a run to its end does.
-use Rattle.std.specs.Prelude.{◌≡◌, ◌⊎◌, ℕ, ◌+◌, ◌<◌, ◌≤◌, List, [], ◌∷◌, slice_set, Option, Some, None, IsSome, Result, IfOk}
+use Rattle.std.specs.Prelude.{◌≡◌, ◌⊎◌, ℕ, ◌+◌, ◌<◌, ◌≤◌, List, [], ◌∷◌, slice_get, Option, Some, None, IsSome, IsSomeAnd, Result, Ok, Err}
 use Rattle.std.specs.declared.alloc.AllocError.{AllocError}
-use Rattle.wm_bench.specs.Places.{changed_at, made_idle, IsAwayAt}
+use Rattle.wm_bench.specs.Places.{changed_at, made_back, IsAwayAt}
 use Rattle.wm_bench.specs.Seat.{Seat}
+use Rattle.wm_bench.specs.declared.hand.Hand.{Hand}
+use Rattle.wm_collections.specs.Lists.{HasOne}
 use Rattle.wm_data.specs.declared.data.DataEntry.{DataEntry}
 use Rattle.wm_keeper.specs.declared.row.Row.{Row}
-use Rattle.wm_machine.specs.Diaries.{AreDiariesAfter}
+use Rattle.wm_machine.specs.Diaries.{log_lines, IsDiaryWith}
 use Rattle.wm_machine.specs.Replay.{Replay}
 use Rattle.wm_machine.specs.Role as role
 use Rattle.wm_machine.specs.Role.{HasGiven, Reported}
@@ -15,10 +17,11 @@ use Rattle.wm_machine.specs.Waiting.{left_to_drain}
 use Rattle.wm_machine.specs.declared.command.Command.{Command}
 use Rattle.wm_machine.specs.declared.event.Event.{Event}
 use Rattle.wm_machine.specs.declared.event.Event.TheVariants as event
-use Rattle.wm_session.specs.Bench.{AreIdle, place_diaries}
+use Rattle.wm_session.specs.Bench.{NoneAway}
 use Rattle.wm_session.specs.Book.{GoesOn, HasStopped}
 use Rattle.wm_session.specs.BookState.{BookState}
-use Rattle.wm_session.specs.BetweenRuns.{GoesInOrder, IsBetweenRuns, KeepDiaries, NoneRetired}
+use Rattle.wm_session.specs.Boxes.{IsDiaryLater, IsStartOn}
+use Rattle.wm_session.specs.BetweenRuns.{GoesInOrder, IsBetweenRuns, KeepBoxes}
 use Rattle.wm_table.specs.Table.{IsOneStep, IsTicketIn}
 use Rattle.wm_table.specs.TableState.{TicketState}
 use Rattle.wm_worker.specs.Diary.{diary_with, turn_entries}
@@ -32,32 +35,39 @@ use Rattle.wm_worker.specs.declared.kind.Kind.{Kind}
 -- ---- a run under way
 
 -- The run of a ticket is under way: the log replays, no other run is unreturned, the worker of its instance is away, and once it is back
--- every worker is at its place.
-pub record IsUnderWay {K W B : Type 0} (ticket : TicketState) (book : BookState K W B) : Type 0 where
+-- none is.
+pub record IsUnderWay {K W B : Type 0} (kind_of : B → Kind) (ticket : TicketState) (book : BookState K W B) : Type 0 where
   pub replay : Replay book.table.first book.table.log book.table.state
   pub ticket_in : IsTicketIn book.table.state ticket
   pub alone : other_runs ticket.task.run book.table.state.runs ≡ []
   pub away : IsAwayAt ticket.instance ticket.kind book.places
-  pub others : (back : B) → AreIdle (changed_at (made_idle back) ticket.instance book.places)
-  pub not_retired : NoneRetired book.places
+  pub others : (back : B) → NoneAway (changed_at (made_back kind_of back) ticket.instance book.places)
 
--- while the session goes on, each worker that tells a diary has written down its part of the log after these; the one that is away from
--- this place has this diary
-abbrev pub KeepDiariesWith : {K W B : Type 0} → (B → Option (List Entry)) → ℕ → Option (List Entry) → List (Option (List Entry)) → BookState K W B
-    → Type 0
-KeepDiariesWith diary_of number diary diaries book =
-    book.status ≡ None → AreDiariesAfter 0 book.table.first book.table.log diaries (slice_set (place_diaries diary_of book.places) number diary)
+-- a worker that is away was given under this number, a run started on it, its diary begins with what it was, and while the session goes on it
+-- is to have written down its part of the log
+pub record IsOutOfGiven {K W B : Type 0} (diary_of : B → Option (List Entry)) (has owes : Option (List Entry)) (book : BookState K W B) (number : ℕ)
+    (given : B) : Type 0 where
+  pub started : HasOne (IsStartOn number) book.table.log
+  pub diary : IsDiaryLater (diary_of given) has
+  pub told : book.status ≡ None → IsDiaryWith (log_lines number book.table.first book.table.log) (diary_of given) owes
+
+-- each worker is what the log leaves of the one that was given, of these hands; the one that is away from this place has the first of these
+-- diaries, and is to have the second
+pub record KeepBoxesOut {K W B : Type 0} (diary_of : B → Option (List Entry)) (number : ℕ) (has owes : Option (List Entry)) (given : List (Hand B))
+    (book : BookState K W B) : Type 0 where
+  pub others : KeepBoxes diary_of given book
+  pub own : IsSomeAnd (slice_get given number) (λ hand. IsOutOfGiven diary_of has owes book number hand.worker)
 
 -- ---- one turn
 
--- what a worker has written down once it has told this, where it did
+-- what a worker has written down once it has told this, or was refused memory
 abbrev pub HasWritten : {B : Type 0} → (B → Option (List Entry)) → TicketState → B → B → Result Report AllocError → Type 0
-HasWritten diary_of ticket worker now told =
-    IfOk told (λ answered. diary_of now ≡ diary_with (turn_entries ticket.task.run ticket.k answered.answer) (diary_of worker))
+HasWritten diary_of ticket worker now (Ok told) = diary_of now ≡ diary_with (turn_entries ticket.task.run ticket.k told.answer) (diary_of worker)
+HasWritten diary_of ticket worker now (Err refused) = diary_of now ≡ diary_of worker
 
--- the run is over by this event, told or not, and its worker, which has written down what it gave, is at its place again
-pub record IsLastTurn {K W B : Type 0} (held : K → Option (List Row)) (diary_of : B → Option (List Entry)) (ticket : TicketState) (worker : B)
-    (old new : BookState K W B) : Type 0 where
+-- the run is over by this event, told or not, and its worker, which has written down what it gave, is back
+pub record IsLastTurn {K W B : Type 0} (held : K → Option (List Row)) (kind_of : B → Kind) (diary_of : B → Option (List Entry)) (ticket : TicketState)
+    (worker : B) (old new : BookState K W B) : Type 0 where
   pub ending : Event
   pub reported : Reported
   pub gave : Given
@@ -67,24 +77,28 @@ pub record IsLastTurn {K W B : Type 0} (held : K → Option (List Row)) (diary_o
   pub ends : role_of ending ≡ role.Ends ticket.task.run reported
   pub step : IsOneStep held ending old.table new.table
   pub diary : diary_of back ≡ diary_with (Gave ticket.task.run ticket.k gave ∷ []) (diary_of worker)
-  pub places : new.places ≡ changed_at (made_idle back) ticket.instance old.places
+  pub places : new.places ≡ changed_at (made_back kind_of back) ticket.instance old.places
   pub left : new.left ≡ old.left
   pub no_more : left_to_drain new.table.state ≤ left_to_drain old.table.state
 
--- the session has stopped early, and a worker is at the place again
-pub record IsGivenUp {K W B : Type 0} (held : K → Option (List Row)) (ticket : TicketState) (old new : BookState K W B) : Type 0 where
+-- the session has stopped early, and the worker, whose diary begins with this, is back
+pub record IsGivenUp {K W B : Type 0} (held : K → Option (List Row)) (kind_of : B → Kind) (diary_of : B → Option (List Entry)) (ticket : TicketState)
+    (diary : Option (List Entry)) (old new : BookState K W B) : Type 0 where
   pub back : B
+  pub diary_later : IsDiaryLater diary (diary_of back)
   pub stopped : HasStopped held old new
-  pub places : new.places ≡ changed_at (made_idle back) ticket.instance old.places
+  pub places : new.places ≡ changed_at (made_back kind_of back) ticket.instance old.places
 
--- the session has stopped early while it was told that the run goes on, and a worker is at the place again
-pub record IsCutShort {K W B : Type 0} (held : K → Option (List Row)) (ticket : TicketState) (old new : BookState K W B) : Type 0 where
+-- the session has stopped early while it was told that the run goes on, and the worker, whose diary begins with this, is back
+pub record IsCutShort {K W B : Type 0} (held : K → Option (List Row)) (kind_of : B → Kind) (diary_of : B → Option (List Entry)) (ticket : TicketState)
+    (diary : Option (List Entry)) (old new : BookState K W B) : Type 0 where
   pub progress : Option (List DataEntry)
   pub back : B
+  pub diary_later : IsDiaryLater diary (diary_of back)
   pub before : old.status ≡ None
   pub status : IsSome new.status
   pub step : IsOneStep held (event.Turn ticket.task.run progress) old.table new.table
-  pub places : new.places ≡ changed_at (made_idle back) ticket.instance old.places
+  pub places : new.places ≡ changed_at (made_back kind_of back) ticket.instance old.places
   pub left : new.left ≡ old.left
   pub no_more : left_to_drain new.table.state ≤ left_to_drain old.table.state
 
@@ -105,23 +119,26 @@ pub record IsOtherTurn {K W B : Type 0} (held : K → Option (List Row)) (kind_o
   pub no_more : left_to_drain new.table.state ≤ left_to_drain old.table.state
 
 -- no turn follows: the run is over, or the session has stopped early
-abbrev pub IsNoTurn : {K W B : Type 0} → (K → Option (List Row)) → (B → Option (List Entry)) → TicketState → B → BookState K W B → BookState K W B → Type 0
-IsNoTurn held diary_of ticket worker old new = IsLastTurn held diary_of ticket worker old new ⊎ (IsGivenUp held ticket old new ⊎ IsCutShort held ticket old new)
+abbrev pub IsNoTurn : {K W B : Type 0} → (K → Option (List Row)) → (B → Kind) → (B → Option (List Entry)) → TicketState → B → BookState K W B
+    → BookState K W B → Type 0
+IsNoTurn held kind_of diary_of ticket worker old new =
+    IsLastTurn held kind_of diary_of ticket worker old new ⊎
+    (IsGivenUp held kind_of diary_of ticket (diary_of worker) old new ⊎ IsCutShort held kind_of diary_of ticket (diary_of worker) old new)
 
 -- the worker of a run took a turn: no turn follows, or the run goes on
 abbrev pub IsTurned : {K W B : Type 0} → (K → Option (List Row)) → (B → Kind) → (B → Option (List Entry)) → TicketState → B
     → Option (TicketState × Seat B) → BookState K W B → BookState K W B → Type 0
-IsTurned held kind_of diary_of ticket worker None old new = IsNoTurn held diary_of ticket worker old new
+IsTurned held kind_of diary_of ticket worker None old new = IsNoTurn held kind_of diary_of ticket worker old new
 IsTurned held kind_of diary_of ticket worker (Some run) old new = IsOtherTurn held kind_of diary_of ticket worker run.0 run.1 old new
 
 -- ---- all turns
 
--- A run was driven to its end, whose worker is away from this place and had this diary: the book is at rest with the lines that were left,
--- no more works are left to drain, and order and diaries are kept.
-pub record IsDriven {K W B : Type 0} (diary_of : B → Option (List Entry)) (number : ℕ) (diary : Option (List Entry)) (old new : BookState K W B)
+-- A run was driven to its end, whose worker was away from this place, had the first of these diaries, and was to have the second: the book is
+-- at rest with the lines that were left, no more works are left to drain, and order and workers are kept.
+pub record IsDriven {K W B : Type 0} (diary_of : B → Option (List Entry)) (number : ℕ) (has owes : Option (List Entry)) (old new : BookState K W B)
     : Type 0 where
   pub rest : IsBetweenRuns new
   pub left : new.left ≡ old.left
   pub no_more : left_to_drain new.table.state ≤ left_to_drain old.table.state
   pub order : (lines : List Command) → GoesInOrder lines old → GoesInOrder lines new
-  pub diaries : (diaries : List (Option (List Entry))) → KeepDiariesWith diary_of number diary diaries old → KeepDiaries diary_of diaries new
+  pub boxes : (given : List (Hand B)) → KeepBoxesOut diary_of number has owes given old → KeepBoxes diary_of given new

@@ -1,10 +1,9 @@
 -- How a session ends: what its log, its last state, the bytes given and the workers handed back are.
-use Rattle.std.specs.Prelude.{◌≡◌, ℕ, true, false, not, List, [], map, filter, Option, option_map, Vec}
+use Rattle.std.specs.Prelude.{◌≡◌, ℕ, true, false, not, List, [], map, filter, Option, None, option_map, Result, OnOk, Vec}
 use Rattle.std.specs.declared.alloc.Global.{Global}
 use Rattle.wm_bench.specs.Places.{idle_hands}
 use Rattle.wm_bench.specs.declared.hand.Hand.{Hand}
 use Rattle.wm_faults.specs.Faults.{Failed}
-use Rattle.wm_machine.specs.Diaries.{AreDiariesAfter}
 use Rattle.wm_machine.specs.Log.{commands_of, AreNumberedFrom, HasPrefix}
 use Rattle.wm_machine.specs.Narrow.{IsNarrow}
 use Rattle.wm_machine.specs.Opened.{opening_state}
@@ -17,14 +16,18 @@ use Rattle.wm_texts.specs.Texts.{log_text}
 use Rattle.wm_machine.specs.declared.command.Command.{Command}
 use Rattle.wm_machine.specs.declared.event.Event.{Event}
 use Rattle.wm_machine.specs.declared.state.State.{State}
-use Rattle.wm_session.specs.Bench.{hand_diaries, hand_traits, instance_traits, place_traits}
+use Rattle.wm_session.specs.Bench.{hand_traits, instance_traits, place_traits}
 use Rattle.wm_session.specs.BookState.{BookState}
+use Rattle.wm_session.specs.Boxes.{EachBack, HasTold, IsBoxAfter}
+use Rattle.wm_session.specs.Causes.{EndsBy}
 use Rattle.wm_session.specs.Inputs.{Inputs}
+use Rattle.wm_session.specs.Invariant.{TextsInvariant}
 use Rattle.wm_session.specs.Tells.{Tells}
-use Rattle.wm_session.specs.Writing.{IsAppended, IsPartAppended}
+use Rattle.wm_session.specs.Writing.{IsAppended, IsPartAppended, WriteCause}
 use Rattle.wm_session.specs.declared.ended.Ended.{Ended}
 use Rattle.wm_session.specs.declared.status.Status.{Status}
 use Rattle.wm_session.specs.declared.status.Status.TheVariants as status
+use Rattle.wm_session.specs.declared.writing.WriteFault.{WriteFault}
 use Rattle.wm_worker.specs.declared.answer.Entry.{Entry}
 use Rattle.wm_worker.specs.declared.kind.Kind.{Kind}
 
@@ -56,9 +59,18 @@ IsSerialRun lines _ first log last = BeginsSerial lines first log
 abbrev pub AreHandsBack : {B : Type 0} → (B → Kind) → State → List (Hand B) → Type 0
 AreHandsBack kind_of last hands = map (hand_traits kind_of) hands ≡ map instance_traits (filter (λ instance. not instance.retired) last.instances)
 
--- each worker that tells a diary has written down its part of the log after these
-abbrev pub HaveTold : {B : Type 0} → (B → Option (List Entry)) → List (Option (List Entry)) → State → List Event → List (Hand B) → Type 0
-HaveTold diary_of diaries first log hands = AreDiariesAfter 0 first log diaries (hand_diaries diary_of hands)
+-- the numbers of the instances that aren't retired
+abbrev pub kept_numbers : State → List ℕ
+kept_numbers last = map (λ instance. instance.number) (filter (λ instance. not instance.retired) last.instances)
+
+-- each worker that comes back and tells a diary has written down its part of the log, after what it had written down when it was given
+abbrev pub HaveTold : {B : Type 0} → (B → Option (List Entry)) → List (Hand B) → State → List Event → State → List (Hand B) → Type 0
+HaveTold diary_of given first log last hands = EachBack (HasTold diary_of first log) given (kept_numbers last) hands
+
+-- each worker that comes back is the very one that was given under its number, or, where a run started on it, its diary begins with what
+-- that one's was
+abbrev pub AreBoxesBack : {B : Type 0} → (B → Option (List Entry)) → List (Hand B) → List Event → State → List (Hand B) → Type 0
+AreBoxesBack diary_of given log last hands = EachBack (IsBoxAfter diary_of log) given (kept_numbers last) hands
 
 -- ---- what is handed back
 
@@ -85,13 +97,24 @@ pub record IsHandedBack {K W B : Type 0} (kind_of : B → Kind) (book : BookStat
   pub valid : Valid ended.last
   pub narrow : IsNarrow ended.last
 
--- A serial session that is over, whose workers had these diaries: on `Done` nothing is left to do, and the workers have written down their
--- part of the log; they come back; and the log is that of a serial run, or a front of one.
-pub record IsSerialEnd {K W B : Type 0} (tells : Tells K W B) (run : Inputs) (had : List (Option (List Entry))) (ended : Ended K W B) : Type 0 where
+-- What is pending when a book is over is written, whatever it had stopped for: how that write was answered, and what it left; all is written
+-- unless the sink failed or memory was refused, and the status is that of the stop, or of the answer.
+pub record IsWrittenOut {K W B : Type 0} (tells : Tells K W B) (book : BookState K W B) (ended : Ended K W B) : Type 0 where
+  pub answer : Result (Unit {0}) WriteFault
+  pub left : List ℕ
+  pub given : TextsInvariant None (tells.given book.sink) (tells.given ended.sink) book.pending left
+  pub all : OnOk answer (left ≡ [])
+  pub cause : WriteCause answer (tells.sink_faults book.sink) (tells.sink_faults ended.sink)
+  pub ends : EndsBy book.status answer ended.status
+
+-- A serial session that is over, which was given these workers: on `Done` nothing is left to do, and the workers have written down their
+-- part of the log; they come back, as far as their class wasn't retired; and the log is that of a serial run, or a front of one.
+pub record IsSerialEnd {K W B : Type 0} (tells : Tells K W B) (run : Inputs) (given : List (Hand B)) (ended : Ended K W B) : Type 0 where
   pub session : IsSessionEnd tells run ended
   pub quiet : ended.status ≡ status.Done → IsQuiet ended.last
   pub hands : AreHandsBack tells.kind_of ended.last ended.hands.items
-  pub diaries : ended.status ≡ status.Done → HaveTold tells.diary_of had ended.first ended.log ended.hands.items
+  pub boxes : AreBoxesBack tells.diary_of given ended.log ended.last ended.hands.items
+  pub diaries : ended.status ≡ status.Done → HaveTold tells.diary_of given ended.first ended.log ended.last ended.hands.items
   pub serial : IsSerialRun run.lines ended.status ended.first ended.log ended.last
 
 -- a run that ended with this status before its table was begun: nothing has happened, and keeper, sink and workers are these

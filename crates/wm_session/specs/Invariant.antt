@@ -1,6 +1,7 @@
 -- What the type of a book keeps at every moment.
 use Rattle.std.specs.Prelude.{◌≡◌, ℕ, ◌+◌, ◌^◌, ◌<◌, ◌≤◌, List, ◌++◌, length, map, Option, Some, None, option_map}
 use Rattle.std.specs.List.{AllByRecursion}
+use Rattle.wm_collections.specs.Lists.{last_of}
 use Rattle.wm_machine.specs.Outcome.{IsBuilt}
 use Rattle.wm_machine.specs.Log.{commands_of, AreNumberedFrom, HasPrefix}
 use Rattle.wm_machine.specs.Narrow.{IsNarrow}
@@ -18,7 +19,6 @@ use Rattle.wm_session.specs.Inputs.{Inputs}
 use Rattle.wm_session.specs.Tells.{Tells}
 use Rattle.wm_session.specs.Writing.{IsAppended}
 use Rattle.wm_session.specs.declared.book.Stop.{Stop}
-use Rattle.wm_table.specs.Table.{last_of}
 use Rattle.wm_table.specs.TableState.{TableState}
 
 -- while a session goes on, the lines are those that were executed and those that are left; after it has stopped early, those that were

@@ -3,6 +3,7 @@ pub mod Bench
 pub mod BetweenRuns
 pub mod Book
 pub mod BookState
+pub mod Boxes
 pub mod Causes
 pub mod Drive
 pub mod Ended

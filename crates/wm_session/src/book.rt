@@ -1,6 +1,6 @@
 //! The book of a session: the table with the bench, the lines that are left, and what is still to
 //! be written.
-ghost use Rattle.std.specs.Prelude.{◌≡◌, ◌↔◌, ◌^◌, ◌<◌, ◌≤◌, ◌+◌, [], None, Some, length, map, option_map, IsSome, IsNone, IsTrue, IfSome, IfOk, IfErr, MatchBool, Ok, false};
+ghost use Rattle.std.specs.Prelude.{◌≡◌, ◌↔◌, ◌^◌, ◌<◌, ◌≤◌, ◌+◌, [], None, Some, length, map, option_map, IsSome, IsNone, IsTrue, IfOk, IfErr, MatchBool, Ok, false};
 ghost use Rattle.std.specs.List.{AllByRecursion};
 ghost use Rattle.wm_bench.specs.Places.{IsAwayAt};
 ghost use Rattle.wm_machine.specs.Outcome.{IsBuilt};
@@ -9,12 +9,11 @@ ghost use Rattle.wm_machine.specs.Quiet.{IsQuiet};
 ghost use Rattle.wm_machine.specs.Rows.{rows_of};
 ghost use Rattle.wm_machine.specs.Serial.{drains_first};
 ghost use Rattle.wm_machine.specs.Valid.{Valid};
-ghost use Rattle.wm_session.specs.Bench.{instance_traits, place_traits, AreIdle};
+ghost use Rattle.wm_session.specs.Bench.{instance_traits, place_traits, NoneAway};
 ghost use Rattle.wm_session.specs.Book.{IsClaimed, IsFronted, IsReported, MustWait, SettlesNext};
-ghost use Rattle.wm_session.specs.Causes.{status_by_stop};
-ghost use Rattle.wm_session.specs.Ended.{IsHandedBack, IsSessionEnd};
+ghost use Rattle.wm_session.specs.Ended.{IsHandedBack, IsSessionEnd, IsWrittenOut};
 ghost use Rattle.wm_session.specs.Tells.{tells_of};
-ghost use Rattle.wm_table.specs.Table.{IsTicketIn, Stands};
+ghost use Rattle.wm_table.specs.Table.{Stands};
 
 use crate::ended::Ended;
 use crate::mark::Mark;
@@ -71,17 +70,6 @@ impl From<WriteFault> for Stop {
     }
 }
 
-impl From<AllocError> for Stop {
-    ghost use Rattle.std.specs.Prelude.{◌≡◌};
-    ghost use Rattle.wm_session.specs.declared.book.Stop.TheVariants.{Memory};
-
-    ghost from_gives = { λ _ stop. stop ≡ Memory };
-
-    fn from(_refused: AllocError) -> Stop {
-        Stop::Memory
-    }
-}
-
 /// What became of the next line.
 #[derive(Clone, Copy, Debug, PartialEq, Eq)]
 pub enum Front {
@@ -111,11 +99,11 @@ pub enum Job<B> {
 pub enum After<B> {
     /// It goes on, with the ticket of its next turn and the same seat.
     Go(Ticket, Seated<B>),
-    /// It is over, and its worker is back on the bench.
+    /// It is over, and its worker is back.
     Over,
     /// What was told isn't a report on the run's turn: ticket and seat are as they were.
     Again(Ticket, Seated<B>),
-    /// The session has ended early, and the worker is back on the bench.
+    /// The session has ended early, and the worker is back.
     Stopped,
 }
 
@@ -165,7 +153,7 @@ impl<K: Keeper, W: Sink, B: Worker, M: Mark> Book<K, W, B, M> {
         requires no_run { table.state.runs ≡ [] }
         requires workers { map (place_traits B.kind_of) bench
             ≡ map instance_traits table.state.instances }
-        requires idle { AreIdle bench }
+        requires none_away { NoneAway bench }
         requires all_in { AllByRecursion (λ instance. instance.out ≡ false) table.state.instances }
         requires valid { Valid table.state }
         requires narrow { IsNarrow table.state }
@@ -203,11 +191,12 @@ impl<K: Keeper, W: Sink, B: Worker, M: Mark> Book<K, W, B, M> {
         }
     }
 
-    /// Executes the next line and writes the reply; one that settles only where there is nothing left
-    /// to do. No run is unreturned while the session goes on.
+    /// Executes the next line, retires a class on the bench where it retires one, and writes the
+    /// reply; one that settles only where there is nothing left to do. No run is unreturned while the
+    /// session goes on.
     pub fn front_step(&mut self) -> Front
         requires { self.old.status ≡ None → self.old.table.state.runs ≡ [] }
-        ensures { IsFronted K.held result self.old self.new }
+        ensures { IsFronted K.held B.kind_of result self.old self.new }
     {
         if self.status.is_some() {
             return Front::Stopped;
@@ -218,7 +207,7 @@ impl<K: Keeper, W: Sink, B: Worker, M: Mark> Book<K, W, B, M> {
         let Some(command) = self.left.pop_front() else {
             return Front::Ended;
         };
-        if let Err(trouble) = execute(&mut self.table, self.line + 1, command) {
+        if let Err(trouble) = execute(&mut self.table, &mut self.bench, self.line + 1, command) {
             self.status = Some(Stop::from(trouble));
             return Front::Stopped;
         }
@@ -281,7 +270,7 @@ impl<K: Keeper, W: Sink, B: Worker, M: Mark> Book<K, W, B, M> {
         requires number { seat.number ≡ ticket.instance }
         requires kind { B.kind_of seat.worker ≡ ticket.kind }
         requires away { IsAwayAt seat.number (B.kind_of seat.worker) self.old.places }
-        ensures { IsReported K.held ticket seat told result self.old self.new }
+        ensures { IsReported K.held B.kind_of ticket seat told result self.old self.new }
     {
         if self.status.is_some() {
             drop(told);
@@ -304,7 +293,7 @@ impl<K: Keeper, W: Sink, B: Worker, M: Mark> Book<K, W, B, M> {
         requires stands { Stands self.old.table.state ticket }
         requires number { seat.number ≡ ticket.instance }
         requires away { IsAwayAt seat.number (B.kind_of seat.worker) self.old.places }
-        ensures { IsReported K.held ticket seat (Ok told) result self.old self.new }
+        ensures { IsReported K.held B.kind_of ticket seat (Ok told) result self.old self.new }
     {
         match self.table.turn(ticket, told) {
             TurnAnswer::Go(next) => {
@@ -375,14 +364,15 @@ impl<K: Keeper, W: Sink, B: Worker, M: Mark> Book<K, W, B, M> {
     /// Writes what is pending, and hands everything back. No worker is away, and while the session
     /// goes on no line is left and nothing to do.
     pub fn finish(self) -> Ended<K, W, B>
-        requires idle { AreIdle self.places }
+        requires none_away { NoneAway self.places }
         requires lines { self.status ≡ None → self.left ≡ [] }
         requires quiet { self.status ≡ None → IsQuiet self.table.state }
         ensures session { IsSessionEnd (tells_of K.held K.faults W.given W.faults B.kind_of B.diary_of)
             M.inputs result }
         ensures back { IsHandedBack B.kind_of self result }
+        ensures written { IsWrittenOut (tells_of K.held K.faults W.given W.faults B.kind_of B.diary_of)
+            self result }
         ensures done { result.status ≡ Status.Done → self.status ≡ None }
-        ensures stopped { IfSome self.status (λ why. result.status ≡ status_by_stop why) }
     {
         let Book {
             alloc: _,

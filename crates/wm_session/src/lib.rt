@@ -1,10 +1,10 @@
-//! A session: the table of works and runs, the book that a script is executed in, and the serial
-//! run.
+//! A session: the book that a script is executed in, the serial run, and how a run ends.
 //!
-//! [`Table`] makes the events of the machine, one a call, and keeps their rows. [`Book`] holds a
-//! table with the bench of workers, the lines that are left and what is still to be written, and its
-//! type keeps what the promises of a run rest on. [`run_serial`] executes the lines one after
-//! another, and after each of them drives all that may start.
+//! [`Book`] holds a [`Table`](wm_table::Table) with the bench of workers, the lines that are left and
+//! what is still to be written. Its type keeps what the promises of a run rest on, of what the run
+//! was given, for which its [`Mark`] stands. [`run_serial`] executes the lines one after another, and
+//! after each of them drives all that may start. [`Ended`] is what a run hands back, with the
+//! [`Status`] that it ended with.
 #![tactic(auto)]
 
 pub mod book;

@@ -1,19 +1,19 @@
 //! The serial run: the lines one after another, and after each of them all that may start.
-ghost use Rattle.std.specs.Prelude.{◌≡◌, ◌<◌, ◌∷◌, [], List, Option, None, IsSome, true, IfOk};
+ghost use Rattle.std.specs.Prelude.{◌≡◌, ◌<◌, ◌∷◌, [], List, None, IsSome, true, IfOk};
 ghost use Rattle.std.specs.List.{AllByRecursion};
+ghost use Rattle.wm_bench.specs.Places.{idle_hands};
+ghost use Rattle.wm_bench.specs.declared.hand.Hand.{Hand};
 ghost use Rattle.wm_machine.specs.Outcome.{IsBuilt};
 ghost use Rattle.wm_machine.specs.Quiet.{IsQuiet};
 ghost use Rattle.wm_machine.specs.Waiting.{left_to_drain};
 ghost use Rattle.wm_machine.specs.declared.command.Command.{Command};
-ghost use Rattle.wm_session.specs.Bench.{place_diaries};
 ghost use Rattle.wm_session.specs.Drive.{HasWritten, IsDriven, IsTurned, IsUnderWay};
 ghost use Rattle.wm_session.specs.Ended.{IsSerialEnd};
-ghost use Rattle.wm_session.specs.BetweenRuns.{GoesInOrder, IsAtBegin, IsBetweenRuns, IsReady, KeepDiaries};
+ghost use Rattle.wm_session.specs.BetweenRuns.{GoesInOrder, IsAtBegin, IsBetweenRuns, IsReady, KeepBoxes};
 ghost use Rattle.wm_session.specs.Tells.{tells_of};
 ghost use Rattle.wm_worker.specs.Answers.{given_of};
 ghost use Rattle.wm_worker.specs.Diary.{diary_with};
 ghost use Rattle.wm_worker.specs.Told.{IsReportOf};
-ghost use Rattle.wm_worker.specs.declared.answer.Entry.{Entry};
 ghost use Rattle.wm_worker.specs.declared.answer.Entry.TheVariants.{Begun};
 
 use crate::book::{After, Book, Front, Job};
@@ -47,7 +47,7 @@ pub fn run_serial<K: Keeper, W: Sink, B: Worker, M: Mark>(
     requires begins { IsAtBegin M.inputs.lines book }
     requires built { AllByRecursion IsBuilt M.inputs.lines }
     ensures { IsSerialEnd (tells_of K.held K.faults W.given W.faults B.kind_of B.diary_of)
-        M.inputs (place_diaries B.diary_of book.places) result }
+        M.inputs (idle_hands book.places) result }
 {
     execute_lines(alloc, &mut book);
     book.finish()
@@ -61,9 +61,8 @@ fn execute_lines<K: Keeper, W: Sink, B: Worker, M: Mark>(alloc: Global, book: &m
     ensures done { book.new.status ≡ None → book.new.left ≡ [] }
     ensures quiet { book.new.status ≡ None → IsQuiet book.new.table.state }
     ensures order { (lines : List Command) → IsReady lines book.old → IsReady lines book.new }
-    ensures diaries { (diaries : List (Option (List Entry)))
-        → KeepDiaries B.diary_of diaries book.old
-        → KeepDiaries B.diary_of diaries book.new }
+    ensures boxes { (given : List (Hand B))
+        → KeepBoxes B.diary_of given book.old → KeepBoxes B.diary_of given book.new }
 {
     if book.drains_first() {
         drain(alloc, book);
@@ -86,9 +85,8 @@ fn drain<K: Keeper, W: Sink, B: Worker, M: Mark>(alloc: Global, book: &mut Book<
     ensures quiet { book.new.status ≡ None → IsQuiet book.new.table.state }
     ensures order { (lines : List Command)
         → GoesInOrder lines book.old → GoesInOrder lines book.new }
-    ensures diaries { (diaries : List (Option (List Entry)))
-        → KeepDiaries B.diary_of diaries book.old
-        → KeepDiaries B.diary_of diaries book.new }
+    ensures boxes { (given : List (Hand B))
+        → KeepBoxes B.diary_of given book.old → KeepBoxes B.diary_of given book.new }
 {
     'starts: while let Progress::Driven = drive_first(alloc, book) {}
 }
@@ -107,9 +105,8 @@ fn drive_first<K: Keeper, W: Sink, B: Worker, M: Mark>(
     ensures stopped { result ≡ Progress.Stopped → IsSome book.new.status }
     ensures order { (lines : List Command)
         → GoesInOrder lines book.old → GoesInOrder lines book.new }
-    ensures diaries { (diaries : List (Option (List Entry)))
-        → KeepDiaries B.diary_of diaries book.old
-        → KeepDiaries B.diary_of diaries book.new }
+    ensures boxes { (given : List (Hand B))
+        → KeepBoxes B.diary_of given book.old → KeepBoxes B.diary_of given book.new }
 {
     match book.claim() {
         Job::Run(ticket, seat, signal) => {
@@ -131,11 +128,11 @@ fn drive<K: Keeper, W: Sink, B: Worker, M: Mark>(
     mut seat: Seated<B>,
     signal: &Signal,
 )
-    requires under_way { IsUnderWay ticket book.old }
+    requires under_way { IsUnderWay B.kind_of ticket book.old }
     requires number { seat.number ≡ ticket.instance }
     requires kind { B.kind_of seat.worker ≡ ticket.kind }
     requires signal_is { signal.now ≡ record { run = ticket.task.run; never = true } }
-    ensures { IsDriven B.diary_of ticket.instance
+    ensures { IsDriven B.diary_of ticket.instance (B.diary_of seat.worker)
         (diary_with (Begun ticket.task.run ∷ []) (B.diary_of seat.worker)) book.old book.new }
 {
     match seat.begin(alloc, ticket.task()) {
@@ -156,11 +153,12 @@ fn take_turns<K: Keeper, W: Sink, B: Worker, M: Mark>(
     mut seat: Seated<B>,
     signal: &Signal,
 )
-    requires under_way { IsUnderWay ticket book.old }
+    requires under_way { IsUnderWay B.kind_of ticket book.old }
     requires number { seat.number ≡ ticket.instance }
     requires kind { B.kind_of seat.worker ≡ ticket.kind }
     requires signal_is { signal.now ≡ record { run = ticket.task.run; never = true } }
-    ensures { IsDriven B.diary_of ticket.instance (B.diary_of seat.worker) book.old book.new }
+    ensures { IsDriven B.diary_of ticket.instance
+        (B.diary_of seat.worker) (B.diary_of seat.worker) book.old book.new }
 {
     'turns: loop {
         let Some((next, kept)) = turn_once(alloc, book, ticket, seat, signal) else {
@@ -180,7 +178,7 @@ fn turn_once<K: Keeper, W: Sink, B: Worker, M: Mark>(
     mut seat: Seated<B>,
     signal: &Signal,
 ) -> Option<(Ticket, Seated<B>)>
-    requires under_way { IsUnderWay ticket book.old }
+    requires under_way { IsUnderWay B.kind_of ticket book.old }
     requires number { seat.number ≡ ticket.instance }
     requires kind { B.kind_of seat.worker ≡ ticket.kind }
     requires signal_is { signal.now ≡ record { run = ticket.task.run; never = true } }

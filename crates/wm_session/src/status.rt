@@ -5,7 +5,7 @@ use crate::book::Stop;
 use std::alloc::{AllocError, Global};
 use wm_keeper::KeepFault;
 use wm_script::Limit;
-use wm_table::BeginFault;
+use wm_table::{BeginFault, Trouble};
 
 /// How a run ended.
 #[derive(Clone, Copy, Debug, PartialEq, Eq)]
@@ -35,10 +35,7 @@ impl From<KeepFault> for Status {
     ghost from_gives = { λ fault status. status ≡ status_by_keeper fault };
 
     fn from(fault: KeepFault) -> Status {
-        match fault {
-            KeepFault::Failed => Status::KeeperFault,
-            KeepFault::Memory => Status::Memory,
-        }
+        Status::from(Stop::from(Trouble::from(fault)))
     }
 }
 

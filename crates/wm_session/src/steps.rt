@@ -1,14 +1,16 @@
 //! What a book does with its parts: it executes a line, writes what is pending, and puts ticket and
 //! worker back.
-ghost use Rattle.std.specs.Prelude.{◌≡◌, ◌++◌, [], None, Some, IsNone, IfErr, IfSome, OnOk, OnErr};
-ghost use Rattle.wm_bench.specs.Places.{changed_at, made_idle, IsAwayAt};
-ghost use Rattle.wm_machine.specs.Outcome.{IsBuilt};
-ghost use Rattle.wm_machine.specs.Quiet.{CanCome};
+ghost use Rattle.std.specs.Prelude.{◌≡◌, ◌++◌, ℕ, [], None, Some, IfErr, OnOk, OnErr};
+ghost use Rattle.wm_bench.specs.Places.{changed_at, made_back, IsAwayAt};
+ghost use Rattle.wm_collections.specs.Lists.{last_of};
+ghost use Rattle.wm_machine.specs.Outcome.{IsLegalLine};
 ghost use Rattle.wm_texts.specs.Texts.{text_of};
 ghost use Rattle.wm_machine.specs.declared.event.Event.TheVariants as event;
+ghost use Rattle.wm_machine.specs.declared.command.Command.{Command};
 ghost use Rattle.wm_machine.specs.declared.reply.Reply.{Reply};
+ghost use Rattle.wm_session.specs.Bench.{places_after};
 ghost use Rattle.wm_session.specs.Book.{IsClaimIn};
-ghost use Rattle.wm_session.specs.Causes.{status_by_stop, stop_by_fault};
+ghost use Rattle.wm_session.specs.Causes.{stop_by_fault, EndsBy};
 ghost use Rattle.wm_session.specs.Invariant.{TextsInvariant, IsLastTold};
 ghost use Rattle.wm_table.specs.Table.{IsOneStep, IsUntouched, Stands, TroubleCause};
 ghost use Rattle.wm_session.specs.Writing.{WriteCause};
@@ -25,25 +27,53 @@ use wm_table::{Claim, Table, Ticket, Trouble};
 use wm_texts::event_text;
 use wm_worker::Worker;
 
-/// Executes the command of a line. Its reply stands in the table's last event.
-pub fn execute<K: Keeper>(table: &mut Table<K>, line: u32, command: Command) -> Result<(), Trouble>
-    requires built { IsBuilt command }
-    requires can { CanCome command table.old.state }
+/// Executes the command of a line, and retires a class that it retires on the bench. Its reply
+/// stands in the table's last event.
+pub fn execute<K: Keeper, B: Worker>(
+    table: &mut Table<K>,
+    bench: &mut Bench<B>,
+    line: u32,
+    command: Command,
+) -> Result<(), Trouble>
+    requires { IsLegalLine table.old.state command }
     ensures ok { OnOk result ((reply : Reply)
         × IsOneStep K.held (event.Command line command reply) table.old table.new) }
     ensures err { OnErr result (IsUntouched K.held table.old table.new) }
+    ensures places { OnOk result (bench.new ≡ places_after B.kind_of command bench.old) }
+    ensures places_err { OnErr result (bench.new ≡ bench.old) }
     ensures cause { TroubleCause result (K.faults table.old.keeper) (K.faults table.new.keeper) }
 {
     match table.command(line, command) {
         Ok(reply) => {
             drop(reply);
+            retire_last(table, bench);
             Ok(())
         }
         Err(trouble) => Err(trouble),
     }
 }
 
-/// Takes a ticket without an event, and puts its worker back at its place.
+/// Retires a class on the bench, where the table's last event is a line that retires it.
+fn retire_last<K: Keeper, B: Worker>(table: &Table<K>, bench: &mut Bench<B>)
+    ensures { (line : ℕ) (asked : Command) (reply : Reply)
+        → last_of table.now.log ≡ Some (event.Command line asked reply)
+        → bench.new ≡ places_after B.kind_of asked bench.old }
+{
+    if let Some(Event::Command { command, .. }) = table.last_event() {
+        retire(bench, command);
+    }
+}
+
+/// Retires a class on the bench, where a line retires it.
+fn retire<B: Worker>(bench: &mut Bench<B>, command: &Command)
+    ensures { bench.new ≡ places_after B.kind_of command.now bench.old }
+{
+    if let Command::Retire(class) = command {
+        let _dropped = bench.retire(class.as_str());
+    }
+}
+
+/// Takes a ticket without an event, and gives its worker back to the bench.
 pub fn give_back<K: Keeper, B: Worker>(
     table: &mut Table<K>,
     bench: &mut Bench<B>,
@@ -53,7 +83,7 @@ pub fn give_back<K: Keeper, B: Worker>(
     requires stands { Stands table.old.state ticket }
     requires away { IsAwayAt seat.number (B.kind_of seat.worker) bench.old }
     ensures table { table.new ≡ table.old }
-    ensures places { bench.new ≡ changed_at (made_idle seat.worker) seat.number bench.old }
+    ensures places { bench.new ≡ changed_at (made_back B.kind_of seat.worker) seat.number bench.old }
 {
     table.take_back(ticket);
     bench.give(seat);
@@ -129,10 +159,7 @@ pub fn write_pending<W: Sink>(sink: &mut W, pending: &mut Vec<u8>) -> Result<(),
 
 /// How a session ends that stopped for this, or whose last write was answered so.
 pub fn status_after(stop: Option<Stop>, written: Result<(), WriteFault>) -> Status
-    ensures stopped { IfSome stop (λ why. result ≡ status_by_stop why) }
-    ensures refused { IsNone stop → IfErr written (λ fault. result
-        ≡ status_by_stop (stop_by_fault fault)) }
-    ensures done { IsNone stop → OnOk written (result ≡ Status.Done) }
+    ensures { EndsBy stop written result }
 {
     match (stop, written) {
         (Some(stop), _) => Status::from(stop),

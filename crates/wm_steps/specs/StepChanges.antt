@@ -6,6 +6,7 @@ use Rattle.wm_keeper.specs.Keeper.{AreOfDifferentNumbers}
 use Rattle.wm_keeper.specs.declared.row.Change.{Change}
 use Rattle.wm_keeper.specs.declared.row.Change.TheVariants.{Put, Remove}
 use Rattle.wm_machine.specs.Limits.{FitsRow}
+use Rattle.wm_machine.specs.Retired.{with_retired}
 use Rattle.wm_machine.specs.Rows.{row_of}
 use Rattle.wm_machine.specs.Runs.{other_runs, with_out}
 use Rattle.wm_machine.specs.Step.{Legal, after}
@@ -75,11 +76,17 @@ abbrev pub hushed_by : SettingChange → Bool → Bool
 hushed_by set.Hush before = true
 hushed_by _ before = before
 
+-- the instances, with those of a class retired where that is set
+abbrev pub retired_by : SettingChange → List Instance → List Instance
+retired_by (set.Retire class) instances = with_retired class instances
+retired_by _ instances = instances
+
 -- a state with what is set in it
 abbrev pub set_by : SettingChange → State → State
 set_by to s = record s {
   now = now_by to s.now;
   conditions = conditions_by to s.conditions;
+  instances = retired_by to s.instances;
   hushed = hushed_by to s.hushed;
 }
 

@@ -4,7 +4,7 @@ ghost use Rattle.wm_steps.specs.StepChanges.{keeping_row, placing, removing, rep
 
 use crate::joins::{both, one};
 use std::alloc::{AllocError, Global};
-use wm_collections::Items;
+use wm_collections::{Items, Text};
 use wm_conditions::Conditions;
 use wm_machine::{Event, Record, Run};
 
@@ -28,15 +28,18 @@ pub enum RunChange {
     End { run: u64, instance: u32 },
 }
 
-/// What becomes of the moment and the conditions in a step, and of what is written.
+/// What is set in a step: the moment, the conditions, what is written, or which instances are
+/// retired.
 #[derive(Drop)]
 pub enum SettingChange {
-    /// They stay as they are.
+    /// Nothing.
     Unchanged,
     /// This is the moment.
     Moment(u64),
     /// These are the conditions.
     Conditions(Conditions),
+    /// The instances of this class are retired.
+    Retire(Text),
     /// From now on only summaries are written.
     Hush,
 }
@@ -54,7 +57,7 @@ pub struct StepChange {
     pub placed: Items<Record>,
     /// What becomes of runs and instances.
     pub run: RunChange,
-    /// What becomes of the moment and the conditions, and of what is written.
+    /// What is set, if anything.
     pub setting: SettingChange,
     /// The event of the step.
     pub event: Event,

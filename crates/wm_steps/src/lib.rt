@@ -7,10 +7,8 @@
 
 pub mod change;
 pub mod joins;
-pub mod records;
 pub mod view;
 
 pub use change::{Replacement, RunChange, SettingChange, StepChange};
 pub use joins::{at, both, copied, one};
-pub use records::put_at;
 pub use view::View;

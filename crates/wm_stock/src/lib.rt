@@ -2,9 +2,10 @@
 //!
 //! Each is a [`Stock`], a [`Worker`](wm_worker::Worker) of the kind of its name, answers what
 //! `specs/Answers.antt` of `wm_worker` says, and tells no diary. `Count` and `Wait` look at the
-//! signal; the others don't.
+//! signal; the others don't. An [`AnyStock`] is one of any kind, and gives those that a program has.
 #![tactic(auto)]
 
+pub mod any_stock;
 pub mod count;
 pub mod echo;
 pub mod fail_until;
@@ -14,6 +15,7 @@ pub mod stock;
 pub mod sum;
 pub mod wait;
 
+pub use any_stock::{AnyStock, STOCK_WORKERS};
 pub use count::Count;
 pub use echo::Echo;
 pub use fail_until::FailUntil;

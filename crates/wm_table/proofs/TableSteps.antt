@@ -8,19 +8,18 @@ use Rattle.wm_keeper.specs.declared.row.Row.{Row}
 use Rattle.wm_machine.specs.declared.event.Event.{Event}
 use Rattle.wm_machine.specs.declared.state.Instance.{Instance}
 use Rattle.wm_machine.specs.declared.state.State.{State}
-use Rattle.wm_collections.proofs.Lists.{All-weaker}
+use Rattle.wm_collections.specs.Lists.{last_of}
 use Rattle.wm_machine.proofs.Logs.{Replay-push}
+use Rattle.wm_machine.proofs.Openings.{reached-opening}
 use Rattle.wm_machine.specs.First.{first_of}
-use Rattle.wm_machine.specs.Narrow.{IsNarrow}
-use Rattle.wm_machine.specs.Opened.{opening_state}
+use Rattle.wm_machine.specs.Opened.{AreFresh, opening_state}
 use Rattle.wm_machine.specs.Quiet.{IsQuiet}
 use Rattle.wm_machine.specs.Rows.{rows_of}
-use Rattle.wm_machine.specs.Valid.{Valid}
 use Rattle.wm_machine.specs.declared.event.Event.{Event}
 use Rattle.wm_machine.specs.declared.state.Instance.{Instance}
 use Rattle.wm_machine.specs.declared.state.State.{State}
 use Rattle.wm_steps.specs.Views.{IsViewed}
-use Rattle.wm_table.specs.Table.{last_of, AreFresh, HoldsRowsOf, IsOneStep, TableInvariant, IsUntouched}
+use Rattle.wm_table.specs.Table.{HoldsRowsOf, IsOneStep, TableInvariant, IsUntouched}
 use Rattle.wm_table.specs.TableState.{TableState}
 
 -- ---- the rows held
@@ -47,28 +46,16 @@ pub empty-from_first : {T : Type 0} (xs : List T) → None ≡ slice_get xs 0 �
 empty-from_first [] none = refl
 empty-from_first (x ∷ xs) none = absurd (none-some x none)
 
--- the state that an empty store opens to, with fresh instances
-pub Valid-opening : (instances : List Instance) → AreFresh instances → Valid (opening_state [] instances)
-Valid-opening instances fresh = record {
-  works = record { first = omega arith; fits = omega arith; numbers = tt; few = omega arith; records = tt; in_order = tt; sound = tt };
-  runs = record { running = tt; each = tt; apart = tt };
-  instances = record { out = All-weaker instances (λ instance is. is.out) fresh.all; numbered = fresh.in_order };
-  few_observers = omega arith;
-  now = omega arith;
-}
-
-pub IsNarrow-opening : (instances : List Instance) → IsNarrow (opening_state [] instances)
-IsNarrow-opening instances = record { runs = tt }
-
 holds_none : (held : Option (List Row)) → IfSome held (λ rows. [] ≡ rows) → held ≡ option_map (λ _. []) held
 holds_none None none = refl
 holds_none (Some rows) none = ap (λ (rs : List Row). Some rs) (sym none)
 
--- and its view
+-- the view of the state that an empty store opens to
 pub viewed-opening : (instances : List Instance) (s : State) (graph : List NodeFields) → AreFresh instances → s ≡ opening_state [] instances → graph ≡ []
     → IsViewed s graph
 viewed-opening instances s graph fresh s_is graph_is =
-    rw (s_is, graph_is) (record { valid = Valid-opening instances fresh; narrow = IsNarrow-opening instances; graph_is = refl })
+    let reached = reached-opening instances fresh in
+    rw (s_is, graph_is) (record { valid = reached.valid; narrow = reached.narrow; graph_is = refl })
 
 -- what a table keeps when it begins
 pub kept-opening : (instances : List Instance) (rows : List Row) (held : Option (List Row)) (first s : State) (log : List Event)

@@ -1,6 +1,5 @@
 -- What the calls of the table do to the state, its log and the rows held.
 use Rattle.std.specs.Prelude.{◌≡◌, ℕ, ◌+◌, ◌≤◌, Bool, true, false, List, [], ◌∷◌, ◌++◌, length, Option, Some, None, IsSomeAnd, option_map, Result, Err}
-use Rattle.std.specs.List.{AllByRecursion}
 use Rattle.wm_data.specs.declared.data.DataEntry.{DataEntry}
 use Rattle.wm_faults.specs.Faults as faults
 use Rattle.wm_keeper.specs.declared.row.Row.{Row}
@@ -11,10 +10,8 @@ use Rattle.wm_machine.specs.Role.{HasGiven, Reported}
 use Rattle.wm_machine.specs.Rows.{rows_of}
 use Rattle.wm_machine.specs.Runs.{run_numbered}
 use Rattle.wm_machine.specs.Step.{Legal, after, role_of}
-use Rattle.wm_machine.specs.Valid.{AreNumberedInOrder}
 use Rattle.wm_machine.specs.declared.event.Event.{Event}
 use Rattle.wm_machine.specs.declared.event.Event.TheVariants as event
-use Rattle.wm_machine.specs.declared.state.Instance.{Instance}
 use Rattle.wm_machine.specs.declared.state.State.{State}
 use Rattle.wm_runs.specs.Reports.{is_timeout, CountsIn}
 use Rattle.wm_runs.specs.declared.starting.Claimed.{Claimed}
@@ -59,16 +56,6 @@ abbrev pub TroubleCause : {T : Type 0} → Result T Trouble → ℕ → ℕ → 
 TroubleCause result before now = faults.HasCause (is_keeper_fault result) before now
 
 -- ---- begin
-
--- an instance that a run is given: neither out nor retired
-pub record IsFresh (instance : Instance) : Type 0 where
-  pub out : instance.out ≡ false
-  pub retired : instance.retired ≡ false
-
--- the instances that a run is given, numbered from 0
-pub record AreFresh (instances : List Instance) : Type 0 where
-  pub in_order : AreNumberedInOrder 0 instances
-  pub all : AllByRecursion IsFresh instances
 
 -- `Bad` names the first row, as one that is out of form
 abbrev pub BeginCause : List Row → BeginFault → Type 0
@@ -193,9 +180,3 @@ pub record TableInvariant (first state : State) (log : List Event) (held : Optio
   pub replay : Replay first log state
   pub rows : HoldsRowsOf state held
   pub few_runs : state.next_run ≤ length log + 1
-
--- the last of a list
-abbrev pub last_of : {T : Type 0} → List T → Option T
-last_of [] = None
-last_of (x ∷ []) = Some x
-last_of (x ∷ y ∷ xs) = last_of (y ∷ xs)

@@ -1,6 +1,5 @@
 ghost use Rattle.std.specs.Prelude.{◌≡◌, []};
-ghost use Rattle.wm_machine.specs.Opened.{opening_state};
-ghost use Rattle.wm_table.specs.Table.{AreFresh};
+ghost use Rattle.wm_machine.specs.Opened.{opening_state, AreFresh};
 
 use std::alloc::Global;
 use wm_collections::Items;

@@ -1,17 +1,18 @@
 //! The table: the state, the log of the events that led to it, and the keeper of its rows.
 ghost use Rattle.std.specs.Prelude.{◌≡◌, ◌≢◌, ◌↔◌, [], true, false, Err, IsTrue, IfOk, IfErr, IfSome, OnOk, OnErr};
 ghost use Rattle.std.specs.Option.{option_copied};
-ghost use Rattle.wm_machine.specs.Outcome.{IsBuilt};
+ghost use Rattle.wm_collections.specs.Lists.{last_of};
+ghost use Rattle.wm_machine.specs.Outcome.{IsLegalLine};
 ghost use Rattle.wm_machine.specs.Narrow.{IsNarrow};
-ghost use Rattle.wm_machine.specs.Opened.{opening_state, Opened};
-ghost use Rattle.wm_machine.specs.Quiet.{CanCome, IsQuiet};
+ghost use Rattle.wm_machine.specs.Opened.{opening_state, AreFresh, Opened};
+ghost use Rattle.wm_machine.specs.Quiet.{IsQuiet};
 ghost use Rattle.wm_machine.specs.Replay.{Replay};
 ghost use Rattle.wm_machine.specs.Valid.{Valid};
 ghost use Rattle.wm_machine.specs.declared.event.Event.TheVariants as event;
 ghost use Rattle.wm_steps.specs.StepChanges.{row_changes, IsStepOf};
 ghost use Rattle.wm_commands.specs.Builds.{ChangesNoRow, ChangesRows};
 ghost use Rattle.wm_runs.specs.Reports.{goes_on, CountsIn};
-ghost use Rattle.wm_table.specs.Table.{last_of, AreFresh, BeginCause, HasClaimed, HoldsRowsOf, IsClaim, IsClaimAnswer, IsFinished, IsOneStep, IsTurnAnswer, IsTurned, IsUntouched, Stands, TroubleCause, TurnCause};
+ghost use Rattle.wm_table.specs.Table.{BeginCause, HasClaimed, HoldsRowsOf, IsClaim, IsClaimAnswer, IsFinished, IsOneStep, IsTurnAnswer, IsTurned, IsUntouched, Stands, TroubleCause, TurnCause};
 
 mod carry;
 mod follow;
@@ -198,8 +199,7 @@ impl<K: Keeper> Table<K> {
     /// Executes the command of a line, in one event, and answers its reply. A command that changes
     /// no row leaves the keeper as it was.
     pub fn command(&mut self, line: u32, command: Command) -> Result<Reply, Trouble>
-        requires built { IsBuilt command }
-        requires can { CanCome command self.old.state }
+        requires legal { IsLegalLine self.old.state command }
         ensures ok { IfOk result (λ reply.
             IsOneStep K.held (event.Command line command reply) self.old self.new) }
         ensures err { OnErr result (IsUntouched K.held self.old self.new) }

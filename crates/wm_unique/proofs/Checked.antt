@@ -2,8 +2,9 @@
 use Rattle.std.proofs.Common.{◌≡◌, ◌&&◌, ◌||◌, ℕ, ◌+◌, ◌^◌, Bool, true, false, not, cond, if◌then◌else◌, List, [], ◌∷◌, ◌++◌, filter, find, is_some, length, nat_lt, Option, Some, None, option_map, refl, sym, ◌∙◌, ap, inl, inr}
 use Rattle.std.specs.List.{AllByRecursion, list_any}
 use Rattle.std.specs.Str.{bytes_eq}
+use Rattle.std.proofs.Math.Bool.{and-true}
 use Rattle.std.proofs.lemmas.Bool.{cases_Bool, or_left, or_right, true≢false}
-use Rattle.wm_collections.proofs.Lists.{All-any, All-stored, All-weaker, find-same, list_any-filter, list_any-stored}
+use Rattle.wm_collections.proofs.Lists.{All-any, All-stored, All-weaker, find-same, list_any-agree, list_any-filter, list_any-kept, list_any-stored}
 use Rattle.wm_machine.proofs.Placings.{bytes_eq-refl, bytes_eq-same}
 use Rattle.wm_machine.specs.Cancelled.{is_stored}
 use Rattle.wm_machine.specs.Enqueued.{first_refusal, first_unknown, id_in_use, is_stored_periodic, no_such_prerequisite, numbers_spent, periodic_in_chain, refusal_of_placing, too_many_after, too_many_works, without}
@@ -19,33 +20,11 @@ use Rattle.wm_unique.specs.Plans.{is_named_by, names_id}
 
 -- ---- those that aren't let go
 
-and_true : (b : Bool) → b ≡ (b && true)
-and_true true = refl
-and_true false = refl
-
-and_false : (b : Bool) → false ≡ (b && false)
-and_false true = refl
-and_false false = refl
-
-any_left : (b : Bool) (test : Record → Bool) (work : Record) (others : List Record) (any : Bool) → list_any test others ≡ any
-    → list_any test (cond b (work ∷ others) others) ≡ ((test work && b) || any)
-any_left true test work others any e = ap (λ b. test work || b) e ∙ ap (λ b. b || any) (and_true (test work))
-any_left false test work others any e = e ∙ ap (λ b. b || any) (and_false (test work))
-
-any_filtered : (test keep : Record → Bool) (works : List Record) → list_any test (filter keep works) ≡ list_any (λ work. test work && keep work) works
-any_filtered test keep [] = refl
-any_filtered test keep (work ∷ works) =
-    any_left (keep work) test work (filter keep works) (list_any (λ work. test work && keep work) works) (any_filtered test keep works)
-
-any_of_all : (test : Record → Bool) (works : List Record) → list_any test works ≡ list_any (λ work. test work && true) works
-any_of_all test [] = refl
-any_of_all test (work ∷ works) = ap (λ b. b || list_any test works) (and_true (test work)) ∙ ap (λ b. (test work && true) || b) (any_of_all test works)
-
 -- one passes that isn't let go
 pub any_without : (test : Record → Bool) (numbers : List ℕ) (works : List Record)
     → list_any test (without numbers works) ≡ list_any (λ work. test work && not (is_among numbers work.seq)) works
-any_without test [] works = any_of_all test works
-any_without test (number ∷ numbers) works = any_filtered test (λ work. not (is_among (number ∷ numbers) work.seq)) works
+any_without test [] works = list_any-agree test (λ work. test work && true) works (All-any works (λ work. sym (and-true (test work))))
+any_without test (number ∷ numbers) works = list_any-kept test (λ work. not (is_among (number ∷ numbers) work.seq)) works
 
 -- ---- what a batch names
 

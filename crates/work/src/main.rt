@@ -6,8 +6,6 @@
 #[cfg(test)]
 mod tests;
 
-ghost use Rattle.std.specs.Prelude.{◌≡◌, ◌+◌, vec_len, OnOk};
-
 use std::alloc::{AllocError, Global};
 use std::process::ExitCode;
 use std::rt::Env;
@@ -17,11 +15,7 @@ use wm_cli::Status;
 use wm_collections::Text;
 use wm_io::{Sink, Source, StdSink, StdSource};
 use wm_keeper::SureKeeper;
-use wm_stock::{Count, Echo, FailUntil, RetryUntil, Sum, Wait};
-use wm_worker::Worker;
-
-/// How many workers there are of each kind.
-const EACH: u32 = 4;
+use wm_stock::{AnyStock, STOCK_WORKERS};
 
 /// The words of the command line after the program's name. Where the system doesn't give them,
 /// there is none.
@@ -32,20 +26,6 @@ fn words(rt: &(impl Env + AllocGlobal)) -> Result<Vec<String>, AllocError> {
     }
 }
 
-/// Adds a worker for the works of a class.
-fn add_worker(
-    alloc: Global,
-    hands: &mut Vec<Hand>,
-    class: &str,
-    worker: Box<dyn Worker + Send>,
-) -> Result<(), AllocError>
-    ensures one_more { OnOk result (vec_len hands.new ≡ vec_len hands.old + 1) }
-{
-    let class = Text::from_str(alloc, class)?;
-    hands.push(Hand { class, worker })?;
-    Ok(())
-}
-
 /// Runs a script with these words and the stock workers, a few of each kind, whose classes are
 /// named as their kinds.
 fn run<S: Source, W: Sink + Send + Drop>(
@@ -54,34 +34,12 @@ fn run<S: Source, W: Sink + Send + Drop>(
     source: &mut S,
     sink: W,
 ) -> Result<Status, AllocError> {
-    let mut hands = Vec::new(alloc);
-    for _ in 0..EACH {
-        add_worker(alloc, &mut hands, "Echo", Box::new(alloc, Echo::new())?)?;
-    }
-    for _ in 0..EACH {
-        add_worker(alloc, &mut hands, "Sum", Box::new(alloc, Sum::new())?)?;
-    }
-    for _ in 0..EACH {
-        add_worker(
-            alloc,
-            &mut hands,
-            "FailUntil",
-            Box::new(alloc, FailUntil::new())?,
-        )?;
-    }
-    for _ in 0..EACH {
-        add_worker(
-            alloc,
-            &mut hands,
-            "RetryUntil",
-            Box::new(alloc, RetryUntil::new())?,
-        )?;
-    }
-    for _ in 0..EACH {
-        add_worker(alloc, &mut hands, "Count", Box::new(alloc, Count::new())?)?;
-    }
-    for _ in 0..EACH {
-        add_worker(alloc, &mut hands, "Wait", Box::new(alloc, Wait::new())?)?;
+    let mut hands: Vec<Hand> = Vec::new(alloc);
+    for number in 0..STOCK_WORKERS {
+        let worker = AnyStock::numbered(number);
+        let class = Text::from_str(alloc, worker.name())?;
+        let worker = Box::new(alloc, worker)?;
+        hands.push(Hand { class, worker })?;
     }
     let keeper = SureKeeper::new(Vec::new(alloc));
     Ok(wm_cli::run(alloc, words, hands, source, sink, keeper).status)

@@ -4,6 +4,7 @@ ghost use Rattle.std.specs.Prelude.{◌≡◌, ◌≢◌, ◌+◌, ◌^◌, ◌<
 ghost use Rattle.std.specs.List.{AllByRecursion};
 ghost use Rattle.wm_keeper.specs.Keeper.{changed, AreOfDifferentNumbers};
 ghost use Rattle.wm_machine.specs.Limits.{FitsRow};
+ghost use Rattle.wm_machine.specs.Retired.{with_retired};
 ghost use Rattle.wm_machine.specs.Rows.{rows_of};
 ghost use Rattle.wm_machine.specs.Runs.{other_runs, with_out};
 ghost use Rattle.wm_machine.specs.Turns.{with_turned};
@@ -16,7 +17,7 @@ use crate::table::follow::{add_nodes, change_nodes};
 use crate::table::row_changes::row_changes;
 use std::alloc::{AllocError, Global};
 use std::mem;
-use wm_collections::Items;
+use wm_collections::{Items, Text};
 use wm_graph::Graph;
 use wm_keeper::{Change, Keeper};
 use wm_machine::{Event, Instance, Record, Run, State};
@@ -105,7 +106,7 @@ impl Lists {
         remove_works(&mut self.works, removed.as_slice());
         append(&mut self.works, placed);
         change_runs(alloc, &mut self.runs, state, run, next_run);
-        change_setting(state, setting);
+        change_setting(alloc, state, setting);
         self.log.push_reserved(event);
     }
 }
@@ -193,15 +194,36 @@ fn change_runs(
     }
 }
 
-/// Changes the moment or the conditions, or what is written.
-fn change_setting(state: &mut State, setting: SettingChange)
+/// Sets what is set.
+fn change_setting(alloc: Global, state: &mut State, setting: SettingChange)
     ensures { state.new ≡ set_by setting state.old }
 {
     match setting {
         SettingChange::Unchanged => {}
         SettingChange::Moment(at) => state.now = at,
         SettingChange::Conditions(conditions) => state.conditions = conditions,
+        SettingChange::Retire(class) => retire_each(alloc, &mut state.instances, &class),
         SettingChange::Hush => state.hushed = true,
+    }
+}
+
+/// Has the instances of this class retired. It takes no memory.
+fn retire_each(alloc: Global, instances: &mut Items<Instance>, class: &Text)
+    ensures { instances.new ≡ with_retired class.now instances.old }
+{
+    let mut elements = mem::replace(instances, Items::new(alloc)).into_vec();
+    set_each_retired(elements.as_mut_slice(), class);
+    *instances = Items::from_vec(elements);
+}
+
+/// Has the instances of this class retired.
+fn set_each_retired(instances: &mut [Instance], class: &Text)
+    ensures { instances.new ≡ with_retired class.now instances.old }
+{
+    for instance in instances.iter_mut() {
+        if instance.class == *class {
+            instance.retired = true;
+        }
     }
 }
 

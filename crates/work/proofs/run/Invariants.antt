@@ -1,21 +1,6 @@
-use Rattle.std.proofs.Common.{◌≡◌, ◌+◌, vec_len}
+use Rattle.std.proofs.Common.{◌≡◌, vec_len}
 use Rattle.work.proofs.run.Given as goal
 
--- the workers so far: four of each kind before this one, and so many of this kind
-abbrev pub invariant-loop : goal.invariant-loop
-invariant-loop g l = vec_len l.hands ≡ l.counter
-
-abbrev pub invariant-loop-2 : goal.invariant-loop-2
-invariant-loop-2 g l = vec_len l.hands ≡ 4 + l.counter
-
-abbrev pub invariant-loop-3 : goal.invariant-loop-3
-invariant-loop-3 g l = vec_len l.hands ≡ 8 + l.counter
-
-abbrev pub invariant-loop-4 : goal.invariant-loop-4
-invariant-loop-4 g l = vec_len l.hands ≡ 12 + l.counter
-
-abbrev pub invariant-loop-5 : goal.invariant-loop-5
-invariant-loop-5 g l = vec_len l.hands ≡ 16 + l.counter
-
-abbrev pub invariant-loop-6 : goal.invariant-loop-6
-invariant-loop-6 g l = vec_len l.hands ≡ 20 + l.counter
+-- the workers so far
+abbrev pub invariant-loop-number : goal.invariant-loop-number
+invariant-loop-number g l = vec_len l.hands ≡ l.number

@@ -1,18 +1,20 @@
-use Rattle.std.proofs.Common.{◌≡◌, [], ◌∷◌, IfSome, Vec, Global, sym, ◌∙◌, ap, subst, rules}
+use Rattle.std.proofs.Common.{◌≡◌, ◌≤◌, [], ◌∷◌, length, IfSome, Vec, Global, sym, ◌∙◌, ap, subst, rules}
+use Rattle.wm_bench.specs.Places.{most_hands}
 use Rattle.wm_cli.proofs.Hands.{AreFresh-instances_from}
 use Rattle.wm_cli.proofs.RunEnds.{EarlyCause, EarlyCause-begin, EarlyCause-keeper, IsRunEnd-begun, IsRunEnd-unbegun}
 use Rattle.wm_keeper.specs.declared.row.Row.{Row}
-use Rattle.wm_machine.specs.Opened.{opening_state, Opened}
+use Rattle.wm_machine.specs.Opened.{AreFresh, opening_state, Opened}
 use Rattle.wm_session.specs.Hands.{instances_from}
 use Rattle.wm_session.specs.Tells.{tells_of}
 use Rattle.wm_session.specs.declared.status.Status.TheVariants as status
-use Rattle.wm_table.specs.Table.{AreFresh, BeginCause}
+use Rattle.wm_table.specs.Table.{BeginCause}
 use Rattle.wm_cli.proofs.program.run_commands.Goals as goal
 
 pub begin-requires-clause-instances : goal.begin-requires-clause-instances
 begin-requires-clause-instances g c =
     let is : c.in-Ok-instances_of.instances ≡ instances_from g.B.Worker.kind_of 0 c.args.hands.items = search rules in
-    subst AreFresh (sym is) (AreFresh-instances_from g.B.Worker.kind_of c.args.hands.items)
+    let few : length c.args.hands.items ≤ most_hands = search rules in
+    subst AreFresh (sym is) (AreFresh-instances_from g.B.Worker.kind_of c.args.hands.items few)
 
 pub returns-in-Err : goal.returns-in-Err
 returns-in-Err g c =

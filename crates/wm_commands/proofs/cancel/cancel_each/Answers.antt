@@ -1,10 +1,10 @@
 -- The step of a cancel: works are closed with their unfinished descendants.
-use Rattle.std.proofs.Common.{◌≡◌, ◌||◌, ℕ, ◌+◌, Bool, true, false, cond, List, [], ◌∷◌, filter, length, map, rules, Option, Some, None, refl, sym, ◌∙◌, ap, arith, inl, inr}
+use Rattle.std.proofs.Common.{◌≡◌, ◌||◌, ℕ, ◌+◌, Bool, true, false, cond, List, [], ◌∷◌, filter, length, map, rules, Option, Some, None, refl, sym, ◌∙◌, ap, arith, inl, inr, IsSome, subst}
 use Rattle.std.specs.List.{AllByRecursion, list_any}
 use Rattle.std.specs.Prelude.{◌⊎◌, ◌≢◌, count_by, is_some}
 use Rattle.std.proofs.lemmas.Bool.{and_parts, false≢true}
 use Rattle.wm_commands.proofs.ClearingSteps.{clearing_alone-step}
-use Rattle.wm_commands.proofs.Clearings.{any_reached, cancelled-each}
+use Rattle.wm_commands.proofs.Clearings.{any_reached, cancelled-each, none-replaced, reached-none}
 use Rattle.wm_commands.proofs.Executions.{Answers-outcome, rows-change}
 use Rattle.wm_commands.specs.Builds.{IsExecuted}
 use Rattle.wm_commands.specs.Cleared.{becomes_cancelled, cancelled_in, cancelling, cleared, cleared_by, replaced_by_clearing, stays, with_cleared}
@@ -15,13 +15,13 @@ use Rattle.wm_machine.specs.declared.event.Event.{Event}
 use Rattle.wm_machine.specs.declared.record.Phase.{Phase}
 use Rattle.wm_machine.specs.declared.record.Record.{Record}
 use Rattle.wm_machine.specs.declared.state.State.{State}
-use Rattle.wm_machine.proofs.Closings.{no_run_reached}
 use Rattle.wm_machine.proofs.Groups.{closed_by, each_closed-at_once}
-use Rattle.wm_collections.proofs.Lists.{All-any, All-filter, All-stored, count-cons, count-none, filter-all, map-same, weight}
-use Rattle.wm_machine.specs.Cancelled.{cancelled_each, count_reached, is_cancellable, is_for, targeted}
+use Rattle.wm_collections.proofs.Lists.{All-any, All-filter, All-stored, count-cons, filter-all, map-same, weight}
+use Rattle.wm_commands.proofs.Outcomes.{some-of}
+use Rattle.wm_machine.specs.Cancelled.{cancelled_each, count_reached, is_cancellable, is_for, reaches_any_run, targeted}
 use Rattle.wm_machine.specs.Closed.{closed, is_open, is_reached, with_each_closed}
 use Rattle.wm_machine.specs.Group.{numbers_in}
-use Rattle.wm_machine.specs.Outcome.{outcome}
+use Rattle.wm_machine.specs.Outcome.{outcome, IsLegalLine}
 use Rattle.wm_machine.specs.Replied.{Outcome}
 use Rattle.wm_machine.specs.Rows.{phase_code, row_of, rows_of}
 use Rattle.wm_machine.specs.Step.{after, state_by}
@@ -114,12 +114,7 @@ reached_row-changes seqs work works stored unfinished reached same =
 
 -- where none is meant, none takes the place of another
 none_replaced : (works : List Record) → replaced_by_cancel [] works ≡ []
-none_replaced works =
-    none_is_empty (replaced_by_cancel [] works)
-    (count-replaced [] works ∙ count-none (any_reaches [] works) works (All-any works (λ w. refl))) where
-      none_is_empty : (replaced : List Replacement) → length replaced ≡ 0 → replaced ≡ []
-      none_is_empty [] none = refl
-      none_is_empty (one ∷ replaced) none = absurd (omega (arith, none))
+none_replaced works = ap (λ found. replaced_by_clearing (cancelling found) works) (reached-none works) ∙ none-replaced [] 0 works
 
 -- a work that a target is for is there, and unfinished
 record IsMeant (works : List Record) (work : Record) : Type 0 where
@@ -149,9 +144,9 @@ cancel_outcome s seqs = record {
   state = record s { works = with_each_closed how.Cancelled seqs s.works };
 }
 
--- where no run is unreturned, the works are closed
-outcome-is : (s : State) (seqs : List ℕ) → s.runs ≡ [] → cancelled_each s seqs ≡ Some (cancel_outcome s seqs)
-outcome-is s seqs no_run = ap (λ b. cond b None (Some (cancel_outcome s seqs))) (no_run_reached seqs s.works s.runs no_run)
+-- where it has an outcome, the works are closed
+outcome-is : (s : State) (seqs : List ℕ) → IsSome (cancelled_each s seqs) → cancelled_each s seqs ≡ Some (cancel_outcome s seqs)
+outcome-is s seqs some = some-of (reaches_any_run seqs s.works s.runs) (cancel_outcome s seqs) some
 
 -- rows change, or there is none to change
 rows-cancelled : (s : State) (target : Target) (e : Event) (found : List Record) → filter (is_cancellable target) s.works ≡ found
@@ -160,17 +155,17 @@ rows-cancelled : (s : State) (target : Target) (e : Event) (found : List Record)
 rows-cancelled s target e [] is meant after-is = inr (ap (λ replaced. row_changes (replacing_all replaced Unchanged e)) (none_replaced s.works))
 rows-cancelled s target e (work ∷ found) is meant after-is = inl (λ same. meant_row-changes s.works found work meant.0 (ap rows_of (sym after-is) ∙ same))
 
-cancelling-executed : (s : State) (line : ℕ) (target : Target) → Valid s → s.runs ≡ []
+cancelling-executed : (s : State) (line : ℕ) (target : Target) → Valid s → IsLegalLine s (command.Cancel target)
     → outcome s (command.Cancel target) ≡ cancelled_each s (targeted target s.works) → IsExecuted s line (command.Cancel target) (record {
       change = replacing_all (replaced_by_cancel (targeted target s.works) s.works) Unchanged
           (cancel_event line target (length (replaced_by_cancel (targeted target s.works) s.works)));
       reply = reply.Cancelled (length (replaced_by_cancel (targeted target s.works) s.works));
     })
-cancelling-executed s line target valid no_run accepted =
+cancelling-executed s line target valid can accepted =
     let seqs = targeted target s.works in
     let count = length (replaced_by_cancel seqs s.works) in
     let e = cancel_event line target count in
-    let is = accepted ∙ outcome-is s seqs no_run in
+    let is = accepted ∙ outcome-is s seqs (subst IsSome accepted can.answered) in
     let after-is : after s e ≡ record s { works = with_each_closed how.Cancelled seqs s.works } = ap (state_by s) is in
     record {
       event = refl;
@@ -191,4 +186,4 @@ returns c =
     let reached = reached-view _ s _ c.view.view_is c.view.invariant in
     let count : c.len-count.result ≡ length replaced = search rules in
     let change : c.replacing_all.result ≡ replacing_all replaced Unchanged (cancel_event line target (length replaced)) = search rules in
-    rw (change, count) (cancelling-executed s line target reached.valid c.requires.no_run c.requires.accepted)
+    rw (change, count) (cancelling-executed s line target reached.valid c.requires.legal c.requires.accepted)

@@ -33,5 +33,5 @@ returns c =
     let at : slice_get s.works index ≡ Some work = search rules in
     let first : IsSomeAnd (first_of_batch batch.works) (λ node. request ≡ node.request) = search rules in
     IfOk-weaker c.update_of.result (IsUpdating line asked index work request) (IsExecuted s line asked) (λ executed is.
-    member-executed s line unique batch c.args.number index work request executed reached.valid c.requires.asked.can c.requires.asked.built c.requires.planned
+    member-executed s line unique batch c.args.number index work request executed reached.valid c.requires.asked c.requires.planned
     c.requires.fits at c.member_index-index.ensures.found is first) (rw (named, works) at c.update_of.ensures)

@@ -25,4 +25,4 @@ returns c =
     (event.Command c.args.line (command.Enqueue c.args.named c.args.batch) (reply.Enqueued (seqs_of c.in_ok-named-2.placement.placed))) =
     search (rules, logged, named, batch) in
     rw (change, told, placement)
-    (placement-executed s c.args.line c.args.named c.args.batch by reached.valid c.requires.asked.can c.requires.asked.built c.requires.places c.requires.after)
+    (placement-executed s c.args.line c.args.named c.args.batch by reached c.requires.asked c.requires.places c.requires.after)

@@ -1,16 +1,14 @@
 -- The step of a prune: the removable records are removed.
-use Rattle.std.proofs.Common.{◌≡◌, ◌≢◌, ℕ, ◌+◌, Bool, false, not, cond, List, [], ◌∷◌, filter, length, map, rules, Some, None, refl, sym, ◌∙◌, ap, subst, arith, inl, inr}
+use Rattle.std.proofs.Common.{◌≡◌, ◌≢◌, ℕ, Bool, not, List, [], ◌∷◌, filter, length, map, rules, refl, sym, ◌∙◌, ap, subst, arith, inl, inr}
 use Rattle.std.specs.Prelude.{◌⊎◌, count_by}
-use Rattle.std.proofs.lemmas.Bool.{and_right}
 use Rattle.std.proofs.lemmas.List.{length-map}
 use Rattle.std.proofs.lemmas.List.Filters.{length-filter_both}
 use Rattle.std.proofs.lemmas.List.Sums.{length-filter}
 use Rattle.wm_collections.specs.Lists.{AllLater}
 use Rattle.wm_commands.proofs.ClearingSteps.{clearing_alone-step, passing-stored}
-use Rattle.wm_commands.proofs.Clearings.{cleared-in_place, stays-passing, without-stays}
+use Rattle.wm_commands.proofs.Clearings.{cleared-in_place, none-replaced, stays-passing, without-stays}
 use Rattle.wm_commands.specs.Builds.{ChangesRows, IsExecuted}
-use Rattle.wm_commands.specs.Cleared.{cleared, cleared_by, is_touched, pruning, stays, with_cleared}
-use Rattle.wm_machine.specs.Closed.{is_open}
+use Rattle.wm_commands.specs.Cleared.{pruning, with_cleared}
 use Rattle.wm_machine.specs.Group.{numbers_in}
 use Rattle.wm_machine.specs.Pruned.{removable}
 use Rattle.wm_machine.specs.Rows.{row_of}
@@ -23,23 +21,13 @@ use Rattle.wm_machine.specs.declared.event.Event.TheVariants as event
 use Rattle.wm_machine.specs.declared.reply.Reply.TheVariants as reply
 use Rattle.wm_machine.specs.declared.state.State.{State}
 use Rattle.wm_steps.proofs.Views.{reached-view}
-use Rattle.wm_steps.specs.Replacements.{at_index, replacements}
 use Rattle.wm_steps.specs.StepChanges.{placing, removing, row_changes, with_replaced, without, IsStepOf}
 use Rattle.wm_steps.specs.declared.change.Replacement.{Replacement}
 use Rattle.wm_commands.proofs.prune.execute.Goals as goal
 
 -- ---- the records that stay
 
--- none takes the place of another
-none-replaced : (removed : List ℕ) (i : ℕ) (works : List Record) → replacements (cleared_by (pruning removed)) i works ≡ []
-none-replaced removed i [] = refl
-none-replaced removed i (work ∷ works) =
-    let change = cleared_by (pruning removed) in
-    let untouched : is_touched (pruning removed) work ≡ false = and_right (stays removed work) _ (and_right (is_open work.phase) false refl) in
-    ap (λ b. at_index i (cond b (Some (cleared (pruning removed) work)) None) (replacements change (i + 1) works)) untouched
-    ∙ none-replaced removed (i + 1) works
-
--- and those stay that don't pass the test by which others are removed
+-- those stay that don't pass the test by which others are removed
 staying : (test : Record → Bool) (works : List Record) → AllLater IsBefore works
     → with_cleared (pruning (numbers_in (filter test works))) works ≡ filter (λ work. not (test work)) works
 staying test works order =

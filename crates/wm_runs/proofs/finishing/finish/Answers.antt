@@ -102,7 +102,8 @@ finish-step s number i told run work end is told_is =
       how = refl;
       step =
           replacing_all-step s gone (change_by itself to) (end_in s run end) (over run) (event.Finish run.run end) valid is.is_found.reached.narrow legal
-          (run-keeps s i run work itself to is.is_found.reached is.is_found.at is.is_found.of same.0 same.1) (ends-agree s i run work end is.is_found.reached is.is_found.at is.is_found.of) refl
+          (run-keeps s i run work itself to is.is_found.reached is.is_found.at is.is_found.of same.0 same.1)
+          (ends-agree s i run work end is.is_found.reached is.is_found.at is.is_found.of) refl
           (after_finish s run.run end legal);
     }
 
@@ -141,7 +142,8 @@ timeout-step s number i told run work progress is stays told_is =
       how = refl;
       step =
           replacing_all-step s gone touch (end_in s run Retry) (over run) (event.TimedOut run.run) valid is.is_found.reached.narrow legal
-          (run-keeps s i run work (retried s.now work) reach.Stays is.is_found.reached is.is_found.at is.is_found.of refl refl) (ends-agree s i run work Retry is.is_found.reached is.is_found.at is.is_found.of) refl
+          (run-keeps s i run work (retried s.now work) reach.Stays is.is_found.reached is.is_found.at is.is_found.of refl refl)
+          (ends-agree s i run work Retry is.is_found.reached is.is_found.at is.is_found.of) refl
           (after_timed_out s run.run legal);
     }
 

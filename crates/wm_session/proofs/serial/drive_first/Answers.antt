@@ -1,6 +1,6 @@
 use Rattle.std.proofs.Common.{refl}
-use Rattle.wm_session.proofs.DiaryLemmas.{KeepDiaries-begun, KeepDiaries-same, no_longer}
-use Rattle.wm_session.proofs.SerialLemmas.{GoesInOrder-claimed, GoesInOrder-halted, IsBetweenRuns-failed, IsBetweenRuns-halted, IsUnderWay-begun, left-halted, status-halted}
+use Rattle.wm_session.proofs.BoxLemmas.{KeepBoxes-begun, KeepBoxes-silent}
+use Rattle.wm_session.proofs.SerialLemmas.{GoesInOrder-claimed, GoesInOrder-halted, IsBetweenRuns-failed, IsBetweenRuns-halted, IsUnderWay-begun, KeepBoxes-halted, left-halted, status-halted}
 use Rattle.wm_table.specs.declared.table.Claim.TheVariants as claim
 use Rattle.wm_session.proofs.serial.drive_first.Goals as goal
 
@@ -14,9 +14,9 @@ returns-in-Run-clause-order g c lines goes =
     (GoesInOrder-claimed g.K.Keeper.held c.args.book.now c.claim.new.self c.requires begun.goes_on.before
     (claim.Run c.in-Run.ticket) (record { step = begun.step; ticket_in = begun.ticket_in }) lines goes)
 
-pub returns-in-Run-clause-diaries : goal.returns-in-Run-clause-diaries
-returns-in-Run-clause-diaries g c diaries keep =
-    c.drive.ensures.diaries diaries (KeepDiaries-begun g.B.Worker.diary_of diaries c.requires c.in-Run.ensures keep)
+pub returns-in-Run-clause-boxes : goal.returns-in-Run-clause-boxes
+returns-in-Run-clause-boxes g c given keep =
+    c.drive.ensures.boxes given (KeepBoxes-begun g.B.Worker.diary_of given c.requires c.in-Run.ensures keep)
 
 pub returns-in-Failed-clause-rest : goal.returns-in-Failed-clause-rest
 returns-in-Failed-clause-rest g c = IsBetweenRuns-failed c.requires c.in-Failed.ensures
@@ -26,10 +26,11 @@ returns-in-Failed-clause-order g c =
     let failed = c.in-Failed.ensures in
     GoesInOrder-claimed g.K.Keeper.held c.args.book.now c.claim.new.self c.requires failed.goes_on.before (claim.Failed failed.seq failed.cause) failed.step
 
-pub returns-in-Failed-clause-diaries : goal.returns-in-Failed-clause-diaries
-returns-in-Failed-clause-diaries g c diaries =
+pub returns-in-Failed-clause-boxes : goal.returns-in-Failed-clause-boxes
+returns-in-Failed-clause-boxes g c given =
     let failed = c.in-Failed.ensures in
-    KeepDiaries-same g.B.Worker.diary_of diaries c.requires failed.goes_on failed.step failed.places (λ number. refl)
+    KeepBoxes-silent g.B.Worker.diary_of given c.args.book.now c.claim.new.self c.requires.replay failed.step
+    (λ going. failed.goes_on.before) (λ going number. refl) (λ number worker idle. rw failed.places at idle)
 
 pub returns-in-Stopped-clause-rest : goal.returns-in-Stopped-clause-rest
 returns-in-Stopped-clause-rest g c =
@@ -45,7 +46,6 @@ pub returns-in-Stopped-clause-order : goal.returns-in-Stopped-clause-order
 returns-in-Stopped-clause-order g c =
     GoesInOrder-halted g.K.Keeper.held c.args.book.now c.claim.new.self c.requires c.in-Stopped.ensures
 
-pub returns-in-Stopped-clause-diaries : goal.returns-in-Stopped-clause-diaries
-returns-in-Stopped-clause-diaries g c diaries keep =
-    let new = c.claim.new.self in
-    no_longer new.status (status-halted g.K.Keeper.held c.args.book.now new c.in-Stopped.ensures)
+pub returns-in-Stopped-clause-boxes : goal.returns-in-Stopped-clause-boxes
+returns-in-Stopped-clause-boxes g c given =
+    KeepBoxes-halted g.K.Keeper.held c.args.book.now c.claim.new.self g.B.Worker.diary_of given c.requires c.in-Stopped.ensures

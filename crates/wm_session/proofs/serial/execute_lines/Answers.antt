@@ -1,9 +1,9 @@
 use Rattle.std.proofs.Common.{inl, inr, refl, sym, ◌∙◌, ap, subst}
 use Rattle.std.proofs.lemmas.Bool.{false≢true}
 use Rattle.wm_machine.specs.Serial.{drains_first}
-use Rattle.wm_session.proofs.DiaryLemmas.{KeepDiaries-same, no_longer}
+use Rattle.wm_session.proofs.BoxLemmas.{no_longer, KeepBoxes-silent}
 use Rattle.wm_session.proofs.NextLines.{drains-settles}
-use Rattle.wm_session.proofs.SerialLemmas.{GoesInOrder-line, GoesInOrder-ready, IsBetweenRuns-front, IsBetweenRuns-line, IsReady-front, IsReady-quiet}
+use Rattle.wm_session.proofs.SerialLemmas.{GoesInOrder-line, GoesInOrder-ready, idle_at-line, IsBetweenRuns-front, IsBetweenRuns-line, IsReady-front, IsReady-quiet, KeepBoxes-front}
 use Rattle.wm_session.specs.Book.{IsFronted}
 use Rattle.wm_session.specs.declared.book.Front.TheVariants as front
 use Rattle.wm_session.proofs.serial.execute_lines.Goals as goal
@@ -21,18 +21,18 @@ lines-init g c =
             order = λ lines ready.
                 IsReady-quiet lines new drained.quiet
                 (drained.order lines (GoesInOrder-ready lines c.args.book.now (sym c.drains_first.ensures ∙ w.if-drains_first.true) ready));
-            diaries = drained.diaries;
+            boxes = drained.boxes;
           })
       | else-drains_first w ↦ rw w.book-is (record {
         rest = c.requires;
         quiet = λ going drains. absurd (false≢true (sym w.if-drains_first.false ∙ c.drains_first.ensures ∙ drains));
         order = λ lines ready. ready;
-        diaries = λ diaries keep. keep;
+        boxes = λ given keep. keep;
       })
     ]
 
 pub drain-requires-in-Moved : goal.drain-requires-in-Moved
-drain-requires-in-Moved g c = let moved = c.in-Moved.ensures in IsBetweenRuns-line c.lines.invariant.rest moved.goes_on.before moved.line moved.places
+drain-requires-in-Moved g c = let moved = c.in-Moved.ensures in IsBetweenRuns-line c.lines.invariant.rest moved.goes_on.before moved.line
 
 pub lines-preserved : goal.lines-preserved
 lines-preserved g c =
@@ -46,33 +46,35 @@ lines-preserved g c =
       order = λ lines ready.
           IsReady-quiet lines new drained.quiet
           (drained.order lines (GoesInOrder-line kept.rest lines moved.goes_on.before moved.line (kept.order lines ready)));
-      diaries = λ diaries keep. drained.diaries diaries
-          (KeepDiaries-same g.B.Worker.diary_of diaries kept.rest moved.goes_on moved.line.step moved.places (λ number. refl) (kept.diaries diaries keep));
+      boxes = λ given keep. drained.boxes given
+          (KeepBoxes-silent g.B.Worker.diary_of given c.lines.book c.front_step.new.self kept.rest.replay moved.line.step
+          (λ going. moved.goes_on.before) (λ going number. refl) (idle_at-line kept.rest moved.line) (kept.boxes given keep));
     }
 
 pub returns-in-Ended : goal.returns-in-Ended
 returns-in-Ended g c =
     let kept = c.lines.invariant in
     let held = g.K.Keeper.held in
+    let kind_of = g.B.Worker.kind_of in
     let old = c.lines.book in
     let new = c.front_step.new.self in
     elim c.in-Ended.is [
       | inl ended ↦
-          let is : IsFronted held front.Ended old new = subst (λ r. IsFronted held r old new) ended c.front_step.ensures in
+          let is : IsFronted held kind_of front.Ended old new = subst (λ r. IsFronted held kind_of r old new) ended c.front_step.ensures in
           rw is.book_is (record {
             rest = kept.rest;
             done = λ going. is.none_left;
             quiet = λ going. kept.quiet is.going (ap drains_first is.none_left);
             order = kept.order;
-            diaries = kept.diaries;
+            boxes = kept.boxes;
           })
       | inr stopped ↦
-          let is : IsFronted held front.Stopped old new = subst (λ r. IsFronted held r old new) stopped c.front_step.ensures in record {
+          let is : IsFronted held kind_of front.Stopped old new = subst (λ r. IsFronted held kind_of r old new) stopped c.front_step.ensures in record {
             rest = IsBetweenRuns-front kept.rest is;
             done = no_longer new.status is.status;
             quiet = no_longer new.status is.status;
             order = λ lines ready. IsReady-front kept.rest lines is (kept.order lines ready);
-            diaries = λ diaries keep. no_longer new.status is.status;
+            boxes = λ given keep. KeepBoxes-front kept.rest g.B.Worker.diary_of given is (kept.boxes given keep);
           }
     ]
 

@@ -1,9 +1,9 @@
 use Rattle.std.proofs.Common.{◌≡◌, true, List, Option, None, length}
 use Rattle.wm_machine.specs.Quiet.{IsQuiet}
 use Rattle.wm_machine.specs.Serial.{drains_first}
+use Rattle.wm_bench.specs.declared.hand.Hand.{Hand}
 use Rattle.wm_machine.specs.declared.command.Command.{Command}
-use Rattle.wm_session.specs.BetweenRuns.{IsBetweenRuns, IsReady, KeepDiaries}
-use Rattle.wm_worker.specs.declared.answer.Entry.{Entry}
+use Rattle.wm_session.specs.BetweenRuns.{IsBetweenRuns, IsReady, KeepBoxes}
 use Rattle.wm_session.proofs.serial.execute_lines.Given as goal
 
 -- the book is at rest before each line, which may come where the log was in order, and nothing is left to do where no line is left, or
@@ -13,7 +13,7 @@ invariant-lines g l = record {
   rest : IsBetweenRuns l.book;
   quiet : l.book.status ≡ None → drains_first l.book.left ≡ true → IsQuiet l.book.table.state;
   order : (lines : List Command) → IsReady lines l.fn.book → IsReady lines l.book;
-  diaries : (diaries : List (Option (List Entry))) → KeepDiaries g.B.Worker.diary_of diaries l.fn.book → KeepDiaries g.B.Worker.diary_of diaries l.book;
+  boxes : (given : List (Hand g.row.B.Denot)) → KeepBoxes g.B.Worker.diary_of given l.fn.book → KeepBoxes g.B.Worker.diary_of given l.book;
 }
 
 abbrev pub decreases-lines : goal.decreases-lines

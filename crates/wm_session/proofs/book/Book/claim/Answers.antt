@@ -36,7 +36,7 @@ invariant_of-self-in-Run g c =
     let e = event.Start ticket.task.run ticket.seq ticket.instance ticket.task.input in
     let run = rw (c.in-Ok-Some.field-0-is, c.in-Run.is) at c.in-Ok-Some.ensures.ok in
     BookInvariant-begun c.claim.new.self c.take.new.self told.pending.items told.sink ticket.task.run ticket.seq ticket.instance c.instance.result
-    ticket.task.input c.self.invariant (search rules) run.step c.instance.ensures c.in-Some.ensures.taken
+    ticket.task.input c.in-Some.seat c.self.invariant (search rules) run.step c.instance.ensures c.in-Some.ensures.seat c.in-Some.ensures.taken
     (IsTold-all e c.claim.new.self told.pending.items told.sink c.self.invariant (search rules) run.step
     c.in-Ok.ensures.ok c.in-Ok.ensures.cause)
     c.in-Ok-Some.ensures.cause

@@ -1,7 +1,7 @@
 use Rattle.std.proofs.Common.{◌≡◌, [], None, option_map, refl, sym, ◌∙◌, ap, subst}
 use Rattle.wm_machine.specs.Rows.{rows_of}
 use Rattle.wm_machine.specs.declared.state.State.{State}
-use Rattle.wm_session.proofs.BookEnds.{EndsBy, HasCommands-kept, IsSessionStatus-ends, IsTextWritten-kept, keeper_fault-ends, sink_fault-ends}
+use Rattle.wm_session.proofs.BookEnds.{HasCommands-kept, IsSessionStatus-ends, IsTextWritten-kept, keeper_fault-ends, sink_fault-ends}
 use Rattle.wm_session.specs.Causes.{StopCause}
 use Rattle.wm_session.proofs.book.Book.finish.Goals as goal
 
@@ -11,29 +11,25 @@ returns-clause-session g c =
     let stop = c.self.inside.status in
     let kept = c.self.invariant in
     let last = c.end-first in
-    let ended = c.status_after-status in
+    let ended = c.status_after-status.result in
+    let ends = c.status_after-status.ensures in
     let wrote = c.write_pending in
     let before = g.W.Sink.faults c.self.inside.sink in
     let keeper_now = g.K.Keeper.faults last.result.keeper in
-    let ends : EndsBy stop wrote.result ended.result = record {
-      stopped = ended.ensures.stopped;
-      refused = ended.ensures.refused;
-      done = ended.ensures.done;
-    } in
     let cause = subst (λ keeper. StopCause stop run.keeper_faults (g.K.Keeper.faults keeper) run.sink_faults before) (sym last.ensures.keeper) kept.cause in
     record {
-      status_is = IsSessionStatus-ends stop wrote.result ended.result ends;
+      status_is = IsSessionStatus-ends stop wrote.result ended ends;
       began = refl;
       first = last.ensures.first ∙ kept.first;
       replay = last.ensures.replay;
-      commands = HasCommands-kept ended.result last.result.log kept last.ensures.log ended.ensures.stopped
+      commands = HasCommands-kept ended last.result.log kept last.ensures.log ends.stopped
           (subst (λ book. book.status ≡ None → book.left ≡ []) (sym c.self.view_is) c.requires.lines);
-      bytes = IsTextWritten-kept ended.result last.result.first last.result.log (g.W.Sink.given wrote.new.sink) wrote.new.pending.items wrote.result kept
-          last.ensures.first last.ensures.log wrote.ensures.kept wrote.ensures.all ended.ensures.stopped ended.ensures.refused;
+      bytes = IsTextWritten-kept ended last.result.first last.result.log (g.W.Sink.given wrote.new.sink) wrote.new.pending.items wrote.result kept
+          last.ensures.first last.ensures.log wrote.ensures.kept wrote.ensures.all ends;
       rows = ap g.K.Keeper.held last.ensures.keeper
           ∙ kept.rows
           ∙ ap (λ (s : State). option_map (λ _. rows_of s) run.rows) (sym last.ensures.last);
-      keeper_fault = keeper_fault-ends stop wrote.result ended.result run.keeper_faults keeper_now run.sink_faults before ends cause;
-      sink_fault = sink_fault-ends stop wrote.result ended.result run.keeper_faults keeper_now run.sink_faults before (g.W.Sink.faults wrote.new.sink) ends
+      keeper_fault = keeper_fault-ends stop wrote.result ended run.keeper_faults keeper_now run.sink_faults before ends cause;
+      sink_fault = sink_fault-ends stop wrote.result ended run.keeper_faults keeper_now run.sink_faults before (g.W.Sink.faults wrote.new.sink) ends
           cause wrote.ensures.cause kept.sink_later;
     }

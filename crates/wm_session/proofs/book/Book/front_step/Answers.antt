@@ -1,18 +1,36 @@
-use Rattle.std.proofs.Common.{◌+◌, Some, rules}
+use Rattle.std.proofs.Common.{◌≡◌, ◌+◌, List, [], ◌∷◌, Some, rules, sym, subst}
+use Rattle.std.specs.List.{AllByRecursion}
+use Rattle.wm_machine.proofs.Commands.{legal_line-at_rest}
+use Rattle.wm_machine.specs.Outcome.{IsBuilt}
+use Rattle.wm_machine.specs.Quiet.{IsQuiet}
+use Rattle.wm_session.specs.Book.{SettlesNext}
 use Rattle.wm_machine.specs.declared.event.Event.TheVariants as event
 use Rattle.wm_session.proofs.BookSteps.{IsTold-all, IsTold-cut}
 use Rattle.wm_session.proofs.BookLines.{BookInvariant-line}
 use Rattle.wm_session.proofs.book.Book.front_step.Goals as goal
+
+-- the next line is legal: no run is unreturned, and where it settles nothing is startable
+pub execute-requires : goal.execute-requires
+execute-requires g c =
+    let s = c.self.inside.table.state in
+    let left = c.self.inside.left.items in
+    let items : left ≡ c.in-Some.command ∷ c.pop_front.new.self.items = c.in-Some.ensures.items in
+    let built = subst (AllByRecursion IsBuilt) items c.self.invariant.built in
+    let no_run : s.runs ≡ [] = search rules in
+    let quiet : SettlesNext left → IsQuiet s = search rules in
+    legal_line-at_rest s c.in-Some.command built.0
+    (record { no_run = no_run; settled = λ settles. (quiet (subst SettlesNext (sym items) settles)).nothing_startable })
 
 pub invariant_of-self-in-Ok : goal.invariant_of-self-in-Ok
 invariant_of-self-in-Ok g c =
     let done = c.in_default-execute.ensures.ok in
     let e = event.Command (c.self.inside.line + 1) c.in-Some.command done.0 in
     let told = c.tell_last.new in
-    BookInvariant-line c.execute.new.table c.pop_front.new.self.items told.pending.items told.sink c.self.inside.status c.in-Some.command done.0
-    c.self.invariant
+    BookInvariant-line c.execute.new.table c.execute.new.bench c.pop_front.new.self.items told.pending.items told.sink c.self.inside.status
+    c.in-Some.command done.0 c.self.invariant
     (search rules) done.1 c.in-Some.ensures.items c.in_default-execute.ensures.cause
     (IsTold-all e c.execute.new.table told.pending.items told.sink c.self.invariant (search rules) done.1 c.in-Ok.ensures.ok c.in-Ok.ensures.cause)
+    c.in_default-execute.ensures.places
 
 pub invariant_of-self-in-Err-tell_last : goal.invariant_of-self-in-Err-tell_last
 invariant_of-self-in-Err-tell_last g c =
@@ -21,7 +39,9 @@ invariant_of-self-in-Err-tell_last g c =
     let told = c.tell_last.new in
     let refused = c.in-Err-tell_last in
     let stop = c.from-in-Err-tell_last in
-    BookInvariant-line c.execute.new.table c.pop_front.new.self.items told.pending.items told.sink (Some stop.result) c.in-Some.command done.0 c.self.invariant
+    BookInvariant-line c.execute.new.table c.execute.new.bench c.pop_front.new.self.items told.pending.items told.sink (Some stop.result)
+    c.in-Some.command done.0 c.self.invariant
     (search rules) done.1 c.in-Some.ensures.items c.in_default-execute.ensures.cause
     (IsTold-cut e c.execute.new.table told.pending.items told.sink refused.fault stop.result c.self.invariant done.1
     refused.ensures.err refused.ensures.cause stop.ensures)
+    c.in_default-execute.ensures.places

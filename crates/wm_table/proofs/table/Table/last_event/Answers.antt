@@ -1,7 +1,7 @@
 use Rattle.std.proofs.Common.{◌≡◌, List, ◌-◌, length, slice_get, ◌∙◌, ap}
 use Rattle.wm_machine.specs.declared.event.Event.{Event}
 use Rattle.wm_table.proofs.TableSteps.{slice_get-last}
-use Rattle.wm_table.specs.Table.{last_of}
+use Rattle.wm_collections.specs.Lists.{last_of}
 use Rattle.wm_table.proofs.table.Table.last_event.Goals as goal
 
 pub returns : goal.returns

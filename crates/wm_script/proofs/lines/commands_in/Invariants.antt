@@ -1,7 +1,7 @@
 -- The commands so far and those of the lines that are left are those of the script.
 use Rattle.std.proofs.Common.{◌≡◌, ◌+◌, ◌++◌, ◌≤◌, length}
 use Rattle.wm_script.specs.Lines.{commands_in}
-use Rattle.wm_script.proofs.lines.read_lines.Given as goal
+use Rattle.wm_script.proofs.lines.commands_in.Given as goal
 
 abbrev pub invariant-lines : goal.invariant-lines
 invariant-lines l = record {

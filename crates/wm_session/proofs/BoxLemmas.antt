@@ -1,0 +1,328 @@
+-- What becomes of the workers, after more events.
+use Rattle.std.proofs.Common.{◌≡◌, ℕ, zero, suc, cond, eqb, List, [], ◌∷◌, ◌++◌, map, Option, Some, None, IsSome, IsSomeAnd, slice_get, inl, inr, refl, sym, ◌∙◌, ap, subst}
+use Rattle.std.proofs.lemmas.Bool.{eq-eqb, false≢true, ne_eqb}
+use Rattle.wm_bench.specs.Places.{changed_at, idle_at, idle_hands, idle_in, made_back, place_of, IsAwayAt, IsAwayIn}
+use Rattle.wm_bench.specs.Seat.{Seat}
+use Rattle.wm_bench.specs.declared.hand.Hand.{Hand}
+use Rattle.wm_bench.specs.declared.place.Place.{Place}
+use Rattle.wm_bench.specs.declared.place.Presence.{Presence}
+use Rattle.wm_bench.specs.declared.place.Presence.TheVariants.{Idle, Away, Gone}
+use Rattle.wm_collections.proofs.Lists.{HasOne-front, HasOne-last}
+use Rattle.wm_collections.specs.Lists.{HasOne}
+use Rattle.wm_keeper.specs.declared.row.Row.{Row}
+use Rattle.wm_machine.specs.Diaries.{event_lines, log_lines, DiaryLine, IsDiaryWith, IsEntry}
+use Rattle.wm_machine.specs.Diaries as diary_line
+use Rattle.wm_machine.specs.Frame.{Frame}
+use Rattle.wm_machine.specs.Replay.{Replay}
+use Rattle.wm_machine.specs.Role.{Reported, This}
+use Rattle.wm_machine.specs.Runs.{run_numbered}
+use Rattle.wm_machine.specs.declared.command.Command.{Command}
+use Rattle.wm_machine.specs.declared.event.Event.{Event}
+use Rattle.wm_machine.specs.declared.event.Event.TheVariants as event
+use Rattle.wm_worker.specs.declared.kind.Kind.{Kind}
+use Rattle.wm_session.proofs.BookEvents.{framed_end}
+use Rattle.wm_session.proofs.DiaryLemmas.{lines_of, ticket-found, IsDiaryLater-further, IsDiaryLater-same, IsDiaryWith-nothing, IsDiaryWith-silent, IsDiaryWith-written}
+use Rattle.wm_session.proofs.HandLemmas.{idle_at-back, idle_at-given, idle_at-taken}
+use Rattle.wm_session.specs.BetweenRuns.{IsAtBegin, IsBetweenRuns, IsOfGiven, KeepBoxes}
+use Rattle.wm_session.specs.Book.{IsBegun}
+use Rattle.wm_session.specs.BookState.{BookState}
+use Rattle.wm_session.specs.Boxes.{EachAtPlace, IsBoxAfter, IsDiaryLater, IsStartOn}
+use Rattle.wm_session.specs.Drive.{IsCutShort, IsGivenUp, IsLastTurn, IsOtherTurn, IsOutOfGiven, IsUnderWay, KeepBoxesOut}
+use Rattle.wm_table.specs.Table.{IsOneStep, IsUntouched}
+use Rattle.wm_table.specs.TableState.{TicketState}
+use Rattle.wm_worker.specs.Diary.{diary_with}
+use Rattle.wm_worker.specs.Signal.{SignalState}
+use Rattle.wm_worker.specs.declared.answer.Entry.{Entry}
+use Rattle.wm_worker.specs.declared.answer.Entry.TheVariants.{Begun, Gave}
+use Rattle.wm_worker.specs.declared.answer.Given.TheVariants.{More}
+
+-- a session that has stopped early doesn't go on
+pub no_longer : {T P : Type 0} (status : Option T) → IsSome status → status ≡ None → P
+no_longer status stopped going = absurd (false≢true (subst IsSome going stopped))
+
+pub IsSomeAnd-weaker : {T : Type 0} {P Q : T → Type 0} (found : Option T) → ((x : T) → P x → Q x) → IsSomeAnd found P → IsSomeAnd found Q
+IsSomeAnd-weaker None step is = is
+IsSomeAnd-weaker (Some x) step is = step x is
+
+away_idle : {B : Type 0} (kind : Kind) (worker : B) (presence : Presence B) → IsAwayIn kind presence → idle_in presence ≡ Some worker → ⊥
+away_idle kind worker (Idle other) away idle = away
+away_idle kind worker (Away its retired) away idle = cc
+away_idle kind worker (Gone its) away idle = away
+
+-- a worker that is idle isn't where one is away
+elsewhere : {B : Type 0} (kind : Kind) (worker : B) (at number : ℕ) (places : List (Place B)) → IsAwayAt at kind places → idle_at number places ≡ Some worker
+    → number ≡ at → ⊥
+elsewhere kind worker at number [] away idle same = away
+elsewhere kind worker zero zero (place ∷ places) away idle same = away_idle kind worker place.presence away idle
+elsewhere kind worker zero (suc number) (place ∷ places) away idle same = cc
+elsewhere kind worker (suc at) zero (place ∷ places) away idle same = cc
+elsewhere kind worker (suc at) (suc number) (place ∷ places) away idle same = elsewhere kind worker at number places away idle (cc)
+
+-- what holds of each worker at its place
+pub AtPlace-weaker : {B : Type 0} {fact other : ℕ → B → B → Type 0} (given : List (Hand B)) (places : List (Place B))
+    → ((number : ℕ) (had now : B) → fact number had now → other number had now) → EachAtPlace fact given places → EachAtPlace other given places
+AtPlace-weaker given places step holds number worker idle =
+    IsSomeAnd-weaker (slice_get given number) (λ hand is. step number hand.worker worker is) (holds number worker idle)
+
+-- ---- one worker
+
+-- it is the one that was given
+IsBoxAfter-same : {B : Type 0} (diary_of : B → Option (List Entry)) (log : List Event) (number : ℕ) (given now : B) → given ≡ now
+    → IsBoxAfter diary_of log number given now
+IsBoxAfter-same diary_of log number given now same =
+    record { untouched = λ none. sym same; diary = IsDiaryLater-same (diary_of given) (diary_of now) (ap diary_of (sym same)) }
+
+-- at their places are those that were given
+pub boxes-given : {B : Type 0} (diary_of : B → Option (List Entry)) (log : List Event) (hands : List (Hand B))
+    → EachAtPlace (IsBoxAfter diary_of log) hands (map place_of hands)
+boxes-given diary_of log hands number worker idle =
+    IsSomeAnd-weaker (slice_get hands number) (λ hand. IsBoxAfter-same diary_of log number hand.worker worker) (idle_at-given hands number worker idle)
+
+module _ {K W B : Type 0} (diary_of : B → Option (List Entry)) (old new : BookState K W B) where
+  -- the session has stopped early without an event
+  of_given-same : {held : K → Option (List Row)} → IsUntouched held old.table new.table → IsSome new.status → (number : ℕ) (given now : B)
+      → IsOfGiven diary_of old number given now → IsOfGiven diary_of new number given now
+  of_given-same same stopped number given now is = record {
+    box = rw same.log is.box;
+    told = no_longer new.status stopped;
+  }
+
+  module _ {held : K → Option (List Row)} {e : Event} (replays : Replay old.table.first old.table.log old.table.state)
+      (step : IsOneStep held e old.table new.table) (goes : new.status ≡ None → old.status ≡ None) where
+    -- an event of which it writes nothing down
+    of_given-silent : (number : ℕ) → (new.status ≡ None → event_lines number old.table.state e ≡ []) → (given now : B)
+        → IsOfGiven diary_of old number given now → IsOfGiven diary_of new number given now
+    of_given-silent number silent given now is = record {
+      box = rw step.appended (record {
+        untouched = λ none. is.box.untouched (λ one. none (HasOne-front (IsStartOn number) old.table.log (e ∷ []) one));
+        diary = is.box.diary;
+      });
+      told = λ going. rw (step.first, step.appended)
+          (IsDiaryWith-silent number old.table.first old.table.log old.table.state e replays (diary_of given) (diary_of now) (is.told (goes going))
+          (silent going));
+    }
+
+    -- it is out, and has written this down, or is to, as the event tells
+    out_of_given-written : (number : ℕ) (given : B) (has owes : Option (List Entry)) (line : DiaryLine) (written : Entry)
+        → HasOne (IsStartOn number) (old.table.log ++ e ∷ []) → IsDiaryLater (diary_of given) has
+        → (old.status ≡ None → IsDiaryWith (log_lines number old.table.first old.table.log) (diary_of given) owes)
+        → event_lines number old.table.state e ≡ line ∷ [] → IsEntry line written
+        → IsOutOfGiven diary_of has (diary_with (written ∷ []) owes) new number given
+    out_of_given-written number given has owes line written started later told lines entry = record {
+      started = rw step.appended started;
+      diary = later;
+      told = λ going. rw (step.first, step.appended)
+          (IsDiaryWith-written number old.table.first old.table.log old.table.state e replays (diary_of given) owes (told (goes going)) line written lines
+          entry);
+    }
+
+-- it is back
+of_given-back : {K W B : Type 0} (diary_of : B → Option (List Entry)) {book : BookState K W B} (has owes : Option (List Entry)) (number : ℕ) (given back : B)
+    → IsOutOfGiven diary_of has owes book number given → IsDiaryLater has (diary_of back) → (book.status ≡ None → diary_of back ≡ owes)
+    → IsOfGiven diary_of book number given back
+of_given-back diary_of has owes number given back out later is = record {
+  box = record {
+    untouched = λ none. absurd (none out.started);
+    diary = IsDiaryLater-further (diary_of given) has (diary_of back) out.diary later;
+  };
+  told = λ going. rw (is going) (out.told going);
+}
+
+-- ---- all workers
+
+-- a worker is what the log of a book leaves of the one that was given under its number, of these
+abbrev IsFromGiven : {K W B : Type 0} → (B → Option (List Entry)) → List (Hand B) → BookState K W B → ℕ → B → Type 0
+IsFromGiven diary_of given book number worker = IsSomeAnd (slice_get given number) (λ hand. IsOfGiven diary_of book number hand.worker worker)
+
+module _ {K W B : Type 0} (diary_of : B → Option (List Entry)) (given : List (Hand B)) (old new : BookState K W B) where
+  -- the session has stopped early without an event
+  pub KeepBoxes-same : {held : K → Option (List Row)} → IsUntouched held old.table new.table → IsSome new.status → new.places ≡ old.places
+      → KeepBoxes diary_of given old → KeepBoxes diary_of given new
+  KeepBoxes-same same stopped places keep number worker idle =
+      IsSomeAnd-weaker (slice_get given number) (λ hand. of_given-same diary_of old new same stopped number hand.worker worker)
+      (keep number worker (rw places at idle))
+
+  -- an event of which no worker writes anything down
+  pub KeepBoxes-silent : {held : K → Option (List Row)} {e : Event} → Replay old.table.first old.table.log old.table.state
+      → IsOneStep held e old.table new.table → (new.status ≡ None → old.status ≡ None)
+      → (new.status ≡ None → (number : ℕ) → event_lines number old.table.state e ≡ [])
+      → ((number : ℕ) (worker : B) → idle_at number new.places ≡ Some worker → idle_at number old.places ≡ Some worker)
+      → KeepBoxes diary_of given old → KeepBoxes diary_of given new
+  KeepBoxes-silent replays step goes silent stays keep number worker idle =
+      IsSomeAnd-weaker (slice_get given number)
+      (λ hand. of_given-silent diary_of old new replays step goes number (λ going. silent going number) hand.worker worker)
+      (keep number worker (stays number worker idle))
+
+  -- a worker is back
+  KeepBoxes-back : (kind_of : B → Kind) (back : B) (at : ℕ) → new.places ≡ changed_at (made_back kind_of back) at old.places
+      → ((number : ℕ) (worker : B) → idle_at number old.places ≡ Some worker → IsFromGiven diary_of given new number worker)
+      → IsFromGiven diary_of given new at back → KeepBoxes diary_of given new
+  KeepBoxes-back kind_of back at places others own number worker idle =
+      elim (idle_at-back kind_of back at number worker old.places (rw places at idle)) [
+        | inl same ↦ rw (same.0, same.1) own
+        | inr before ↦ others number worker before
+      ]
+
+  module _ {held : K → Option (List Row)} {e : Event} (at : ℕ) (line : DiaryLine) (written : Entry)
+      (replays : Replay old.table.first old.table.log old.table.state) (step : IsOneStep held e old.table new.table)
+      (goes : new.status ≡ None → old.status ≡ None) (lines : (n : ℕ) → event_lines n old.table.state e ≡ cond (eqb at n) (line ∷ []) [])
+      (entry : IsEntry line written) where
+    -- an event of which the worker of one instance alone writes something down
+    others-written : (number : ℕ) (worker : B) → (number ≡ at → ⊥) → IsFromGiven diary_of given old number worker
+        → IsFromGiven diary_of given new number worker
+    others-written number worker other =
+        IsSomeAnd-weaker (slice_get given number)
+        (λ hand. of_given-silent diary_of old new replays step goes number
+        (λ going. lines number ∙ ap (λ b. cond b (line ∷ []) []) (ne_eqb at number (λ same. other (sym same)))) hand.worker worker)
+
+    -- it is out, and has this diary
+    own-written : (has owes : Option (List Entry)) (hand : Hand B) → HasOne (IsStartOn at) (old.table.log ++ e ∷ [])
+        → IsDiaryLater (diary_of hand.worker) has
+        → (old.status ≡ None → IsDiaryWith (log_lines at old.table.first old.table.log) (diary_of hand.worker) owes)
+        → IsOutOfGiven diary_of has (diary_with (written ∷ []) owes) new at hand.worker
+    own-written has owes hand started later told =
+        out_of_given-written diary_of old new replays step goes at hand.worker has owes line written started later told
+        (lines at ∙ ap (λ b. cond b (line ∷ []) []) (eq-eqb at at refl)) entry
+
+-- a session that begins
+pub KeepBoxes-begin : {K W B : Type 0} {lines : List Command} (diary_of : B → Option (List Entry)) (book : BookState K W B) → IsAtBegin lines book
+    → KeepBoxes diary_of (idle_hands book.places) book
+KeepBoxes-begin diary_of book begins number worker idle =
+    let hands = idle_hands book.places in
+    IsSomeAnd-weaker (slice_get hands number)
+    (λ hand same. record {
+      box = IsBoxAfter-same diary_of book.table.log number hand.worker worker same;
+      told = λ going. rw (begins.log, ← same) (IsDiaryWith-nothing (diary_of hand.worker));
+    })
+    (idle_at-given hands number worker (rw begins.all_idle at idle))
+
+-- a run starts, whose worker is to write down that it began
+pub KeepBoxes-begun : {K W B : Type 0} {held : K → Option (List Row)} {kind_of : B → Kind} {ticket : TicketState} {seat : Seat B} {signal : SignalState}
+    {old new : BookState K W B} (diary_of : B → Option (List Entry)) (given : List (Hand B))
+    → IsBetweenRuns old → IsBegun held kind_of ticket seat signal old new → KeepBoxes diary_of given old
+    → KeepBoxesOut diary_of ticket.instance (diary_of seat.worker) (diary_with (Begun ticket.task.run ∷ []) (diary_of seat.worker)) given new
+KeepBoxes-begun {kind_of = kind_of} {ticket = ticket} {seat = seat} {old = old} {new = new} diary_of given rest begun keep =
+    let task = ticket.task in
+    let at = ticket.instance in
+    let start = event.Start task.run ticket.seq at task.input in
+    let line = diary_line.Began task.run in
+    let written = Begun task.run in
+    let goes = λ (going : new.status ≡ None). begun.goes_on.before in
+    record {
+      others = λ number worker idle.
+          let before = idle_at-taken kind_of at number worker old.places (rw begun.places at idle) in
+          others-written diary_of given old new at line written rest.replay begun.step goes (λ n. refl) refl number worker before.0
+          (keep number worker before.1);
+      own = IsSomeAnd-weaker (slice_get given at)
+          (λ hand is. own-written diary_of given old new at line written rest.replay begun.step goes (λ n. refl) refl (diary_of seat.worker)
+          (diary_of seat.worker) hand (HasOne-last (IsStartOn at) old.table.log start refl) is.box.diary is.told)
+          (keep at seat.worker begun.worker);
+    }
+
+-- its worker has come to have the diary that it was to have
+pub KeepBoxesOut-later : {K W B : Type 0} (diary_of : B → Option (List Entry)) (number : ℕ) (has owes : Option (List Entry)) (given : List (Hand B))
+    (book : BookState K W B) → IsDiaryLater has owes → KeepBoxesOut diary_of number has owes given book
+    → KeepBoxesOut diary_of number owes owes given book
+KeepBoxesOut-later diary_of number has owes given book later keep = record {
+  others = keep.others;
+  own = IsSomeAnd-weaker (slice_get given number)
+      (λ hand out. record {
+        started = out.started;
+        diary = IsDiaryLater-further (diary_of hand.worker) has owes out.diary later;
+        told = out.told;
+      })
+      keep.own;
+}
+
+-- a run goes on, and its worker has written down what it gave
+pub KeepBoxes-turned : {K W B : Type 0} {held : K → Option (List Row)} {kind_of : B → Kind} {diary_of : B → Option (List Entry)}
+    {ticket next : TicketState} {worker : B} {seat : Seat B} {old new : BookState K W B} (given : List (Hand B))
+    → IsUnderWay kind_of ticket old → IsOtherTurn held kind_of diary_of ticket worker next seat old new
+    → KeepBoxesOut diary_of ticket.instance (diary_of worker) (diary_of worker) given old
+    → KeepBoxesOut diary_of next.instance (diary_of seat.worker) (diary_of seat.worker) given new
+KeepBoxes-turned {kind_of = kind_of} {diary_of = diary_of} {ticket = ticket} {next = next} {worker = worker} {seat = seat} {old = old} {new = new} given
+    under_way turned keep =
+    let at = ticket.instance in
+    let number = ticket.task.run in
+    let gave = More turned.progress in
+    let line = diary_line.Gave number ticket.k (This gave) in
+    let written = Gave number ticket.k gave in
+    let report = turned.step.legal.report in
+    let of_run = ticket-found ticket under_way.ticket_in report.is_running in
+    let goes = λ (going : new.status ≡ None). turned.goes_on.before in
+    let lines = λ (n : ℕ). lines_of ticket (This gave) (run_numbered number old.table.state.runs) report.run n report.is_running of_run in
+    rw (ap (λ (t : TicketState). t.instance) turned.next_is) (record {
+      others = λ n other idle.
+          let before = rw turned.places at idle in
+          others-written diary_of given old new at line written under_way.replay turned.step goes lines (gave, refl, refl) n other
+          (elsewhere ticket.kind other at n old.places under_way.away before) (keep.others n other before);
+      own = IsSomeAnd-weaker (slice_get given at)
+          (λ hand out. subst (λ owes. IsOutOfGiven diary_of (diary_of seat.worker) owes new at hand.worker) (sym turned.diary)
+          (own-written diary_of given old new at line written under_way.replay turned.step goes lines (gave, refl, refl) (diary_of seat.worker)
+          (diary_of worker) hand (HasOne-front (IsStartOn at) old.table.log _ out.started)
+          (IsDiaryLater-further (diary_of hand.worker) (diary_of worker) (diary_of seat.worker) out.diary (written ∷ [], turned.diary)) out.told))
+          keep.own;
+    })
+
+-- a run is over, and its worker has written down what it gave
+pub KeepBoxes-last : {K W B : Type 0} {held : K → Option (List Row)} {kind_of : B → Kind} {diary_of : B → Option (List Entry)} {ticket : TicketState}
+    {worker : B} {old new : BookState K W B} (given : List (Hand B))
+    → IsUnderWay kind_of ticket old → IsLastTurn held kind_of diary_of ticket worker old new
+    → KeepBoxesOut diary_of ticket.instance (diary_of worker) (diary_of worker) given old → KeepBoxes diary_of given new
+KeepBoxes-last {kind_of = kind_of} {diary_of = diary_of} {ticket = ticket} {worker = worker} {old = old} {new = new} given under_way last
+    keep =
+    let s = old.table.state in
+    let at = ticket.instance in
+    let number = ticket.task.run in
+    let told = last.reported in
+    let line = diary_line.Gave number ticket.k told in
+    let written = Gave number ticket.k last.gave in
+    let ended = framed_end s number told last.ending last.ends last.step.legal in
+    let of_run = ticket-found ticket under_way.ticket_in ended.is_running in
+    let goes = λ (going : new.status ≡ None). last.before in
+    let lines = λ (n : ℕ). ap (λ (f : Frame). f.lines n) ended.frame_is ∙ lines_of ticket told (Some ended.run) ended.run n refl of_run in
+    let entry : IsEntry line written = (last.gave, last.has_given, refl) in
+    KeepBoxes-back diary_of given old new kind_of last.back at last.places
+    (λ n other idle.
+    others-written diary_of given old new at line written under_way.replay last.step goes lines entry n other
+    (elsewhere ticket.kind other at n old.places under_way.away idle) (keep.others n other idle))
+    (IsSomeAnd-weaker (slice_get given at)
+    (λ hand out. of_given-back diary_of (diary_of worker) (diary_with (written ∷ []) (diary_of worker)) at hand.worker last.back
+    (own-written diary_of given old new at line written under_way.replay last.step goes lines entry (diary_of worker) (diary_of worker) hand
+    (HasOne-front (IsStartOn at) old.table.log _ out.started) out.diary out.told) (written ∷ [], last.diary) (λ going. last.diary))
+    keep.own)
+
+module _ {K W B : Type 0} {held : K → Option (List Row)} {kind_of : B → Kind} {diary_of : B → Option (List Entry)} {ticket : TicketState}
+    {has : Option (List Entry)} (owes : Option (List Entry)) {old new : BookState K W B} (given : List (Hand B)) where
+  -- the session has stopped early without an event
+  pub KeepBoxes-given_up : IsGivenUp held kind_of diary_of ticket has old new → KeepBoxesOut diary_of ticket.instance has owes given old
+      → KeepBoxes diary_of given new
+  KeepBoxes-given_up over keep =
+      let at = ticket.instance in
+      let same = over.stopped.table in
+      let stopped = over.stopped.status in
+      KeepBoxes-back diary_of given old new kind_of over.back at over.places
+      (λ n other idle. IsSomeAnd-weaker (slice_get given n) (λ hand. of_given-same diary_of old new same stopped n hand.worker other)
+      (keep.others n other idle))
+      (IsSomeAnd-weaker (slice_get given at)
+      (λ hand out. of_given-back diary_of has owes at hand.worker over.back
+      (record { started = rw same.log out.started; diary = out.diary; told = no_longer new.status stopped }) over.diary_later (no_longer new.status stopped))
+      keep.own)
+
+  -- the session has stopped early while a turn was told
+  pub KeepBoxes-cut : Replay old.table.first old.table.log old.table.state → IsCutShort held kind_of diary_of ticket has old new
+      → KeepBoxesOut diary_of ticket.instance has owes given old → KeepBoxes diary_of given new
+  KeepBoxes-cut replays cut keep =
+      let at = ticket.instance in
+      KeepBoxes-back diary_of given old new kind_of cut.back at cut.places
+      (λ n other idle. IsSomeAnd-weaker (slice_get given n)
+      (λ hand. of_given-silent diary_of old new replays cut.step (no_longer new.status cut.status) n (no_longer new.status cut.status) hand.worker other)
+      (keep.others n other idle))
+      (IsSomeAnd-weaker (slice_get given at)
+      (λ hand out. of_given-back diary_of has owes at hand.worker cut.back
+      (record {
+        started = rw cut.step.appended (HasOne-front (IsStartOn at) old.table.log _ out.started);
+        diary = out.diary;
+        told = no_longer new.status cut.status;
+      }) cut.diary_later (no_longer new.status cut.status))
+      keep.own)
