@@ -9,7 +9,7 @@ use wm_conditions::{Conditions, Constraints, Network};
 use wm_data::{Data, Merger};
 use wm_machine::{
     Applied, Cause, Command, Counts, End, Event, LineFault, Policy, Refusal, Reply, Shown, Target,
-    UniqueName, WorkQuery,
+    UniqueName, WorkInfo, WorkQuery,
 };
 use wm_request::{Batch, Request};
 use wm_schedule::{Backoff, Period};
@@ -63,7 +63,8 @@ fn command_words(alloc: Global, command: &Command) -> Result<String, AllocError>
         Command::Moment(at) => format!(in alloc; "moment {at}"),
         Command::Conditions(conditions) => conditions_words(alloc, conditions),
         Command::Prune => String::from_str(alloc, "prune"),
-        Command::Query(query) => query_words(alloc, query),
+        Command::Query(query) => query_words(alloc, "query", query),
+        Command::Observe(query) => query_words(alloc, "observe", query),
         Command::Retire(class) => {
             let class = class.as_str();
             format!(in alloc; "retire {class:?}")
@@ -75,7 +76,6 @@ fn command_words(alloc: Global, command: &Command) -> Result<String, AllocError>
             let fault = fault_words(alloc, fault)?;
             format!(in alloc; "faulty {fault}")
         }
-        _ => String::from_str(alloc, "a command that isn't built"),
     }
 }
 
@@ -95,9 +95,9 @@ fn cancel_words(alloc: Global, target: &Target) -> Result<String, AllocError> {
     }
 }
 
-/// A query, with each group that it names.
-fn query_words(alloc: Global, query: &WorkQuery) -> Result<String, AllocError> {
-    let mut words = String::from_str(alloc, "query")?;
+/// A command that has a query, with each group that it names.
+fn query_words(alloc: Global, command: &str, query: &WorkQuery) -> Result<String, AllocError> {
+    let mut words = String::from_str(alloc, command)?;
     if !query.ids.is_empty() {
         words.push_str(" ids")?;
     }
@@ -319,12 +319,10 @@ fn reply_words(alloc: Global, reply: &Reply) -> Result<String, AllocError> {
             let works = works.as_slice();
             format!(in alloc; "enqueued {works:?}")
         }
-        Reply::Query(infos) => {
-            let mut works = Vec::new(alloc);
-            for info in infos.as_slice() {
-                works.push(info.seq)?;
-            }
-            format!(in alloc; "works {works:?}")
+        Reply::Query(infos) => works_words(alloc, infos.as_slice()),
+        Reply::Observing { observer, works } => {
+            let works = works_words(alloc, works.as_slice())?;
+            format!(in alloc; "observing {observer} {works}")
         }
         Reply::Settled => String::from_str(alloc, "settled"),
         Reply::Hushed => String::from_str(alloc, "hushed"),
@@ -343,8 +341,16 @@ fn reply_words(alloc: Global, reply: &Reply) -> Result<String, AllocError> {
             let refusal = refusal_words(alloc, refusal)?;
             format!(in alloc; "refused {refusal}")
         }
-        _ => String::from_str(alloc, "a reply that isn't built"),
     }
+}
+
+/// The numbers of the works that are told.
+fn works_words(alloc: Global, infos: &[WorkInfo]) -> Result<String, AllocError> {
+    let mut works = Vec::new(alloc);
+    for info in infos {
+        works.push(info.seq)?;
+    }
+    format!(in alloc; "works {works:?}")
 }
 
 /// How many works are in each state that has any, and the sum of their attempts.
@@ -386,6 +392,7 @@ fn refusal_words(alloc: Global, refusal: &Refusal) -> Result<String, AllocError>
         Refusal::NoSuchPrerequisite { id } => format!(in alloc; "NoSuchPrerequisite {id}"),
         Refusal::PeriodicInChain { id } => format!(in alloc; "PeriodicInChain {id}"),
         Refusal::TooManyPrerequisites { id } => format!(in alloc; "TooManyPrerequisites {id}"),
+        Refusal::TooManyObservers { count } => format!(in alloc; "TooManyObservers {count}"),
         _ => format!(in alloc; "{refusal:?}"),
     }
 }

@@ -1,6 +1,6 @@
 //! The calls by their names.
 
-use crate::{infos, lines, records, texts};
+use crate::{infos, lines, notes, records, texts};
 use part_calls::fields::{RowFault, field, text};
 use part_calls::{chains, conditions, data, requests, schedule, workers};
 use serde_json::Value;
@@ -42,6 +42,7 @@ fn answer_of_works(alloc: Global, call: &str, row: &Value) -> Result<Value, RowF
         "event text" => texts::told(alloc, row),
         "answer" => infos::answered(alloc, row),
         "matches" => infos::matched(alloc, row),
+        "notes" => notes::noted(alloc, row),
         _ => Err(RowFault::NoSuchCall),
     }
 }

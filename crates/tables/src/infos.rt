@@ -62,7 +62,8 @@ fn info_of(plain: Plain, texts: (Option<Text>, Items<Text>), data: (Data, Data))
     }
 }
 
-fn info(alloc: Global, form: &Value) -> Result<WorkInfo, RowFault> {
+/// What is told of a work.
+pub fn info(alloc: Global, form: &Value) -> Result<WorkInfo, RowFault> {
     let plain = plain_of(form)?;
     let texts = texts_of(alloc, form)?;
     let (texts, data) = both(texts, data_of(alloc, form))?;
@@ -105,9 +106,8 @@ fn asked_states(alloc: Global, form: &Value) -> Result<(Items<Shown>, Items<Text
     both(states(alloc, form)?, texts(alloc, form, "tags"))
 }
 
-/// The query of a row.
-fn query(alloc: Global, row: &Value) -> Result<WorkQuery, RowFault> {
-    let form = field(row, "query")?;
+/// The query that a value says.
+pub fn query(alloc: Global, form: &Value) -> Result<WorkQuery, RowFault> {
     let names = asked_names(alloc, form)?;
     let (names, states) = both(names, asked_states(alloc, form))?;
     let ((ids, names), (states, tags)) = (names, states);
@@ -131,7 +131,7 @@ fn numbers(alloc: Global, infos: &[WorkInfo]) -> Result<Value, AllocError> {
 /// The query of a row, and what is told of its works.
 fn asked(alloc: Global, row: &Value) -> Result<(WorkQuery, Items<WorkInfo>), RowFault> {
     has_only(row, &["works", "query"])?;
-    both(query(alloc, row)?, infos(alloc, row))
+    both(query(alloc, field(row, "query")?)?, infos(alloc, row))
 }
 
 /// The numbers of the works that a query is answered.

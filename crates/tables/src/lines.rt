@@ -23,7 +23,6 @@ fn command_name(command: &Command) -> &'static str {
         Command::Hush => "hush",
         Command::Summary => "summary",
         Command::Faulty(LineFault::Bad) => "Bad",
-        Command::Faulty(LineFault::NotBuilt) => "NotBuilt",
         Command::Faulty(_) => "another fault",
     }
 }

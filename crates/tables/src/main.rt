@@ -12,6 +12,7 @@ mod calls;
 mod infos;
 mod lines;
 mod names;
+mod notes;
 mod records;
 mod texts;
 

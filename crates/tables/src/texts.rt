@@ -2,14 +2,16 @@
 
 use crate::infos::infos;
 use crate::names::applied_named;
+use crate::notes::notes_of;
 use part_calls::fields::{
-    RowFault, count, field, has_only, id, number, numbers, text, unless_refused,
+    RowFault, both, count, field, has_only, id, number, numbers, text, unless_refused,
 };
 use part_calls::told::pair;
 use serde_json::Value;
 use std::alloc::{AllocError, Global};
 use wm_collections::{Replica, Text};
 use wm_machine::{Applied, Command, Counts, Event, LineFault, Refusal, Reply};
+use wm_observe::Note;
 use wm_texts::event_text;
 
 /// What an update did.
@@ -86,6 +88,9 @@ fn refusal(alloc: Global, form: &Value) -> Result<Refusal, RowFault> {
         "NumbersSpent" => Ok(Refusal::NumbersSpent {
             next: number(form, "next")?,
         }),
+        "TooManyObservers" => Ok(Refusal::TooManyObservers {
+            count: number(form, "count")?,
+        }),
         "MomentBack" => Ok(Refusal::MomentBack {
             now: number(form, "now")?,
         }),
@@ -98,7 +103,6 @@ fn refusal(alloc: Global, form: &Value) -> Result<Refusal, RowFault> {
 fn line_fault(alloc: Global, name: &str, form: &Value) -> Result<LineFault, RowFault> {
     match name {
         "Bad" => Ok(LineFault::Bad),
-        "NotBuilt" => Ok(LineFault::NotBuilt),
         "BadData" => Ok(LineFault::BadData {
             key: Text::from_str(alloc, text(form, "key")?)?,
         }),
@@ -142,24 +146,30 @@ fn event(alloc: Global, row: &Value) -> Result<Event, RowFault> {
     Ok(line(number, replica(alloc, field(row, "told")?)?))
 }
 
-/// The text of an event where the state after it is hushed, or isn't.
-fn text_told(alloc: Global, event: &Event, hushed: bool) -> Result<Value, AllocError> {
-    let bytes = event_text(alloc, event, hushed)?;
+/// The text of an event with its notes where the state after it is hushed, or isn't.
+fn text_told(
+    alloc: Global,
+    event: &Event,
+    notes: &[Note],
+    hushed: bool,
+) -> Result<Value, AllocError> {
+    let bytes = event_text(alloc, event, notes, hushed)?;
     Ok(Value::String(String::from_utf8_lossy(alloc, bytes.as_slice())?))
 }
 
-/// Both texts of an event.
-fn texts(alloc: Global, event: &Event) -> Result<Value, AllocError> {
-    let plain = text_told(alloc, event, false)?;
-    let hushed = text_told(alloc, event, true)?;
+/// Both texts of an event with its notes.
+fn texts(alloc: Global, event: &Event, notes: &[Note]) -> Result<Value, AllocError> {
+    let plain = text_told(alloc, event, notes, false)?;
+    let hushed = text_told(alloc, event, notes, true)?;
     pair(alloc, plain, hushed)
 }
 
-/// The text of an event, and the one where the state after it is hushed.
+/// The text of an event with its notes, and the one where the state after it is hushed.
 pub fn told(alloc: Global, row: &Value) -> Result<Value, RowFault> {
-    has_only(row, &["line", "told", "timed_out", "late"])?;
-    let event = event(alloc, row)?;
-    let told = texts(alloc, &event);
+    has_only(row, &["line", "told", "timed_out", "late", "notes"])?;
+    let (event, notes) = both(event(alloc, row)?, notes_of(alloc, row))?;
+    let told = texts(alloc, &event, notes.as_slice());
     drop(event);
+    drop(notes);
     Ok(told?)
 }

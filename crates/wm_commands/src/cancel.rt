@@ -6,11 +6,11 @@ ghost use Rattle.wm_machine.specs.Cancelled.{cancelled_each, is_cancellable, is_
 ghost use Rattle.wm_machine.specs.Outcome.{outcome, IsLegalLine};
 
 use crate::clearing::{cancelling, reached_from, replaced_by_clearing};
-use crate::executed::Executed;
+use crate::executed::{Executed, event_of};
 use std::alloc::{AllocError, Global};
 use uuid::Uuid;
 use wm_collections::Items;
-use wm_machine::{Command, Event, Record, Refusal, Reply, Target};
+use wm_machine::{Command, Record, Refusal, Reply, Target};
 use wm_query::{has_tag, is_name};
 use wm_steps::{RunChange, StepChange, View};
 
@@ -63,15 +63,10 @@ fn cancel_each(
     let cleared = cancelling(alloc, reached_from(view, seqs.as_slice())?);
     let replaced = replaced_by_clearing(alloc, works, &cleared)?;
     let count = replaced.len() as u64;
-    let event = Event::Command {
-        line,
-        command: Command::Cancel(target),
-        reply: Reply::Cancelled(count),
-    };
-    Ok(Executed {
-        change: StepChange::replacing_all(alloc, replaced, RunChange::Unchanged, event),
-        reply: Reply::Cancelled(count),
-    })
+    let event = event_of(line, Command::Cancel(target), Reply::Cancelled(count));
+    let change = StepChange::replacing_all(alloc, replaced, RunChange::Unchanged, event);
+    let reply = Reply::Cancelled(count);
+    Ok(Executed { change, reply })
 }
 
 /// The numbers of the unfinished works that a target is for, ascending.

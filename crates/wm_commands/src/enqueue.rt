@@ -1,5 +1,5 @@
 //! A batch is checked, and its works are placed.
-ghost use Rattle.std.specs.Prelude.{None, IfOk};
+ghost use Rattle.std.specs.Prelude.{IfOk};
 ghost use Rattle.wm_commands.specs.Builds.{IsExecuted};
 ghost use Rattle.wm_machine.specs.Outcome.{IsLegalLine};
 
@@ -25,14 +25,6 @@ pub fn execute(
 {
     match named {
         Some(unique) => naming::execute(alloc, view, line, unique, batch),
-        None => unnamed(alloc, view, line, batch),
+        None => check_and_place(alloc, view, line, None, batch, GroupPlan::free(alloc)),
     }
-}
-
-/// What the enqueue of a batch without a unique name comes to.
-fn unnamed(alloc: Global, view: &View, line: u32, batch: Batch) -> Result<Executed, AllocError>
-    requires { IsLegalLine view.now (Command.Enqueue None batch) }
-    ensures { IfOk result (IsExecuted view.entry.now line (Command.Enqueue None batch)) }
-{
-    check_and_place(alloc, view, line, None, batch, GroupPlan::free(alloc))
 }

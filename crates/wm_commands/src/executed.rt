@@ -1,5 +1,5 @@
 //! What a command comes to: the change of its step, and its reply.
-ghost use Rattle.std.specs.Prelude.{IfOk};
+ghost use Rattle.std.specs.Prelude.{◌≡◌, IfOk};
 ghost use Rattle.wm_commands.specs.Builds.{setting_outcome, HasOutcome, IsExecuted};
 ghost use Rattle.wm_machine.specs.Replied.{unchanged};
 
@@ -12,6 +12,17 @@ use wm_steps::{SettingChange, StepChange, View, copied};
 pub struct Executed {
     pub change: StepChange,
     pub reply: Reply,
+}
+
+/// The event of a command with its reply.
+pub(crate) fn event_of(line: u32, command: Command, reply: Reply) -> Event
+    ensures { result ≡ Event.Command line command reply }
+{
+    Event::Command {
+        line,
+        command,
+        reply,
+    }
 }
 
 impl Executed {
@@ -44,14 +55,7 @@ impl Executed {
         // what the type of a view keeps is known where a field of it is read
         let _reached = &view.state;
         let (reply, logged, command) = copied(alloc, reply, command)?;
-        let event = Event::Command {
-            line,
-            command,
-            reply: logged,
-        };
-        Ok(Executed {
-            change: StepChange::setting(alloc, to, event),
-            reply,
-        })
+        let change = StepChange::setting(alloc, to, event_of(line, command, logged));
+        Ok(Executed { change, reply })
     }
 }

@@ -1,4 +1,4 @@
-//! A line that isn't built is refused.
+//! A line that has a fault is refused.
 ghost use Rattle.std.specs.Prelude.{IfOk};
 ghost use Rattle.wm_commands.specs.Builds.{IsExecuted};
 
@@ -7,7 +7,7 @@ use std::alloc::{AllocError, Global};
 use wm_machine::{Command, LineFault, Refusal, Reply};
 use wm_steps::{View, copied};
 
-/// What a line that isn't built comes to, in every state.
+/// What a line that has a fault comes to, in every state.
 pub fn execute(
     alloc: Global,
     view: &View,

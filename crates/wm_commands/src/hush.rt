@@ -11,12 +11,6 @@ use wm_steps::{SettingChange, View};
 pub fn execute(alloc: Global, view: &View, line: u32) -> Result<Executed, AllocError>
     ensures { IfOk result (IsExecuted view.entry.now line Command.Hush) }
 {
-    Executed::setting(
-        alloc,
-        view,
-        line,
-        Command::Hush,
-        Reply::Hushed,
-        SettingChange::Hush,
-    )
+    let to = SettingChange::Hush;
+    Executed::setting(alloc, view, line, Command::Hush, Reply::Hushed, to)
 }

@@ -19,6 +19,7 @@ mod hush;
 mod member;
 mod moment;
 mod naming;
+mod observe;
 mod placement;
 mod placing;
 mod prune;
@@ -51,11 +52,11 @@ pub fn execute(
         Command::Conditions(conditions) => conditions::execute(alloc, view, line, conditions),
         Command::Prune => prune::execute(alloc, view, line),
         Command::Query(query) => query::execute(alloc, view, line, query),
+        Command::Observe(query) => observe::execute(alloc, view, line, query),
         Command::Retire(class) => retire::execute(alloc, view, line, class),
         Command::Settle => settle::execute(alloc, view, line),
         Command::Hush => hush::execute(alloc, view, line),
         Command::Summary => summary::execute(alloc, view, line),
         Command::Faulty(fault) => faulty::execute(alloc, view, line, fault),
-        _ => unreachable!(),
     }
 }

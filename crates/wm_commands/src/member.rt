@@ -34,10 +34,8 @@ pub fn update_member(
     let work = at(view.state.works.as_slice(), index);
     let request = first_request(alloc, batch.works().as_slice());
     let ((unique, batch), request) = both((unique, batch), request)?;
-    let command = Command::Enqueue {
-        named: Some(unique),
-        batch,
-    };
+    let named = Some(unique);
+    let command = Command::Enqueue { named, batch };
     update_of(alloc, line, command, index, work, request)
 }
 

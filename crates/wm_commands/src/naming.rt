@@ -57,10 +57,8 @@ fn not_planned(
 {
     match fault {
         PlanFault::KindMismatch { id } => {
-            let command = Command::Enqueue {
-                named: Some(unique),
-                batch,
-            };
+            let named = Some(unique);
+            let command = Command::Enqueue { named, batch };
             let refusal = Refusal::KindMismatch { id };
             Executed::answering(alloc, view, line, command, Reply::Refused(refusal))
         }
@@ -121,10 +119,8 @@ fn carry_out(
     ensures { IfOk result (IsExecuted view.entry.now line (Command.Enqueue (Some unique) batch)) }
 {
     if plan.kept {
-        let command = Command::Enqueue {
-            named: Some(unique),
-            batch,
-        };
+        let named = Some(unique);
+        let command = Command::Enqueue { named, batch };
         Executed::answering(alloc, view, line, command, Reply::Kept)
     } else if let Some(number) = plan.update {
         update_member(alloc, view, line, unique, batch, number)

@@ -9,11 +9,11 @@ ghost use Rattle.wm_steps.specs.Nodes.{is_there};
 ghost use Rattle.wm_unique.specs.Plans.{placing_by};
 
 use crate::clearing::{clearing_of, replaced_by_clearing};
-use crate::executed::Executed;
+use crate::executed::{Executed, event_of};
 use crate::placing::{placed_records, seqs_twice};
 use std::alloc::{AllocError, Global};
 use wm_collections::{Items, Replica, Text};
-use wm_machine::{Command, Event, Record, Reply, UniqueName};
+use wm_machine::{Command, Record, Reply, UniqueName};
 use wm_request::{Batch, Node};
 use wm_steps::{Replacement, StepChange, View, both};
 use wm_unique::GroupPlan;
@@ -98,18 +98,14 @@ pub fn place(
     let ((named, batch), placement) = both((named, batch), placement)?;
     let numbers = seqs_twice(alloc, placement.placed.as_slice());
     let ((named, batch, placement), (logged, told)) = both((named, batch, placement), numbers)?;
-    let event = Event::Command {
-        line,
-        command: Command::Enqueue { named, batch },
-        reply: Reply::Enqueued(logged),
-    };
+    let command = Command::Enqueue { named, batch };
+    let event = event_of(line, command, Reply::Enqueued(logged));
     let Placement {
         replaced,
         removed,
         placed,
     } = placement;
-    Ok(Executed {
-        change: StepChange::placing(alloc, replaced, removed, placed, event),
-        reply: Reply::Enqueued(told),
-    })
+    let change = StepChange::placing(alloc, replaced, removed, placed, event);
+    let reply = Reply::Enqueued(told);
+    Ok(Executed { change, reply })
 }

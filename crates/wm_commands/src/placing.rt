@@ -84,21 +84,10 @@ fn prior_of(
         ≡ prior_of (with_cleared clearing.entry.now works.entry.now ++ placed.entry.now) after.entry.now ids.now) }
 {
     if ids.is_empty() {
-        copy_of(alloc, after)
+        Ok(Items::from_vec(Vec::from_slice(alloc, after)?))
     } else {
         numbers_of(alloc, works, clearing, placed, ids)
     }
-}
-
-/// These numbers.
-fn copy_of(alloc: Global, numbers: &[u64]) -> Result<Items<u64>, AllocError>
-    ensures { IfOk result (λ copy. copy ≡ numbers.now) }
-{
-    let mut copy = Items::new(alloc);
-    for number in numbers {
-        copy.push(*number)?;
-    }
-    Ok(copy)
 }
 
 /// The numbers of the records with these ids, in the order of the ids: of those that are stored, and

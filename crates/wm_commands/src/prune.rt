@@ -4,10 +4,10 @@ ghost use Rattle.wm_commands.specs.Builds.{IsExecuted};
 ghost use Rattle.wm_machine.specs.Group.{numbers_in};
 ghost use Rattle.wm_machine.specs.Pruned.{is_needed, removable};
 
-use crate::executed::Executed;
+use crate::executed::{Executed, event_of};
 use std::alloc::{AllocError, Global};
 use wm_collections::{Items, is_among};
-use wm_machine::{Command, Event, Record, Reply};
+use wm_machine::{Command, Record, Reply};
 use wm_steps::{StepChange, View};
 
 /// What a prune comes to.
@@ -16,15 +16,10 @@ pub fn execute(alloc: Global, view: &View, line: u32) -> Result<Executed, AllocE
 {
     let removed = removable_numbers(alloc, view.state.works.as_slice())?;
     let count = removed.len() as u64;
-    let event = Event::Command {
-        line,
-        command: Command::Prune,
-        reply: Reply::Pruned(count),
-    };
-    Ok(Executed {
-        change: StepChange::removing(alloc, removed, event),
-        reply: Reply::Pruned(count),
-    })
+    let event = event_of(line, Command::Prune, Reply::Pruned(count));
+    let change = StepChange::removing(alloc, removed, event);
+    let reply = Reply::Pruned(count);
+    Ok(Executed { change, reply })
 }
 
 /// The numbers of the records that may be removed, ascending.

@@ -18,11 +18,6 @@ pub fn execute(
     ensures { IfOk result (IsExecuted view.entry.now line (Command.Query query)) }
 {
     let works = answer_to(alloc, &view.state, &query)?;
-    Executed::answering(
-        alloc,
-        view,
-        line,
-        Command::Query(query),
-        Reply::Query(works),
-    )
+    let reply = Reply::Query(works);
+    Executed::answering(alloc, view, line, Command::Query(query), reply)
 }

@@ -17,14 +17,8 @@ pub fn execute(alloc: Global, view: &View, line: u32, class: Text) -> Result<Exe
 {
     let instances = view.state.instances.as_slice();
     if !is_live(instances, class.as_str()) {
-        let command = Command::Retire(class);
-        return Executed::answering(
-            alloc,
-            view,
-            line,
-            command,
-            Reply::Refused(Refusal::NoSuchClass),
-        );
+        let reply = Reply::Refused(Refusal::NoSuchClass);
+        return Executed::answering(alloc, view, line, Command::Retire(class), reply);
     }
     let reply = Reply::Retired(count_idle(instances, class.as_str()));
     let to = SettingChange::Retire(class.replica(alloc)?);

@@ -6,7 +6,7 @@ ghost use Rattle.wm_machine.specs.Limits.{FitsRow};
 ghost use Rattle.wm_machine.specs.Updated.{applied, is_same_kind, one_update_more, updated};
 ghost use Rattle.wm_request.specs.Requests.{IsRequest};
 
-use crate::executed::Executed;
+use crate::executed::{Executed, event_of};
 use std::alloc::{AllocError, Global};
 use uuid::Uuid;
 use wm_collections::Replica;
@@ -101,15 +101,10 @@ pub fn update_of(
     let (command, changed) = both(command, updated(alloc, work, request))?;
     let result = applied(work.phase);
     let generation = changed.generation;
-    let event = Event::Command {
-        line,
-        command,
-        reply: Reply::Updated { result, generation },
-    };
-    Ok(Executed {
-        change: replacing(alloc, index, work, changed, event)?,
-        reply: Reply::Updated { result, generation },
-    })
+    let event = event_of(line, command, Reply::Updated { result, generation });
+    let change = replacing(alloc, index, work, changed, event)?;
+    let reply = Reply::Updated { result, generation };
+    Ok(Executed { change, reply })
 }
 
 /// The record of a work that is asked for anew: the request is replaced but for its id, and it is

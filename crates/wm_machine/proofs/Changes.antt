@@ -8,7 +8,7 @@ use Rattle.wm_collections.proofs.Lists.{All-any, All-map, All-map2, All-weaker, 
 use Rattle.wm_machine.proofs.Runnings.{AreRuns-beside, HasNoOtherName, IsBefore-same, IsSameWork, all_of_number, changed, changed_both, still_one_time}
 use Rattle.wm_machine.specs.Closed.{is_open}
 use Rattle.wm_machine.specs.Narrow.{IsReached}
-use Rattle.wm_machine.specs.Valid.{ArePriorSound, AreWorks, HasSucceeded, IsBefore, IsCurrentOf, IsPrerequisite, IsRecord, IsWorkOf, MaySucceedOrHas, Valid}
+use Rattle.wm_machine.specs.Valid.{ArePriorSound, AreWorks, HasSucceeded, IsBefore, IsCurrentOf, IsPrerequisite, IsRecord, IsWorkOf, MaySucceedOrHas}
 use Rattle.wm_machine.specs.declared.record.How.TheVariants as how
 use Rattle.wm_machine.specs.Types.{Phase, Record, Run, State}
 use Rattle.wm_machine.specs.declared.record.Phase.TheVariants as phase

@@ -5,6 +5,7 @@ use Rattle.wm_machine.proofs.Cancels.{cancel-answered}
 use Rattle.wm_machine.proofs.Enqueues.{enqueue-answered}
 use Rattle.wm_collections.proofs.Lists.{All-any}
 use Rattle.wm_machine.proofs.Names.{enqueue-named-answered}
+use Rattle.wm_machine.proofs.Observings.{observe-answered}
 use Rattle.wm_machine.proofs.Owed.{IsAnswered, IsAtRest}
 use Rattle.wm_machine.proofs.Removals.{reached-removed}
 use Rattle.wm_machine.proofs.Retirings.{retire-answered}
@@ -37,12 +38,12 @@ answered s command.Prune built = record {
   frame = refl;
 }
 answered s (command.Query query) built = record { answered = λ rest. refl; reached = λ reached. reached; frame = refl }
+answered s (command.Observe query) built = observe-answered s query
 answered s (command.Retire class) built = retire-answered s class
 answered s command.Settle built = settle-answered s
 answered s command.Hush built = hush-answered s
 answered s command.Summary built = record { answered = λ rest. refl; reached = λ reached. reached; frame = refl }
 answered s (command.Faulty fault) built = record { answered = λ rest. refl; reached = λ reached. reached; frame = refl }
-answered s _ built = absurd built
 
 -- at rest each command that is built is legal
 pub legal_line-at_rest : (s : State) (asked : Command) → IsBuilt asked → IsAtRest s asked → IsLegalLine s asked

@@ -11,7 +11,7 @@ use Rattle.wm_machine.proofs.Placings.{bytes_eq-refl, bytes_eq-same, few_named, 
 use Rattle.wm_machine.proofs.Runnings.{AreRuns-beside}
 use Rattle.wm_machine.specs.Built.{AreAsked}
 use Rattle.wm_machine.specs.Cancelled.{is_stored}
-use Rattle.wm_machine.specs.Enqueued.{count_prior, enqueued, first_refusal, id_in_use, is_stored_periodic, new_record, no_such_prerequisite, numbers_spent, outcome_by, periodic_in_chain, placed_after, prior_of, refusal_of, refusal_of_placing, too_many_after, too_many_works, with_work, without}
+use Rattle.wm_machine.specs.Enqueued.{count_prior, first_refusal, id_in_use, is_stored_periodic, new_record, no_such_prerequisite, numbers_spent, outcome_by, periodic_in_chain, placed_after, prior_of, refusal_of, refusal_of_placing, too_many_after, too_many_works, with_work, without}
 use Rattle.wm_machine.specs.Frame.{untouched}
 use Rattle.wm_machine.specs.Narrow.{IsReached}
 use Rattle.wm_machine.specs.Plan.{placed_freely, Placing}

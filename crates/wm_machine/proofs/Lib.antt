@@ -16,6 +16,7 @@ pub mod Logs
 pub mod NameLaws
 pub mod Names
 pub mod NumberPlaces
+pub mod Observings
 pub mod Openings
 pub mod Owed
 pub mod Placings

@@ -1,7 +1,7 @@
 -- Laws of unique names: of what kind the works of a name are, whose a name is after an enqueue, and what an enqueue leaves as it is.
 use Rattle.std.proofs.Common.{◌≡◌, ◌&&◌, ℕ, ◌≤◌, true, false, not, cond, eqb, List, [], ◌∷◌, filter, find, map, Option, Some, None, refl, sym, ◌∙◌, ap, subst, arith, inl, inr}
 use Rattle.std.specs.List.{AllByRecursion, list_any}
-use Rattle.std.proofs.lemmas.Bool.{cases_Bool, cond_both, eqb-true, true≢false, or_cases}
+use Rattle.std.proofs.lemmas.Bool.{cases_Bool, cond_both, eqb-true, true≢false}
 use Rattle.wm_collections.specs.Lists.{AllLater, HasOne, is_among}
 use Rattle.wm_machine.proofs.Endings.{reached_parts}
 use Rattle.wm_machine.proofs.Groups.{closed_by, each_closed-at_once}

@@ -2,7 +2,7 @@
 use Rattle.std.proofs.Common.{eqb, ◌≡◌, ◌⊎◌, ◌&&◌, ◌||◌, ℕ, ◌≤◌, Bool, true, false, not, ltb, List, [], ◌∷◌, filter, find, is_some, length, Option, Some, None, option_map, IsSome, refl, sym, ◌∙◌, ap, subst, arith, inl, inr}
 use Rattle.std.specs.List.{AllByRecursion, list_any}
 use Rattle.std.proofs.Math.Bool.{and-true}
-use Rattle.std.proofs.lemmas.Bool.{cond_both, eq-eqb, false≢true, ltb-false, or_parts, true≢false, or_left, or_right}
+use Rattle.std.proofs.lemmas.Bool.{cond_both, eq-eqb, false≢true, ltb-false, or_parts, true≢false}
 use Rattle.wm_collections.specs.Lists.{AllLater, HasOne, is_among}
 use Rattle.wm_machine.proofs.Closings.{HasNotSucceeded, no_run_reached, not_yet_passing}
 use Rattle.wm_machine.proofs.Enqueues.{AreBothOneTime, CanFollow, CanFollow-none, CanShare, first_refusal-none, frame-placed, none_found, not_some, passes, PassesChecks, placeable, reached-placed}
@@ -23,7 +23,7 @@ use Rattle.wm_machine.specs.Replied.{Outcome}
 use Rattle.wm_machine.specs.Step.{state_by}
 use Rattle.wm_machine.specs.Updated.{is_same_kind}
 use Rattle.wm_machine.specs.Valid.{Valid}
-use Rattle.wm_machine.specs.Types.{Command, Node, Period, Policy, Record, Refusal, Reply, State, UniqueName}
+use Rattle.wm_machine.specs.Types.{Command, Node, Period, Policy, Record, Refusal, State, UniqueName}
 use Rattle.wm_machine.specs.declared.command.Command.TheVariants as command
 use Rattle.wm_machine.specs.declared.command.Policy.TheVariants as policy
 use Rattle.wm_machine.specs.declared.reply.Refusal.TheVariants.{KindMismatch}

@@ -1,18 +1,16 @@
 -- An opened state is one that the machine reaches, and so is each state of a log from there.
-use Rattle.std.proofs.Common.{◌≡◌, ℕ, ◌+◌, max, true, false, List, [], ◌∷◌, map, Option, Some, None, refl, sym, ◌∙◌, ap, subst, arith}
-use Rattle.std.specs.List.{AllByRecursion}
+use Rattle.std.proofs.Common.{◌≡◌, ℕ, ◌+◌, max, List, [], ◌∷◌, map, Option, Some, None, refl, sym, ap, subst, arith}
 use Rattle.wm_collections.proofs.Lists.{All-any, All-map, All-weaker}
 use Rattle.wm_data.specs.declared.data.DataEntry.{DataEntry}
 use Rattle.wm_keeper.specs.declared.row.Row.{Row}
-use Rattle.wm_machine.proofs.Changes.{all_open, AreWorks-changed, IsChange, moves-kept, MovesTo, Succeeded}
+use Rattle.wm_machine.proofs.Changes.{all_open, AreWorks-changed, IsChange, moves-kept, MovesTo}
 use Rattle.wm_machine.proofs.Records.{IsRecord-kept}
 use Rattle.wm_machine.proofs.Steps.{IsReached-after}
 use Rattle.wm_machine.specs.Narrow.{IsReached}
-use Rattle.wm_machine.specs.Opened.{AreFresh, IsFresh, IsOfLog, next_number, Opened, opening_state, reopened, reopened_phase}
+use Rattle.wm_machine.specs.Opened.{AreFresh, IsOfLog, next_number, Opened, opening_state, reopened, reopened_phase}
 use Rattle.wm_machine.specs.Replay.{Replay}
 use Rattle.wm_machine.specs.Step.{after}
 use Rattle.wm_machine.specs.Valid.{ArePriorSound, AreWorks, IsAttemptIn, IsOfKind, IsOutputIn, IsPeriodicPhase, IsProgressIn, IsRecord, MaySucceedOrHas}
-use Rattle.wm_machine.specs.declared.record.How.TheVariants as how
 use Rattle.wm_machine.specs.declared.record.Phase.TheVariants as phase
 use Rattle.wm_machine.specs.Types.{Event, Instance, Period, Phase, Record, State}
 

@@ -1,11 +1,10 @@
 -- What is owed for a retire.
-use Rattle.std.proofs.Common.{◌≡◌, ◌&&◌, ℕ, ◌+◌, ◌≤◌, Bool, true, false, not, cond, List, [], ◌∷◌, map, refl, sym, ◌∙◌, ap, subst, inl, inr}
+use Rattle.std.proofs.Common.{◌≡◌, ◌&&◌, ℕ, ◌+◌, ◌≤◌, Bool, true, false, not, cond, List, [], ◌∷◌, refl, sym, ◌∙◌, ap, subst, inl, inr}
 use Rattle.std.specs.List.{AllByRecursion}
 use Rattle.std.specs.Prelude.{count_by}
 use Rattle.std.specs.Str.{bytes_eq}
 use Rattle.std.proofs.lemmas.List.{length-map}
 use Rattle.std.proofs.lemmas.Bool.{cases_Bool, cond-false, cond_both, true≢false}
-use Rattle.wm_collections.specs.Lists.{HasOne}
 use Rattle.wm_collections.proofs.Lists.{All-map, All-weaker, HasOne-map, none_pass}
 use Rattle.wm_machine.proofs.Owed.{IsAnswered}
 use Rattle.wm_machine.specs.First.{is_idle, is_live}
@@ -14,7 +13,7 @@ use Rattle.wm_machine.specs.Narrow.{IsReached}
 use Rattle.wm_machine.specs.Replied.{Outcome, unchanged}
 use Rattle.wm_machine.specs.Retired.{made_retired, with_retired}
 use Rattle.wm_machine.specs.Valid.{AreNumberedInOrder, IsInstanceOf, IsOutForRun}
-use Rattle.wm_machine.specs.Types.{Instance, Run, State}
+use Rattle.wm_machine.specs.Types.{Instance, State}
 use Rattle.wm_machine.specs.declared.command.Command.TheVariants as command
 use Rattle.wm_machine.specs.declared.reply.Refusal.TheVariants.{NoSuchClass}
 use Rattle.wm_machine.specs.declared.reply.Reply.TheVariants as reply

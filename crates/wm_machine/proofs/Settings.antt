@@ -7,7 +7,7 @@ use Rattle.wm_machine.specs.Frame.{untouched}
 use Rattle.wm_machine.specs.Narrow.{IsReached}
 use Rattle.wm_machine.specs.Outcome.{outcome}
 use Rattle.wm_machine.specs.Replied.{Outcome, unchanged}
-use Rattle.wm_machine.specs.Settings.{is_stopped_by, moved}
+use Rattle.wm_machine.specs.Settings.{is_stopped_by}
 use Rattle.wm_machine.specs.Step.{state_by}
 use Rattle.wm_machine.specs.Types.{Command, State}
 use Rattle.wm_machine.specs.declared.command.Command.TheVariants as command

@@ -7,9 +7,9 @@ use Rattle.wm_machine.specs.Frame.{untouched}
 use Rattle.wm_machine.specs.Narrow.{IsReached}
 use Rattle.wm_machine.specs.Outcome.{outcome}
 use Rattle.wm_machine.specs.Quiet.{settled_by, IsQuiet}
-use Rattle.wm_machine.specs.Replied.{Outcome, unchanged}
+use Rattle.wm_machine.specs.Replied.{unchanged}
 use Rattle.wm_machine.specs.Step.{state_by, Answers}
-use Rattle.wm_machine.specs.Types.{Command, Record, Reply, Run, State}
+use Rattle.wm_machine.specs.Types.{Record, Reply, Run, State}
 use Rattle.wm_machine.specs.declared.command.Command.TheVariants as command
 use Rattle.wm_machine.specs.declared.reply.Reply.TheVariants as reply
 

@@ -13,7 +13,7 @@ use Rattle.wm_machine.specs.Closed.{is_open}
 use Rattle.wm_machine.specs.Frame.{untouched}
 use Rattle.wm_machine.specs.Narrow.{IsReached}
 use Rattle.wm_machine.specs.Replied.{Outcome, unchanged}
-use Rattle.wm_machine.specs.Updated.{is_same_kind, update, update_by, update_found, update_of, updated}
+use Rattle.wm_machine.specs.Updated.{is_same_kind, update_by, update_found, update_of, updated}
 use Rattle.wm_collections.specs.Lists.{HasOne}
 use Rattle.wm_machine.specs.Valid.{IsRecord}
 use Rattle.wm_machine.specs.Types.{Command, Period, Record, State}

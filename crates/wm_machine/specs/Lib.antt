@@ -13,6 +13,7 @@ pub mod Input
 pub mod Limits
 pub mod Log
 pub mod Narrow
+pub mod Observed
 pub mod Opened
 pub mod Outcome
 pub mod Plan

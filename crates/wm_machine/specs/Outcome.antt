@@ -4,6 +4,7 @@ use Rattle.std.specs.Prelude.{◌^◌, ◌<◌, if◌then◌else◌, Option, Som
 use Rattle.wm_machine.specs.Built.{AreAsked, AreAskedUnder}
 use Rattle.wm_machine.specs.Cancelled.{cancelled}
 use Rattle.wm_machine.specs.Enqueued.{enqueued, stops_run}
+use Rattle.wm_machine.specs.Observed.{observed}
 use Rattle.wm_machine.specs.Pruned.{pruned}
 use Rattle.wm_machine.specs.Queried.{answer_to}
 use Rattle.wm_machine.specs.Quiet.{settled}
@@ -28,12 +29,12 @@ outcome s (command.Moment at) = Some (moved s at)
 outcome s (command.Conditions conditions) = conditioned s conditions
 outcome s command.Prune = Some (pruned s)
 outcome s (command.Query query) = Some (unchanged s (reply.Query (answer_to s query)))
+outcome s (command.Observe query) = Some (observed s query)
 outcome s (command.Retire class) = Some (retired s class)
 outcome s command.Settle = settled s
 outcome s command.Hush = Some (hushed s)
 outcome s command.Summary = Some (unchanged s (reply.Summary (counts_of s)))
 outcome s (command.Faulty fault) = Some (unchanged s (reply.Refused (Line fault)))
-outcome s _ = None
 
 -- the command is one of those that are built
 abbrev pub IsBuilt : Command → Type 0
@@ -45,12 +46,12 @@ IsBuilt (command.Moment at) = at < 2 ^ 53
 IsBuilt (command.Conditions conditions) = Unit {0}
 IsBuilt command.Prune = Unit {0}
 IsBuilt (command.Query query) = Unit {0}
+IsBuilt (command.Observe query) = Unit {0}
 IsBuilt (command.Retire class) = Unit {0}
 IsBuilt command.Settle = Unit {0}
 IsBuilt command.Hush = Unit {0}
 IsBuilt command.Summary = Unit {0}
 IsBuilt (command.Faulty fault) = Unit {0}
-IsBuilt _ = ⊥
 
 -- A command is legal in a state: it is built, and has an outcome there. Between runs each has, but for one that settles, which has one in a
 -- quiet state alone.

@@ -20,8 +20,6 @@ pub enum Policy {
 /// What is wrong with a line of a script.
 #[derive(Debug, Drop)]
 pub enum LineFault {
-    /// No command that is built.
-    NotBuilt,
     /// No command of the grammar.
     Bad,
     EmptyKey,
@@ -37,7 +35,6 @@ pub enum LineFault {
 impl Replica for LineFault {
     fn replica(&self, alloc: Global) -> Result<LineFault, AllocError> {
         Ok(match self {
-            LineFault::NotBuilt => LineFault::NotBuilt,
             LineFault::Bad => LineFault::Bad,
             LineFault::EmptyKey => LineFault::EmptyKey,
             LineFault::BadData { key } => LineFault::BadData {

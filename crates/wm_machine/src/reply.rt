@@ -14,7 +14,7 @@ pub enum Applied {
 }
 
 /// What is told of one work, after `androidx.work.WorkInfo`.
-#[derive(Debug, Drop)]
+#[derive(Debug, Drop, PartialEq, Eq)]
 pub struct WorkInfo {
     pub seq: u64,
     pub id: Uuid,

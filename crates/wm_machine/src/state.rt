@@ -1,3 +1,5 @@
+ghost use Rattle.std.specs.Prelude.{◌≡◌, IfOk};
+
 use crate::record::{Record, Shown};
 use std::alloc::{AllocError, Global};
 use uuid::Uuid;
@@ -61,6 +63,24 @@ pub struct WorkQuery {
     pub names: Items<Text>,
     pub states: Items<Shown>,
     pub tags: Items<Text>,
+}
+
+/// The same values again.
+fn copied<T: Copy>(alloc: Global, values: &Items<T>) -> Result<Items<T>, AllocError>
+    ensures { IfOk result (λ same. same ≡ values.entry.now) }
+{
+    Ok(Items::from_vec(Vec::from_slice(alloc, values.as_slice())?))
+}
+
+impl Replica for WorkQuery {
+    fn replica(&self, alloc: Global) -> Result<WorkQuery, AllocError> {
+        Ok(WorkQuery {
+            ids: copied(alloc, &self.ids)?,
+            names: self.names.replica(alloc)?,
+            states: copied(alloc, &self.states)?,
+            tags: self.tags.replica(alloc)?,
+        })
+    }
 }
 
 /// All that the machine knows at one moment.

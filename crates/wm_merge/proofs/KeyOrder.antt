@@ -1,10 +1,10 @@
 -- The entries and keys of ordered ones, with one more.
-use Rattle.std.proofs.Common.{◌≡◌, ℕ, zero, suc, ◌≤◌, Bool, true, false, ◌||◌, cond, List, [], ◌∷◌, ◌++◌, length, map, filter, filter_map, find, get_or, set, Option, None, Some, Ordering, Less, Equal, Greater, nat_cmp, is_eq, is_lt, is_gt, refl, sym, ap, ◌∙◌, subst, true≢false}
+use Rattle.std.proofs.Common.{◌≡◌, ℕ, zero, suc, ◌≤◌, Bool, true, false, ◌||◌, cond, List, [], ◌∷◌, ◌++◌, length, filter, filter_map, find, get_or, set, Option, None, Some, Ordering, Less, Equal, Greater, nat_cmp, is_eq, is_lt, is_gt, refl, sym, ap, ◌∙◌, subst, true≢false}
 use Rattle.std.proofs.lemmas.Cmp.{nat_list_cmp_total, tied_itself}
 use Rattle.std.proofs.lemmas.List.{map-append}
 use Rattle.std.proofs.lemmas.List.Folds.{find-append}
 use Rattle.std.specs.Cmp.Lexicographic.{slice_cmp}
-use Rattle.std.specs.List.{AllByRecursion, cons_option}
+use Rattle.std.specs.List.{AllByRecursion}
 use Rattle.std.specs.Option.{option_or}
 use Rattle.std.specs.Ordering.{ordering_reverse}
 use Rattle.wm_collections.proofs.Lists.{All-weaker, filter-each, filter-none, filter_map-same, find-same, map-filter}

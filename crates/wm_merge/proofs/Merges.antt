@@ -1,6 +1,5 @@
 -- What has grown of all entries is what the inputs become, and the code leaves what has grown.
 use Rattle.std.proofs.Common.{◌≡◌, ℕ, zero, suc, ◌<◌, ◌≤◌, Bool, true, false, cond, Option, None, is_some, unwrap_or, true≢false, List, [], ◌∷◌, ◌++◌, append_assoc, append-nil, length, filter_map, find, fold, get_or, set, insert, Some, slice_get, refl, sym, ap, ◌∙◌, subst, arith}
-use Rattle.std.specs.List.{AllByRecursion}
 use Rattle.wm_collections.proofs.Lists.{All-any, filter_map-same}
 use Rattle.wm_data.specs.Entries.{is_at, with_entry, IsFoundAt, IsMissingAt}
 use Rattle.wm_data.specs.declared.data.DataEntry.{DataEntry}

@@ -10,7 +10,7 @@ use wm_collections::Replica;
 use wm_machine::{How, Phase, Record, Shown, WorkInfo};
 
 /// The state shown of a work in this phase, whose prerequisites have all succeeded or haven't.
-fn shown_in(phase: Phase, all_met: bool) -> Shown
+pub fn shown_in(phase: Phase, all_met: bool) -> Shown
     ensures { result ≡ shown_in phase all_met }
 {
     match phase {

@@ -12,6 +12,6 @@ mod queries;
 mod scan;
 
 pub use counts::counts_of;
-pub use infos::info;
+pub use infos::{info, shown_in, shown_of};
 pub use queries::{answer, answer_to, has_tag, is_name, matches};
-pub use scan::{all_met, due, first_index, idle_in, is_idle, is_live};
+pub use scan::{all_met, due, first_index, has_succeeded, idle_in, is_idle, is_live};

@@ -8,7 +8,7 @@ use Rattle.serde_json.specs.Data as json
 use Rattle.serde_json.specs.Find.{as_bool, as_str, get}
 use Rattle.serde_json.specs.Read.{read}
 use Rattle.wm_machine.specs.declared.command.Command.{Command}
-use Rattle.wm_machine.specs.declared.command.Command.TheVariants.{Cancel, Conditions, Enqueue, Faulty, Hush, Moment, Prune, Query, Retire, Settle, Summary, Update}
+use Rattle.wm_machine.specs.declared.command.Command.TheVariants.{Cancel, Conditions, Enqueue, Faulty, Hush, Moment, Observe, Prune, Query, Retire, Settle, Summary, Update}
 use Rattle.wm_machine.specs.declared.command.LineFault.TheVariants as fault
 use Rattle.wm_machine.specs.declared.command.Target.{Target}
 use Rattle.wm_machine.specs.declared.command.Target.TheVariants.{All, Id, Name, Tag}
@@ -104,7 +104,7 @@ cancel_of d = do
   target ← formed (target_of d)
   Ok (Cancel target)
 
--- ---- the moment, the conditions, a query and a retire
+-- ---- the moment, the conditions, a query, a retire and an observe
 
 abbrev pub moment_of : json.Data → Result Command Unread
 moment_of d = do
@@ -126,12 +126,10 @@ retire_of d = do
   class ← formed (text_under (codes "class") d)
   Ok (Retire class)
 
--- ---- what is in the grammar, and not built yet
-
 abbrev pub observe_of : json.Data → Result Command Unread
 observe_of d = do
   query ← query_in d
-  Ok (Faulty fault.NotBuilt)
+  Ok (Observe query)
 
 -- ---- a line
 

@@ -26,8 +26,7 @@ use wm_machine::{Command, LineFault, Target};
 const LF: u8 = b'\n';
 
 /// The commands of a script's lines, in their order: one for each line. A line that isn't in the
-/// grammar, whose works have a fault, or that asks for what isn't built gives a
-/// [`Command::Faulty`].
+/// grammar, or whose works have a fault, gives a [`Command::Faulty`].
 ///
 /// `TooLong` with the first limit that the script passes, and nothing of it is read. The empty
 /// script has no line, and takes no memory.
@@ -307,11 +306,10 @@ fn retire_of(alloc: Global, value: &Value) -> Result<Command, Unread>
     }
 }
 
-/// What an observe asks for, which has the keys of a query. It isn't built yet.
+/// The command that observes works, which has the keys of a query.
 fn observe_of(alloc: Global, value: &Value) -> Result<Command, Unread>
     ensures ok { IfOk result (λ command. observe_of (view value.now) ≡ Ok command) }
     ensures err { IfErr result (IsFaultOf (observe_of (view value.now))) }
 {
-    drop(query_in(alloc, value)?);
-    Ok(Command::Faulty(LineFault::NotBuilt))
+    Ok(Command::Observe(query_in(alloc, value)?))
 }

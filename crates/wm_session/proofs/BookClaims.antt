@@ -1,11 +1,10 @@
 -- A book after a claim: what a start keeps, and one that fails.
-use Rattle.std.proofs.Common.{◌≡◌, ℕ, ◌+◌, true, List, map, Option, Some, None, IsSomeAnd, option_map, refl, sym, ◌∙◌, ap, subst, arith, []}
+use Rattle.std.proofs.Common.{◌≡◌, ℕ, ◌+◌, true, List, map, Option, Some, None, IsSomeAnd, option_map, refl, sym, ◌∙◌, ap, subst, arith}
 use Rattle.wm_bench.specs.Places.{changed_at, made_away, idle_at}
 use Rattle.wm_bench.specs.Seat.{Seat}
 use Rattle.wm_bench.specs.declared.place.Place.{Place}
 use Rattle.wm_data.specs.declared.data.DataEntry.{DataEntry}
 use Rattle.wm_machine.specs.declared.event.Cause.{Cause}
-use Rattle.wm_machine.specs.declared.event.Event.{Event}
 use Rattle.wm_machine.specs.declared.state.Run.{Run}
 use Rattle.wm_machine.specs.declared.state.State.{State}
 use Rattle.wm_worker.specs.declared.kind.Kind.{Kind}
@@ -23,6 +22,7 @@ use Rattle.wm_session.specs.Book as book
 use Rattle.wm_session.specs.BookState.{BookState}
 use Rattle.wm_session.specs.Inputs.{Inputs}
 use Rattle.wm_session.specs.Invariant.{BookInvariant}
+use Rattle.wm_session.specs.Pending.{PendingState, nothing}
 use Rattle.wm_session.specs.Tells.{Tells}
 use Rattle.wm_table.specs.Table.{IsClaimAnswer, IsOneStep, IsTicketIn}
 use Rattle.wm_table.specs.TableState.{TableState, TicketState, ticket_of}
@@ -72,13 +72,13 @@ module _ {K W B : Type 0} {run : Inputs} {tells : Tells K W B} where
       kept.workers ∙ ap (λ (t : State). map instance_traits t.instances) (sym step.state)
 
   -- a run began and was told
-  pub BookInvariant-begun : {old : BookState K W B} (table : TableState K) (places : List (Place B)) (pending : List ℕ) (sink : W)
+  pub BookInvariant-begun : {old : BookState K W B} (table : TableState K) (places : List (Place B)) (pending : PendingState) (sink : W)
       (number seq instance place : ℕ) (input : List DataEntry) (seat : Seat B)
       → BookInvariant run tells old → old.status ≡ None
       → IsOneStep tells.held (event.Start number seq instance input) old.table table → place ≡ instance
       → Some seat ≡ option_map (λ worker. record { number = place; worker = worker }) (idle_at place old.places)
       → places ≡ changed_at (made_away tells.kind_of) place old.places
-      → IsTold run tells (event.Start number seq instance input) old table pending sink old.status
+      → IsTold run tells old table pending sink old.status
       → tells.keeper_faults table.keeper ≡ tells.keeper_faults old.table.keeper
       → BookInvariant run tells (record old { table = table; places = places; pending = pending; sink = sink })
   BookInvariant-begun {old = old} table places pending sink number seq instance place input seat kept going step same taken there told no_fault =
@@ -101,12 +101,12 @@ module _ {K W B : Type 0} {run : Inputs} {tells : Tells K W B} where
       ∙ ap (map (λ instance. instance.out)) (sym instances)))
       no_fault
 
-  pub IsBegun-taken : {old : BookState K W B} (table : TableState K) (places : List (Place B)) (pending : List ℕ) (sink : W) (ticket : TicketState)
+  pub IsBegun-taken : {old : BookState K W B} (table : TableState K) (places : List (Place B)) (pending : PendingState) (sink : W) (ticket : TicketState)
       (place : ℕ) (seat : Seat B) (signal : SignalState)
       → BookInvariant run tells old → old.status ≡ None
       → IsOneStep tells.held (event.Start ticket.task.run ticket.seq ticket.instance ticket.task.input) old.table table → IsTicketIn table.state ticket
       → place ≡ ticket.instance → Some seat ≡ option_map (λ worker. record { number = place; worker = worker }) (idle_at place old.places)
-      → places ≡ changed_at (made_away tells.kind_of) place old.places → signal ≡ record { run = ticket.task.run; never = true } → pending ≡ []
+      → places ≡ changed_at (made_away tells.kind_of) place old.places → signal ≡ record { run = ticket.task.run; never = true } → pending ≡ nothing
       → book.IsBegun tells.held tells.kind_of ticket seat signal old
       (record old { table = table; places = places; pending = pending; sink = sink })
   IsBegun-taken {old = old} table places pending sink ticket place seat signal kept going step ticket_in same taken are signal_is written =
@@ -130,9 +130,9 @@ module _ {K W B : Type 0} {run : Inputs} {tells : Tells K W B} where
 
   -- ---- a work that couldn't start
 
-  pub BookInvariant-start_failed : {old : BookState K W B} (table : TableState K) (pending : List ℕ) (sink : W) (seq : ℕ) (cause : Cause)
+  pub BookInvariant-start_failed : {old : BookState K W B} (table : TableState K) (pending : PendingState) (sink : W) (seq : ℕ) (cause : Cause)
       → BookInvariant run tells old → old.status ≡ None → IsOneStep tells.held (event.StartFailed seq cause) old.table table
-      → IsTold run tells (event.StartFailed seq cause) old table pending sink old.status
+      → IsTold run tells old table pending sink old.status
       → tells.keeper_faults table.keeper ≡ tells.keeper_faults old.table.keeper
       → BookInvariant run tells (record old { table = table; pending = pending; sink = sink })
   BookInvariant-start_failed {old = old} table pending sink seq cause kept going step told no_fault =
@@ -143,8 +143,8 @@ module _ {K W B : Type 0} {run : Inputs} {tells : Tells K W B} where
       (away_now old going kept.away ∙ ap (map (λ instance. instance.out)) (sym instances)))
       no_fault
 
-  pub IsStartFailed-kept : {old : BookState K W B} (table : TableState K) (pending : List ℕ) (sink : W) (seq : ℕ) (cause : Cause)
-      → BookInvariant run tells old → old.status ≡ None → IsOneStep tells.held (event.StartFailed seq cause) old.table table → pending ≡ []
+  pub IsStartFailed-kept : {old : BookState K W B} (table : TableState K) (pending : PendingState) (sink : W) (seq : ℕ) (cause : Cause)
+      → BookInvariant run tells old → old.status ≡ None → IsOneStep tells.held (event.StartFailed seq cause) old.table table → pending ≡ nothing
       → book.IsStartFailed tells.held old (record old { table = table; pending = pending; sink = sink })
   IsStartFailed-kept {old = old} table pending sink seq cause kept going step written = record {
     seq = seq;
@@ -159,13 +159,13 @@ module _ {K W B : Type 0} {run : Inputs} {tells : Tells K W B} where
   -- ---- a claim that couldn't be told
 
   -- the session stopped while the claim was told, and its ticket was taken back
-  pub BookInvariant-untold : {old : BookState K W B} (claimed : Claim) (between table : TableState K) (pending : List ℕ) (sink : W) (stop : Stop)
+  pub BookInvariant-untold : {old : BookState K W B} (claimed : Claim) (between table : TableState K) (pending : PendingState) (sink : W) (stop : Stop)
       → BookInvariant run tells old → old.status ≡ None → IsClaimAnswer tells.held (Some claimed) old.table between → table ≡ between
-      → ((e : Event) → IsOneStep tells.held e old.table between → IsTold run tells e old between pending sink (Some stop))
+      → IsTold run tells old between pending sink (Some stop)
       → tells.keeper_faults between.keeper ≡ tells.keeper_faults old.table.keeper
       → BookInvariant run tells (record old { table = table; pending = pending; sink = sink; status = Some stop })
   BookInvariant-untold {old = old} claimed between table pending sink stop kept going done same told no_fault =
       let step = claimed_step tells.held claimed old.table between done in
       subst (λ t. BookInvariant run tells (record old { table = t; pending = pending; sink = sink; status = Some stop })) (sym same)
-      (BookInvariant-event step.0 old between old.places pending sink (Some stop) kept going step.1 step.2 (told step.0 step.1)
+      (BookInvariant-event step.0 old between old.places pending sink (Some stop) kept going step.1 step.2 told
       (claimed_traits claimed old between kept done) tt no_fault)

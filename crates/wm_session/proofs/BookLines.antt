@@ -1,5 +1,5 @@
 -- A book as it begins, and after a line.
-use Rattle.std.proofs.Common.{◌≡◌, ℕ, ◌+◌, ◌^◌, ◌<◌, ◌≤◌, false, List, [], ◌∷◌, ◌++◌, length, map, Option, None, option_map, refl, sym, ◌∙◌, ap, subst, arith}
+use Rattle.std.proofs.Common.{◌≡◌, ◌+◌, ◌^◌, ◌<◌, ◌≤◌, false, List, [], ◌∷◌, ◌++◌, length, map, Option, None, option_map, refl, sym, ◌∙◌, ap, subst, arith}
 use Rattle.std.specs.List.{AllByRecursion}
 use Rattle.wm_bench.specs.declared.place.Place.{Place}
 use Rattle.wm_machine.proofs.Logs.{AreNumberedFrom-push}
@@ -10,7 +10,6 @@ use Rattle.wm_machine.specs.Log.{commands_of, AreNumberedFrom}
 use Rattle.wm_machine.specs.Narrow.{IsNarrow}
 use Rattle.wm_machine.specs.Replay.{Replay}
 use Rattle.wm_machine.specs.Rows.{rows_of}
-use Rattle.wm_texts.specs.Texts.{log_text}
 use Rattle.wm_machine.specs.Valid.{Valid}
 use Rattle.wm_machine.specs.declared.command.Command.{Command}
 use Rattle.wm_machine.specs.declared.reply.Reply.{Reply}
@@ -23,7 +22,8 @@ use Rattle.wm_session.proofs.WrittenTexts.{TextsInvariant-unwritten}
 use Rattle.wm_session.specs.Bench.{instance_traits, place_traits, places_after, NoneAway}
 use Rattle.wm_session.specs.BookState.{BookState}
 use Rattle.wm_session.specs.Inputs.{Inputs}
-use Rattle.wm_session.specs.Invariant.{TextsInvariant, BookInvariant}
+use Rattle.wm_session.specs.Invariant.{BookInvariant}
+use Rattle.wm_session.specs.Pending.{PendingState, nothing}
 use Rattle.wm_session.specs.Tells.{Tells}
 use Rattle.wm_table.specs.Table.{IsOneStep}
 use Rattle.wm_table.specs.TableState.{TableState}
@@ -32,12 +32,12 @@ use Rattle.wm_session.proofs.BookSteps.{IsTold, away_now, BookInvariant-step}
 
 module _ {K W B : Type 0} {run : Inputs} {tells : Tells K W B} where
   -- a line was executed, and its text told or not
-  pub BookInvariant-line : {old : BookState K W B} (table : TableState K) (places : List (Place B)) (left : List Command) (pending : List ℕ) (sink : W)
+  pub BookInvariant-line : {old : BookState K W B} (table : TableState K) (places : List (Place B)) (left : List Command) (pending : PendingState) (sink : W)
       (status : Option Stop) (command : Command) (reply : Reply)
       → BookInvariant run tells old → old.status ≡ None
       → IsOneStep tells.held (event.Command (old.line + 1) command reply) old.table table → old.left ≡ command ∷ left
       → tells.keeper_faults table.keeper ≡ tells.keeper_faults old.table.keeper
-      → IsTold run tells (event.Command (old.line + 1) command reply) old table pending sink status → places ≡ places_after tells.kind_of command old.places
+      → IsTold run tells old table pending sink status → places ≡ places_after tells.kind_of command old.places
       → BookInvariant run tells
       (record old { table = table; places = places; left = left; line = old.line + 1; pending = pending; sink = sink; status = status })
   BookInvariant-line {old = old} table places left pending sink status command reply kept going step next no_fault told places_are =
@@ -65,8 +65,8 @@ module _ {K W B : Type 0} {run : Inputs} {tells : Tells K W B} where
 -- ---- the begin
 
 pub BookInvariant-new : {K W B : Type 0} (run : Inputs) (tells : Tells K W B) (table : TableState K) (places : List (Place B)) (left : List Command)
-    (pending : List ℕ) (sink : W)
-    → table.log ≡ [] → left ≡ run.lines → pending ≡ [] → map (place_traits tells.kind_of) places ≡ map instance_traits table.state.instances → NoneAway places
+    (pending : PendingState) (sink : W)
+    → table.log ≡ [] → left ≡ run.lines → pending ≡ nothing → map (place_traits tells.kind_of) places ≡ map instance_traits table.state.instances → NoneAway places
     → AllByRecursion (λ instance. instance.out ≡ false) table.state.instances → Valid table.state → IsNarrow table.state
     → 0 + length left < 2 ^ 32 → AllByRecursion IsBuilt left
     → table.state ≡ table.first → table.first ≡ run.first → tells.held table.keeper ≡ option_map (λ _. rows_of table.state) run.rows
@@ -86,9 +86,8 @@ BookInvariant-new run tells table places left pending sink empty lines none work
       numbered = subst (AreNumberedFrom 1) (sym empty) tt;
       line = ap (λ log. length (commands_of log)) (sym empty);
       few_lines = few;
-      texts = subst (λ log. TextsInvariant None run.written (tells.given sink) (log_text table.first log) pending) (sym empty)
-          (subst (λ l. TextsInvariant None run.written (tells.given sink) [] l) (sym none)
-          (subst (λ now. TextsInvariant None run.written now [] []) (sym written) (TextsInvariant-unwritten run.written [])));
+      texts = rw (empty, none, written) (TextsInvariant-unwritten run.written []);
+      all_told = λ same. ap (λ (p : PendingState). p.untold) none;
       rows = rows;
       workers = workers;
       away = all_here tells.kind_of places table.state.instances workers idle all_in;

@@ -1,8 +1,6 @@
 -- Parts of what a book keeps, after a change.
 use Rattle.std.proofs.Common.{◌≡◌, ◌⊎◌, ℕ, ◌+◌, ◌-◌, ◌^◌, ◌≤◌, min, List, [], ◌++◌, map, Option, Some, None, IsSome, IsSomeAnd, option_map, Err, refl, sym, ◌∙◌, ap, subst, inr, arith}
 use Rattle.std.proofs.Math.Nat.{le-min, le_trans, min-le_left, min-le_right}
-use Rattle.wm_collections.proofs.Lists.{last_of-push}
-use Rattle.wm_collections.specs.Lists.{last_of}
 use Rattle.wm_faults.specs.Faults.{Failed}
 use Rattle.wm_keeper.specs.declared.row.Row.{Row}
 use Rattle.wm_machine.specs.declared.command.Command.{Command}
@@ -15,12 +13,12 @@ use Rattle.wm_machine.specs.Replay.{Replay}
 use Rattle.wm_machine.specs.Rows.{rows_of}
 use Rattle.wm_machine.specs.Runs.{run_numbered}
 use Rattle.wm_machine.specs.declared.event.Event.TheVariants as event
-use Rattle.wm_session.proofs.WrittenTexts.{TextsInvariant-front}
 use Rattle.wm_session.specs.Bench.{is_away}
 use Rattle.wm_session.specs.Book as book
 use Rattle.wm_session.specs.BookState.{BookState}
 use Rattle.wm_session.specs.Causes.{stop_by_fault, stop_by_trouble, StopCause}
-use Rattle.wm_session.specs.Invariant.{AwayInvariant, LinesInvariant, TextsInvariant}
+use Rattle.wm_session.specs.Invariant.{AwayInvariant, LinesInvariant}
+use Rattle.wm_session.specs.Pending.{PendingState}
 use Rattle.wm_table.specs.Table.{IsClaimAnswer, IsOneStep, IsUntouched, TurnCause}
 use Rattle.wm_table.specs.TableState.{TableState, TicketState, ticket_of}
 use Rattle.wm_session.specs.Writing.{WriteCause}
@@ -47,11 +45,6 @@ LinesInvariant-from (Some why) lines done left is = (left, is)
 pub LinesInvariant-front : (status : Option Stop) (lines done left : List Command) → LinesInvariant status lines done left → HasPrefix lines done
 LinesInvariant-front None lines done left kept = (left, kept)
 LinesInvariant-front (Some why) lines done left kept = kept
-
-pub TextsInvariant-stopped : (status : Option Stop) (why : Stop) (before now : Option (List ℕ)) (text pending : List ℕ)
-    → TextsInvariant status before now text pending → TextsInvariant (Some why) before now text pending
-TextsInvariant-stopped None why before now text pending kept = TextsInvariant-front why before now text pending kept
-TextsInvariant-stopped (Some other) why before now text pending kept = record { written = kept.written; given = kept.given; kept = kept.kept }
 
 pub AwayInvariant-stopped : {K W B : Type 0} (status : Option Stop) (book : BookState K W B) → IsSome status → AwayInvariant status book
 AwayInvariant-stopped (Some why) book stopped = tt
@@ -102,10 +95,6 @@ pub Replay-same : {K : Type 0} (held : K → Option (List Row)) (old new : Table
     → Replay new.first new.log new.state
 Replay-same held old new replays same = rw (same.first, same.log, same.state) replays
 
--- the last event is that of the step
-pub last_of-step : {K : Type 0} (held : K → Option (List Row)) (e : Event) (old new : TableState K) → IsOneStep held e old new → last_of new.log ≡ Some e
-last_of-step held e old new step = ap last_of step.appended ∙ last_of-push old.log e
-
 -- a claim's event, which is no line
 pub claimed_step : {K : Type 0} (held : K → Option (List Row)) (claimed : Claim) (old new : TableState K) → IsClaimAnswer held (Some claimed) old new
     → (e : Event) × IsOneStep held e old new × (command_in e ≡ [])
@@ -127,7 +116,7 @@ claimed_in held (claim.Failed seq cause) old new step = tt
 
 -- the session stopped while a claim was told, and its ticket was taken back
 pub IsUntold-claimed : {K W B : Type 0} (held : K → Option (List Row)) (claimed : Claim) (old : BookState K W B) (between table : TableState K)
-    (pending : List ℕ) (sink : W) (stop : Stop)
+    (pending : PendingState) (sink : W) (stop : Stop)
     → old.status ≡ None → IsClaimAnswer held (Some claimed) old.table between → table ≡ between
     → book.HasStopped held old (record old { table = table; pending = pending; sink = sink; status = Some stop })
     ⊎ book.IsClaimUntold held old (record old { table = table; pending = pending; sink = sink; status = Some stop })

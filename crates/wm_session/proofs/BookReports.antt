@@ -1,10 +1,9 @@
 -- A book after the end of a run, and after a turn by which it goes on.
-use Rattle.std.proofs.Common.{◌≡◌, ◌⊎◌, ℕ, ◌+◌, Bool, true, false, List, map, Option, Some, None, IsSomeAnd, refl, sym, ◌∙◌, ap, subst, inl, inr, arith, []}
+use Rattle.std.proofs.Common.{◌≡◌, ◌⊎◌, ℕ, ◌+◌, Bool, true, false, List, map, Option, Some, None, IsSomeAnd, refl, sym, ◌∙◌, ap, subst, inl, inr, arith}
 use Rattle.wm_bench.specs.Places.{changed_at, made_back, IsAwayAt}
 use Rattle.wm_bench.specs.Seat.{Seat}
 use Rattle.wm_bench.specs.declared.place.Place.{Place}
 use Rattle.wm_keeper.specs.declared.row.Row.{Row}
-use Rattle.wm_machine.specs.declared.event.Event.{Event}
 use Rattle.wm_machine.specs.declared.state.Instance.{Instance}
 use Rattle.wm_machine.specs.declared.state.State.{State}
 use Rattle.wm_machine.proofs.Turns.{after_turn}
@@ -19,8 +18,9 @@ use Rattle.wm_session.specs.Book as book
 use Rattle.wm_session.specs.BookState.{BookState}
 use Rattle.wm_session.specs.Inputs.{Inputs}
 use Rattle.wm_session.specs.Invariant.{BookInvariant}
+use Rattle.wm_session.specs.Pending.{PendingState, nothing}
 use Rattle.wm_session.specs.Tells.{Tells}
-use Rattle.wm_table.specs.Table.{HasGoneOn, IsOneStep, IsTurnAnswer, IsTurnOver, Stands, TurnCause}
+use Rattle.wm_table.specs.Table.{HasGoneOn, IsTurnAnswer, IsTurnOver, Stands, TurnCause}
 use Rattle.wm_table.specs.declared.table.TurnAnswer.{TurnAnswer}
 use Rattle.wm_table.specs.declared.table.TurnAnswer.TheVariants as turn
 use Rattle.wm_table.specs.TableState.{TableState, TicketState}
@@ -56,10 +56,10 @@ turned_instances held old table ticket next told on =
     ap (λ (t : State). t.instances) (on.step.state ∙ after_turn old.state ticket.task.run on.progress on.step.legal)
 
 module _ {K W B : Type 0} {run : Inputs} {tells : Tells K W B} where
-  pub IsOver-ended : {old : BookState K W B} (table : TableState K) (places : List (Place B)) (pending : List ℕ) (sink : W) (ticket : TicketState)
+  pub IsOver-ended : {old : BookState K W B} (table : TableState K) (places : List (Place B)) (pending : PendingState) (sink : W) (ticket : TicketState)
       (seat : Seat B) (told : Report) (answer : TurnAnswer)
       → BookInvariant run tells old → old.status ≡ None → IsEndAnswer answer → IsTurnAnswer tells.held ticket told answer old.table table
-      → places ≡ changed_at (made_back tells.kind_of seat.worker) seat.number old.places → pending ≡ []
+      → places ≡ changed_at (made_back tells.kind_of seat.worker) seat.number old.places → pending ≡ nothing
       → book.IsOver tells.held tells.kind_of ticket seat told old (record old { table = table; places = places; pending = pending; sink = sink })
   IsOver-ended {old = old} table places pending sink ticket seat told answer kept going ends answered are written =
       let over = ended_by tells.held ticket told answer old.table table ends answered in
@@ -76,7 +76,7 @@ module _ {K W B : Type 0} {run : Inputs} {tells : Tells K W B} where
       }
 
   -- the session stopped while that was told
-  pub IsEndUntold-ended : {old : BookState K W B} (table : TableState K) (places : List (Place B)) (pending : List ℕ) (sink : W) (stop : Stop)
+  pub IsEndUntold-ended : {old : BookState K W B} (table : TableState K) (places : List (Place B)) (pending : PendingState) (sink : W) (stop : Stop)
       (ticket : TicketState) (told : Report) (answer : TurnAnswer)
       → BookInvariant run tells old → old.status ≡ None → IsEndAnswer answer → IsTurnAnswer tells.held ticket told answer old.table table
       → book.IsEndUntold tells.held ticket told old
@@ -96,13 +96,13 @@ module _ {K W B : Type 0} {run : Inputs} {tells : Tells K W B} where
       }
 
   -- a run is over, and its text told or not
-  pub BookInvariant-over : {old : BookState K W B} (table : TableState K) (places : List (Place B)) (pending : List ℕ) (sink : W) (status : Option Stop)
+  pub BookInvariant-over : {old : BookState K W B} (table : TableState K) (places : List (Place B)) (pending : PendingState) (sink : W) (status : Option Stop)
       (ticket : TicketState) (place : ℕ) (told : Report) (worker : B) (answer : TurnAnswer)
       → BookInvariant run tells old → old.status ≡ None → Stands old.table.state ticket → place ≡ ticket.instance
       → IsAwayAt place (tells.kind_of worker) old.places → places ≡ changed_at (made_back tells.kind_of worker) place old.places
       → IsEndAnswer answer → IsTurnAnswer tells.held ticket told answer old.table table
       → TurnCause answer (tells.keeper_faults old.table.keeper) (tells.keeper_faults table.keeper)
-      → ((e : Event) → IsOneStep tells.held e old.table table → IsTold run tells e old table pending sink status)
+      → IsTold run tells old table pending sink status
       → BookInvariant run tells (record old { table = table; places = places; pending = pending; sink = sink; status = status })
   BookInvariant-over {old = old} table places pending sink status ticket place told worker answer kept going stands same away are ends answered cause written =
       let s = old.table.state in
@@ -117,7 +117,7 @@ module _ {K W B : Type 0} {run : Inputs} {tells : Tells K W B} where
       ∙ ap (λ (f : Frame). f.instances) made.frame_is
       ∙ ap (λ number. with_out false number s.instances) on.0 in
       let from_zero : 0 + place ≡ ticket.instance = omega arith ∙ same in
-      BookInvariant-event e old table places pending sink status kept going step (silent_end s number ended.reported e ended.ends step.legal) (written e step)
+      BookInvariant-event e old table places pending sink status kept going step (silent_end s number ended.reported e ended.ends step.legal) written
       (ap (map (place_traits tells.kind_of)) are ∙ traits-given tells.kind_of worker place old.places away ∙ kept.workers ∙ sym
       (traits-with_out false ticket.instance s.instances) ∙ ap (map instance_traits) (sym instances))
       (AwayInvariant-from status (record old { table = table; places = places; pending = pending; sink = sink; status = status })
@@ -130,9 +130,9 @@ module _ {K W B : Type 0} {run : Inputs} {tells : Tells K W B} where
 
   -- ---- a run goes on
 
-  pub IsTurnTold-made : {old : BookState K W B} (table : TableState K) (pending : List ℕ) (sink : W) (ticket next : TicketState) (seat : Seat B)
+  pub IsTurnTold-made : {old : BookState K W B} (table : TableState K) (pending : PendingState) (sink : W) (ticket next : TicketState) (seat : Seat B)
       (told : Report)
-      → BookInvariant run tells old → old.status ≡ None → HasGoneOn tells.held ticket told next old.table table → pending ≡ []
+      → BookInvariant run tells old → old.status ≡ None → HasGoneOn tells.held ticket told next old.table table → pending ≡ nothing
       → book.IsTurnTold tells.held ticket next seat seat told old (record old { table = table; pending = pending; sink = sink })
   IsTurnTold-made {old = old} table pending sink ticket next seat told kept going on written = record {
     goes_on = record { before = going; now = going; written = written };
@@ -144,7 +144,7 @@ module _ {K W B : Type 0} {run : Inputs} {tells : Tells K W B} where
   }
 
   -- the session stopped while that was told, and the ticket was taken back
-  pub IsTurnUntold-made : {old : BookState K W B} (between table : TableState K) (places : List (Place B)) (pending : List ℕ) (sink : W) (stop : Stop)
+  pub IsTurnUntold-made : {old : BookState K W B} (between table : TableState K) (places : List (Place B)) (pending : PendingState) (sink : W) (stop : Stop)
       (ticket next : TicketState) (told : Report)
       → BookInvariant run tells old → old.status ≡ None → HasGoneOn tells.held ticket told next old.table between → table ≡ between
       → book.IsTurnUntold tells.held ticket told old
@@ -159,31 +159,31 @@ module _ {K W B : Type 0} {run : Inputs} {tells : Tells K W B} where
   }
 
   -- a run goes on, and its text is told
-  pub BookInvariant-turned : {old : BookState K W B} (table : TableState K) (pending : List ℕ) (sink : W) (ticket next : TicketState) (told : Report)
+  pub BookInvariant-turned : {old : BookState K W B} (table : TableState K) (pending : PendingState) (sink : W) (ticket next : TicketState) (told : Report)
       → BookInvariant run tells old → old.status ≡ None → HasGoneOn tells.held ticket told next old.table table
-      → ((e : Event) → IsOneStep tells.held e old.table table → IsTold run tells e old table pending sink old.status)
+      → IsTold run tells old table pending sink old.status
       → tells.keeper_faults table.keeper ≡ tells.keeper_faults old.table.keeper
       → BookInvariant run tells (record old { table = table; pending = pending; sink = sink })
   BookInvariant-turned {old = old} table pending sink ticket next told kept going on written no_fault =
       let instances = turned_instances tells.held old.table table ticket next told on in
       BookInvariant-event (event.Turn ticket.task.run on.progress) old table old.places pending sink old.status kept going on.step refl
-      (written (event.Turn ticket.task.run on.progress) on.step)
+      written
       (kept.workers ∙ ap (map instance_traits) (sym instances))
       (AwayInvariant-from old.status (record old { table = table; pending = pending; sink = sink })
       (away_now old going kept.away ∙ ap (map (λ (instance : Instance). instance.out)) (sym instances)))
       no_fault
 
   -- the session stopped while that was told: the ticket was taken back, and the worker is at its place again
-  pub BookInvariant-turn_untold : {old : BookState K W B} (between table : TableState K) (places : List (Place B)) (pending : List ℕ) (sink : W)
+  pub BookInvariant-turn_untold : {old : BookState K W B} (between table : TableState K) (places : List (Place B)) (pending : PendingState) (sink : W)
       (stop : Stop) (ticket next : TicketState) (told : Report)
       → BookInvariant run tells old → old.status ≡ None → HasGoneOn tells.held ticket told next old.table between → table ≡ between
       → map (place_traits tells.kind_of) places ≡ map (place_traits tells.kind_of) old.places
-      → ((e : Event) → IsOneStep tells.held e old.table between → IsTold run tells e old between pending sink (Some stop))
+      → IsTold run tells old between pending sink (Some stop)
       → tells.keeper_faults between.keeper ≡ tells.keeper_faults old.table.keeper
       → BookInvariant run tells (record old { table = table; places = places; pending = pending; sink = sink; status = Some stop })
   BookInvariant-turn_untold {old = old} between table places pending sink stop ticket next told kept going on same workers written no_fault =
       let instances = turned_instances tells.held old.table between ticket next told on in
       subst (λ t. BookInvariant run tells (record old { table = t; places = places; pending = pending; sink = sink; status = Some stop })) (sym same)
       (BookInvariant-event (event.Turn ticket.task.run on.progress) old between places pending sink (Some stop) kept going on.step refl
-      (written (event.Turn ticket.task.run on.progress) on.step)
+      written
       (workers ∙ kept.workers ∙ ap (map instance_traits) (sym instances)) tt no_fault)

@@ -1,24 +1,26 @@
 -- What a book keeps where its table makes an event, told or not.
-use Rattle.std.proofs.Common.{◌≡◌, ℕ, ◌+◌, ◌^◌, ◌<◌, ◌≤◌, List, [], ◌∷◌, ◌++◌, length, map, Option, Some, None, Err, sym, ◌∙◌, ap, subst, arith, append_assoc, length-append}
+use Rattle.std.proofs.Common.{◌≡◌, ◌+◌, ◌^◌, ◌<◌, ◌≤◌, false, List, [], ◌∷◌, ◌++◌, length, map, Option, Some, None, Err, sym, ◌∙◌, ap, subst, arith, append_assoc, length-append}
+use Rattle.std.proofs.lemmas.Option.{none-some}
 use Rattle.std.specs.List.{AllByRecursion}
 use Rattle.wm_bench.specs.declared.place.Place.{Place}
 use Rattle.wm_machine.proofs.Logs.{commands_of-push}
-use Rattle.wm_texts.proofs.LogTexts.{log_text-push}
+use Rattle.wm_texts.proofs.LogTexts.{log_text-last}
 use Rattle.wm_machine.proofs.Steps.{IsReached-after}
 use Rattle.wm_machine.specs.Outcome.{IsBuilt}
 use Rattle.wm_machine.specs.Log.{command_in, commands_of, AreNumberedFrom}
 use Rattle.wm_machine.specs.Narrow.{IsReached}
-use Rattle.wm_texts.specs.Texts.{event_text, log_text}
+use Rattle.wm_texts.specs.Texts.{last_text, log_text}
 use Rattle.wm_machine.specs.declared.command.Command.{Command}
 use Rattle.wm_machine.specs.declared.event.Event.{Event}
 use Rattle.wm_session.proofs.BookEvents.{AreNumberedFrom-silent}
-use Rattle.wm_session.proofs.BookParts.{LinesInvariant-from, StopCause-write, last_of-step, Replay-step, rows_then}
+use Rattle.wm_session.proofs.BookParts.{LinesInvariant-from, StopCause-write, Replay-step, rows_then}
 use Rattle.wm_session.proofs.WrittenTexts.{TextsInvariant-more}
 use Rattle.wm_session.specs.Bench.{instance_traits, is_away, place_traits}
 use Rattle.wm_session.specs.BookState.{BookState}
 use Rattle.wm_session.specs.Causes.{stop_by_fault, StopCause}
 use Rattle.wm_session.specs.Inputs.{Inputs}
-use Rattle.wm_session.specs.Invariant.{AwayInvariant, LinesInvariant, TextsInvariant, BookInvariant, IsLastTold}
+use Rattle.wm_session.specs.Invariant.{AwayInvariant, LinesInvariant, TextsInvariant, BookInvariant}
+use Rattle.wm_session.specs.Pending.{PendingState, nothing, pending_text}
 use Rattle.wm_session.specs.Tells.{Tells}
 use Rattle.wm_table.specs.Table.{IsOneStep}
 use Rattle.wm_table.specs.TableState.{TableState}
@@ -36,10 +38,11 @@ pub record IsStep {K W B : Type 0} (tells : Tells K W B) (e : Event) (old new : 
   pub workers : map (place_traits tells.kind_of) new.places ≡ map instance_traits new.table.state.instances
   pub no_fault : tells.keeper_faults new.table.keeper ≡ tells.keeper_faults old.table.keeper
 
--- what telling an event made of what is pending and of the sink, and why the session stopped, where it did
-pub record IsTold {K W B : Type 0} (run : Inputs) (tells : Tells K W B) (e : Event) (old : BookState K W B) (table : TableState K) (pending : List ℕ)
+-- what telling a table's last event made of what is pending and of the sink, and why the session stopped, where it did
+pub record IsTold {K W B : Type 0} (run : Inputs) (tells : Tells K W B) (old : BookState K W B) (table : TableState K) (pending : PendingState)
     (sink : W) (status : Option Stop) : Type 0 where
-  pub texts : TextsInvariant status (tells.given old.sink) (tells.given sink) (old.pending ++ event_text old.table.state e table.state) pending
+  pub texts : TextsInvariant (tells.given old.sink) (tells.given sink) (old.pending.bytes ++ last_text table.first table.log) (pending_text table pending)
+  pub all_told : status ≡ None → pending.untold ≡ false
   pub later : tells.sink_faults old.sink ≤ tells.sink_faults sink
   pub cause : StopCause status run.keeper_faults (tells.keeper_faults table.keeper) run.sink_faults (tells.sink_faults sink)
 
@@ -57,16 +60,12 @@ module _ {K W B : Type 0} {run : Inputs} {tells : Tells K W B} where
   reached_after e old new kept step = rw step.state (IsReached-after old.table.state e (reached kept) step.legal)
 
   text_is : (e : Event) (old new : BookState K W B) → BookInvariant run tells old → IsOneStep tells.held e old.table new.table
-      → log_text new.table.first new.table.log ≡ log_text old.table.first old.table.log ++ event_text old.table.state e new.table.state
-  text_is e old new kept step =
-      ap (λ first. log_text first new.table.log) step.first
-      ∙ ap (log_text old.table.first) step.appended
-      ∙ log_text-push old.table.first old.table.log old.table.state e kept.replay
-      ∙ ap (λ s. log_text old.table.first old.table.log ++ event_text old.table.state e s) (sym step.state)
+      → log_text new.table.first new.table.log ≡ log_text old.table.first old.table.log ++ last_text new.table.first new.table.log
+  text_is e old new kept step = rw (step.first, step.appended) (log_text-last old.table.first old.table.log e)
 
   pub BookInvariant-step : (e : Event) (old new : BookState K W B) → BookInvariant run tells old
       → IsStep tells e old new → AreNumberedFrom 1 (old.table.log ++ e ∷ [])
-      → IsTold run tells e old new.table new.pending new.sink new.status → AwayInvariant new.status new → BookInvariant run tells new
+      → IsTold run tells old new.table new.pending new.sink new.status → AwayInvariant new.status new → BookInvariant run tells new
   BookInvariant-step e old new kept more numbered told away =
       let step = more.step in
       let done = commands_of old.table.log in
@@ -78,8 +77,8 @@ module _ {K W B : Type 0} {run : Inputs} {tells : Tells K W B} where
       let sink_before : run.sink_faults ≤ tells.sink_faults old.sink = kept.sink_later in
       let keeper_before : run.keeper_faults ≤ tells.keeper_faults old.table.keeper = kept.keeper_later in
       let later : tells.sink_faults old.sink ≤ tells.sink_faults new.sink = told.later in
-      let before : TextsInvariant None run.written (tells.given old.sink) (log_text old.table.first old.table.log) old.pending =
-      subst (λ status. TextsInvariant status run.written (tells.given old.sink) (log_text old.table.first old.table.log) old.pending) more.going kept.texts in
+      let before : TextsInvariant run.written (tells.given old.sink) (log_text old.table.first old.table.log) old.pending.bytes =
+      rw (kept.all_told more.going) at kept.texts in
       record {
         first = step.first ∙ kept.first;
         replay = Replay-step tells.held e old.table new.table kept.replay step;
@@ -92,9 +91,10 @@ module _ {K W B : Type 0} {run : Inputs} {tells : Tells K W B} where
         numbered = subst (AreNumberedFrom 1) (sym step.appended) numbered;
         line = more.line ∙ ap (λ n. n + length (command_in e)) kept.line ∙ sym (length-append done (command_in e)) ∙ ap length (sym commands);
         few_lines = omega arith;
-        texts = subst (λ text. TextsInvariant new.status run.written (tells.given new.sink) text new.pending) (sym (text_is e old new kept step))
-            (TextsInvariant-more new.status run.written (tells.given old.sink) (tells.given new.sink) (log_text old.table.first old.table.log)
-            (event_text old.table.state e new.table.state) old.pending new.pending before told.texts);
+        texts = subst (λ text. TextsInvariant run.written (tells.given new.sink) text (pending_text new.table new.pending)) (sym (text_is e old new kept step))
+            (TextsInvariant-more run.written (tells.given old.sink) (tells.given new.sink) (log_text old.table.first old.table.log)
+            (last_text new.table.first new.table.log) old.pending.bytes (pending_text new.table new.pending) before told.texts);
+        all_told = told.all_told;
         rows = rows_then old.table.state new.table.state run.rows (tells.held old.table.keeper) (tells.held new.table.keeper) kept.rows step.rows;
         workers = more.workers;
         away = away;
@@ -104,42 +104,39 @@ module _ {K W B : Type 0} {run : Inputs} {tells : Tells K W B} where
       }
 
   -- the text was told, and all that was pending written
-  pub IsTold-all : {old : BookState K W B} (e : Event) (table : TableState K) (pending : List ℕ) (sink : W)
-      → BookInvariant run tells old → old.status ≡ None → IsOneStep tells.held e old.table table
-      → IsLastTold None table (tells.given old.sink) (tells.given sink) old.pending pending
-      → tells.sink_faults sink ≡ tells.sink_faults old.sink
-      → IsTold run tells e old table pending sink old.status
-  IsTold-all {old = old} e table pending sink kept going step last no_sink_fault = record {
-    texts = subst
-        (λ status. TextsInvariant status (tells.given old.sink) (tells.given sink) (old.pending ++ event_text old.table.state e table.state) pending)
-        (sym going) (last old.table.state e (last_of-step tells.held e old.table table step));
+  pub IsTold-all : {old : BookState K W B} (table : TableState K) (pending : PendingState) (sink : W) → old.status ≡ None
+      → TextsInvariant (tells.given old.sink) (tells.given sink) (old.pending.bytes ++ last_text table.first table.log) (pending_text table pending)
+      → pending ≡ nothing → tells.sink_faults sink ≡ tells.sink_faults old.sink
+      → IsTold run tells old table pending sink old.status
+  IsTold-all {old = old} table pending sink going texts none no_sink_fault = record {
+    texts = texts;
+    all_told = λ same. ap (λ (p : PendingState). p.untold) none;
     later = omega arith;
     cause = subst (λ status. StopCause status run.keeper_faults (tells.keeper_faults table.keeper) run.sink_faults (tells.sink_faults sink)) (sym going) tt;
   }
 
   -- the session stopped while the text was told
-  pub IsTold-cut : {old : BookState K W B} (e : Event) (table : TableState K) (pending : List ℕ) (sink : W) (refused : WriteFault) (stop : Stop)
-      → BookInvariant run tells old → IsOneStep tells.held e old.table table
-      → IsLastTold (Some (stop_by_fault refused)) table (tells.given old.sink) (tells.given sink) old.pending pending
+  pub IsTold-cut : {old : BookState K W B} (table : TableState K) (pending : PendingState) (sink : W) (refused : WriteFault) (stop : Stop)
+      → BookInvariant run tells old
+      → TextsInvariant (tells.given old.sink) (tells.given sink) (old.pending.bytes ++ last_text table.first table.log) (pending_text table pending)
       → WriteCause {T = Unit {0}} (Err refused) (tells.sink_faults old.sink) (tells.sink_faults sink) → stop ≡ stop_by_fault refused
-      → IsTold run tells e old table pending sink (Some stop)
-  IsTold-cut {old = old} e table pending sink refused stop kept step last trouble stop_is =
+      → IsTold run tells old table pending sink (Some stop)
+  IsTold-cut {old = old} table pending sink refused stop kept texts trouble stop_is =
       let cause =
       StopCause-write refused run.keeper_faults (tells.keeper_faults table.keeper) (tells.sink_faults old.sink)
       (tells.sink_faults sink) run.sink_faults trouble kept.sink_later in record {
-        texts = subst
-            (λ why. TextsInvariant (Some why) (tells.given old.sink) (tells.given sink) (old.pending ++ event_text old.table.state e table.state) pending)
-            (sym stop_is) (last old.table.state e (last_of-step tells.held e old.table table step));
+        texts = texts;
+        all_told = λ none. absurd (none-some stop (sym none));
         later = cause.0;
         cause = subst (λ s. StopCause (Some s) run.keeper_faults (tells.keeper_faults table.keeper) run.sink_faults (tells.sink_faults sink))
             (sym stop_is) cause.1;
       }
 
   -- an event that is no line, and its text told or not
-  pub BookInvariant-event : (e : Event) (old : BookState K W B) (table : TableState K) (places : List (Place B)) (pending : List ℕ) (sink : W)
+  pub BookInvariant-event : (e : Event) (old : BookState K W B) (table : TableState K) (places : List (Place B)) (pending : PendingState) (sink : W)
       (status : Option Stop)
       → BookInvariant run tells old → old.status ≡ None → IsOneStep tells.held e old.table table → command_in e ≡ []
-      → IsTold run tells e old table pending sink status
+      → IsTold run tells old table pending sink status
       → map (place_traits tells.kind_of) places ≡ map instance_traits table.state.instances
       → AwayInvariant status (record old { table = table; places = places; pending = pending; sink = sink; status = status })
       → tells.keeper_faults table.keeper ≡ tells.keeper_faults old.table.keeper

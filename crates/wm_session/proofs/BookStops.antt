@@ -1,7 +1,9 @@
 -- A book whose session stops, or has stopped.
-use Rattle.std.proofs.Common.{◌≡◌, ◌+◌, ◌^◌, ◌<◌, ◌≤◌, List, length, map, Some, IsSome, option_map, sym, ◌∙◌, ap, subst, arith}
+use Rattle.std.proofs.Common.{◌≡◌, ℕ, ◌+◌, ◌^◌, ◌<◌, ◌≤◌, List, length, map, Option, Some, IsSome, option_map, sym, ◌∙◌, ap, subst, arith}
+use Rattle.std.proofs.lemmas.Option.{none-some}
 use Rattle.std.specs.List.{AllByRecursion}
 use Rattle.wm_bench.specs.declared.place.Place.{Place}
+use Rattle.wm_keeper.specs.declared.row.Row.{Row}
 use Rattle.wm_machine.specs.Outcome.{IsBuilt}
 use Rattle.wm_machine.specs.Log.{commands_of, AreNumberedFrom, HasPrefix}
 use Rattle.wm_machine.specs.Narrow.{IsNarrow}
@@ -10,12 +12,13 @@ use Rattle.wm_texts.specs.Texts.{log_text}
 use Rattle.wm_machine.specs.Valid.{Valid}
 use Rattle.wm_machine.specs.declared.command.Command.{Command}
 use Rattle.wm_machine.specs.declared.state.State.{State}
-use Rattle.wm_session.proofs.BookParts.{AwayInvariant-stopped, LinesInvariant-front, TextsInvariant-stopped, IsUntouched-same, StopCause-turn, Replay-same}
+use Rattle.wm_session.proofs.BookParts.{AwayInvariant-stopped, LinesInvariant-front, IsUntouched-same, StopCause-turn, Replay-same}
 use Rattle.wm_session.specs.Bench.{instance_traits, place_traits}
 use Rattle.wm_session.specs.BookState.{BookState}
 use Rattle.wm_session.specs.Causes.{stop_by_trouble, StopCause}
 use Rattle.wm_session.specs.Inputs.{Inputs}
 use Rattle.wm_session.specs.Invariant.{TextsInvariant, BookInvariant}
+use Rattle.wm_session.specs.Pending.{PendingState, pending_text}
 use Rattle.wm_session.specs.Tells.{Tells}
 use Rattle.wm_table.specs.Table.{IsUntouched, TurnCause}
 use Rattle.wm_table.specs.TableState.{TableState, TicketState}
@@ -24,6 +27,12 @@ use Rattle.wm_session.specs.declared.book.Stop.{Stop}
 use Rattle.wm_table.specs.declared.table.Trouble.{Trouble}
 use Rattle.wm_table.specs.declared.table.TurnAnswer.TheVariants as turn
 use Rattle.wm_worker.specs.Told.{Report}
+
+-- an untouched table has the same text, and the same is pending
+texts_untouched : {K : Type 0} (held : K → Option (List Row)) (before now : Option (List ℕ)) (old table : TableState K) (pending : PendingState)
+    → IsUntouched held old table → TextsInvariant before now (log_text old.first old.log) (pending_text old pending)
+    → TextsInvariant before now (log_text table.first table.log) (pending_text table pending)
+texts_untouched held before now old table pending same kept = rw (same.first, same.log) kept
 
 module _ {K W B : Type 0} {run : Inputs} {tells : Tells K W B} where
   pub BookInvariant-stopped : {old : BookState K W B} (table : TableState K) (places : List (Place B)) (left : List Command) (why : Stop)
@@ -46,9 +55,8 @@ module _ {K W B : Type 0} {run : Inputs} {tells : Tells K W B} where
         numbered = subst (AreNumberedFrom 1) (sym same.log) kept.numbered;
         line = kept.line ∙ ap (λ log. length (commands_of log)) (sym same.log);
         few_lines = omega arith;
-        texts = subst (λ first. TextsInvariant (Some why) run.written (tells.given old.sink) (log_text first table.log) old.pending) (sym same.first)
-            (subst (λ log. TextsInvariant (Some why) run.written (tells.given old.sink) (log_text old.table.first log) old.pending) (sym same.log)
-            (TextsInvariant-stopped old.status why run.written (tells.given old.sink) (log_text old.table.first old.table.log) old.pending kept.texts));
+        texts = texts_untouched tells.held run.written (tells.given old.sink) old.table table old.pending same kept.texts;
+        all_told = λ none. absurd (none-some why (sym none));
         rows = same.rows ∙ kept.rows ∙ ap (λ (s : State). option_map (λ _. rows_of s) run.rows) (sym same.state);
         workers = workers ∙ kept.workers ∙ ap (λ (s : State). map instance_traits s.instances) (sym same.state);
         away = tt;
@@ -104,6 +112,7 @@ module _ {K W B : Type 0} {run : Inputs} {tells : Tells K W B} where
         line = kept.line;
         few_lines = kept.few_lines;
         texts = kept.texts;
+        all_told = kept.all_told;
         rows = kept.rows;
         workers = workers ∙ kept.workers;
         away = AwayInvariant-stopped old.status (record old { places = places }) stopped;

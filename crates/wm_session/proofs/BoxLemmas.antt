@@ -14,7 +14,7 @@ use Rattle.wm_machine.specs.Diaries.{event_lines, log_lines, DiaryLine, IsDiaryW
 use Rattle.wm_machine.specs.Diaries as diary_line
 use Rattle.wm_machine.specs.Frame.{Frame}
 use Rattle.wm_machine.specs.Replay.{Replay}
-use Rattle.wm_machine.specs.Role.{Reported, This}
+use Rattle.wm_machine.specs.Role.{This}
 use Rattle.wm_machine.specs.Runs.{run_numbered}
 use Rattle.wm_machine.specs.declared.command.Command.{Command}
 use Rattle.wm_machine.specs.declared.event.Event.{Event}

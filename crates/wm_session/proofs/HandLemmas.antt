@@ -1,5 +1,5 @@
 -- The places of a bench, one by one, and the hands that come back from them.
-use Rattle.std.proofs.Common.{◌≡◌, ◌⊎◌, ℕ, zero, suc, ◌+◌, Bool, true, false, not, List, [], ◌∷◌, map, filter, Option, Some, None, IsSomeAnd, slice_get, inl, inr, refl, sym, ◌∙◌, ap, subst, arith}
+use Rattle.std.proofs.Common.{◌≡◌, ◌⊎◌, ℕ, zero, suc, ◌+◌, Bool, true, false, not, List, [], ◌∷◌, map, filter, Some, IsSomeAnd, slice_get, inl, inr, refl, sym, ◌∙◌, ap, subst, arith}
 use Rattle.std.proofs.lemmas.Bool.{cond-false, cond-true}
 use Rattle.wm_bench.specs.Places.{IsAwayAt, IsAwayIn, away_from, back_in, changed_at, idle_at, idle_hands, idle_in, made_away, made_back, place_of, retired_in}
 use Rattle.wm_bench.specs.declared.hand.Hand.{Hand}
@@ -11,7 +11,7 @@ use Rattle.wm_machine.specs.declared.state.Instance.{Instance}
 use Rattle.wm_machine.specs.declared.state.State.{State}
 use Rattle.wm_worker.specs.declared.kind.Kind.{Kind}
 use Rattle.wm_session.proofs.PlacesAndInstances.{here-back}
-use Rattle.wm_session.specs.Bench.{NoneAway, Traits, hand_traits, instance_traits, is_away, kind_at, place_traits}
+use Rattle.wm_session.specs.Bench.{NoneAway, Traits, hand_traits, instance_traits, is_away, place_traits}
 use Rattle.wm_session.specs.Boxes.{EachAtPlace, EachBack}
 use Rattle.wm_session.specs.Ended.{AreHandsBack, kept_numbers}
 

@@ -15,6 +15,7 @@ use Rattle.wm_machine.specs.declared.reply.Reply.{Reply}
 use Rattle.wm_machine.specs.declared.state.State.{State}
 use Rattle.wm_session.specs.Bench.{places_after}
 use Rattle.wm_session.specs.BookState.{BookState}
+use Rattle.wm_session.specs.Pending.{nothing}
 use Rattle.wm_runs.specs.Reports.{CountsIn}
 use Rattle.wm_table.specs.Table.{HasGoneOn, IsClaimAnswer, IsFinished, IsOneStep, IsUntouched, IsTicketIn, Stands}
 use Rattle.wm_table.specs.TableState.{TicketState}
@@ -34,7 +35,7 @@ use Rattle.wm_worker.specs.declared.kind.Kind.{Kind}
 pub record GoesOn {K W B : Type 0} (old new : BookState K W B) : Type 0 where
   pub before : old.status ≡ None
   pub now : new.status ≡ None
-  pub written : new.pending ≡ []
+  pub written : new.pending ≡ nothing
 
 -- a session that had stopped before stays so: its status, its sink and what is pending are as they were
 pub record StaysStopped {K W B : Type 0} (old new : BookState K W B) : Type 0 where

@@ -1,5 +1,5 @@
 -- How a session ends: what its log, its last state, the bytes given and the workers handed back are.
-use Rattle.std.specs.Prelude.{◌≡◌, ℕ, true, false, not, List, [], map, filter, Option, None, option_map, Result, OnOk, Vec}
+use Rattle.std.specs.Prelude.{◌≡◌, ℕ, true, false, not, List, [], map, filter, Option, option_map, Result, OnOk, Vec}
 use Rattle.std.specs.declared.alloc.Global.{Global}
 use Rattle.wm_bench.specs.Places.{idle_hands}
 use Rattle.wm_bench.specs.declared.hand.Hand.{Hand}
@@ -22,6 +22,7 @@ use Rattle.wm_session.specs.Boxes.{EachBack, HasTold, IsBoxAfter}
 use Rattle.wm_session.specs.Causes.{EndsBy}
 use Rattle.wm_session.specs.Inputs.{Inputs}
 use Rattle.wm_session.specs.Invariant.{TextsInvariant}
+use Rattle.wm_session.specs.Pending.{pending_text}
 use Rattle.wm_session.specs.Tells.{Tells}
 use Rattle.wm_session.specs.Writing.{IsAppended, IsPartAppended, WriteCause}
 use Rattle.wm_session.specs.declared.ended.Ended.{Ended}
@@ -102,7 +103,7 @@ pub record IsHandedBack {K W B : Type 0} (kind_of : B → Kind) (book : BookStat
 pub record IsWrittenOut {K W B : Type 0} (tells : Tells K W B) (book : BookState K W B) (ended : Ended K W B) : Type 0 where
   pub answer : Result (Unit {0}) WriteFault
   pub left : List ℕ
-  pub given : TextsInvariant None (tells.given book.sink) (tells.given ended.sink) book.pending left
+  pub given : TextsInvariant (tells.given book.sink) (tells.given ended.sink) (pending_text book.table book.pending) left
   pub all : OnOk answer (left ≡ [])
   pub cause : WriteCause answer (tells.sink_faults book.sink) (tells.sink_faults ended.sink)
   pub ends : EndsBy book.status answer ended.status

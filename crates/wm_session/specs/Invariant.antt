@@ -1,25 +1,22 @@
 -- What the type of a book keeps at every moment.
-use Rattle.std.specs.Prelude.{◌≡◌, ℕ, ◌+◌, ◌^◌, ◌<◌, ◌≤◌, List, ◌++◌, length, map, Option, Some, None, option_map}
+use Rattle.std.specs.Prelude.{◌≡◌, ℕ, ◌+◌, ◌^◌, ◌<◌, ◌≤◌, false, List, ◌++◌, length, map, Option, Some, None, option_map}
 use Rattle.std.specs.List.{AllByRecursion}
-use Rattle.wm_collections.specs.Lists.{last_of}
 use Rattle.wm_machine.specs.Outcome.{IsBuilt}
 use Rattle.wm_machine.specs.Log.{commands_of, AreNumberedFrom, HasPrefix}
 use Rattle.wm_machine.specs.Narrow.{IsNarrow}
 use Rattle.wm_machine.specs.Replay.{Replay}
 use Rattle.wm_machine.specs.Rows.{rows_of}
-use Rattle.wm_texts.specs.Texts.{event_text, log_text}
+use Rattle.wm_texts.specs.Texts.{log_text}
 use Rattle.wm_machine.specs.Valid.{Valid}
 use Rattle.wm_machine.specs.declared.command.Command.{Command}
-use Rattle.wm_machine.specs.declared.event.Event.{Event}
-use Rattle.wm_machine.specs.declared.state.State.{State}
 use Rattle.wm_session.specs.Bench.{instance_traits, is_away, place_traits}
 use Rattle.wm_session.specs.BookState.{BookState}
 use Rattle.wm_session.specs.Causes.{StopCause}
 use Rattle.wm_session.specs.Inputs.{Inputs}
+use Rattle.wm_session.specs.Pending.{pending_text}
 use Rattle.wm_session.specs.Tells.{Tells}
 use Rattle.wm_session.specs.Writing.{IsAppended}
 use Rattle.wm_session.specs.declared.book.Stop.{Stop}
-use Rattle.wm_table.specs.TableState.{TableState}
 
 -- while a session goes on, the lines are those that were executed and those that are left; after it has stopped early, those that were
 -- executed are a front of them
@@ -27,22 +24,11 @@ abbrev pub LinesInvariant : Option Stop → List Command → List Command → Li
 LinesInvariant None lines done left = lines ≡ done ++ left
 LinesInvariant (Some why) lines done left = HasPrefix lines done
 
--- while a session goes on, the bytes written and those pending are the whole text; after it has stopped early, they are a front of it
-abbrev pub BytesInvariant : Option Stop → List ℕ → List ℕ → List ℕ → Type 0
-BytesInvariant None text written pending = text ≡ written ++ pending
-BytesInvariant (Some why) text written pending = HasPrefix text (written ++ pending)
-
--- what the sink was given since entry, where it tells that, and what is pending, are the text
-pub record TextsInvariant (status : Option Stop) (before now : Option (List ℕ)) (text pending : List ℕ) : Type 0 where
+-- what the sink was given since entry, where it tells that, and what is pending, are together the text
+pub record TextsInvariant (before now : Option (List ℕ)) (text pending : List ℕ) : Type 0 where
   pub written : List ℕ
   pub given : IsAppended before now written
-  pub kept : BytesInvariant status text written pending
-
--- the text of a table's last event, in whichever state it came, is put behind what is pending, and what is pending is written as far as
--- the sink takes it
-abbrev pub IsLastTold : {K : Type 0} → Option Stop → TableState K → Option (List ℕ) → Option (List ℕ) → List ℕ → List ℕ → Type 0
-IsLastTold status table before now pending left =
-    (s : State) (e : Event) → last_of table.log ≡ Some e → TextsInvariant status before now (pending ++ event_text s e table.state) left
+  pub kept : text ≡ written ++ pending
 
 -- while a session goes on, the workers that are away are those of the instances that are out
 abbrev pub AwayInvariant : {K W B : Type 0} → Option Stop → BookState K W B → Type 0
@@ -50,7 +36,7 @@ AwayInvariant None book = map (λ place. is_away place.presence) book.places ≡
 AwayInvariant (Some why) book = Unit {0}
 
 -- The facts of a book, of what its run was given: the log replays from the first state to the state now, which is valid, and narrow for now; its commands are
--- the lines up to the one that is next; the bytes written and pending are its text; the rows held are those of the state; the workers are
+-- the lines up to the one that is next; the bytes written and pending are its text, and while the session goes on each text is made; the rows held are those of the state; the workers are
 -- the instances; and the counts of faults haven't fallen, and have risen where a fault stopped the session.
 pub record BookInvariant {K W B : Type 0} (run : Inputs) (tells : Tells K W B) (book : BookState K W B) : Type 0 where
   pub first : book.table.first ≡ run.first
@@ -62,7 +48,8 @@ pub record BookInvariant {K W B : Type 0} (run : Inputs) (tells : Tells K W B) (
   pub numbered : AreNumberedFrom 1 book.table.log
   pub line : book.line ≡ length (commands_of book.table.log)
   pub few_lines : book.line + length book.left < 2 ^ 32
-  pub texts : TextsInvariant book.status run.written (tells.given book.sink) (log_text book.table.first book.table.log) book.pending
+  pub texts : TextsInvariant run.written (tells.given book.sink) (log_text book.table.first book.table.log) (pending_text book.table book.pending)
+  pub all_told : book.status ≡ None → book.pending.untold ≡ false
   pub rows : tells.held book.table.keeper ≡ option_map (λ _. rows_of book.table.state) run.rows
   pub workers : map (place_traits tells.kind_of) book.places ≡ map instance_traits book.table.state.instances
   pub away : AwayInvariant book.status book

@@ -10,6 +10,7 @@ pub mod Ended
 pub mod Hands
 pub mod Inputs
 pub mod Invariant
+pub mod Pending
 pub mod Status
 pub mod Tells
 pub mod Writing

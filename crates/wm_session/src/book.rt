@@ -17,8 +17,9 @@ ghost use Rattle.wm_table.specs.Table.{Stands};
 
 use crate::ended::Ended;
 use crate::mark::Mark;
+use crate::pending::Pending;
 use crate::status::Status;
-use crate::steps::{execute, give_back, give_up, status_after, tell_last, write_pending};
+use crate::steps::{execute, give_back, give_up, status_after};
 use crate::writing::WriteFault;
 use std::alloc::{AllocError, Global};
 use std::collections::VecDeque;
@@ -107,9 +108,6 @@ pub enum After<B> {
     Stopped,
 }
 
-/// How many bytes of replies there is room for from the start.
-const PENDING_BYTES: usize = 4096;
-
 /// A session under way: the table with the bench, the lines that are left, what is still to be
 /// written and where, and why it ended early, where it did. Its type keeps the facts that a run's
 /// promises rest on (`specs/Invariant.antt`), of what its run was given: see [`Mark`]. A contract sees
@@ -120,7 +118,7 @@ pub struct Book<K: Keeper, W: Sink, B: Worker, M: Mark> {
     bench: Bench<B>,
     left: VecDeque<Command>,
     line: u32,
-    pending: Vec<u8>,
+    pending: Pending,
     sink: W,
     status: Option<Stop>,
     of: PhantomData<M>,
@@ -134,9 +132,9 @@ impl<K: Keeper, W: Sink, B: Worker, M: Mark> Model for Book<K, W, B, M> {
     ghost use Rattle.wm_session.specs.Invariant.{BookInvariant};
     ghost use Rattle.wm_session.specs.Tells.{tells_of};
 
-    ghost view = { λ b. record { table = b.table; places = b.bench; left = b.left.items; line = b.line; pending = b.pending.items; sink = b.sink; status = b.status } };
+    ghost view = { λ b. record { table = b.table; places = b.bench; left = b.left.items; line = b.line; pending = b.pending; sink = b.sink; status = b.status } };
 
-    ghost invariant = { λ b. BookInvariant M.inputs (tells_of K.held K.faults W.given W.faults B.kind_of B.diary_of) (record { table = b.table; places = b.bench; left = b.left.items; line = b.line; pending = b.pending.items; sink = b.sink; status = b.status }) };
+    ghost invariant = { λ b. BookInvariant M.inputs (tells_of K.held K.faults W.given W.faults B.kind_of B.diary_of) (record { table = b.table; places = b.bench; left = b.left.items; line = b.line; pending = b.pending; sink = b.sink; status = b.status }) };
 }
 
 impl<K: Keeper, W: Sink, B: Worker, M: Mark> Book<K, W, B, M> {
@@ -175,7 +173,7 @@ impl<K: Keeper, W: Sink, B: Worker, M: Mark> Book<K, W, B, M> {
         ensures status { IfOk result (λ book. book.status ≡ None) }
         ensures kept { IfErr result (λ parts. parts ≡ (table, bench, sink)) }
     {
-        match Vec::with_capacity(alloc, PENDING_BYTES) {
+        match Pending::new(alloc) {
             Ok(pending) => Ok(Book {
                 alloc,
                 table,
@@ -212,7 +210,10 @@ impl<K: Keeper, W: Sink, B: Worker, M: Mark> Book<K, W, B, M> {
             return Front::Stopped;
         }
         self.line += 1;
-        match tell_last(self.alloc, &self.table, &mut self.pending, &mut self.sink) {
+        match self
+            .pending
+            .tell_last(self.alloc, &self.table, &mut self.sink)
+        {
             Ok(()) => Front::Moved,
             Err(fault) => {
                 self.status = Some(Stop::from(fault));
@@ -236,7 +237,10 @@ impl<K: Keeper, W: Sink, B: Worker, M: Mark> Book<K, W, B, M> {
                 return Job::Stopped;
             }
         };
-        match tell_last(self.alloc, &self.table, &mut self.pending, &mut self.sink) {
+        match self
+            .pending
+            .tell_last(self.alloc, &self.table, &mut self.sink)
+        {
             Ok(()) => match claim {
                 Claim::Run(ticket) => {
                     let Some(seat) = self.bench.take(ticket.instance()) else {
@@ -297,7 +301,10 @@ impl<K: Keeper, W: Sink, B: Worker, M: Mark> Book<K, W, B, M> {
     {
         match self.table.turn(ticket, told) {
             TurnAnswer::Go(next) => {
-                match tell_last(self.alloc, &self.table, &mut self.pending, &mut self.sink) {
+                match self
+                    .pending
+                    .tell_last(self.alloc, &self.table, &mut self.sink)
+                {
                     Ok(()) => After::Go(next, seat),
                     Err(fault) => {
                         self.status = Some(Stop::from(fault));
@@ -308,7 +315,10 @@ impl<K: Keeper, W: Sink, B: Worker, M: Mark> Book<K, W, B, M> {
             }
             TurnAnswer::Finished | TurnAnswer::TimedOut => {
                 self.bench.give(seat);
-                match tell_last(self.alloc, &self.table, &mut self.pending, &mut self.sink) {
+                match self
+                    .pending
+                    .tell_last(self.alloc, &self.table, &mut self.sink)
+                {
                     Ok(()) => After::Over,
                     Err(fault) => {
                         self.status = Some(Stop::from(fault));
@@ -375,7 +385,7 @@ impl<K: Keeper, W: Sink, B: Worker, M: Mark> Book<K, W, B, M> {
         ensures done { result.status ≡ Status.Done → self.status ≡ None }
     {
         let Book {
-            alloc: _,
+            alloc,
             table,
             bench,
             left,
@@ -386,7 +396,8 @@ impl<K: Keeper, W: Sink, B: Worker, M: Mark> Book<K, W, B, M> {
             of: _,
         } = self;
         drop(left);
-        let status = status_after(status, write_pending(&mut sink, &mut pending));
+        let written = pending.finish(alloc, &table, &mut sink);
+        let status = status_after(status, written);
         let TableEnd {
             first,
             last,

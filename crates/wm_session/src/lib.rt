@@ -10,6 +10,7 @@
 pub mod book;
 pub mod ended;
 mod mark;
+mod pending;
 pub mod serial;
 pub mod status;
 mod steps;

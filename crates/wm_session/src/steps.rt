@@ -1,30 +1,23 @@
-//! What a book does with its parts: it executes a line, writes what is pending, and puts ticket and
-//! worker back.
-ghost use Rattle.std.specs.Prelude.{◌≡◌, ◌++◌, ℕ, [], None, Some, IfErr, OnOk, OnErr};
+//! What a book does with its parts: it executes a line, puts ticket and worker back, and ends.
+ghost use Rattle.std.specs.Prelude.{◌≡◌, ℕ, Some, OnOk, OnErr};
 ghost use Rattle.wm_bench.specs.Places.{changed_at, made_back, IsAwayAt};
 ghost use Rattle.wm_collections.specs.Lists.{last_of};
 ghost use Rattle.wm_machine.specs.Outcome.{IsLegalLine};
-ghost use Rattle.wm_texts.specs.Texts.{text_of};
 ghost use Rattle.wm_machine.specs.declared.event.Event.TheVariants as event;
 ghost use Rattle.wm_machine.specs.declared.command.Command.{Command};
 ghost use Rattle.wm_machine.specs.declared.reply.Reply.{Reply};
 ghost use Rattle.wm_session.specs.Bench.{places_after};
 ghost use Rattle.wm_session.specs.Book.{IsClaimIn};
-ghost use Rattle.wm_session.specs.Causes.{stop_by_fault, EndsBy};
-ghost use Rattle.wm_session.specs.Invariant.{TextsInvariant, IsLastTold};
+ghost use Rattle.wm_session.specs.Causes.{EndsBy};
 ghost use Rattle.wm_table.specs.Table.{IsOneStep, IsUntouched, Stands, TroubleCause};
-ghost use Rattle.wm_session.specs.Writing.{WriteCause};
 
 use crate::book::Stop;
 use crate::status::Status;
-use crate::writing::{WriteFault, write_front};
-use std::alloc::Global;
+use crate::writing::WriteFault;
 use wm_bench::{Bench, Seated};
-use wm_io::Sink;
 use wm_keeper::Keeper;
 use wm_machine::{Command, Event};
 use wm_table::{Claim, Table, Ticket, Trouble};
-use wm_texts::event_text;
 use wm_worker::Worker;
 
 /// Executes the command of a line, and retires a class that it retires on the bench. Its reply
@@ -98,63 +91,6 @@ pub fn give_up<K: Keeper>(table: &mut Table<K>, claim: Claim)
         Claim::Run(ticket) => table.take_back(ticket),
         Claim::Failed { seq: _, cause } => drop(cause),
     }
-}
-
-/// Puts the text of the table's last event behind what is pending, and writes what is pending.
-pub fn tell_last<K: Keeper, W: Sink>(
-    alloc: Global,
-    table: &Table<K>,
-    pending: &mut Vec<u8>,
-    sink: &mut W,
-) -> Result<(), WriteFault>
-    ensures ok { OnOk result (IsLastTold None table.now (W.given sink.old) (W.given sink.new)
-        pending.old.items pending.new.items) }
-    ensures err { IfErr result (λ fault. IsLastTold (Some (stop_by_fault fault)) table.now
-        (W.given sink.old) (W.given sink.new) pending.old.items pending.new.items) }
-    ensures all { OnOk result (pending.new.items ≡ []) }
-    ensures cause { WriteCause result (W.faults sink.old) (W.faults sink.new) }
-{
-    match table.last_event() {
-        Some(event) => tell(alloc, event, table.hushed(), pending, sink),
-        None => write_pending(sink, pending),
-    }
-}
-
-/// Puts the text of an event behind what is pending, and writes what is pending.
-fn tell<W: Sink>(
-    alloc: Global,
-    event: &Event,
-    hushed: bool,
-    pending: &mut Vec<u8>,
-    sink: &mut W,
-) -> Result<(), WriteFault>
-    ensures ok { OnOk result (TextsInvariant None (W.given sink.old) (W.given sink.new)
-        (pending.old.items ++ text_of event.now hushed) pending.new.items) }
-    ensures err { IfErr result (λ fault. TextsInvariant (Some (stop_by_fault fault))
-        (W.given sink.old) (W.given sink.new)
-        (pending.old.items ++ text_of event.now hushed) pending.new.items) }
-    ensures all { OnOk result (pending.new.items ≡ []) }
-    ensures cause { WriteCause result (W.faults sink.old) (W.faults sink.new) }
-{
-    let Ok(text) = event_text(alloc, event, hushed) else {
-        return Err(WriteFault::Memory);
-    };
-    if pending.extend_from_slice(&text).is_err() {
-        return Err(WriteFault::Memory);
-    }
-    write_pending(sink, pending)
-}
-
-/// Writes what is pending, as far as the sink takes it; the rest stays pending.
-pub fn write_pending<W: Sink>(sink: &mut W, pending: &mut Vec<u8>) -> Result<(), WriteFault>
-    ensures all { OnOk result (pending.new.items ≡ []) }
-    ensures kept { TextsInvariant None (W.given sink.old)
-        (W.given sink.new) pending.old.items pending.new.items }
-    ensures cause { WriteCause result (W.faults sink.old) (W.faults sink.new) }
-{
-    let (taken, result) = write_front(sink, pending);
-    pending.drain(..taken);
-    result
 }
 
 /// How a session ends that stopped for this, or whose last write was answered so.

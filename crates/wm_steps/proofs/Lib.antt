@@ -1,7 +1,8 @@
 pub mod Lookups
 pub mod ManyRows
 pub mod Nodes
-pub mod StepFits
-pub mod Views
 pub mod ReachedNodes
+pub mod ReplacedRecords
+pub mod StepFits
 pub mod Tests
+pub mod Views

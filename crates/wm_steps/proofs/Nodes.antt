@@ -1,28 +1,23 @@
 -- The nodes of records: what they reach, and what they free, is what the machine says of the records.
-use Rattle.std.proofs.Common.{◌≡◌, ℕ, ◌<◌, ◌&&◌, ◌||◌, Bool, true, false, cond, eqb, List, [], ◌∷◌, ◌++◌, filter, map, refl, sym, ◌∙◌, ap, subst, arith, inl, inr}
+use Rattle.std.proofs.Common.{◌≡◌, ℕ, ◌<◌, ◌&&◌, ◌||◌, Bool, true, false, cond, eqb, List, [], ◌∷◌, filter, map, refl, sym, ◌∙◌, ap, arith, inl, inr}
 use Rattle.std.specs.List.{AllByRecursion, list_all, list_any}
-use Rattle.std.specs.Prelude.{reverse}
-use Rattle.std.proofs.lemmas.Bool.{and_from, cases_Bool, cond_both, eq-eqb, eqb-true, false≢true, ne_eqb, or_cases}
-use Rattle.std.proofs.lemmas.List.{map-append, reverse-append}
-use Rattle.std.proofs.lemmas.List.Folds.{list_any-append}
-use Rattle.std.proofs.lemmas.Map.Views.{any-filter_same}
+use Rattle.std.proofs.lemmas.Bool.{and_from, cases_Bool, cond_both, eq-eqb, eqb-true, false≢true, ne_eqb}
 use Rattle.wm_collections.specs.Lists.{AllLater, HasOne, is_among}
 use Rattle.wm_data.specs.declared.data.DataEntry.{DataEntry}
 use Rattle.wm_machine.specs.declared.record.Phase.{Phase}
 use Rattle.wm_machine.specs.declared.record.Record.{Record}
-use Rattle.wm_graph.specs.Descendants as graph
 use Rattle.wm_graph.specs.Marks.{freed_by, is_met, with_marked}
 use Rattle.wm_graph.specs.Nodes.{HasNode, NodeFields}
 use Rattle.wm_machine.proofs.Descendants.{descendant_self}
-use Rattle.wm_collections.proofs.Lists.{All-of_one, All-reverse, All-stored, All-weaker, All-with2, HasOne-weaker, filter-each, list_any-false, list_any-one, list_any-reverse, list_any-stored, map-reverse}
-use Rattle.wm_machine.proofs.Runnings.{IsAlone, IsAlone-stored, WorksAscend, WorksAscend-in_order}
-use Rattle.wm_machine.specs.Closed.{descendants, is_open, is_reached}
+use Rattle.wm_collections.proofs.Lists.{All-of_one, All-stored, All-weaker, All-with2, HasOne-weaker, filter-each, list_any-false, list_any-one, list_any-stored}
+use Rattle.wm_machine.proofs.Runnings.{IsAlone-stored, WorksAscend, WorksAscend-in_order}
+use Rattle.wm_machine.specs.Closed.{is_open, is_reached}
 use Rattle.wm_machine.specs.Ends.{is_freed, succeeded}
 use Rattle.wm_machine.specs.First.{all_met, has_succeeded, is_succeeded, is_waiting}
 use Rattle.wm_machine.specs.Runs.{changed_work}
 use Rattle.wm_machine.specs.Valid.{ArePriorSound, IsBefore, IsPrerequisite}
 use Rattle.wm_machine.specs.declared.record.Phase.TheVariants as phase
-use Rattle.wm_steps.specs.Nodes.{is_there, node_of, nodes_of, IsUnmarked, reached_from}
+use Rattle.wm_steps.specs.Nodes.{is_there, node_of, nodes_of, IsUnmarked}
 
 -- ---- what is there
 

@@ -17,6 +17,7 @@ use Rattle.wm_machine.specs.declared.record.Record.{Record}
 use Rattle.wm_machine.specs.declared.state.Instance.{Instance}
 use Rattle.wm_machine.specs.declared.state.Run.{Run}
 use Rattle.wm_machine.specs.declared.state.State.{State}
+use Rattle.wm_machine.specs.declared.state.WorkQuery.{WorkQuery}
 use Rattle.wm_steps.specs.Nodes.{AreThere, KeepsNode}
 use Rattle.wm_steps.specs.declared.change.Replacement.{Replacement}
 use Rattle.wm_steps.specs.declared.change.RunChange.{RunChange}
@@ -81,12 +82,23 @@ abbrev pub retired_by : SettingChange → List Instance → List Instance
 retired_by (set.Retire class) instances = with_retired class instances
 retired_by _ instances = instances
 
+-- the observers, with one more where that is set
+abbrev pub observers_by : SettingChange → List WorkQuery → List WorkQuery
+observers_by (set.Observe query) before = before ++ query ∷ []
+observers_by _ before = before
+
+-- how many observers there are more
+abbrev pub new_observers : SettingChange → ℕ
+new_observers (set.Observe query) = 1
+new_observers _ = 0
+
 -- a state with what is set in it
 abbrev pub set_by : SettingChange → State → State
 set_by to s = record s {
   now = now_by to s.now;
   conditions = conditions_by to s.conditions;
   instances = retired_by to s.instances;
+  observers = observers_by to s.observers;
   hushed = hushed_by to s.hushed;
 }
 

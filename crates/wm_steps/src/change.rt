@@ -6,7 +6,7 @@ use crate::joins::{both, one};
 use std::alloc::{AllocError, Global};
 use wm_collections::{Items, Text};
 use wm_conditions::Conditions;
-use wm_machine::{Event, Record, Run};
+use wm_machine::{Event, Record, Run, WorkQuery};
 
 /// A record that takes the place of the one at an index.
 #[derive(Drop)]
@@ -28,8 +28,8 @@ pub enum RunChange {
     End { run: u64, instance: u32 },
 }
 
-/// What is set in a step: the moment, the conditions, what is written, or which instances are
-/// retired.
+/// What is set in a step: the moment, the conditions, which instances are retired, an observer, or
+/// what is written.
 #[derive(Drop)]
 pub enum SettingChange {
     /// Nothing.
@@ -40,6 +40,8 @@ pub enum SettingChange {
     Conditions(Conditions),
     /// The instances of this class are retired.
     Retire(Text),
+    /// There is one observer more, of this query.
+    Observe(WorkQuery),
     /// From now on only summaries are written.
     Hush,
 }

@@ -1,5 +1,5 @@
 -- The graph of the records follows a step: what it does makes the nodes of the records after it.
-use Rattle.std.proofs.Common.{◌≡◌, ◌≢◌, ℕ, zero, suc, ◌+◌, ◌<◌, ◌≤◌, ◌&&◌, ◌||◌, pos, Bool, true, false, not, cond, eqb, List, [], ◌∷◌, ◌++◌, append_assoc, filter, length, map, set, slice_get, Some, refl, sym, ◌∙◌, ap, subst, arith, inl, inr}
+use Rattle.std.proofs.Common.{◌≡◌, ◌≢◌, ℕ, zero, suc, ◌+◌, ◌<◌, ◌&&◌, ◌||◌, pos, Bool, true, false, not, cond, eqb, List, [], ◌∷◌, ◌++◌, append_assoc, filter, length, map, set, slice_get, Some, refl, sym, ◌∙◌, ap, subst, arith, inl, inr}
 use Rattle.std.specs.List.{AllByRecursion}
 use Rattle.std.proofs.lemmas.Bool.{cases_Bool, eq-eqb, eqb-true, false≢true, ne_eqb, or_cases, or_left, or_right}
 use Rattle.std.proofs.lemmas.Int.{ints}
@@ -29,7 +29,8 @@ use Rattle.wm_steps.specs.Nodes.{is_there, node_of, nodes_of, AreThere, KeepsNod
 use Rattle.wm_steps.specs.StepChanges.{changed_state, other_works, put_replaced, put_work, remove_numbered, with_replaced, without, HaveNextNumbers, Fits, KeepsPlace, KeepsRow, NameEarlier}
 use Rattle.wm_steps.specs.declared.change.Replacement.{Replacement}
 use Rattle.wm_steps.specs.declared.change.StepChange.{StepChange}
-use Rattle.wm_table.proofs.StepRows.{keeps_number, other_works-above, replaced_within, rows-set, told_within, WorksAscend-set}
+use Rattle.wm_steps.proofs.ReplacedRecords.{keeps_number, next-above, other_works-above, WorksAscend-set}
+use Rattle.wm_table.proofs.StepRows.{replaced_within, rows-set, told_within}
 use Rattle.wm_table.specs.Following.{followed, nodes_by, placed_node, with_followed, without_all, AreAddable, IsAddable}
 
 -- ---- the same prerequisites are there
@@ -432,13 +433,6 @@ removed-front (number ∷ numbers) works placed above =
     ap (without numbers) (filter-append (λ (work : Record). not (eqb work.seq number)) works placed
     ∙ ap (λ (rest : List Record). other_works number works ++ rest) (other_works-above number placed above.0))
     ∙ removed-front numbers (other_works number works) placed above.1
-
-next-above : (next : ℕ) (placed : List Record) → HaveNextNumbers next placed → AllByRecursion (λ work. next ≤ work.seq) placed
-next-above next [] numbered = tt
-next-above next (work ∷ placed) numbered = (
-  omega (arith, numbered.0),
-  All-weaker placed (λ w is. omega arith) (next-above (next + 1) placed numbered.1),
-)
 
 -- ---- no row is changed twice
 

@@ -16,6 +16,7 @@ use Rattle.wm_machine.proofs.Runnings.{WorksAscend, WorksAscend-in_order}
 use Rattle.wm_machine.proofs.Rows.{rows_below}
 use Rattle.wm_machine.specs.Rows.{row_of, rows_of}
 use Rattle.wm_machine.specs.Valid.{Valid}
+use Rattle.wm_steps.proofs.ReplacedRecords.{keeps_number, number-kept, other_works-above, seqs-set, still_keep, All-seq, All-set, KeepsNumber, WorksAscend-set}
 use Rattle.wm_steps.specs.StepChanges.{changed_state, next_run_by, other_works, put_replaced, put_work, remove_numbered, row_changes, seqs_of, with_replaced, without, HaveNextNumbers, Fits, KeepsPlace, KeepsRow}
 use Rattle.wm_table.specs.Table.{HoldsRowsOf}
 use Rattle.wm_steps.specs.declared.change.Replacement.{Replacement}
@@ -23,44 +24,6 @@ use Rattle.wm_steps.specs.declared.change.RunChange.TheVariants.{Unchanged, Begi
 use Rattle.wm_steps.specs.declared.change.StepChange.{StepChange}
 
 -- ---- a record that takes the place of one of its number
-
-abbrev KeepsNumber : List Record → Replacement → Type 0
-KeepsNumber works replaced = slice_get (seqs_of works) replaced.index ≡ Some replaced.work.seq
-
-number-of_place : (works : List Record) (i : ℕ) (new : Record) → KeepsPlace works (record { index = i; work = new })
-    → slice_get (seqs_of works) i ≡ Some new.seq
-number-of_place [] i new keeps = absurd keeps
-number-of_place (work ∷ works) zero new keeps = ap (λ (n : ℕ). Some n) (sym keeps.seq)
-number-of_place (work ∷ works) (suc i) new keeps = number-of_place works i new keeps
-
--- one that keeps a node has its number
-pub keeps_number : (works : List Record) (replaced : Replacement) → KeepsPlace works replaced → KeepsNumber works replaced
-keeps_number works replaced keeps = number-of_place works replaced.index replaced.work keeps
-
--- what holds of each number holds of the one at an index
-All-seq : (P : ℕ → Type 0) (works : List Record) (i number : ℕ) → AllByRecursion (λ work. P work.seq) works → slice_get (seqs_of works) i ≡ Some number
-    → P number
-All-seq P [] i number all is = absurd (none-some number is)
-All-seq P (work ∷ works) zero number all is = subst P (same_Some work.seq number is) all.0
-All-seq P (work ∷ works) (suc i) number all is = All-seq P works i number all.1 is
-
-pub seqs-set : (works : List Record) (i : ℕ) (new : Record) → slice_get (seqs_of works) i ≡ Some new.seq → seqs_of (set works i new) ≡ seqs_of works
-seqs-set [] i new is = refl
-seqs-set (work ∷ works) zero new is = ap (λ number. number ∷ seqs_of works) (sym (same_Some work.seq new.seq is))
-seqs-set (work ∷ works) (suc i) new is = ap (λ rest. work.seq ∷ rest) (seqs-set works i new is)
-
-All-set : (P : ℕ → Type 0) (works : List Record) (i : ℕ) (new : Record) → slice_get (seqs_of works) i ≡ Some new.seq
-    → AllByRecursion (λ work. P work.seq) works → AllByRecursion (λ work. P work.seq) (set works i new)
-All-set P [] i new is all = tt
-All-set P (work ∷ works) zero new is all = (subst P (same_Some work.seq new.seq is) all.0, all.1)
-All-set P (work ∷ works) (suc i) new is all = (all.0, All-set P works i new is all.1)
-
-pub WorksAscend-set : (works : List Record) (i : ℕ) (new : Record) → slice_get (seqs_of works) i ≡ Some new.seq → WorksAscend works
-    → WorksAscend (set works i new)
-WorksAscend-set [] i new is ascend = tt
-WorksAscend-set (work ∷ works) zero new is ascend =
-    (subst (λ number. AllByRecursion (λ later. number < later.seq) works) (same_Some work.seq new.seq is) ascend.0, ascend.1)
-WorksAscend-set (work ∷ works) (suc i) new is ascend = (All-set (λ number. work.seq < number) works i new is ascend.0, WorksAscend-set works i new is ascend.1)
 
 -- its row takes the place of the old row
 put_row-at : (works : List Record) (i : ℕ) (new : Record) → slice_get (seqs_of works) i ≡ Some new.seq → WorksAscend works
@@ -81,12 +44,6 @@ put_row-at (work ∷ works) (suc i) new is ascend =
 abbrev AreBelow : ℕ → List Record → Type 0
 AreBelow next works = WorksAscend works × AllByRecursion (λ work. work.seq < next) works
 
--- the others keep their numbers
-still_keep : (works : List Record) (replaced : Replacement) (later : List Replacement) → AllByRecursion (KeepsNumber works) (replaced ∷ later)
-    → AllByRecursion (KeepsNumber (set works replaced.index replaced.work)) later
-still_keep works replaced later keep =
-    subst (λ numbers. AllByRecursion (λ r. slice_get numbers r.index ≡ Some r.work.seq) later) (sym (seqs-set works replaced.index replaced.work keep.0)) keep.1
-
 rows-replaced : (next : ℕ) (replaced : List Replacement) (works : List Record) → AllByRecursion (KeepsNumber works) replaced → AreBelow next works
     → (changed (map put_replaced replaced) (map row_of works) ≡ map row_of (with_replaced replaced works)) × AreBelow next (with_replaced replaced works)
 rows-replaced next [] works keep below = (refl, below)
@@ -97,16 +54,6 @@ rows-replaced next (replaced ∷ later) works keep below =
     (ap (changed (map put_replaced later)) (put_row-at works replaced.index replaced.work keep.0 below.0) ∙ rest.0, rest.1)
 
 -- ---- a record that takes the place of one of its row
-
--- a record of the same row has the same number
-number-kept : (works : List Record) (i : ℕ) (new : Record) → slice_get (map row_of works) i ≡ Some (row_of new) → slice_get (seqs_of works) i ≡ Some new.seq
-number-kept [] i new is = absurd (none-some (row_of new) is)
-number-kept (work ∷ works) zero new is =
-    let row : row_of work ≡ row_of new = same_Some (row_of work) (row_of new) is in
-    let number : pos work.seq ≡ pos new.seq = ap (λ (r : Row). r.seq) row in
-    let same : work.seq ≡ new.seq = omega (arith, ints) in
-    ap (λ (n : ℕ). Some n) same
-number-kept (work ∷ works) (suc i) new is = number-kept works i new is
 
 pub rows-set : (works : List Record) (i : ℕ) (new : Record) → slice_get (map row_of works) i ≡ Some (row_of new)
     → map row_of (set works i new) ≡ map row_of works
@@ -133,13 +80,6 @@ rows-told next (told ∷ later) works keep below =
     record { rows = rest.rows ∙ rows; numbers = rest.numbers ∙ seqs-set works told.index told.work number; below = rest.below }
 
 -- ---- records that are removed
-
--- records above a number stay
-pub other_works-above : (number : ℕ) (works : List Record) → AllByRecursion (λ later. number < later.seq) works → other_works number works ≡ works
-other_works-above number [] above = refl
-other_works-above number (work ∷ works) above =
-    let other = ne_eqb work.seq number (λ e. absurd (omega (arith, above.0))) in
-    rw other (ap (λ rest. work ∷ rest) (other_works-above number works above.1))
 
 remove_row-at : (number : ℕ) (works : List Record) → WorksAscend works → remove_row (pos number) (map row_of works) ≡ map row_of (other_works number works)
 remove_row-at number [] ascend = refl

@@ -1,5 +1,5 @@
 -- What the calls of the table make is one step, and what a table keeps is kept by one step.
-use Rattle.std.proofs.Common.{◌≡◌, ℕ, zero, suc, ◌+◌, ◌-◌, ◌<◌, ◌≤◌, Bool, true, false, not, List, [], ◌∷◌, length, length-append, slice_get, Option, Some, None, option_map, refl, sym, ◌∙◌, ap, subst, arith}
+use Rattle.std.proofs.Common.{◌≡◌, ℕ, zero, suc, ◌+◌, ◌-◌, ◌<◌, ◌≤◌, Bool, true, false, not, List, [], ◌∷◌, ◌++◌, length, length-append, slice_get, Option, Some, None, option_map, refl, sym, ◌∙◌, ap, subst, arith}
 use Rattle.std.specs.Prelude.{◌↔◌, is_some, IfSome, IsTrue, MatchOption}
 use Rattle.std.proofs.lemmas.Bool.{true≢false}
 use Rattle.std.proofs.lemmas.Option.{none-some}
@@ -18,7 +18,12 @@ use Rattle.wm_machine.specs.Rows.{rows_of}
 use Rattle.wm_machine.specs.declared.event.Event.{Event}
 use Rattle.wm_machine.specs.declared.state.Instance.{Instance}
 use Rattle.wm_machine.specs.declared.state.State.{State}
+use Rattle.wm_observe.proofs.NoteLaws.{last_notes-push}
+use Rattle.wm_observe.specs.Notes.{last_notes, notes_between}
+use Rattle.wm_observe.specs.declared.note.Note.{Note}
+use Rattle.wm_steps.specs.StepChanges.{changed_state, IsStepOf}
 use Rattle.wm_steps.specs.Views.{IsViewed}
+use Rattle.wm_steps.specs.declared.change.StepChange.{StepChange}
 use Rattle.wm_table.specs.Table.{HoldsRowsOf, IsOneStep, TableInvariant, IsUntouched}
 use Rattle.wm_table.specs.TableState.{TableState}
 
@@ -58,32 +63,46 @@ viewed-opening instances s graph fresh s_is graph_is =
     rw (s_is, graph_is) (record { valid = reached.valid; narrow = reached.narrow; graph_is = refl })
 
 -- what a table keeps when it begins
-pub kept-opening : (instances : List Instance) (rows : List Row) (held : Option (List Row)) (first s : State) (log : List Event)
+pub kept-opening : (instances : List Instance) (rows : List Row) (held : Option (List Row)) (first s : State) (log : List Event) (notes : List Note)
     → IfSome held (λ stored. rows ≡ stored) → rows ≡ [] → first ≡ opening_state [] instances → s ≡ opening_state [] instances → log ≡ []
-    → TableInvariant first s log held
-kept-opening instances rows held first s log told none first_is s_is log_is =
+    → notes ≡ [] → TableInvariant first s log notes held
+kept-opening instances rows held first s log notes told none first_is s_is log_is notes_is =
     let stored : IfSome held (λ stored. [] ≡ stored) = subst (λ (rs : List Row). IfSome held (λ stored. rs ≡ stored)) none told in
-    rw (first_is, s_is, log_is) (record { replay = refl; rows = holds_none held stored; few_runs = omega arith })
+    rw (first_is, s_is, log_is, notes_is) (record { replay = refl; notes_are = refl; rows = holds_none held stored; few_runs = omega arith })
 
 -- ---- what a table keeps
 
+-- what is made by carrying out the change of a step is one step
+pub made-step : {K : Type 0} (held : K → Option (List Row)) (old : TableState K) (change : StepChange) (state : State) (log : List Event) (keeper : K)
+    → IsStepOf old.state change → state ≡ changed_state change old.state → log ≡ old.log ++ change.event ∷ []
+    → held keeper ≡ option_map (λ _. rows_of state) (held old.keeper)
+    → IsOneStep held change.event old (record { first = old.first; state = state; log = log; keeper = keeper })
+made-step held old change state log keeper is state_is log_is rows =
+    record { first = refl; legal = is.legal; state = state_is ∙ is.state; appended = log_is; rows = rows }
+
 module _ {K : Type 0} (held : K → Option (List Row)) (old new : TableState K) where
-  -- a step that begins one run at most
-  pub kept-step : (e : Event) → TableInvariant old.first old.state old.log (held old.keeper) → IsOneStep held e old new
-      → new.state.next_run ≤ old.state.next_run + 1 → TableInvariant new.first new.state new.log (held new.keeper)
-  kept-step e kept step more =
+  -- a step that begins one run at most, with what is told of it
+  pub kept-step : (e : Event) (before told : List Note) → TableInvariant old.first old.state old.log before (held old.keeper)
+      → IsOneStep held e old new → told ≡ notes_between old.state new.state → new.state.next_run ≤ old.state.next_run + 1
+      → TableInvariant new.first new.state new.log told (held new.keeper)
+  kept-step e before told kept step told_is more =
       let longer : length new.log ≡ length old.log + 1 = ap length step.appended ∙ length-append old.log (e ∷ []) in
       let few : new.state.next_run ≤ length new.log + 1 = omega (arith, kept.few_runs) in
       let rows : HoldsRowsOf new.state (held new.keeper) = HoldsRowsOf-told new.state (held old.keeper) (held new.keeper) step.rows in
       record {
         replay = rw (step.first, step.state, step.appended) (Replay-push old.first old.log old.state e kept.replay step.legal);
+        notes_are = told_is
+            ∙ ap (notes_between old.state) step.state
+            ∙ sym (last_notes-push old.first old.log old.state e kept.replay)
+            ∙ ap (last_notes old.first) (sym step.appended)
+            ∙ ap (λ s. last_notes s new.log) (sym step.first);
         rows = rows;
         few_runs = few;
       }
 
-  pub kept-untouched : TableInvariant old.first old.state old.log (held old.keeper) → IsUntouched held old new
-      → TableInvariant new.first new.state new.log (held new.keeper)
-  kept-untouched kept same = rw (same.first, same.state, same.log, same.rows) kept
+  pub kept-untouched : (notes : List Note) → TableInvariant old.first old.state old.log notes (held old.keeper) → IsUntouched held old new
+      → TableInvariant new.first new.state new.log notes (held new.keeper)
+  kept-untouched notes kept same = rw (same.first, same.state, same.log, same.rows) kept
 
 -- ---- rest
 

@@ -13,6 +13,8 @@ use Rattle.wm_machine.specs.Step.{Legal, after, role_of}
 use Rattle.wm_machine.specs.declared.event.Event.{Event}
 use Rattle.wm_machine.specs.declared.event.Event.TheVariants as event
 use Rattle.wm_machine.specs.declared.state.State.{State}
+use Rattle.wm_observe.specs.Notes.{last_notes}
+use Rattle.wm_observe.specs.declared.note.Note.{Note}
 use Rattle.wm_runs.specs.Reports.{is_timeout, CountsIn}
 use Rattle.wm_runs.specs.declared.starting.Claimed.{Claimed}
 use Rattle.wm_runs.specs.declared.starting.Claimed.TheVariants as claimed
@@ -175,8 +177,9 @@ TurnCause answer before now = faults.HasCause (is_refused_for_keeper answer) bef
 abbrev pub HoldsRowsOf : State → Option (List Row) → Type 0
 HoldsRowsOf s held = held ≡ option_map (λ _. rows_of s) held
 
--- the log replays from the first state to the state now, whose rows are held
-pub record TableInvariant (first state : State) (log : List Event) (held : Option (List Row)) : Type 0 where
+-- the log replays from the first state to the state now, whose rows are held, and the notes are those of its last event
+pub record TableInvariant (first state : State) (log : List Event) (notes : List Note) (held : Option (List Row)) : Type 0 where
   pub replay : Replay first log state
+  pub notes_are : notes ≡ last_notes first log
   pub rows : HoldsRowsOf state held
   pub few_runs : state.next_run ≤ length log + 1

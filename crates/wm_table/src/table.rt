@@ -8,6 +8,7 @@ ghost use Rattle.wm_machine.specs.Opened.{opening_state, AreFresh, Opened};
 ghost use Rattle.wm_machine.specs.Quiet.{IsQuiet};
 ghost use Rattle.wm_machine.specs.Replay.{Replay};
 ghost use Rattle.wm_machine.specs.Valid.{Valid};
+ghost use Rattle.wm_observe.specs.Notes.{last_notes};
 ghost use Rattle.wm_machine.specs.declared.event.Event.TheVariants as event;
 ghost use Rattle.wm_steps.specs.StepChanges.{row_changes, IsStepOf};
 ghost use Rattle.wm_commands.specs.Builds.{ChangesNoRow, ChangesRows};
@@ -28,6 +29,7 @@ use wm_collections::{Items, Replica};
 use wm_commands::{Executed, execute};
 use wm_keeper::{KeepFault, Keeper, Row};
 use wm_machine::{Cause, Command, Event, Instance, Reply, State};
+use wm_observe::{Note, step_notes};
 use wm_query::first_index;
 use wm_runs::{Claimed, Claiming, Ending, claim_first, counts_in, finish, goes_on, next_turn};
 use wm_steps::{StepChange, View};
@@ -130,9 +132,10 @@ pub struct TableEnd<K> {
 }
 
 /// The state, the log of the events that led to it from the first state, and the keeper of its
-/// rows. The state stands in a [`View`] with what is kept beside it. Its type keeps that the log
-/// replays, and that the keeper holds the state's rows, where it tells them. A contract sees first
-/// state, state, log and keeper.
+/// rows. The state stands in a [`View`] with what is kept beside it, and so do the notes of the last
+/// event. Its type keeps that the log replays, that the notes are those of its last event, and that
+/// the keeper holds the state's rows, where it tells them. A contract sees first state, state, log
+/// and keeper.
 ///
 /// Each call makes at most one event. It takes all its memory first, then commits the rows that
 /// change, and changes the state last: so nothing can fail after a commit, and where there is
@@ -142,6 +145,7 @@ pub struct Table<K: Keeper> {
     first: State,
     view: View,
     log: Items<Event>,
+    notes: Items<Note>,
     keeper: K,
 }
 
@@ -154,7 +158,7 @@ impl<K: Keeper> Model for Table<K> {
 
     ghost view = { λ t. record { first = t.first; state = t.view; log = t.log; keeper = t.keeper } };
 
-    ghost invariant = { λ t. TableInvariant t.first t.view t.log (K.held t.keeper) };
+    ghost invariant = { λ t. TableInvariant t.first t.view t.log t.notes (K.held t.keeper) };
 }
 
 impl<K: Keeper> Table<K> {
@@ -190,6 +194,7 @@ impl<K: Keeper> Table<K> {
                 first: opening_state(alloc, copies),
                 view: opening_view(alloc, instances),
                 log: Items::new(alloc),
+                notes: Items::new(alloc),
                 keeper,
             }),
             Err(_) => Err((keeper, BeginFault::Memory)),
@@ -288,11 +293,20 @@ impl<K: Keeper> Table<K> {
         self.view.state.now
     }
 
-    /// The log's last event; none where the log is empty.
+    /// The log's last event, by which it replays to the state; none where the log is empty.
     pub fn last_event(&self) -> Option<&Event>
-        ensures { option_copied result ≡ last_of self.now.log }
+        ensures last { option_copied result ≡ last_of self.now.log }
+        ensures replay { Replay self.now.first self.now.log self.now.state }
     {
         self.log.as_slice().last()
+    }
+
+    /// What the observers are told of the log's last event; none where the log is empty. It takes no
+    /// memory.
+    pub fn last_notes(&self) -> &[Note]
+        ensures { result.now ≡ last_notes self.now.first self.now.log }
+    {
+        self.notes.as_slice()
     }
 
     /// What the table has, which is over. It takes no memory.
@@ -311,6 +325,7 @@ impl<K: Keeper> Table<K> {
             first,
             view,
             log,
+            notes: _,
             keeper,
         } = self;
         let View { state, graph: _ } = view;
@@ -389,7 +404,8 @@ impl<K: Keeper> Table<K> {
         Ok(timed_out)
     }
 
-    /// Makes the step of a change. Where it changes no row, the keeper is as it was.
+    /// Makes the step of a change, and before it the notes of its event. Where it changes no row, the
+    /// keeper is as it was.
     fn make(&mut self, change: StepChange) -> Result<(), Trouble>
         requires { IsStepOf self.old.state change }
         ensures ok { OnOk result (IsOneStep K.held change.event self.old self.new) }
@@ -398,6 +414,7 @@ impl<K: Keeper> Table<K> {
         ensures untouched_keeper { row_changes change ≡ [] → self.new.keeper ≡ self.old.keeper }
         ensures no_keeper_fault { row_changes change ≡ [] → result ≢ Err Trouble.KeeperFault }
     {
+        let notes = step_notes(self.alloc, &self.view, &change)?;
         carry_out(
             self.alloc,
             &mut self.view,
@@ -405,6 +422,7 @@ impl<K: Keeper> Table<K> {
             &mut self.keeper,
             change,
         )?;
+        self.notes = notes;
         Ok(())
     }
 }

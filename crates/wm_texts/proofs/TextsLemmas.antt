@@ -3,7 +3,7 @@ use Rattle.std.proofs.Common.{◌≡◌, ℕ, List, Option, Some, None, false, r
 use Rattle.serde_json.specs.Data as json
 use Rattle.serde_json.specs.Written.{has_float, members_have_float}
 use Rattle.wm_data.proofs.NoFloats.{entries_have_no_float, list_has_no_float}
-use Rattle.wm_texts.specs.Texts.{count, info_json, info_members, reply_json, with_due, with_name}
+use Rattle.wm_texts.specs.Texts.{count, info_json, info_members, note_json, reply_json, with_due, with_name}
 use Rattle.wm_machine.specs.declared.command.LineFault.{LineFault}
 use Rattle.wm_machine.specs.declared.command.LineFault.TheVariants as fault
 use Rattle.wm_machine.specs.declared.reply.Refusal.{Refusal}
@@ -11,6 +11,8 @@ use Rattle.wm_machine.specs.declared.reply.Reply.{Reply}
 use Rattle.wm_machine.specs.declared.reply.Refusal.TheVariants as refusal
 use Rattle.wm_machine.specs.declared.reply.Reply.TheVariants as reply
 use Rattle.wm_machine.specs.declared.reply.WorkInfo.{WorkInfo}
+use Rattle.wm_observe.specs.declared.note.Note.{Note}
+use Rattle.wm_observe.specs.declared.note.Note.TheVariants as note
 
 -- ---- what is told of a work
 
@@ -43,3 +45,9 @@ reply_has_no_float line (reply.Query works) = rw (list_has_no_float info_json wo
 reply_has_no_float line (reply.Observing observer works) = rw (list_has_no_float info_json works info_has_no_float)
 reply_has_no_float line (reply.Refused found) = refusal_has_no_float line found
 reply_has_no_float line _ = refl
+
+-- ---- notes
+
+pub note_has_no_float : (told : Note) → has_float (note_json told) ≡ false
+note_has_no_float (note.Info observer info) = rw (info_has_no_float info)
+note_has_no_float (note.Gone observer seq) = refl

@@ -21,6 +21,9 @@ use Rattle.wm_machine.specs.declared.reply.Reply.{Reply}
 use Rattle.wm_machine.specs.declared.reply.Reply.TheVariants as reply
 use Rattle.wm_machine.specs.declared.reply.WorkInfo.{WorkInfo}
 use Rattle.wm_machine.specs.declared.state.State.{State}
+use Rattle.wm_observe.specs.Notes.{notes_between}
+use Rattle.wm_observe.specs.declared.note.Note.{Note}
+use Rattle.wm_observe.specs.declared.note.Note.TheVariants as note
 
 abbrev pub count : ℕ → json.Data
 count n = json.number (json.unsigned n)
@@ -34,7 +37,6 @@ id_text id = json.string (hyphenated_text lower id)
 
 -- the name of a line's fault
 abbrev pub fault_name : LineFault → List ℕ
-fault_name fault.NotBuilt = codes "NotBuilt"
 fault_name fault.Bad = codes "Bad"
 fault_name fault.EmptyKey = codes "EmptyKey"
 fault_name (fault.BadData key) = codes "BadData"
@@ -192,8 +194,6 @@ reply_json line (reply.Refused found) = json.object (with_refusal found (refused
 abbrev pub reply_text : ℕ → Reply → List ℕ
 reply_text line answer = compact_text (reply_json line answer) ++ 10 ∷ []
 
--- ---- events
-
 -- whether a reply is written, where the state after it is hushed or isn't: that of `hush` never, that of `summary` always, and every
 -- other one where it isn't
 abbrev pub is_written : Reply → Bool → Bool
@@ -201,16 +201,46 @@ is_written reply.Hushed hushed = false
 is_written (reply.Summary counts) hushed = true
 is_written _ hushed = not hushed
 
--- the text of an event, where the state after it is hushed or isn't: the reply to a line, where it is written
-unfoldable pub text_of : Event → Bool → List ℕ
-text_of (event.Command line asked answer) hushed = if is_written answer hushed then reply_text line answer else []
-text_of _ hushed = []
+-- ---- notes
+
+-- a note, as JSON
+abbrev pub note_json : Note → json.Data
+note_json (note.Info observer info) = json.object
+    (json.member (codes "info") (info_json info) (json.member (codes "note") (count observer) json.no_members))
+note_json (note.Gone observer seq) = json.object
+    (json.member (codes "gone") (count seq) (json.member (codes "note") (count observer) json.no_members))
+
+-- a line, as that of a reply
+abbrev pub note_text : Note → List ℕ
+note_text told = compact_text (note_json told) ++ 10 ∷ []
+
+abbrev pub notes_text : List Note → List ℕ
+notes_text [] = []
+notes_text (told ∷ notes) = note_text told ++ notes_text notes
+
+-- ---- events
+
+-- the text of a reply, where it is written
+abbrev pub answer_text : Event → Bool → List ℕ
+answer_text (event.Command line asked answer) hushed = if is_written answer hushed then reply_text line answer else []
+answer_text _ hushed = []
+
+-- the text of an event with its notes, where the state after it is hushed or isn't: the reply to a line, where it is written, and then the notes,
+-- which are where it isn't hushed
+unfoldable pub text_of : Event → List Note → Bool → List ℕ
+text_of e notes hushed = answer_text e hushed ++ (if hushed then [] else notes_text notes)
 
 -- what is written for an event in a state, with the state after it
 abbrev pub event_text : State → Event → State → List ℕ
-event_text s e t = text_of e t.hushed
+event_text s e t = text_of e (notes_between s t) t.hushed
 
 -- what is written for a log, from a first state on
 abbrev pub log_text : State → List Event → List ℕ
 log_text first [] = []
 log_text first (e ∷ log) = event_text first e (after first e) ++ log_text (after first e) log
+
+-- what is written for the last event of a log
+abbrev pub last_text : State → List Event → List ℕ
+last_text first [] = []
+last_text first (e ∷ []) = event_text first e (after first e)
+last_text first (e ∷ later ∷ log) = last_text (after first e) (later ∷ log)

@@ -1,4 +1,4 @@
-ghost use Rattle.std.specs.Prelude.{◌≡◌, IfOk, OnOk, OnErr};
+ghost use Rattle.std.specs.Prelude.{◌≡◌, ◌++◌, IfOk, OnOk, OnErr};
 ghost use Rattle.serde_json.specs.View.{view, members_view};
 ghost use Rattle.wm_data.specs.DataJson.{data_json};
 ghost use Rattle.wm_texts.specs.Texts as texts;
@@ -9,13 +9,30 @@ use uuid::Uuid;
 use wm_collections::Text;
 use wm_data::Data;
 use wm_machine::{Applied, Counts, Event, LineFault, Refusal, Reply, Shown, WorkInfo};
+use wm_observe::Note;
 
-/// What is written for an event, where the state after it is hushed or isn't: the reply to a line,
-/// where it is written, as one compact JSON object, keys in ascending byte order, and LF; for any
-/// other event nothing.
+/// What is written for an event with its notes, where the state after it is hushed or isn't: the reply
+/// to a line, where it is written, and where it isn't hushed the notes, each as one compact JSON
+/// object, keys in ascending byte order, and LF. Memory that is refused is the only error.
 #[tactic(auto, unfolding(crate::specs::Texts::text_of))]
-pub fn event_text(alloc: Global, event: &Event, hushed: bool) -> Result<Vec<u8>, AllocError>
-    ensures { IfOk result (λ text. text.items ≡ texts.text_of event.now hushed) }
+pub fn event_text(
+    alloc: Global,
+    event: &Event,
+    notes: &[Note],
+    hushed: bool,
+) -> Result<Vec<u8>, AllocError>
+    ensures { IfOk result (λ text. text.items ≡ texts.text_of event.now notes.now hushed) }
+{
+    let mut text = answer_text(alloc, event, hushed)?;
+    if !hushed {
+        add_notes(alloc, &mut text, notes)?;
+    }
+    Ok(text)
+}
+
+// The text of a reply, where it is written.
+fn answer_text(alloc: Global, event: &Event, hushed: bool) -> Result<Vec<u8>, AllocError>
+    ensures { IfOk result (λ text. text.items ≡ texts.answer_text event.now hushed) }
 {
     let Event::Command { line, reply, .. } = event else {
         return Ok(Vec::new(alloc));
@@ -24,6 +41,39 @@ pub fn event_text(alloc: Global, event: &Event, hushed: bool) -> Result<Vec<u8>,
         reply_text(alloc, *line, reply)
     } else {
         Ok(Vec::new(alloc))
+    }
+}
+
+// Puts the texts of notes behind a text.
+fn add_notes(alloc: Global, text: &mut Vec<u8>, notes: &[Note]) -> Result<(), AllocError>
+    ensures { OnOk result (text.new.items ≡ text.old.items ++ texts.notes_text notes.now) }
+{
+    for note in notes {
+        let line = note_text(alloc, note)?;
+        text.extend_from_slice(&line)?;
+    }
+    Ok(())
+}
+
+// A note, and LF.
+#[tactic(auto, using(crate::proofs::TextsLemmas::note_has_no_float))]
+fn note_text(alloc: Global, note: &Note) -> Result<Vec<u8>, AllocError>
+    ensures { IfOk result (λ text. text.items ≡ texts.note_text note.now) }
+{
+    let mut text = note_value(alloc, note)?.to_vec(alloc)?;
+    text.push(b'\n')?;
+    Ok(text)
+}
+
+fn note_value(alloc: Global, note: &Note) -> Result<Value, AllocError>
+    ensures { IfOk result (λ value. view value ≡ texts.note_json note.now) }
+{
+    match note {
+        Note::Info { observer, info } => {
+            let info = info_value(alloc, info)?;
+            json!(in alloc; {"info": info, "note": *observer})
+        }
+        Note::Gone { observer, seq } => json!(in alloc; {"gone": *seq, "note": *observer}),
     }
 }
 
@@ -309,7 +359,6 @@ fn fault_name(fault: &LineFault) -> &'static str
     ensures { result.now ≡ texts.fault_name fault.now }
 {
     match fault {
-        LineFault::NotBuilt => "NotBuilt",
         LineFault::Bad => "Bad",
         LineFault::EmptyKey => "EmptyKey",
         LineFault::BadData { .. } => "BadData",

@@ -8,7 +8,7 @@ ghost use Rattle.wm_machine.specs.Retired.{with_retired};
 ghost use Rattle.wm_machine.specs.Rows.{rows_of};
 ghost use Rattle.wm_machine.specs.Runs.{other_runs, with_out};
 ghost use Rattle.wm_machine.specs.Turns.{with_turned};
-ghost use Rattle.wm_steps.specs.StepChanges.{changed_state, instances_by, next_run_by, other_works, row_changes, runs_by, set_by, with_replaced, without, IsStepOf};
+ghost use Rattle.wm_steps.specs.StepChanges.{changed_state, instances_by, new_observers, next_run_by, observers_by, other_works, row_changes, runs_by, set_by, with_replaced, without, IsStepOf};
 ghost use Rattle.wm_table.specs.Following.{placed_node, AreAddable};
 ghost use Rattle.wm_table.specs.Table.{HoldsRowsOf, TroubleCause};
 
@@ -20,7 +20,7 @@ use std::mem;
 use wm_collections::{Items, Text};
 use wm_graph::Graph;
 use wm_keeper::{Change, Keeper};
-use wm_machine::{Event, Instance, Record, Run, State};
+use wm_machine::{Event, Instance, Record, Run, State, WorkQuery};
 use wm_steps::{Replacement, RunChange, SettingChange, StepChange, View};
 
 /// The lists that a step adds to, while their room counts.
@@ -28,6 +28,7 @@ use wm_steps::{Replacement, RunChange, SettingChange, StepChange, View};
 struct Lists {
     works: Vec<Record>,
     runs: Vec<Run>,
+    observers: Vec<WorkQuery>,
     log: Vec<Event>,
 }
 
@@ -36,37 +37,47 @@ impl Lists {
     fn take(alloc: Global, state: &mut State, log: &mut Items<Event>) -> Lists
         ensures works { result.works.items ≡ state.old.works }
         ensures runs { result.runs.items ≡ state.old.runs }
+        ensures observers { result.observers.items ≡ state.old.observers }
         ensures log { result.log.items ≡ log.old }
-        ensures state { state.new ≡ record state.old { works = []; runs = [] } }
+        ensures state { state.new ≡ record state.old { works = []; runs = []; observers = [] } }
     {
         Lists {
             works: mem::replace(&mut state.works, Items::new(alloc)).into_vec(),
             runs: mem::replace(&mut state.runs, Items::new(alloc)).into_vec(),
+            observers: mem::replace(&mut state.observers, Items::new(alloc)).into_vec(),
             log: mem::replace(log, Items::new(alloc)).into_vec(),
         }
     }
 
     /// Puts the lists back.
     fn put_back(self, state: &mut State, log: &mut Items<Event>)
-        ensures state { state.new ≡ record state.old { works = self.works.items; runs = self.runs.items } }
+        ensures state { state.new ≡ record state.old {
+          works = self.works.items;
+          runs = self.runs.items;
+          observers = self.observers.items;
+        } }
         ensures log { log.new ≡ self.log.items }
     {
         state.works = Items::from_vec(self.works);
         state.runs = Items::from_vec(self.runs);
+        state.observers = Items::from_vec(self.observers);
         *log = Items::from_vec(self.log);
     }
 
-    /// Makes room for so many works, for a run and for an event.
-    fn reserve(&mut self, works: usize) -> Result<(), AllocError>
+    /// Makes room for so many works and so many observers, for a run and for an event.
+    fn reserve(&mut self, works: usize, observers: usize) -> Result<(), AllocError>
         ensures works { self.new.works.items ≡ self.old.works.items }
         ensures runs { self.new.runs.items ≡ self.old.runs.items }
+        ensures observers { self.new.observers.items ≡ self.old.observers.items }
         ensures log { self.new.log.items ≡ self.old.log.items }
         ensures works_room { OnOk result (vec_len self.new.works + works ≤ vec_capacity self.new.works) }
         ensures run_room { OnOk result (vec_len self.new.runs < vec_capacity self.new.runs) }
+        ensures observer_room { OnOk result (vec_len self.new.observers + observers ≤ vec_capacity self.new.observers) }
         ensures log_room { OnOk result (vec_len self.new.log < vec_capacity self.new.log) }
     {
         self.works.reserve(works)?;
         self.runs.reserve(1)?;
+        self.observers.reserve(observers)?;
         self.log.reserve(1)
     }
 
@@ -79,16 +90,18 @@ impl Lists {
         requires few_runs { state.old.next_run ≤ vec_len self.old.log + 1 }
         requires works_room { vec_len self.old.works + length change.placed ≤ vec_capacity self.old.works }
         requires run_room { vec_len self.old.runs < vec_capacity self.old.runs }
+        requires observer_room { vec_len self.old.observers + new_observers change.setting ≤ vec_capacity self.old.observers }
         requires log_room { vec_len self.old.log < vec_capacity self.old.log }
         ensures works { self.new.works.items
             ≡ without change.removed (with_replaced change.replaced (with_replaced change.told self.old.works.items)) ++ change.placed }
         ensures runs { self.new.runs.items ≡ runs_by change.run self.old.runs.items }
+        ensures observers { self.new.observers.items ≡ observers_by change.setting self.old.observers.items }
         ensures log { self.new.log.items ≡ self.old.log.items ++ change.event ∷ [] }
-        ensures state { state.new ≡ set_by change.setting (record state.old {
+        ensures state { state.new ≡ record (set_by change.setting (record state.old {
           instances = instances_by change.run state.old.instances;
           next = state.old.next + length change.placed;
           next_run = next_run_by change.run state.old.next_run;
-        }) }
+        })) { observers = state.old.observers } }
     {
         let StepChange {
             told,
@@ -106,7 +119,7 @@ impl Lists {
         remove_works(&mut self.works, removed.as_slice());
         append(&mut self.works, placed);
         change_runs(alloc, &mut self.runs, state, run, next_run);
-        change_setting(alloc, state, setting);
+        change_setting(alloc, state, &mut self.observers, setting);
         self.log.push_reserved(event);
     }
 }
@@ -194,15 +207,33 @@ fn change_runs(
     }
 }
 
-/// Sets what is set.
-fn change_setting(alloc: Global, state: &mut State, setting: SettingChange)
-    ensures { state.new ≡ set_by setting state.old }
+/// How many observers there are more where this is set.
+fn new_observers(setting: &SettingChange) -> usize
+    ensures { result ≡ new_observers setting.now }
+{
+    match setting {
+        SettingChange::Observe(_) => 1,
+        _ => 0,
+    }
+}
+
+/// Sets what is set. There is room for an observer that is new.
+fn change_setting(
+    alloc: Global,
+    state: &mut State,
+    observers: &mut Vec<WorkQuery>,
+    setting: SettingChange,
+)
+    requires { vec_len observers.old + new_observers setting ≤ vec_capacity observers.old }
+    ensures state { state.new ≡ record (set_by setting state.old) { observers = state.old.observers } }
+    ensures observers { observers.new.items ≡ observers_by setting observers.old.items }
 {
     match setting {
         SettingChange::Unchanged => {}
         SettingChange::Moment(at) => state.now = at,
         SettingChange::Conditions(conditions) => state.conditions = conditions,
         SettingChange::Retire(class) => retire_each(alloc, &mut state.instances, &class),
+        SettingChange::Observe(query) => observers.push_reserved(query),
         SettingChange::Hush => state.hushed = true,
     }
 }
@@ -296,9 +327,12 @@ fn store<K: Keeper>(
     requires addable { AreAddable graph.old (map placed_node change.now.placed) }
     ensures works { lists.new.works.items ≡ lists.old.works.items }
     ensures runs { lists.new.runs.items ≡ lists.old.runs.items }
+    ensures observers { lists.new.observers.items ≡ lists.old.observers.items }
     ensures log { lists.new.log.items ≡ lists.old.log.items }
     ensures works_room { OnOk result (vec_len lists.new.works + length change.now.placed ≤ vec_capacity lists.new.works) }
     ensures run_room { OnOk result (vec_len lists.new.runs < vec_capacity lists.new.runs) }
+    ensures observer_room { OnOk result (vec_len lists.new.observers + new_observers change.now.setting
+        ≤ vec_capacity lists.new.observers) }
     ensures log_room { OnOk result (vec_len lists.new.log < vec_capacity lists.new.log) }
     ensures nodes { OnOk result (graph.new ≡ graph.old ++ map placed_node change.now.placed) }
     ensures first_nodes { take (length graph.old) graph.new ≡ graph.old }
@@ -309,7 +343,7 @@ fn store<K: Keeper>(
     ensures no_keeper_fault { row_changes change.now ≡ [] → result ≢ Err Trouble.KeeperFault }
 {
     let changes = row_changes(alloc, change)?;
-    lists.reserve(change.placed.len())?;
+    lists.reserve(change.placed.len(), new_observers(&change.setting))?;
     add_nodes(graph, change.placed.as_slice())?;
     commit(keeper, &changes)
 }

@@ -185,5 +185,5 @@ returns c =
     let replaced = replaced_by_cancel seqs s.works in
     let reached = reached-view _ s _ c.view.view_is c.view.invariant in
     let count : c.len-count.result ≡ length replaced = search rules in
-    let change : c.replacing_all.result ≡ replacing_all replaced Unchanged (cancel_event line target (length replaced)) = search rules in
+    let change : c.replacing_all-change.result ≡ replacing_all replaced Unchanged (cancel_event line target (length replaced)) = search rules in
     rw (change, count) (cancelling-executed s line target reached.valid c.requires.legal c.requires.accepted)

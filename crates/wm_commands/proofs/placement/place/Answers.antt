@@ -20,7 +20,7 @@ returns c =
     let logged : c.in_ok-named-2.logged ≡ seqs_of c.in_ok-named-2.placement.placed = search rules in
     let named : c.in_ok-named-2.named ≡ c.args.named = search rules in
     let batch : c.in_ok-named-2.batch ≡ c.args.batch = search rules in
-    let change : c.placing.result
+    let change : c.placing-change.result
     ≡ placing c.in_ok-named-2.placement.replaced c.in_ok-named-2.placement.removed c.in_ok-named-2.placement.placed
     (event.Command c.args.line (command.Enqueue c.args.named c.args.batch) (reply.Enqueued (seqs_of c.in_ok-named-2.placement.placed))) =
     search (rules, logged, named, batch) in

@@ -93,5 +93,5 @@ returns c =
     let numbers = removable_numbers s.works in
     let reached = reached-view _ s _ c.view.view_is c.view.invariant in
     let count : c.len-count.result ≡ length numbers = search rules in
-    let change : c.removing.result ≡ removing numbers (prune_event line s.works) = search rules in
+    let change : c.removing-change.result ≡ removing numbers (prune_event line s.works) = search rules in
     rw (change, count) (pruning-executed s line reached.valid)

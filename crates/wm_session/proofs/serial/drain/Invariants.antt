@@ -1,4 +1,4 @@
-use Rattle.std.proofs.Common.{◌≡◌, List, Option}
+use Rattle.std.proofs.Common.{◌≡◌, List}
 use Rattle.wm_machine.specs.Waiting.{left_to_drain}
 use Rattle.wm_bench.specs.declared.hand.Hand.{Hand}
 use Rattle.wm_machine.specs.declared.command.Command.{Command}

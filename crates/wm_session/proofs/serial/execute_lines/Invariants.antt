@@ -1,4 +1,4 @@
-use Rattle.std.proofs.Common.{◌≡◌, true, List, Option, None, length}
+use Rattle.std.proofs.Common.{◌≡◌, true, List, None, length}
 use Rattle.wm_machine.specs.Quiet.{IsQuiet}
 use Rattle.wm_machine.specs.Serial.{drains_first}
 use Rattle.wm_bench.specs.declared.hand.Hand.{Hand}

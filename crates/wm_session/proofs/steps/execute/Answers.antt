@@ -1,4 +1,4 @@
-use Rattle.std.proofs.Common.{◌≡◌, ap, ◌∙◌}
+use Rattle.std.proofs.Common.{ap, ◌∙◌}
 use Rattle.wm_collections.proofs.Lists.{last_of-push}
 use Rattle.wm_collections.specs.Lists.{last_of}
 use Rattle.wm_machine.specs.declared.event.Event.TheVariants as event

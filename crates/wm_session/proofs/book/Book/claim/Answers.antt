@@ -1,5 +1,4 @@
 use Rattle.std.proofs.Common.{refl, rules}
-use Rattle.wm_machine.specs.declared.event.Event.TheVariants as event
 use Rattle.wm_session.proofs.BookParts.{claimed_in, IsUntold-claimed}
 use Rattle.wm_session.proofs.BookSteps.{IsTold-all, IsTold-cut}
 use Rattle.wm_session.proofs.BookClaims.{claimed_idle, BookInvariant-begun, BookInvariant-start_failed, BookInvariant-untold, IsBegun-taken, IsStartFailed-kept}
@@ -16,10 +15,9 @@ invariant_of-self-in-Err-tell_last g c =
     let told = c.tell_last.new in
     let refused = c.in-Err-tell_last in
     let stop = c.from-in-Err-tell_last in
-    BookInvariant-untold c.in-Ok-Some.claim c.claim.new.self c.give_up.new.table told.pending.items told.sink stop.result c.self.invariant
+    BookInvariant-untold c.in-Ok-Some.claim c.claim.new.self c.give_up.new.table told.self told.sink stop.result c.self.invariant
     (search rules) done c.give_up.ensures
-    (λ e step. IsTold-cut e c.claim.new.self told.pending.items told.sink refused.fault stop.result c.self.invariant step
-    refused.ensures.err refused.ensures.cause stop.ensures)
+    (IsTold-cut c.claim.new.self told.self told.sink refused.fault stop.result c.self.invariant refused.ensures.told refused.ensures.cause stop.ensures)
     c.in-Ok-Some.ensures.cause
 
 pub unreachable-requires : goal.unreachable-requires
@@ -33,12 +31,10 @@ pub invariant_of-self-in-Run : goal.invariant_of-self-in-Run
 invariant_of-self-in-Run g c =
     let ticket = c.in-Run.ticket in
     let told = c.tell_last.new in
-    let e = event.Start ticket.task.run ticket.seq ticket.instance ticket.task.input in
     let run = rw (c.in-Ok-Some.field-0-is, c.in-Run.is) at c.in-Ok-Some.ensures.ok in
-    BookInvariant-begun c.claim.new.self c.take.new.self told.pending.items told.sink ticket.task.run ticket.seq ticket.instance c.instance.result
+    BookInvariant-begun c.claim.new.self c.take.new.self told.self told.sink ticket.task.run ticket.seq ticket.instance c.instance.result
     ticket.task.input c.in-Some.seat c.self.invariant (search rules) run.step c.instance.ensures c.in-Some.ensures.seat c.in-Some.ensures.taken
-    (IsTold-all e c.claim.new.self told.pending.items told.sink c.self.invariant (search rules) run.step
-    c.in-Ok.ensures.ok c.in-Ok.ensures.cause)
+    (IsTold-all c.claim.new.self told.self told.sink (search rules) c.in-Ok.ensures.told c.in-Ok.ensures.all c.in-Ok.ensures.cause)
     c.in-Ok-Some.ensures.cause
 
 pub invariant_of-self-in-Failed : goal.invariant_of-self-in-Failed
@@ -46,9 +42,8 @@ invariant_of-self-in-Failed g c =
     let failed = c.in-Failed in
     let told = c.tell_last.new in
     let step = rw (c.in-Ok-Some.field-0-is, failed.is) at c.in-Ok-Some.ensures.ok in
-    BookInvariant-start_failed c.claim.new.self told.pending.items told.sink failed.seq failed.cause c.self.invariant (search rules) step
-    (IsTold-all (event.StartFailed failed.seq failed.cause) c.claim.new.self told.pending.items told.sink c.self.invariant (search rules) step
-    c.in-Ok.ensures.ok c.in-Ok.ensures.cause)
+    BookInvariant-start_failed c.claim.new.self told.self told.sink failed.seq failed.cause c.self.invariant (search rules) step
+    (IsTold-all c.claim.new.self told.self told.sink (search rules) c.in-Ok.ensures.told c.in-Ok.ensures.all c.in-Ok.ensures.cause)
     c.in-Ok-Some.ensures.cause
 
 pub returns-in-Err-tell_last : goal.returns-in-Err-tell_last
@@ -56,7 +51,7 @@ returns-in-Err-tell_last g c =
     let done = rw c.in-Ok-Some.field-0-is at c.in-Ok-Some.ensures.ok in
     let told = c.tell_last.new in
     rw (← c.self.view_is) (record {
-      how = IsUntold-claimed g.K.Keeper.held c.in-Ok-Some.claim _ c.claim.new.self c.give_up.new.table told.pending.items told.sink
+      how = IsUntold-claimed g.K.Keeper.held c.in-Ok-Some.claim _ c.claim.new.self c.give_up.new.table told.self told.sink
           c.from-in-Err-tell_last.result (search rules) done c.give_up.ensures;
       places = refl;
     })
@@ -67,7 +62,7 @@ returns-in-Some g c =
     let told = c.tell_last.new in
     let run = rw (c.in-Ok-Some.field-0-is, c.in-Run.is) at c.in-Ok-Some.ensures.ok in
     rw (← c.self.view_is)
-    (IsBegun-taken c.claim.new.self c.take.new.self told.pending.items told.sink ticket c.instance.result c.in-Some.seat c.never-signal.result
+    (IsBegun-taken c.claim.new.self c.take.new.self told.self told.sink ticket c.instance.result c.in-Some.seat c.never-signal.result
     c.self.invariant (search rules) run.step run.ticket_in c.instance.ensures c.in-Some.ensures.seat c.in-Some.ensures.taken (cc) c.in-Ok.ensures.all)
 
 pub returns-in-Failed : goal.returns-in-Failed
@@ -76,4 +71,4 @@ returns-in-Failed g c =
     let told = c.tell_last.new in
     let step = rw (c.in-Ok-Some.field-0-is, failed.is) at c.in-Ok-Some.ensures.ok in
     rw (← c.self.view_is)
-    (IsStartFailed-kept c.claim.new.self told.pending.items told.sink failed.seq failed.cause c.self.invariant (search rules) step c.in-Ok.ensures.all)
+    (IsStartFailed-kept c.claim.new.self told.self told.sink failed.seq failed.cause c.self.invariant (search rules) step c.in-Ok.ensures.all)

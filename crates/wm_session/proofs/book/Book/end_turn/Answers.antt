@@ -14,8 +14,8 @@ invariant_of-self g c =
     let told = c.tell_last.new in
     let table = c.turn.new.self in
     let going = subst (λ book. book.status ≡ None) (sym c.self.view_is) c.requires.going in
-    BookInvariant-turned table told.pending.items told.sink c.args.ticket c.in-Go.next c.args.told c.self.invariant going c.in-Go.ensures.answer
-    (λ e step. IsTold-all e table told.pending.items told.sink c.self.invariant going step c.in-Ok.ensures.ok c.in-Ok.ensures.cause)
+    BookInvariant-turned table told.self told.sink c.args.ticket c.in-Go.next c.args.told c.self.invariant going c.in-Go.ensures.answer
+    (IsTold-all table told.self told.sink going c.in-Ok.ensures.told c.in-Ok.ensures.all c.in-Ok.ensures.cause)
     c.in-Go.ensures.cause
 
 pub invariant_of-self-in-Err : goal.invariant_of-self-in-Err
@@ -26,11 +26,10 @@ invariant_of-self-in-Err g c =
     let back = c.give_back in
     let going = subst (λ book. book.status ≡ None) (sym c.self.view_is) c.requires.going in
     let away = subst (λ book. IsAwayAt seat.number (g.B.Worker.kind_of seat.worker) book.places) (sym c.self.view_is) c.requires.away in
-    BookInvariant-turn_untold table back.new.table back.new.bench told.pending.items told.sink c.from.result c.args.ticket c.in-Go.next c.args.told
+    BookInvariant-turn_untold table back.new.table back.new.bench told.self told.sink c.from.result c.args.ticket c.in-Go.next c.args.told
     c.self.invariant going c.in-Go.ensures.answer back.ensures.table
     (traits-back g.B.Worker.kind_of seat.worker seat.number c.self.inside.bench back.new.bench away back.ensures.places)
-    (λ e step. IsTold-cut e table told.pending.items told.sink c.in-Err.fault c.from.result c.self.invariant step c.in-Err.ensures.err
-    c.in-Err.ensures.cause c.from.ensures)
+    (IsTold-cut table told.self told.sink c.in-Err.fault c.from.result c.self.invariant c.in-Err.ensures.told c.in-Err.ensures.cause c.from.ensures)
     c.in-Go.ensures.cause
 
 pub returns-in-Ok : goal.returns-in-Ok
@@ -38,7 +37,7 @@ returns-in-Ok g c =
     let told = c.tell_last.new in
     let going = subst (λ book. book.status ≡ None) (sym c.self.view_is) c.requires.going in
     rw (← c.self.view_is)
-    (IsTurnTold-made c.turn.new.self told.pending.items told.sink c.args.ticket c.in-Go.next c.args.seat c.args.told c.self.invariant going
+    (IsTurnTold-made c.turn.new.self told.self told.sink c.args.ticket c.in-Go.next c.args.seat c.args.told c.self.invariant going
     c.in-Go.ensures.answer c.in-Ok.ensures.all)
 
 pub returns-in-Err : goal.returns-in-Err
@@ -47,7 +46,7 @@ returns-in-Err g c =
     let back = c.give_back in
     let going = subst (λ book. book.status ≡ None) (sym c.self.view_is) c.requires.going in
     rw (← c.self.view_is) (record {
-      how = inr (inr (IsTurnUntold-made c.turn.new.self back.new.table back.new.bench told.pending.items told.sink c.from.result c.args.ticket c.in-Go.next
+      how = inr (inr (IsTurnUntold-made c.turn.new.self back.new.table back.new.bench told.self told.sink c.from.result c.args.ticket c.in-Go.next
           c.args.told c.self.invariant going c.in-Go.ensures.answer back.ensures.table));
       places = back.ensures.places;
     })
@@ -62,9 +61,9 @@ invariant_of-self-in-Ok-tell_last g c =
     let going = subst (λ book. book.status ≡ None) (sym c.self.view_is) c.requires.going in
     let stands = subst (λ book. Stands book.table.state c.args.ticket) (sym c.self.view_is) c.requires.stands in
     let away = subst (λ book. IsAwayAt seat.number (g.B.Worker.kind_of seat.worker) book.places) (sym c.self.view_is) c.requires.away in
-    BookInvariant-over table c.give.new.self told.pending.items told.sink c.self.inside.status c.args.ticket seat.number c.args.told seat.worker
+    BookInvariant-over table c.give.new.self told.self told.sink c.self.inside.status c.args.ticket seat.number c.args.told seat.worker
     c.turn.result c.self.invariant going stands c.requires.number away c.give.ensures c.in-Finished.is c.turn.ensures.answer c.turn.ensures.cause
-    (λ e step. IsTold-all e table told.pending.items told.sink c.self.invariant going step c.in-Ok-tell_last.ensures.ok c.in-Ok-tell_last.ensures.cause)
+    (IsTold-all table told.self told.sink going c.in-Ok-tell_last.ensures.told c.in-Ok-tell_last.ensures.all c.in-Ok-tell_last.ensures.cause)
 
 pub invariant_of-self-in-Err-tell_last : goal.invariant_of-self-in-Err-tell_last
 invariant_of-self-in-Err-tell_last g c =
@@ -76,17 +75,16 @@ invariant_of-self-in-Err-tell_last g c =
     let going = subst (λ book. book.status ≡ None) (sym c.self.view_is) c.requires.going in
     let stands = subst (λ book. Stands book.table.state c.args.ticket) (sym c.self.view_is) c.requires.stands in
     let away = subst (λ book. IsAwayAt seat.number (g.B.Worker.kind_of seat.worker) book.places) (sym c.self.view_is) c.requires.away in
-    BookInvariant-over table c.give.new.self told.pending.items told.sink (Some stop.result) c.args.ticket seat.number c.args.told seat.worker
+    BookInvariant-over table c.give.new.self told.self told.sink (Some stop.result) c.args.ticket seat.number c.args.told seat.worker
     c.turn.result c.self.invariant going stands c.requires.number away c.give.ensures c.in-Finished.is c.turn.ensures.answer c.turn.ensures.cause
-    (λ e step. IsTold-cut e table told.pending.items told.sink refused.fault stop.result c.self.invariant step refused.ensures.err refused.ensures.cause
-    stop.ensures)
+    (IsTold-cut table told.self told.sink refused.fault stop.result c.self.invariant refused.ensures.told refused.ensures.cause stop.ensures)
 
 pub returns-in-Ok-tell_last : goal.returns-in-Ok-tell_last
 returns-in-Ok-tell_last g c =
     let told = c.tell_last-in-Finished.new in
     let going = subst (λ book. book.status ≡ None) (sym c.self.view_is) c.requires.going in
     rw (← c.self.view_is)
-    (IsOver-ended c.turn.new.self c.give.new.self told.pending.items told.sink c.args.ticket c.args.seat c.args.told c.turn.result c.self.invariant going
+    (IsOver-ended c.turn.new.self c.give.new.self told.self told.sink c.args.ticket c.args.seat c.args.told c.turn.result c.self.invariant going
     c.in-Finished.is c.turn.ensures.answer c.give.ensures c.in-Ok-tell_last.ensures.all)
 
 pub returns-in-Err-tell_last : goal.returns-in-Err-tell_last
@@ -94,7 +92,7 @@ returns-in-Err-tell_last g c =
     let told = c.tell_last-in-Finished.new in
     let going = subst (λ book. book.status ≡ None) (sym c.self.view_is) c.requires.going in
     rw (← c.self.view_is) (record {
-      how = inr (inl (IsEndUntold-ended c.turn.new.self c.give.new.self told.pending.items told.sink c.from-in-Err-tell_last.result c.args.ticket
+      how = inr (inl (IsEndUntold-ended c.turn.new.self c.give.new.self told.self told.sink c.from-in-Err-tell_last.result c.args.ticket
           c.args.told c.turn.result c.self.invariant going c.in-Finished.is c.turn.ensures.answer));
       places = c.give.ensures;
     })

@@ -3,6 +3,7 @@ use Rattle.wm_machine.specs.Rows.{rows_of}
 use Rattle.wm_machine.specs.declared.state.State.{State}
 use Rattle.wm_session.proofs.BookEnds.{HasCommands-kept, IsSessionStatus-ends, IsTextWritten-kept, keeper_fault-ends, sink_fault-ends}
 use Rattle.wm_session.specs.Causes.{StopCause}
+use Rattle.wm_session.specs.Pending.{pending_text}
 use Rattle.wm_session.proofs.book.Book.finish.Goals as goal
 
 pub returns-clause-session : goal.returns-clause-session
@@ -13,7 +14,7 @@ returns-clause-session g c =
     let last = c.end-first in
     let ended = c.status_after-status.result in
     let ends = c.status_after-status.ensures in
-    let wrote = c.write_pending in
+    let wrote = c.finish-written in
     let before = g.W.Sink.faults c.self.inside.sink in
     let keeper_now = g.K.Keeper.faults last.result.keeper in
     let cause = subst (λ keeper. StopCause stop run.keeper_faults (g.K.Keeper.faults keeper) run.sink_faults before) (sym last.ensures.keeper) kept.cause in
@@ -24,8 +25,8 @@ returns-clause-session g c =
       replay = last.ensures.replay;
       commands = HasCommands-kept ended last.result.log kept last.ensures.log ends.stopped
           (subst (λ book. book.status ≡ None → book.left ≡ []) (sym c.self.view_is) c.requires.lines);
-      bytes = IsTextWritten-kept ended last.result.first last.result.log (g.W.Sink.given wrote.new.sink) wrote.new.pending.items wrote.result kept
-          last.ensures.first last.ensures.log wrote.ensures.kept wrote.ensures.all ends;
+      bytes = IsTextWritten-kept ended last.result.first last.result.log (g.W.Sink.given wrote.new.sink) (pending_text c.self.inside.table wrote.new.self) wrote.result kept
+          last.ensures.first last.ensures.log wrote.ensures.told wrote.ensures.all ends;
       rows = ap g.K.Keeper.held last.ensures.keeper
           ∙ kept.rows
           ∙ ap (λ (s : State). option_map (λ _. rows_of s) run.rows) (sym last.ensures.last);
@@ -33,3 +34,15 @@ returns-clause-session g c =
       sink_fault = sink_fault-ends stop wrote.result ended run.keeper_faults keeper_now run.sink_faults before (g.W.Sink.faults wrote.new.sink) ends
           cause wrote.ensures.cause kept.sink_later;
     }
+
+pub returns-clause-written : goal.returns-clause-written
+returns-clause-written g c =
+    let wrote = c.finish-written in
+    rw (← c.self.view_is) (record {
+      answer = wrote.result;
+      left = pending_text c.self.inside.table wrote.new.self;
+      given = wrote.ensures.told;
+      all = wrote.ensures.all;
+      cause = wrote.ensures.cause;
+      ends = c.status_after-status.ensures;
+    })

@@ -1,10 +1,9 @@
-use Rattle.std.proofs.Common.{◌≡◌, ◌+◌, List, [], ◌∷◌, Some, rules, sym, subst}
+use Rattle.std.proofs.Common.{◌≡◌, [], ◌∷◌, Some, rules, sym, subst}
 use Rattle.std.specs.List.{AllByRecursion}
 use Rattle.wm_machine.proofs.Commands.{legal_line-at_rest}
 use Rattle.wm_machine.specs.Outcome.{IsBuilt}
 use Rattle.wm_machine.specs.Quiet.{IsQuiet}
 use Rattle.wm_session.specs.Book.{SettlesNext}
-use Rattle.wm_machine.specs.declared.event.Event.TheVariants as event
 use Rattle.wm_session.proofs.BookSteps.{IsTold-all, IsTold-cut}
 use Rattle.wm_session.proofs.BookLines.{BookInvariant-line}
 use Rattle.wm_session.proofs.book.Book.front_step.Goals as goal
@@ -24,24 +23,21 @@ execute-requires g c =
 pub invariant_of-self-in-Ok : goal.invariant_of-self-in-Ok
 invariant_of-self-in-Ok g c =
     let done = c.in_default-execute.ensures.ok in
-    let e = event.Command (c.self.inside.line + 1) c.in-Some.command done.0 in
     let told = c.tell_last.new in
-    BookInvariant-line c.execute.new.table c.execute.new.bench c.pop_front.new.self.items told.pending.items told.sink c.self.inside.status
+    BookInvariant-line c.execute.new.table c.execute.new.bench c.pop_front.new.self.items told.self told.sink c.self.inside.status
     c.in-Some.command done.0 c.self.invariant
     (search rules) done.1 c.in-Some.ensures.items c.in_default-execute.ensures.cause
-    (IsTold-all e c.execute.new.table told.pending.items told.sink c.self.invariant (search rules) done.1 c.in-Ok.ensures.ok c.in-Ok.ensures.cause)
+    (IsTold-all c.execute.new.table told.self told.sink (search rules) c.in-Ok.ensures.told c.in-Ok.ensures.all c.in-Ok.ensures.cause)
     c.in_default-execute.ensures.places
 
 pub invariant_of-self-in-Err-tell_last : goal.invariant_of-self-in-Err-tell_last
 invariant_of-self-in-Err-tell_last g c =
     let done = c.in_default-execute.ensures.ok in
-    let e = event.Command (c.self.inside.line + 1) c.in-Some.command done.0 in
     let told = c.tell_last.new in
     let refused = c.in-Err-tell_last in
     let stop = c.from-in-Err-tell_last in
-    BookInvariant-line c.execute.new.table c.execute.new.bench c.pop_front.new.self.items told.pending.items told.sink (Some stop.result)
+    BookInvariant-line c.execute.new.table c.execute.new.bench c.pop_front.new.self.items told.self told.sink (Some stop.result)
     c.in-Some.command done.0 c.self.invariant
     (search rules) done.1 c.in-Some.ensures.items c.in_default-execute.ensures.cause
-    (IsTold-cut e c.execute.new.table told.pending.items told.sink refused.fault stop.result c.self.invariant done.1
-    refused.ensures.err refused.ensures.cause stop.ensures)
+    (IsTold-cut c.execute.new.table told.self told.sink refused.fault stop.result c.self.invariant refused.ensures.told refused.ensures.cause stop.ensures)
     c.in_default-execute.ensures.places

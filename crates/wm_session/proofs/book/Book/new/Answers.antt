@@ -12,6 +12,6 @@ invariant_of-result g c =
     let few : 0 + length c.from_vec.result.items < 2 ^ 32 = omega (arith, ap length left) in
     BookInvariant-new g.M.Mark.inputs
     (tells_of g.K.Keeper.held g.K.Keeper.faults g.W.Sink.given g.W.Sink.faults g.B.Worker.kind_of g.B.Worker.diary_of) c.args.table c.args.bench
-    c.from_vec.result.items c.in-Ok.pending.items c.args.sink asked.log
-    (left ∙ asked.lines) c.in-Ok.ensures.items asked.workers asked.none_away asked.all_in asked.valid asked.narrow few
+    c.from_vec.result.items c.in-Ok.pending c.args.sink asked.log
+    (left ∙ asked.lines) c.in-Ok.ensures asked.workers asked.none_away asked.all_in asked.valid asked.narrow few
     (subst (AllByRecursion IsBuilt) (sym left) asked.built) asked.begun asked.first asked.rows asked.written asked.keeper_faults asked.sink_faults

@@ -4,8 +4,8 @@ use Rattle.wm_table.proofs.TableSteps.{slice_get-last}
 use Rattle.wm_collections.specs.Lists.{last_of}
 use Rattle.wm_table.proofs.table.Table.last_event.Goals as goal
 
-pub returns : goal.returns
-returns g c =
+pub returns-clause-last : goal.returns-clause-last
+returns-clause-last g c =
     let log : List Event = c.self.inside.log in
     let log_is : c.self.inside.log ≡ c.args.self.now.log = cc in
     c.last.ensures.value ∙ ap (λ (log : List Event). slice_get log (length log - 1)) c.as_slice.ensures ∙ slice_get-last log ∙ ap

@@ -1,4 +1,4 @@
-use Rattle.std.proofs.Common.{◌≡◌, true, false, get_or, set, sym, ◌∙◌, ap}
+use Rattle.std.proofs.Common.{◌≡◌, true, false, set, sym, ◌∙◌, ap}
 use Rattle.std.specs.Str.{bytes_eq}
 use Rattle.std.proofs.lemmas.List.Edits.{map_over_more}
 use Rattle.wm_machine.proofs.Retirings.{retired_in}

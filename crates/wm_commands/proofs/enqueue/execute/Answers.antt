@@ -1,5 +1,5 @@
 use Rattle.wm_commands.proofs.CheckedBatches.{free-placed}
-use Rattle.wm_commands.proofs.enqueue.unnamed.Goals as goal
+use Rattle.wm_commands.proofs.enqueue.execute.Goals as goal
 
 pub check_and_place-requires-clause-placed : goal.check_and_place-requires-clause-placed
 check_and_place-requires-clause-placed c = rw c.free.ensures (free-placed c.args.view.now c.args.batch.works)
