@@ -3,7 +3,7 @@
 # layer before: the time until all of them have succeeded and the line and a query are answered, for
 # layers of 50 works and for layers of 100, and the ratio of the two. Each time is the best of five.
 set -euo pipefail
-root=$(cd "$(dirname "${BASH_SOURCE[0]}")/.." && pwd)
+source "$(dirname "${BASH_SOURCE[0]}")/measure.bash"
 wide=${1:-100}
 narrow=$((wide / 2))
 layers=10
@@ -23,31 +23,14 @@ script() {
   }'
 }
 
-# Runs the script of layers of so many works, and sees that each of the works succeeded.
+# Runs the script of layers of so many works by a command, and sees that each of the works succeeded.
 run() {
-  "$root/bin/work" --store bench < "$work/script.$1" > "$work/replies"
-  [ "$(grep -o '"state":"SUCCEEDED"' "$work/replies" | wc -l)" -eq $((layers * $1)) ]
+  local wide=$1
+  shift
+  "$@" --store bench < "$work/script.$wide" > "$work/replies"
+  [ "$(grep -o '"state":"SUCCEEDED"' "$work/replies" | wc -l)" -eq $((layers * wide)) ]
 }
 
-# Prints how many milliseconds the best of five runs of a script takes.
-milliseconds() {
-  local best=0 start now
-  for _ in 1 2 3 4 5; do
-    start=$(date +%s%N)
-    run "$1"
-    now=$((($(date +%s%N) - start) / 1000))
-    if [ "$best" -eq 0 ] || [ "$now" -lt "$best" ]; then best=$now; fi
-  done
-  awk -v us="$best" 'BEGIN { printf "%.1f", us / 1000 }'
-}
-
-work=$(mktemp -d)
-trap 'rm -rf "$work"' EXIT
 script "$narrow" > "$work/script.$narrow"
 script "$wide" > "$work/script.$wide"
-"$root/bin/work" --store bench < /dev/null
-short=$(milliseconds "$narrow")
-long=$(milliseconds "$wide")
-echo "$((layers * narrow)) works: $short ms"
-echo "$((layers * wide)) works: $long ms"
-awk -v a="$short" -v b="$long" 'BEGIN { printf "ratio: %.1f\n", b / a }'
+compare ms "$((layers * narrow)) works" "$(milliseconds "$narrow")" "$((layers * wide)) works" "$(milliseconds "$wide")"

@@ -1,0 +1,35 @@
+# What the measures of whole runs have in common. A script sources this, and defines `run NAME COMMAND..`,
+# which runs its script of that name by a command and sees that what came is right.
+root=$(cd "$(dirname "${BASH_SOURCE[0]}")/.." && pwd)
+work=$(mktemp -d)
+trap 'rm -rf "$work"' EXIT
+"$root/bin/work" --store bench < /dev/null
+
+# Prints how many milliseconds the best of five runs of a script takes.
+milliseconds() {
+  local best=0 start now
+  for _ in 1 2 3 4 5; do
+    start=$(date +%s%N)
+    run "$1" "$root/crates/work/out/work"
+    now=$((($(date +%s%N) - start) / 1000))
+    if [ "$best" -eq 0 ] || [ "$now" -lt "$best" ]; then best=$now; fi
+  done
+  awk -v us="$best" 'BEGIN { printf "%.1f", us / 1000 }'
+}
+
+# Prints how many million instructions a run of a script takes, which other work on the machine doesn't
+# change; nothing where valgrind isn't there.
+instructions() {
+  command -v valgrind > /dev/null || return 0
+  run "$1" valgrind --quiet --tool=callgrind --callgrind-out-file="$work/callgrind" "$root/crates/work/out/work"
+  awk '/^totals:/ { printf "%.1f", $2 / 1000000 }' "$work/callgrind"
+}
+
+# Prints what two runs take in a unit, by their names, and the ratio.
+compare() {
+  local unit=$1 one=$2 taken=$3 other=$4 more=$5
+  if [ -z "$taken" ]; then echo "$unit: not counted, since valgrind isn't there" && return; fi
+  echo "$one: $taken $unit"
+  echo "$other: $more $unit"
+  awk -v a="$taken" -v b="$more" 'BEGIN { printf "ratio: %.1f\n", b / a }'
+}
