@@ -1,6 +1,6 @@
 //! The calls by their names.
 
-use crate::{infos, lines, notes, records, texts};
+use crate::{infos, lines, notes, records, rows, texts};
 use part_calls::fields::{RowFault, field, text};
 use part_calls::{chains, conditions, data, requests, schedule, workers};
 use serde_json::Value;
@@ -38,6 +38,9 @@ fn answer_of_works(alloc: Global, call: &str, row: &Value) -> Result<Value, RowF
             records::change(alloc, row)
         }
         "row" => records::row(alloc, row),
+        "row again" => rows::again(alloc, row),
+        "store" => rows::store(alloc, row),
+        "store of many" => rows::many(alloc, row),
         "lines" => lines::read(alloc, row),
         "event text" => texts::told(alloc, row),
         "answer" => infos::answered(alloc, row),

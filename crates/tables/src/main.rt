@@ -14,6 +14,7 @@ mod lines;
 mod names;
 mod notes;
 mod records;
+mod rows;
 mod texts;
 
 use crate::calls::difference;

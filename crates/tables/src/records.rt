@@ -183,7 +183,7 @@ fn fits_row(work: &Record) -> bool
 }
 
 /// The row of a record, whose numbers are within their limits.
-fn row_of(alloc: Global, work: &Record) -> Result<Row, RowFault> {
+pub fn row_of(alloc: Global, work: &Record) -> Result<Row, RowFault> {
     if !fits_row(work) {
         return Err(RowFault::Value);
     }
@@ -251,7 +251,8 @@ fn name_told(alloc: Global, name: &Option<Text>) -> Result<Value, AllocError> {
     }
 }
 
-fn row_told(alloc: Global, row: &Row) -> Result<Value, AllocError> {
+/// What a row has, by the names of its fields; its numbers in one list.
+pub fn row_told(alloc: Global, row: &Row) -> Result<Value, AllocError> {
     let mut told = Told::new(alloc);
     told.put("numbers", signed(alloc, &numbers_of(row))?)?;
     told.put("id", bytes(alloc, row.id.as_slice())?)?;

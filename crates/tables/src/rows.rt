@@ -1,0 +1,328 @@
+//! Rows that are read back, of `wm_rows`: the record of a row by itself, and those of all rows of a
+//! store.
+
+use crate::records::{row_of, row_told};
+use part_calls::fields::{RowFault, both, count, field, has_only, id, items, letters, name, texts};
+use part_calls::told::{numbers as numbers_told, string};
+use serde_json::Value;
+use std::alloc::{AllocError, Global};
+use uuid::Uuid;
+use wm_collections::{Items, Text};
+use wm_keeper::Row;
+use wm_machine::Record;
+use wm_rows::{RowFault as StoreFault, check_all, from_row};
+
+/// The numbers of a row.
+#[derive(Clone, Copy)]
+struct Plain {
+    version: i64,
+    seq: i64,
+    kind: i64,
+    period: i64,
+    flex: i64,
+    delay: i64,
+    policy: i64,
+    wait: i64,
+    merger: i64,
+    network: i64,
+    flags: i64,
+    phase: i64,
+    attempt: i64,
+    backoff_n: i64,
+    runs: i64,
+    generation: i64,
+    enqueued_at: i64,
+}
+
+/// The number with a sign under a key; the usual one where there is none.
+fn signed(form: &Value, key: &str, usual: i64) -> Result<i64, RowFault> {
+    match form.get(key) {
+        Some(value) => value.as_i64().ok_or(RowFault::Value),
+        None => Ok(usual),
+    }
+}
+
+/// The usual numbers are those of one-time work that waits, with the number 1.
+fn plain_of(form: &Value) -> Result<Plain, RowFault> {
+    Ok(Plain {
+        version: signed(form, "version", 1)?,
+        seq: signed(form, "seq", 1)?,
+        kind: signed(form, "kind", 0)?,
+        period: signed(form, "period", 0)?,
+        flex: signed(form, "flex", 0)?,
+        delay: signed(form, "delay", 0)?,
+        policy: signed(form, "policy", 1)?,
+        wait: signed(form, "wait", 30_000)?,
+        merger: signed(form, "merger", 0)?,
+        network: signed(form, "network", 0)?,
+        flags: signed(form, "flags", 0)?,
+        phase: signed(form, "phase", 0)?,
+        attempt: signed(form, "attempt", 0)?,
+        backoff_n: signed(form, "backoff_n", 0)?,
+        runs: signed(form, "runs", 0)?,
+        generation: signed(form, "generation", 0)?,
+        enqueued_at: signed(form, "enqueued_at", 0)?,
+    })
+}
+
+/// The lists and texts of a row.
+#[derive(Drop)]
+struct Owned {
+    id: Items<u8>,
+    name: Option<Text>,
+    class: Text,
+    input: Text,
+    output: Text,
+    prior: Items<i64>,
+    tags: Items<Text>,
+}
+
+/// The bytes of an id. That of work with no id under the key is its number.
+fn id_of(alloc: Global, form: &Value, seq: i64) -> Result<Items<u8>, RowFault> {
+    let id = match form.get("id") {
+        Some(_) => id(form, "id")?,
+        None => Uuid::from_u128(u128::from(seq.unsigned_abs())),
+    };
+    Ok(Items::from_vec(Vec::from_slice(alloc, id.as_bytes())?))
+}
+
+/// So many bytes in place of an id.
+fn bytes(alloc: Global, count: u32) -> Result<Items<u8>, AllocError> {
+    let mut bytes = Items::new(alloc);
+    for _ in 0..count {
+        bytes.push(0)?;
+    }
+    Ok(bytes)
+}
+
+/// An id, or so many bytes.
+fn id_bytes(alloc: Global, form: &Value, seq: i64) -> Result<Items<u8>, RowFault> {
+    match form.get("id_bytes") {
+        Some(_) => Ok(bytes(alloc, count(form, "id_bytes")?)?),
+        None => id_of(alloc, form, seq),
+    }
+}
+
+/// The text under a key; the usual one where there is none.
+fn text_of(alloc: Global, form: &Value, key: &str, usual: &str) -> Result<Text, RowFault> {
+    let text = match form.get(key) {
+        Some(value) => value.as_str().ok_or(RowFault::Value)?,
+        None => usual,
+    };
+    Ok(Text::from_str(alloc, text)?)
+}
+
+/// An input, or that of a text of so many letters.
+fn input_of(alloc: Global, form: &Value) -> Result<Text, RowFault> {
+    if form.get("input_letters").is_none() {
+        return text_of(alloc, form, "input", "{}");
+    }
+    let letters = letters(alloc, count(form, "input_letters")? as usize)?;
+    let text = format!(in alloc; "{{\"a\":{{\"text\":\"{letters}\"}}}}")?;
+    Ok(Text::from_string(text))
+}
+
+/// The numbers of prerequisites.
+fn prior_of(alloc: Global, form: &Value) -> Result<Items<i64>, RowFault> {
+    let mut numbers = Items::new(alloc);
+    for item in items(form, "prior")? {
+        let number = item.as_i64().ok_or(RowFault::Value)?;
+        numbers.push(number)?;
+    }
+    Ok(numbers)
+}
+
+fn owned_of(alloc: Global, form: &Value, seq: i64) -> Result<Owned, RowFault> {
+    let (id, name) = both(id_bytes(alloc, form, seq)?, name(alloc, form))?;
+    let class = text_of(alloc, form, "class", "a");
+    let ((id, name), class) = both((id, name), class)?;
+    let output = text_of(alloc, form, "output", "{}");
+    let ((id, name, class), output) = both((id, name, class), output)?;
+    let ((id, name, class, output), input) = both(
+        (id, name, class, output),
+        input_of(alloc, form),
+    )?;
+    let texts_so_far = (id, name, class, input, output);
+    let (texts_so_far, prior) = both(texts_so_far, prior_of(alloc, form))?;
+    let ((id, name, class, input, output), prior) = (texts_so_far, prior);
+    let so_far = (id, name, class, input, output, prior);
+    let ((id, name, class, input, output, prior), tags) = both(so_far, texts(alloc, form, "tags"))?;
+    Ok(Owned {
+        id,
+        name,
+        class,
+        input,
+        output,
+        prior,
+        tags,
+    })
+}
+
+fn joined(plain: Plain, owned: Owned) -> Row {
+    Row {
+        version: plain.version,
+        seq: plain.seq,
+        id: owned.id,
+        name: owned.name,
+        class: owned.class,
+        kind: plain.kind,
+        period: plain.period,
+        flex: plain.flex,
+        delay: plain.delay,
+        policy: plain.policy,
+        wait: plain.wait,
+        merger: plain.merger,
+        network: plain.network,
+        flags: plain.flags,
+        phase: plain.phase,
+        attempt: plain.attempt,
+        backoff_n: plain.backoff_n,
+        runs: plain.runs,
+        generation: plain.generation,
+        enqueued_at: plain.enqueued_at,
+        input: owned.input,
+        output: owned.output,
+        prior: owned.prior,
+        tags: owned.tags,
+    }
+}
+
+/// The keys of a row.
+fn has_row_keys(form: &Value) -> Result<(), RowFault> {
+    has_only(
+        form,
+        &[
+            "version",
+            "seq",
+            "id",
+            "id_bytes",
+            "name",
+            "class",
+            "kind",
+            "period",
+            "flex",
+            "delay",
+            "policy",
+            "wait",
+            "merger",
+            "network",
+            "flags",
+            "phase",
+            "attempt",
+            "backoff_n",
+            "runs",
+            "generation",
+            "enqueued_at",
+            "input",
+            "input_letters",
+            "output",
+            "prior",
+            "tags",
+        ],
+    )
+}
+
+/// The row that a value says.
+fn row_in(alloc: Global, form: &Value) -> Result<Row, RowFault> {
+    has_row_keys(form)?;
+    let plain = plain_of(form)?;
+    let owned = owned_of(alloc, form, plain.seq)?;
+    Ok(joined(plain, owned))
+}
+
+/// A fault by its name, with the number of its row.
+fn fault_text(alloc: Global, fault: StoreFault) -> Result<Value, AllocError> {
+    let text = match fault {
+        StoreFault::BadRow { seq } => format!(in alloc; "BadRow {seq}"),
+        StoreFault::Unsound { seq } => format!(in alloc; "Unsound {seq}"),
+        StoreFault::Memory => Err(AllocError),
+    };
+    Ok(Value::String(text?))
+}
+
+/// The row of a record that was read.
+fn again_told(alloc: Global, work: &Record) -> Result<Value, RowFault> {
+    let row = row_of(alloc, work)?;
+    let told = row_told(alloc, &row);
+    drop(row);
+    Ok(told?)
+}
+
+/// The row of the record of a row, or the fault.
+pub fn again(alloc: Global, row: &Value) -> Result<Value, RowFault> {
+    has_only(row, &["row"])?;
+    let given = row_in(alloc, field(row, "row")?)?;
+    let came = from_row(alloc, &given);
+    drop(given);
+    match came {
+        Ok(work) => {
+            let told = again_told(alloc, &work);
+            drop(work);
+            told
+        }
+        Err(fault) => Ok(fault_text(alloc, fault)?),
+    }
+}
+
+/// The rows under a key.
+fn rows_of(alloc: Global, row: &Value) -> Result<Items<Row>, RowFault> {
+    let mut rows = Items::new(alloc);
+    for form in items(row, "rows")? {
+        rows.push(row_in(alloc, form)?)?;
+    }
+    Ok(rows)
+}
+
+/// The numbers of records.
+fn numbers(alloc: Global, works: &[Record]) -> Result<Value, AllocError> {
+    let mut numbers = Items::new(alloc);
+    for work in works {
+        numbers.push(work.seq)?;
+    }
+    numbers_told(alloc, numbers.as_slice())
+}
+
+/// The numbers of the records of a store's rows, or the fault.
+fn checked(alloc: Global, rows: &[Row]) -> Result<Value, AllocError> {
+    match check_all(alloc, rows) {
+        Ok(works) => numbers(alloc, works.as_slice()),
+        Err(fault) => fault_text(alloc, fault),
+    }
+}
+
+/// The numbers of the records of a store's rows, or the fault.
+pub fn store(alloc: Global, row: &Value) -> Result<Value, RowFault> {
+    has_only(row, &["rows"])?;
+    let rows = rows_of(alloc, row)?;
+    Ok(checked(alloc, rows.as_slice())?)
+}
+
+/// The row of one-time work with a number.
+fn usual_row(alloc: Global, seq: u32) -> Result<Row, RowFault> {
+    let form = Value::Null;
+    let plain = Plain {
+        seq: i64::from(seq),
+        ..plain_of(&form)?
+    };
+    let owned = owned_of(alloc, &form, plain.seq)?;
+    Ok(joined(plain, owned))
+}
+
+/// So many rows of one-time work, numbered from 1.
+fn usual_rows(alloc: Global, count: u32) -> Result<Items<Row>, RowFault> {
+    let mut rows = Items::new(alloc);
+    for before in 0..count {
+        rows.push(usual_row(alloc, before.saturating_add(1))?)?;
+    }
+    Ok(rows)
+}
+
+/// How many records so many rows are, or the fault.
+pub fn many(alloc: Global, row: &Value) -> Result<Value, RowFault> {
+    has_only(row, &["count"])?;
+    let rows = usual_rows(alloc, count(row, "count")?)?;
+    match check_all(alloc, rows.as_slice()) {
+        Ok(works) => Ok(Value::from(works.len() as u64)),
+        Err(fault) => Ok(fault_text(alloc, fault)?),
+    }
+}

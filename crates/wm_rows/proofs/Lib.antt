@@ -1,0 +1,12 @@
+pub mod DataTexts
+pub mod FieldCodes
+pub mod FirstFault
+pub mod KeptMore
+pub mod Names
+pub mod Order
+pub mod RowsRead
+pub mod RowsWritten
+pub mod Soundness
+pub mod StoreRead
+pub mod StoreWritten
+pub mod Tags
