@@ -9,6 +9,7 @@ ghost use Rattle.wm_table.specs.Table.{Stands};
 use crate::runs::data_of;
 use part_tests::requests::within;
 use std::alloc::{AllocError, Global};
+use std::marker::Brand;
 use std::test::Fail;
 use uuid::Uuid;
 use wm_collections::{Items, Replica, Text};
@@ -17,7 +18,7 @@ use wm_keeper::MemoryKeeper;
 use wm_machine::{Cause, Command, How, Instance, Kind, Phase, Record, Reply};
 use wm_request::{Batch, Builder, Node, Request};
 use wm_steps::{both, one};
-use wm_table::{Claim, Table, TableEnd, Ticket, Trouble, TurnAnswer};
+use wm_table::{Claim, Mark, Table, TableEnd, Ticket, Trouble, TurnAnswer};
 use wm_worker::{Answer, Task, Told};
 
 /// One idle Echo.
@@ -135,7 +136,7 @@ fn echoed(alloc: Global, task: &Task, subject: Subject) -> Result<Told, AllocErr
 }
 
 /// Whether the second try of a report finishes its run.
-fn finishes(table: &mut Table<MemoryKeeper>, ticket: Ticket, told: Told) -> bool
+fn finishes<M: Mark>(table: &mut Table<MemoryKeeper, M>, ticket: Ticket<M>, told: Told) -> bool
     requires { Stands table.old.state ticket }
 {
     match table.turn(ticket, told) {
@@ -156,71 +157,94 @@ fn finishes(table: &mut Table<MemoryKeeper>, ticket: Ticket, told: Told) -> bool
     }
 }
 
+/// What becomes of a work that is enqueued, started and reported on.
+#[derive(Clone, Copy, Debug, PartialEq, Eq)]
+enum Outcome {
+    NotEnqueued,
+    AnotherReply,
+    NotStarted,
+    NothingToStart,
+    CannotStart,
+    AnotherRun,
+    AnotherTicket,
+    GoesOn,
+    Again,
+    Refused,
+    FinishedLater,
+    Finished,
+    TimedOut,
+    NoMemory,
+}
+
 /// What becomes of a report.
-fn report(
-    table: &mut Table<MemoryKeeper>,
-    ticket: Ticket,
+fn report<M: Mark>(
+    table: &mut Table<MemoryKeeper, M>,
+    ticket: Ticket<M>,
     told: Result<Told, AllocError>,
-) -> &'static str
+) -> Outcome
     requires { Stands table.old.state ticket }
 {
     let Ok(told) = told else {
         table.take_back(ticket);
-        return "no memory";
+        return Outcome::NoMemory;
     };
     match table.turn(ticket, told) {
-        TurnAnswer::Finished => "finished",
-        TurnAnswer::TimedOut => "timed out",
+        TurnAnswer::Finished => Outcome::Finished,
+        TurnAnswer::TimedOut => Outcome::TimedOut,
         TurnAnswer::Go(ticket) => {
             table.take_back(ticket);
-            "goes on"
+            Outcome::GoesOn
         }
         TurnAnswer::Again(ticket) => {
             let same = ticket.seq() == 1 && ticket.k() == 0 && ticket.instance() == 0;
             table.take_back(ticket);
-            if same { "again" } else { "another ticket" }
+            if same {
+                Outcome::Again
+            } else {
+                Outcome::AnotherTicket
+            }
         }
         TurnAnswer::Refused(ticket, told, trouble) => {
             let by_keeper = trouble == Trouble::KeeperFault;
             let finished = finishes(table, ticket, told);
             if by_keeper && finished {
-                "finished later"
+                Outcome::FinishedLater
             } else {
-                "refused"
+                Outcome::Refused
             }
         }
     }
 }
 
 /// What becomes of a run, where it is the first.
-fn run(
+fn run<M: Mark>(
     alloc: Global,
-    table: &mut Table<MemoryKeeper>,
-    ticket: Ticket,
+    table: &mut Table<MemoryKeeper, M>,
+    ticket: Ticket<M>,
     subject: Subject,
-) -> &'static str
+) -> Outcome
     requires { Stands table.old.state ticket }
 {
     let first = ticket.task().run == 1 && ticket.task().attempt == 1;
     let told = echoed(alloc, ticket.task(), subject);
     let outcome = report(table, ticket, told);
-    if first { outcome } else { "another run" }
+    if first { outcome } else { Outcome::AnotherRun }
 }
 
 /// What becomes of the start of a work and of its run.
-fn start_and_report(
+fn start_and_report<M: Mark>(
     alloc: Global,
-    table: &mut Table<MemoryKeeper>,
+    table: &mut Table<MemoryKeeper, M>,
     subject: Subject,
-) -> &'static str {
+) -> Outcome {
     match table.claim() {
         Ok(Some(claim)) => match claim {
             Claim::Run(ticket) => run(alloc, table, ticket, subject),
-            Claim::Failed { seq: _, cause: _ } => "can't start",
+            Claim::Failed { seq: _, cause: _ } => Outcome::CannotStart,
         },
-        Ok(None) => "nothing to start",
-        Err(Trouble::KeeperFault) => "not started",
-        Err(Trouble::Memory) => "no memory",
+        Ok(None) => Outcome::NothingToStart,
+        Err(Trouble::KeeperFault) => Outcome::NotStarted,
+        Err(Trouble::Memory) => Outcome::NoMemory,
     }
 }
 
@@ -233,12 +257,12 @@ fn lists_first(reply: &Reply) -> bool {
 }
 
 /// What becomes of a work that is enqueued, started and reported on.
-fn enqueue_and_run(
-    table: &mut Table<MemoryKeeper>,
+fn enqueue_and_run<M: Mark>(
+    table: &mut Table<MemoryKeeper, M>,
     alloc: Global,
     command: Command,
     subject: Subject,
-) -> &'static str
+) -> Outcome
     requires { IsLegalLine table.old.state command }
 {
     match table.command(1, command) {
@@ -246,10 +270,14 @@ fn enqueue_and_run(
             let first = lists_first(&reply);
             drop(reply);
             let outcome = start_and_report(alloc, table, subject);
-            if first { outcome } else { "another reply" }
+            if first {
+                outcome
+            } else {
+                Outcome::AnotherReply
+            }
         }
-        Err(Trouble::KeeperFault) => "not enqueued",
-        Err(Trouble::Memory) => "no memory",
+        Err(Trouble::KeeperFault) => Outcome::NotEnqueued,
+        Err(Trouble::Memory) => Outcome::NoMemory,
     }
 }
 
@@ -260,25 +288,36 @@ fn beside<T: Drop, U>(value: T, other: Result<U, AllocError>) -> Result<(T, U), 
     Ok((value, other?))
 }
 
-/// A table of one Echo over a keeper that fails at this commit.
-fn one_table(alloc: Global, failing: u32) -> Result<Table<MemoryKeeper>, AllocError>
+/// A table of these instances on an empty store, over a keeper that fails at these calls.
+fn one_table<M: Mark>(
+    alloc: Global,
+    failing: Vec<u32>,
+    instances: Items<Instance>,
+) -> Result<Table<MemoryKeeper, M>, AllocError>
+    requires rows { M.inputs.rows ≡ [] }
+    requires instances { M.inputs.instances ≡ instances }
+    requires fresh { AreFresh instances }
     ensures { IfOk result (λ table. table.state.runs ≡ []) }
 {
-    let failing = vec![in alloc; failing]?;
-    let (failing, instances) = both(failing, one_echo(alloc))?;
     let keeper = MemoryKeeper::new(Vec::new(alloc), failing);
-    Table::begin(alloc, keeper, &[], instances).map_err(|_| AllocError)
+    Table::begin(alloc, keeper, Vec::new(alloc), instances).map_err(|_| AllocError)
 }
 
-/// What becomes of one work over a keeper that fails at this commit, how many works and events
+/// What becomes of one work over a keeper that fails at these calls, how many works and events
 /// there are in the end, and whether there is nothing left to do.
-fn outcome(
+fn outcome_on<M: Mark>(
     alloc: Global,
-    failing: u32,
+    command: Command,
+    failing: Vec<u32>,
+    instances: Items<Instance>,
     subject: Subject,
-) -> Result<(&'static str, usize, usize, bool), AllocError> {
-    let command = enqueue(alloc, Merger::Overwriting, 1)?;
-    let (command, mut table) = beside(command, one_table(alloc, failing))?;
+) -> Result<(Outcome, usize, usize, bool), AllocError>
+    requires rows { M.inputs.rows ≡ [] }
+    requires instances { M.inputs.instances ≡ instances }
+    requires fresh { AreFresh instances }
+    requires legal { (s : State) → s.runs ≡ [] → IsLegalLine s command }
+{
+    let (command, mut table) = beside(command, one_table::<M>(alloc, failing, instances))?;
     let outcome = enqueue_and_run(&mut table, alloc, command, subject);
     let quiet = table.quiet();
     let end = table.end();
@@ -287,18 +326,35 @@ fn outcome(
     Ok((outcome, counts.0, counts.1, quiet))
 }
 
+/// This number alone.
+fn alone(alloc: Global, number: u32) -> Result<Vec<u32>, AllocError> {
+    Ok(vec![in alloc; number]?)
+}
+
+/// What becomes of one work over a keeper that fails at this commit.
+fn outcome_at(
+    alloc: Global,
+    failing: u32,
+    subject: Subject,
+) -> Result<(Outcome, usize, usize, bool), AllocError> {
+    let command = enqueue(alloc, Merger::Overwriting, 1)?;
+    let (command, failing) = beside(command, alone(alloc, failing))?;
+    let (command, instances) = beside(command, one_echo(alloc))?;
+    outcome_on::<Brand>(alloc, command, failing, instances, subject)
+}
+
 #[test]
 fn a_table_runs_one_echo(rt: HostRuntime) -> Result<(), Fail> {
     let alloc = rt.alloc();
     for (failing, subject, want) in [
-        (0, Subject::Task, ("finished", 1, 3, true)),
-        (1, Subject::Task, ("not enqueued", 0, 0, true)),
-        (2, Subject::Task, ("not started", 1, 1, false)),
-        (3, Subject::Task, ("finished later", 1, 3, true)),
-        (0, Subject::NextRun, ("again", 1, 2, false)),
-        (0, Subject::NoInput, ("again", 1, 2, false)),
+        (0, Subject::Task, (Outcome::Finished, 1, 3, true)),
+        (1, Subject::Task, (Outcome::NotEnqueued, 0, 0, true)),
+        (2, Subject::Task, (Outcome::NotStarted, 1, 1, false)),
+        (3, Subject::Task, (Outcome::FinishedLater, 1, 3, true)),
+        (0, Subject::NextRun, (Outcome::Again, 1, 2, false)),
+        (0, Subject::NoInput, (Outcome::Again, 1, 2, false)),
     ] {
-        assert_eq!(rt; outcome(alloc, failing, subject)?, want);
+        assert_eq!(rt; outcome_at(alloc, failing, subject)?, want);
     }
     Ok(())
 }
@@ -314,7 +370,7 @@ fn cause_text(alloc: Global, cause: &Cause) -> Result<Text, AllocError> {
 }
 
 /// What becomes of the start of a work: the input of its run, or why it can't start.
-fn start(alloc: Global, table: &mut Table<MemoryKeeper>) -> Result<Text, AllocError> {
+fn start<M: Mark>(alloc: Global, table: &mut Table<MemoryKeeper, M>) -> Result<Text, AllocError> {
     match table.claim() {
         Ok(Some(claim)) => match claim {
             Claim::Run(ticket) => {
@@ -355,22 +411,38 @@ fn only_text(alloc: Global, end: &TableEnd<MemoryKeeper>) -> Result<String, Allo
 }
 
 /// The only work of a table in the end.
-fn end_text(alloc: Global, table: Table<MemoryKeeper>) -> Result<String, AllocError> {
+fn end_text<M: Mark>(alloc: Global, table: Table<MemoryKeeper, M>) -> Result<String, AllocError> {
     let end = table.end();
     let text = only_text(alloc, &end);
     drop(end);
     text
 }
 
-/// What becomes of the start of a work with this merger and a text of so many letters, and what the
-/// work is then.
-fn started(alloc: Global, merger: Merger, count: usize) -> Result<String, AllocError> {
-    let command = enqueue(alloc, merger, count)?;
-    let (command, mut table) = beside(command, one_table(alloc, 0))?;
+/// What becomes of the start of the work that this enqueues, and what the work is then.
+fn started_on<M: Mark>(
+    alloc: Global,
+    command: Command,
+    instances: Items<Instance>,
+) -> Result<String, AllocError>
+    requires rows { M.inputs.rows ≡ [] }
+    requires instances { M.inputs.instances ≡ instances }
+    requires fresh { AreFresh instances }
+    requires legal { (s : State) → s.runs ≡ [] → IsLegalLine s command }
+{
+    let table = one_table::<M>(alloc, Vec::new(alloc), instances);
+    let (command, mut table) = beside(command, table)?;
     drop(table.command(1, command));
     let outcome = start(alloc, &mut table);
     let record = end_text(alloc, table)?;
     format!(in alloc; "{} {}", outcome?.as_str(), record.as_str())
+}
+
+/// What becomes of the start of a work with this merger and a text of so many letters, and what the
+/// work is then.
+fn started(alloc: Global, merger: Merger, count: usize) -> Result<String, AllocError> {
+    let command = enqueue(alloc, merger, count)?;
+    let (command, instances) = beside(command, one_echo(alloc))?;
+    started_on::<Brand>(alloc, command, instances)
 }
 
 #[test]

@@ -4,7 +4,7 @@ use Rattle.std.specs.List.{AllByRecursion, filter}
 use Rattle.wm_bench.specs.Places.{most_hands, place_of, idle_hands}
 use Rattle.wm_bench.specs.declared.hand.Hand.{Hand}
 use Rattle.wm_machine.specs.Valid.{AreNumberedInOrder}
-use Rattle.wm_machine.specs.Opened.{AreFresh, IsFresh, opening_state}
+use Rattle.wm_machine.specs.Opened.{AreFresh, IsFresh}
 use Rattle.wm_machine.specs.declared.event.Event.{Event}
 use Rattle.wm_machine.specs.declared.state.Instance.{Instance}
 use Rattle.wm_machine.specs.declared.state.State.{State}
@@ -64,24 +64,24 @@ module _ {B : Type 0} (kind_of : B → Kind) where
   traits-hands number [] = refl
   traits-hands number (hand ∷ hands) = ap (λ rest. hand_traits kind_of hand ∷ rest) (traits-hands (number + 1) hands)
 
-  -- where nothing has happened since an empty store was opened, they come back
-  pub AreHandsBack-opened : (last : State) (hands back : List (Hand B)) → last ≡ opening_state [] (instances_from kind_of 0 hands) → back ≡ hands
+  -- where the instances are still those of the workers that were given, these come back
+  pub AreHandsBack-opened : (last : State) (hands back : List (Hand B)) → last.instances ≡ instances_from kind_of 0 hands → back ≡ hands
       → AreHandsBack kind_of last back
   AreHandsBack-opened last hands back is same =
       ap (map (hand_traits kind_of)) same
       ∙ traits-hands 0 hands
-      ∙ sym (ap (λ (s : State). map instance_traits (filter (λ instance. not instance.retired) s.instances)) is)
+      ∙ sym (ap (λ (instances : List Instance). map instance_traits (filter (λ instance. not instance.retired) instances)) is)
 
 -- at their places they are the hands
 pub idle_hands-places : {B : Type 0} (hands : List (Hand B)) → idle_hands (map place_of hands) ≡ hands
 idle_hands-places [] = refl
 idle_hands-places (hand ∷ hands) = ap (λ rest. hand ∷ rest) (idle_hands-places hands)
 
--- where nothing has happened since an empty store was opened, each that comes back is the one that was given
+-- and each that comes back is the one that was given
 pub AreBoxesBack-opened : {B : Type 0} (kind_of : B → Kind) (diary_of : B → Option (List Entry)) (log : List Event) (last : State) (hands back : List (Hand B))
-    → last ≡ opening_state [] (instances_from kind_of 0 hands) → back ≡ hands → AreBoxesBack diary_of hands log last back
+    → last.instances ≡ instances_from kind_of 0 hands → back ≡ hands → AreBoxesBack diary_of hands log last back
 AreBoxesBack-opened kind_of diary_of log last hands back is same =
-    let numbered = subst (λ (s : State). AreNumberedInOrder 0 s.instances) (sym is) (in_order kind_of 0 hands) in
-    let traits = traits-places kind_of 0 hands ∙ ap (λ (s : State). map instance_traits s.instances) (sym is) in
+    let numbered = subst (AreNumberedInOrder 0) (sym is) (in_order kind_of 0 hands) in
+    let traits = traits-places kind_of 0 hands ∙ ap (map instance_traits) (sym is) in
     subst (EachBack (IsBoxAfter diary_of log) hands (kept_numbers last)) (idle_hands-places hands ∙ sym same)
     (EachBack-all (IsBoxAfter diary_of log) hands kind_of (map place_of hands) last numbered (NoneAway-hands hands) traits (boxes-given diary_of log hands))

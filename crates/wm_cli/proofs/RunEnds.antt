@@ -1,34 +1,39 @@
 -- What a run hands back, from what the calls below it handed back.
-use Rattle.std.proofs.Common.{◌≡◌, ℕ, Bool, true, false, List, [], ◌∷◌, Option, map, Some, None, option_map, IfSome, Vec, Global, Err, refl, sym, ◌∙◌, ap, subst, inl, inr, ◌≤◌, length}
+use Rattle.std.proofs.Common.{◌≡◌, ℕ, ℤ, Bool, true, false, List, [], Option, map, Some, None, IfSome, Vec, Global, Ok, Err, refl, sym, ◌∙◌, ap, subst, inl, inr}
 use Rattle.std.specs.List.{AllByRecursion}
-use Rattle.wm_bench.specs.Places.{most_hands, idle_hands, place_of}
+use Rattle.wm_bench.specs.Places.{idle_hands, place_of}
 use Rattle.wm_bench.specs.declared.hand.Hand.{Hand}
 use Rattle.wm_cli.proofs.RunsWithoutEvents.{HasCommands-nothing, IsTextWritten-nothing}
-use Rattle.wm_cli.proofs.Hands.{AreBoxesBack-opened, AreFresh-instances_from, AreHandsBack-opened, idle_hands-places}
+use Rattle.wm_cli.proofs.Hands.{AreBoxesBack-opened, AreHandsBack-opened, idle_hands-places}
 use Rattle.wm_cli.proofs.Opening.{BeginsSerial-nothing, IsSerialRun-early, IsSerialRun-unopened}
 use Rattle.wm_cli.specs.Benched.{HasJustBegun}
-use Rattle.wm_cli.specs.Causes.{BeginsAt, IsOpeningStatus, IsUnlessMemory, StoreCause}
+use Rattle.wm_cli.specs.Causes.{IsBadStore, IsOpeningStatus, IsUnlessMemory, StoreCause}
 use Rattle.wm_cli.specs.Ended.{AreHandsOf, AreRowsKept, HasNotBegun, HasReplayed, IsBegunBy, IsEndedAtOnce, IsOpenedFrom, IsReplayed, IsRunEnd}
 use Rattle.wm_faults.specs.Faults.{Failed}
+use Rattle.wm_keeper.proofs.Stores.{IsAtMost-then}
 use Rattle.wm_keeper.specs.Keeper.{KeepCause}
+use Rattle.wm_keeper.specs.Store.{Store, IsAtMost}
 use Rattle.wm_keeper.specs.declared.keeper.KeepFault.{KeepFault}
 use Rattle.wm_keeper.specs.declared.keeper.KeepFault.TheVariants as keep
 use Rattle.wm_keeper.specs.declared.row.Row.{Row}
 use Rattle.wm_machine.specs.declared.command.Command.{Command}
+use Rattle.wm_machine.specs.declared.event.Event.{Event}
+use Rattle.wm_machine.specs.declared.state.Instance.{Instance}
 use Rattle.wm_machine.specs.declared.state.State.{State}
-use Rattle.wm_machine.specs.Outcome.{IsBuilt}
-use Rattle.wm_machine.specs.Opened.{opening_state}
+use Rattle.wm_machine.specs.Outcome.{IsAskable}
+use Rattle.wm_machine.specs.Opened.{Opened}
 use Rattle.wm_machine.specs.Replay.{Replay}
-use Rattle.wm_machine.specs.Rows.{rows_of}
+use Rattle.wm_rows.specs.Sound.{checked, AreSound}
+use Rattle.wm_rows.specs.declared.fault.RowFault.{RowFault}
 use Rattle.wm_session.specs.Causes.{status_by_begin, status_by_keeper}
-use Rattle.wm_session.specs.Ended.{IsSerialEnd, IsSessionStatus, IsUnbegun}
-use Rattle.wm_session.specs.Inputs.{inputs_of}
+use Rattle.wm_session.specs.Ended.{HasCommands, IsSerialEnd, IsSerialRun, IsSessionStatus, IsTextWritten, IsUnbegun}
 use Rattle.wm_session.specs.Hands.{instances_from}
 use Rattle.wm_session.specs.Tells.{Tells}
 use Rattle.wm_session.specs.declared.ended.Ended.{Ended}
 use Rattle.wm_session.specs.declared.status.Status.{Status}
 use Rattle.wm_session.specs.declared.status.Status.TheVariants as status
-use Rattle.wm_table.specs.Table.{BeginCause}
+use Rattle.wm_table.specs.Inputs.{Inputs}
+use Rattle.wm_table.specs.Table.{row_fault, BeginCause, IsBeginFault}
 use Rattle.wm_table.specs.TableState.{TableState}
 use Rattle.wm_table.specs.declared.table.BeginFault.{BeginFault}
 use Rattle.wm_table.specs.declared.table.BeginFault.TheVariants as begin
@@ -38,39 +43,40 @@ use Rattle.wm_table.specs.declared.table.BeginFault.TheVariants as begin
 other_status : (ended other : Status) → ended ≡ status.Memory → (status.Memory ≡ other → ⊥) → ended ≡ other → ⊥
 other_status ended other is differs same = differs (sym is ∙ same)
 
--- where an empty store was opened with these workers, a run that ended for want of memory is a serial session that is over
-pub IsSerialEnd-at_once : {K W B : Type 0} (tells : Tells K W B) (commands : List Command) (hands : List (Hand B)) (table : TableState K)
-    (sink : W) (back : Vec (Hand B) Global) (ended : Ended K W B)
-    → IsEndedAtOnce table sink back ended → HasJustBegun tells.held table → AllByRecursion IsBuilt commands
-    → length hands ≤ most_hands → table.first ≡ opening_state [] (instances_from tells.kind_of 0 hands) → back.items ≡ hands
-    → IsSerialEnd tells (inputs_of tells table commands sink) hands ended
-IsSerialEnd-at_once tells commands hands table sink back ended at begun built few opened same =
-    let instances = instances_from tells.kind_of 0 hands in
-    let first : ended.first ≡ opening_state [] instances = at.first ∙ opened in
+-- where a table has just begun with these workers, a run that ended for want of memory is a serial session that is over
+pub IsSerialEnd-at_once : {K W B : Type 0} (tells : Tells K W B) (run : Inputs) (hands : List (Hand B)) (table : TableState K) (sink : W)
+    (back : Vec (Hand B) Global) (ended : Ended K W B)
+    → IsEndedAtOnce table sink back ended → HasJustBegun tells run table → AllByRecursion IsAskable run.lines
+    → run.instances ≡ instances_from tells.kind_of 0 hands → tells.given sink ≡ run.written → back.items ≡ hands
+    → IsSerialEnd tells run hands ended
+IsSerialEnd-at_once tells run hands table sink back ended at begun askable are written same =
+    let opened : Opened run.rows run.instances ended.first = subst (Opened run.rows run.instances) (sym at.first) begun.opened in
     let none : ended.log ≡ [] = at.log ∙ begun.log in
-    let last : ended.last ≡ opening_state [] instances = at.last ∙ begun.state ∙ opened in
+    let last : ended.last ≡ ended.first = at.last ∙ begun.state ∙ sym at.first in
+    let instances : ended.last.instances ≡ instances_from tells.kind_of 0 hands =
+    ap (λ (s : State). s.instances) (last ∙ opened.state) ∙ are in
     let back_are : ended.hands.items ≡ hands = ap (λ v. v.items) at.hands_are ∙ same in
     let early : ended.status ≡ status.Done → ⊥ = other_status ended.status status.Done at.status_is (λ clash. absurd (cc)) in
     record {
       session = record {
         status_is = subst IsSessionStatus (sym at.status_is) tt;
         began = at.began;
-        first = at.first;
-        replay = subst (λ log. Replay ended.first log ended.last) (sym none) (at.last ∙ begun.state ∙ sym at.first);
-        commands = HasCommands-nothing commands ended.status ended.log none (λ done. absurd (early done));
-        bytes = IsTextWritten-nothing (tells.given sink) (tells.given ended.sink) ended.status ended.first ended.log (ap tells.given at.sink_is) none;
-        rows = ap tells.held at.keeper_is
-            ∙ begun.rows
-            ∙ ap (λ (s : State). option_map (λ _. rows_of s) (tells.held table.keeper)) (sym at.last);
+        opened = opened;
+        replay = subst (λ log. Replay ended.first log ended.last) (sym none) last;
+        commands = HasCommands-nothing run.lines ended.status ended.log none (λ done. absurd (early done));
+        bytes = IsTextWritten-nothing run.written (tells.given ended.sink) ended.status ended.first ended.log
+            (ap tells.given at.sink_is ∙ written) none;
+        rows = rw (at.keeper_is, last, at.first) begun.rows;
+        name = rw at.keeper_is begun.name;
         keeper_fault = λ is. absurd (other_status ended.status status.KeeperFault at.status_is (λ clash. absurd (cc)) is);
         sink_fault = λ is. absurd (other_status ended.status status.SinkFault at.status_is (λ clash. absurd (cc)) is);
       };
       quiet = λ done. absurd (early done);
-      hands = AreHandsBack-opened tells.kind_of ended.last hands ended.hands.items last back_are;
-      boxes = AreBoxesBack-opened tells.kind_of tells.diary_of ended.log ended.last hands ended.hands.items last back_are;
+      hands = AreHandsBack-opened tells.kind_of ended.last hands ended.hands.items instances back_are;
+      boxes = AreBoxesBack-opened tells.kind_of tells.diary_of ended.log ended.last hands ended.hands.items instances back_are;
       diaries = λ done. absurd (early done);
-      serial = IsSerialRun-early commands ended.status ended.first ended.log ended.last early
-          (BeginsSerial-nothing commands instances ended.first ended.log built (AreFresh-instances_from tells.kind_of hands few) first none);
+      serial = IsSerialRun-early run.lines ended.status ended.first ended.log ended.last early
+          (BeginsSerial-nothing run.lines ended.first ended.log askable opened none);
     }
 
 -- ---- a run whose table was begun
@@ -105,42 +111,45 @@ session_store status.SourceFault held session = tt
 session_store (status.ScriptTooLong limit) held session = tt
 session_store (status.BadStore seq bad_row) held session = absurd session
 
--- a serial session that is over ends its run, whose store was empty
-pub IsRunEnd-begun : {K W B : Type 0} (tells : Tells K W B) (commands : List Command) (hands : List (Hand B)) (keeper : K) (sink : W)
-    (table : TableState K) (ended : Ended K W B)
-    → IsSerialEnd tells (inputs_of tells table commands sink) (idle_hands (map place_of hands)) ended
-    → table.first ≡ opening_state [] (instances_from tells.kind_of 0 hands)
-    → IsOpenedFrom (tells.held keeper) (instances_from tells.kind_of 0 hands) table.first → tells.held table.keeper ≡ tells.held keeper
-    → tells.keeper_faults table.keeper ≡ tells.keeper_faults keeper
-    → ((row : Row) (rest : List Row) → tells.held keeper ≡ Some (row ∷ rest) → ⊥)
-    → IsRunEnd tells commands hands keeper sink ended
-IsRunEnd-begun tells commands hands keeper sink table ended by_places first opened held faults empty =
+-- sound rows have no first fault
+none_refused : (rows : List Row) (fault : RowFault) → AreSound rows → checked rows ≡ Err fault → ⊥
+none_refused rows fault sound refused = let clash : Ok sound.0 ≡ Err fault = sym sound.1 ∙ refused in absurd (cc)
+
+-- a serial session that is over ends its run
+pub IsRunEnd-begun : {K W B : Type 0} (tells : Tells K W B) (run : Inputs) (commands : List Command) (hands : List (Hand B)) (keeper : K) (sink : W)
+    (ended : Ended K W B)
+    → IsSerialEnd tells run (idle_hands (map place_of hands)) ended → run.lines ≡ commands → run.instances ≡ instances_from tells.kind_of 0 hands
+    → run.written ≡ tells.given sink → run.sink_faults ≡ tells.sink_faults sink → run.store.faults ≡ (tells.store keeper).faults
+    → run.store.name ≡ (tells.store keeper).name → AreSound run.rows
+    → IsRunEnd tells commands hands (tells.store keeper).name (Some run.rows) keeper sink ended
+IsRunEnd-begun tells run commands hands keeper sink ended by_places lines are written sink_faults faults name sound =
     let over = rw (idle_hands-places hands) at by_places in
     let session = over.session in
     let instances = instances_from tells.kind_of 0 hands in
-    let replayed : HasReplayed (tells.held keeper) instances ended.first ended.log ended.last = record {
-      opened = subst (IsOpenedFrom (tells.held keeper) instances) (sym session.first) opened;
+    let replayed : HasReplayed (Some run.rows) instances ended.first ended.log ended.last = record {
+      opened = record { rows = run.rows; told = refl; opened = subst (λ all. Opened run.rows all ended.first) are session.opened };
       replay = session.replay;
     } in
     record {
-      replay = subst (λ began. IsReplayed (tells.held keeper) instances began ended.first ended.log ended.last) (sym session.began) replayed;
+      replay = subst (λ began. IsReplayed (Some run.rows) instances began ended.first ended.log ended.last) (sym session.began) replayed;
       begun = session_begun ended.status ended.began session.status_is session.began;
-      begins_empty = λ began. session.first ∙ first;
       not_begun_keeps = λ unbegun. let clash : true ≡ false = sym session.began ∙ unbegun in absurd (cc);
-      rows = subst (λ began. AreRowsKept began ended.last (tells.held keeper) (tells.held ended.keeper)) (sym session.began)
-          (session.rows ∙ ap (option_map (λ _. rows_of ended.last)) held);
-      has_commands = session.commands;
-      bytes = session.bytes;
+      rows = subst (λ began. AreRowsKept began ended.last (tells.store keeper) (tells.store ended.keeper)) (sym session.began) session.rows;
+      store_is = λ began. subst (λ n. IsAtMost n (tells.store ended.keeper).name) name session.name;
+      has_commands = subst (λ all. HasCommands all ended.status ended.log) lines session.commands;
+      bytes = subst (λ before. IsTextWritten before (tells.given ended.sink) ended.status ended.first ended.log) written session.bytes;
       end = over.quiet;
       hands_back = subst (λ began. AreHandsOf tells.kind_of began ended.last hands ended.hands.items) (sym session.began) over.hands;
       boxes = λ began. over.boxes;
       diaries = over.diaries;
-      serial = over.serial;
+      serial = subst (λ all. IsSerialRun all ended.status ended.first ended.log ended.last) lines over.serial;
       opened = session_opening ended.status session.status_is;
-      keeper_fault = λ is. subst (λ n. Failed n (tells.keeper_faults ended.keeper)) faults (session.keeper_fault is);
-      sink_fault = session.sink_fault;
-      bad_store = session_store ended.status (tells.held keeper) session.status_is;
-      stored_row = λ row rest stored no_fault. absurd (empty row rest stored);
+      keeper_fault = λ is. subst (λ n. Failed n (tells.store ended.keeper).faults) faults (session.keeper_fault is);
+      sink_fault = λ is. subst (λ n. Failed n (tells.sink_faults ended.sink)) sink_faults (session.sink_fault is);
+      bad_store = session_store ended.status (Some run.rows) session.status_is;
+      unsound = λ rows seq bad_row stored refused no_fault.
+          let same : run.rows ≡ rows = cc in
+          absurd (none_refused rows (row_fault seq bad_row) (subst AreSound same sound) refused);
     }
 
 -- ---- a run whose table wasn't begun
@@ -149,7 +158,7 @@ IsRunEnd-begun tells commands hands keeper sink table ended by_places first open
 abbrev pub EarlyCause : Status → ℕ → ℕ → Option (List Row) → Type 0
 EarlyCause status.Memory before now held = Unit {0}
 EarlyCause status.KeeperFault before now held = Failed before now
-EarlyCause (status.BadStore seq bad_row) before now held = (bad_row ≡ true) × IfSome held (λ rows. BeginsAt rows seq)
+EarlyCause (status.BadStore seq bad_row) before now held = IsBadStore held seq bad_row
 EarlyCause _ before now held = ⊥
 
 pub EarlyCause-keeper : (T : Type 0) (fault : KeepFault) (before now : ℕ) (held : Option (List Row)) → KeepCause {T = T} (Err fault) before now
@@ -157,13 +166,30 @@ pub EarlyCause-keeper : (T : Type 0) (fault : KeepFault) (before now : ℕ) (hel
 EarlyCause-keeper T keep.Failed before now held cause = cause
 EarlyCause-keeper T keep.Memory before now held cause = tt
 
-pub EarlyCause-begin : (rows : List Row) (fault : BeginFault) (before now : ℕ) (held : Option (List Row)) → IfSome held (λ kept. rows ≡ kept)
-    → BeginCause rows fault → EarlyCause (status_by_begin fault) before now held
-EarlyCause-begin rows begin.Memory before now held told cause = tt
-EarlyCause-begin [] (begin.Bad seq bad_row) before now held told cause = absurd cause
-EarlyCause-begin (row ∷ rows) (begin.Bad seq bad_row) before now None told cause = (cause.1, tt)
-EarlyCause-begin (row ∷ rows) (begin.Bad seq bad_row) before now (Some kept) told cause =
-    (cause.1, subst (λ all. BeginsAt all seq) told cause.0)
+pub EarlyCause-begin : {K : Type 0} (store : K → Store) (keeper : K) (rows : List Row) (refused : K × BeginFault) → IsBeginFault rows refused.1
+    → BeginCause store keeper (Err refused)
+    → EarlyCause (status_by_begin refused.1) (store keeper).faults (store refused.0).faults (Some rows)
+EarlyCause-begin store keeper rows (now, begin.Memory) is cause = tt
+EarlyCause-begin store keeper rows (now, begin.KeeperFault) is cause = cause
+EarlyCause-begin store keeper rows (now, begin.Bad seq bad_row) is cause = record { rows = rows; told = refl; refused = is }
+
+-- one fault is of one number and of one kind
+same_fault : (seq other : ℤ) (bad_row bad_other : Bool) → row_fault seq bad_row ≡ row_fault other bad_other
+    → status.BadStore seq bad_row ≡ status.BadStore other bad_other
+same_fault seq other true true same = let number : seq ≡ other = cc in ap (λ n. status.BadStore n true) number
+same_fault seq other false false same = let number : seq ≡ other = cc in ap (λ n. status.BadStore n false) number
+same_fault seq other true false same = absurd cc
+same_fault seq other false true same = absurd cc
+
+-- the first fault of rows that were told is the one that is answered
+bad_told : (held : Option (List Row)) (rows : List Row) (seq other : ℤ) (bad_row bad_other : Bool) → IsBadStore held seq bad_row → held ≡ Some rows
+    → checked rows ≡ Err (row_fault other bad_other) → status.BadStore seq bad_row ≡ status.BadStore other bad_other
+bad_told None rows seq other bad_row bad_other bad stored refused = absurd cc
+bad_told (Some kept) rows seq other bad_row bad_other bad stored refused =
+    let all : bad.rows ≡ rows = let same : kept ≡ rows = cc in bad.told ∙ same in
+    let both : Err (row_fault seq bad_row) ≡ checked rows = sym bad.refused ∙ ap checked all in
+    let faults : row_fault seq bad_row ≡ row_fault other bad_other = let same = both ∙ refused in cc in
+    same_fault seq other bad_row bad_other faults
 
 -- what such a status says
 record IsEarly (ended : Status) (before now : ℕ) (held : Option (List Row)) : Type 0 where
@@ -173,7 +199,8 @@ record IsEarly (ended : Status) (before now : ℕ) (held : Option (List Row)) : 
   keeper_fault : ended ≡ status.KeeperFault → Failed before now
   no_sink_fault : ended ≡ status.SinkFault → ⊥
   bad_store : StoreCause ended held
-  stored_row : (row : Row) (rest : List Row) → held ≡ Some (row ∷ rest) → ¬ Failed before now → IsUnlessMemory ended (status.BadStore row.seq true)
+  unsound : (rows : List Row) (seq : ℤ) (bad_row : Bool) → held ≡ Some rows → checked rows ≡ Err (row_fault seq bad_row) → ¬ Failed before now
+      → IsUnlessMemory ended (status.BadStore seq bad_row)
 
 is_early : (ended : Status) (before now : ℕ) (held : Option (List Row)) → EarlyCause ended before now held → IsEarly ended before now held
 is_early status.Memory before now held cause = record {
@@ -183,7 +210,7 @@ is_early status.Memory before now held cause = record {
   keeper_fault = λ is. absurd (cc);
   no_sink_fault = λ is. absurd (cc);
   bad_store = tt;
-  stored_row = λ row rest stored no_fault. inr refl;
+  unsound = λ rows seq bad_row stored refused no_fault. inr refl;
 }
 is_early status.KeeperFault before now held cause = record {
   begun = λ began is. tt;
@@ -192,7 +219,7 @@ is_early status.KeeperFault before now held cause = record {
   keeper_fault = λ is. cause;
   no_sink_fault = λ is. absurd (cc);
   bad_store = tt;
-  stored_row = λ row rest stored no_fault. absurd (no_fault cause);
+  unsound = λ rows seq bad_row stored refused no_fault. absurd (no_fault cause);
 }
 is_early (status.BadStore seq bad_row) before now held cause = record {
   begun = λ began is. is;
@@ -201,9 +228,7 @@ is_early (status.BadStore seq bad_row) before now held cause = record {
   keeper_fault = λ is. absurd (cc);
   no_sink_fault = λ is. absurd (cc);
   bad_store = cause;
-  stored_row = λ row rest stored no_fault.
-      let number : seq ≡ row.seq = subst (λ all. IfSome all (λ rows. BeginsAt rows seq)) stored cause.1 in
-      inl (ap (λ n. status.BadStore n bad_row) number ∙ ap (λ b. status.BadStore row.seq b) cause.0);
+  unsound = λ rows other bad_other stored refused no_fault. inl (bad_told held rows seq other bad_row bad_other cause stored refused);
 }
 is_early status.Done before now held cause = absurd cause
 is_early status.SinkFault before now held cause = absurd cause
@@ -212,26 +237,26 @@ is_early status.SourceFault before now held cause = absurd cause
 is_early (status.ScriptTooLong limit) before now held cause = absurd cause
 
 -- a run that ended before its table was begun, with its keeper as it was told before
-pub IsRunEnd-unbegun : {K W B : Type 0} (tells : Tells K W B) (commands : List Command) (why : Status) (hands : Vec (Hand B) Global) (keeper now : K)
-    (sink : W) (ended : Ended K W B)
-    → IsUnbegun why now sink hands ended → AllByRecursion IsBuilt commands → tells.held now ≡ tells.held keeper
-    → EarlyCause why (tells.keeper_faults keeper) (tells.keeper_faults now) (tells.held keeper)
-    → IsRunEnd tells commands hands.items keeper sink ended
-IsRunEnd-unbegun tells commands why hands keeper now sink ended unbegun built same cause =
-    let held = tells.held keeper in
-    let before = tells.keeper_faults keeper in
-    let faults : tells.keeper_faults ended.keeper ≡ tells.keeper_faults now = ap tells.keeper_faults unbegun.keeper_is in
+pub IsRunEnd-unbegun : {K W B : Type 0} (tells : Tells K W B) (commands : List Command) (why : Status) (hands : Vec (Hand B) Global)
+    (name : Option (List ℕ)) (held : Option (List Row)) (keeper now : K) (sink : W) (ended : Ended K W B)
+    → IsUnbegun why now sink hands ended → AllByRecursion IsAskable commands → IsAtMost (tells.store keeper).rows (tells.store now).rows
+    → EarlyCause why (tells.store keeper).faults (tells.store now).faults held
+    → IsRunEnd tells commands hands.items name held keeper sink ended
+IsRunEnd-unbegun tells commands why hands name held keeper now sink ended unbegun askable same cause =
+    let before = (tells.store keeper).faults in
+    let faults : (tells.store ended.keeper).faults ≡ (tells.store now).faults = ap (λ keeper. (tells.store keeper).faults) unbegun.keeper_is in
     let is =
-    is_early ended.status before (tells.keeper_faults ended.keeper) held
+    is_early ended.status before (tells.store ended.keeper).faults held
     (subst (λ n. EarlyCause ended.status before n held) (sym faults)
-    (subst (λ s. EarlyCause s before (tells.keeper_faults now) held) (sym unbegun.status_is) cause)) in
+    (subst (λ s. EarlyCause s before (tells.store now).faults held) (sym unbegun.status_is) cause)) in
     let nothing : HasNotBegun ended.first ended.log ended.last = record { first_is = unbegun.first; last_is = unbegun.last; no_event = unbegun.log } in
     record {
       replay = subst (λ began. IsReplayed held (instances_from tells.kind_of 0 hands.items) began ended.first ended.log ended.last) (sym unbegun.began) nothing;
       begun = is.begun ended.began unbegun.began;
-      begins_empty = λ began. let clash : true ≡ false = sym began ∙ unbegun.began in absurd (cc);
       not_begun_keeps = λ same. unbegun.sink_is;
-      rows = subst (λ began. AreRowsKept began ended.last held (tells.held ended.keeper)) (sym unbegun.began) (ap tells.held unbegun.keeper_is ∙ same);
+      rows = subst (λ began. AreRowsKept began ended.last (tells.store keeper) (tells.store ended.keeper)) (sym unbegun.began)
+          (subst (λ keeper_is. IsAtMost (tells.store keeper).rows (tells.store keeper_is).rows) (sym unbegun.keeper_is) same);
+      store_is = λ began. let clash : true ≡ false = sym began ∙ unbegun.began in absurd (cc);
       has_commands = HasCommands-nothing commands ended.status ended.log unbegun.log (λ done. absurd (is.early done));
       bytes = IsTextWritten-nothing (tells.given sink) (tells.given ended.sink) ended.status ended.first ended.log (ap tells.given unbegun.sink_is) unbegun.log;
       end = λ done. absurd (is.early done);
@@ -239,10 +264,70 @@ IsRunEnd-unbegun tells commands why hands keeper now sink ended unbegun built sa
           (ap (λ v. v.items) unbegun.hands_are);
       boxes = λ began. let clash : true ≡ false = sym began ∙ unbegun.began in absurd (cc);
       diaries = λ done. absurd (is.early done);
-      serial = IsSerialRun-unopened commands ended.status ended.first ended.log ended.last built is.early unbegun.first unbegun.log;
+      serial = IsSerialRun-unopened commands ended.status ended.first ended.log ended.last askable is.early unbegun.first unbegun.log;
       opened = is.opened;
       keeper_fault = is.keeper_fault;
       sink_fault = λ fault. absurd (is.no_sink_fault fault);
       bad_store = is.bad_store;
-      stored_row = is.stored_row;
+      unsound = is.unsound;
+    }
+
+-- ---- a run whose rows were loaded
+
+opened_told : {held : Option (List Row)} {rows : List Row} {instances : List Instance} {first : State} → IfSome held (λ kept. rows ≡ kept)
+    → IsOpenedFrom (Some rows) instances first → IsOpenedFrom held instances first
+opened_told {held} told is =
+    record { rows = is.rows; told = subst (λ all. IfSome held (λ kept. all ≡ kept)) (sym is.told) told; opened = is.opened }
+
+replayed_told : (began : Bool) (held : Option (List Row)) (rows : List Row) (instances : List Instance) (first : State) (log : List Event) (last : State)
+    → IfSome held (λ kept. rows ≡ kept) → IsReplayed (Some rows) instances began first log last → IsReplayed held instances began first log last
+replayed_told true held rows instances first log last told is = record { opened = opened_told told is.opened; replay = is.replay }
+replayed_told false held rows instances first log last told is = is
+
+kept_loaded : (began : Bool) (last : State) (before loaded now : Store) → IsAtMost before.rows loaded.rows → AreRowsKept began last loaded now
+    → AreRowsKept began last before now
+kept_loaded true last before loaded now same kept = kept
+kept_loaded false last before loaded now same kept = IsAtMost-then before.rows loaded.rows now.rows same kept
+
+store_told : (ended : Status) (held : Option (List Row)) (rows : List Row) → IfSome held (λ kept. rows ≡ kept) → StoreCause ended (Some rows)
+    → StoreCause ended held
+store_told (status.BadStore seq bad_row) held rows told bad =
+    record { rows = bad.rows; told = subst (λ all. IfSome held (λ kept. all ≡ kept)) (sym bad.told) told; refused = bad.refused }
+store_told status.Done held rows told bad = tt
+store_told status.SinkFault held rows told bad = tt
+store_told status.KeeperFault held rows told bad = tt
+store_told status.Memory held rows told bad = tt
+store_told status.Usage held rows told bad = tt
+store_told status.SourceFault held rows told bad = tt
+store_told (status.ScriptTooLong limit) held rows told bad = tt
+
+-- the end of a run over the rows that were loaded is one over the keeper as it was before
+pub IsRunEnd-loaded : {K W B : Type 0} (tells : Tells K W B) (commands : List Command) (hands : List (Hand B)) (name : List ℕ) (rows : List Row)
+    (keeper loaded : K) (sink : W) (ended : Ended K W B)
+    → IsRunEnd tells commands hands (tells.store loaded).name (Some rows) loaded sink ended → IsAtMost (Some name) (tells.store loaded).name
+    → IfSome (tells.store keeper).rows (λ held. rows ≡ held)
+    → IsAtMost (tells.store keeper).rows (tells.store loaded).rows → (tells.store loaded).faults ≡ (tells.store keeper).faults
+    → IsRunEnd tells commands hands (Some name) (tells.store keeper).rows keeper sink ended
+IsRunEnd-loaded tells commands hands name rows keeper loaded sink ended is named told same faults =
+    let held = (tells.store keeper).rows in
+    record {
+      replay = replayed_told ended.began held rows _ ended.first ended.log ended.last told is.replay;
+      begun = is.begun;
+      not_begun_keeps = is.not_begun_keeps;
+      rows = kept_loaded ended.began ended.last (tells.store keeper) (tells.store loaded) (tells.store ended.keeper) same is.rows;
+      store_is = λ began. IsAtMost-then (Some name) (tells.store loaded).name (tells.store ended.keeper).name named (is.store_is began);
+      has_commands = is.has_commands;
+      bytes = is.bytes;
+      end = is.end;
+      hands_back = is.hands_back;
+      boxes = is.boxes;
+      diaries = is.diaries;
+      serial = is.serial;
+      opened = is.opened;
+      keeper_fault = λ fault. subst (λ n. Failed n (tells.store ended.keeper).faults) faults (is.keeper_fault fault);
+      sink_fault = is.sink_fault;
+      bad_store = store_told ended.status held rows told is.bad_store;
+      unsound = λ all seq bad_row stored refused no_fault.
+          let both : rows ≡ all = subst (λ held. IfSome held (λ kept. rows ≡ kept)) stored told in
+          is.unsound all seq bad_row (ap Some both) refused (subst (λ n. ¬ Failed n (tells.store ended.keeper).faults) (sym faults) no_fault);
     }

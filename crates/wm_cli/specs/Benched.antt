@@ -1,25 +1,33 @@
 -- The table and the workers that a run begins with.
-use Rattle.std.specs.Prelude.{◌≡◌, ◌≤◌, List, [], length, map, Option}
+use Rattle.std.specs.Prelude.{◌≡◌, ◌≤◌, List, [], length, map}
 use Rattle.wm_bench.specs.Places.{most_hands, place_of}
 use Rattle.wm_bench.specs.declared.hand.Hand.{Hand}
 use Rattle.wm_bench.specs.declared.place.Place.{Place}
-use Rattle.wm_keeper.specs.declared.row.Row.{Row}
-use Rattle.wm_machine.specs.Opened.{opening_state}
-use Rattle.wm_machine.specs.declared.state.State.{State}
+use Rattle.wm_keeper.specs.Store.{IsAtMost}
+use Rattle.wm_machine.specs.Opened.{Opened}
+use Rattle.wm_machine.specs.declared.state.Instance.{Instance}
+use Rattle.wm_rows.specs.Sound.{AreSound}
 use Rattle.wm_session.specs.Hands.{instances_from}
+use Rattle.wm_session.specs.Tells.{Tells}
+use Rattle.wm_table.specs.Inputs.{Inputs}
 use Rattle.wm_table.specs.Table.{HoldsRowsOf}
 use Rattle.wm_table.specs.TableState.{TableState}
 use Rattle.wm_worker.specs.declared.kind.Kind.{Kind}
 
--- some workers, not too many, are at these places, and an empty store opened to this state with them
-pub record AreBenched {B : Type 0} (kind_of : B → Kind) (places : List (Place B)) (first : State) : Type 0 where
+-- some workers, not too many, are at these places, and these are their instances
+pub record AreBenched {B : Type 0} (kind_of : B → Kind) (places : List (Place B)) (instances : List Instance) : Type 0 where
   pub hands : List (Hand B)
   pub few : length hands ≤ most_hands
   pub at_places : places ≡ map place_of hands
-  pub opened : first ≡ opening_state [] (instances_from kind_of 0 hands)
+  pub are : instances ≡ instances_from kind_of 0 hands
 
--- a table that has just begun: nothing has happened, and where its keeper tells its rows, they are the state's
-pub record HasJustBegun {K : Type 0} (held : K → Option (List Row)) (table : TableState K) : Type 0 where
+-- a table that has just begun, of what its run was given: the rows are sound, its state is the one that they open to, nothing has happened, and its
+-- keeper holds the state's rows, in the store that was loaded, and met no fault
+pub record HasJustBegun {K W B : Type 0} (tells : Tells K W B) (run : Inputs) (table : TableState K) : Type 0 where
+  pub sound : AreSound run.rows
+  pub opened : Opened run.rows run.instances table.first
   pub state : table.state ≡ table.first
   pub log : table.log ≡ []
-  pub rows : HoldsRowsOf table.state (held table.keeper)
+  pub rows : HoldsRowsOf table.first (tells.store table.keeper)
+  pub name : IsAtMost run.store.name (tells.store table.keeper).name
+  pub no_fault : (tells.store table.keeper).faults ≡ run.store.faults

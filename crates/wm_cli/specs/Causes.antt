@@ -1,10 +1,12 @@
 -- Which status a fault of reading gives, and when each status comes.
-use Rattle.std.specs.Prelude.{◌≡◌, ◌⊎◌, ℕ, ℤ, true, List, [], ◌∷◌, Option, Some, None, IfSome, IsSomeAnd}
+use Rattle.std.specs.Prelude.{◌≡◌, ◌⊎◌, ℕ, ℤ, Bool, List, Option, Some, None, IfSome, IsSomeAnd, Err}
 use Rattle.wm_keeper.specs.declared.row.Row.{Row}
+use Rattle.wm_rows.specs.Sound.{checked}
 use Rattle.wm_script.specs.Limits.{first_limit}
 use Rattle.wm_script.specs.declared.limits.Limit.{Limit}
 use Rattle.wm_session.specs.declared.status.Status.{Status}
 use Rattle.wm_session.specs.declared.status.Status.TheVariants as status
+use Rattle.wm_table.specs.Table.{row_fault}
 
 -- the source tells what it has left, and this is the first limit that it passes
 abbrev pub IsToldTooLong : Limit → Option (List ℕ) → Type 0
@@ -24,14 +26,15 @@ abbrev pub LimitCause : Status → ℕ → ℕ → Option (List ℕ) → Type 0
 LimitCause (status.ScriptTooLong limit) before now left = IsPastLimit limit before now left
 LimitCause _ before now left = Unit {0}
 
--- the first of these rows has this number
-abbrev pub BeginsAt : List Row → ℤ → Type 0
-BeginsAt [] seq = ⊥
-BeginsAt (row ∷ rows) seq = seq ≡ row.seq
+-- some rows, which are those that the keeper held where it told them, have this first fault
+pub record IsBadStore (held : Option (List Row)) (seq : ℤ) (bad_row : Bool) : Type 0 where
+  pub rows : List Row
+  pub told : IfSome held (λ kept. rows ≡ kept)
+  pub refused : checked rows ≡ Err (row_fault seq bad_row)
 
--- `BadStore` names the first row that the keeper held, as one that is out of form
+-- `BadStore` names the first row with a fault of those that the keeper held
 abbrev pub StoreCause : Status → Option (List Row) → Type 0
-StoreCause (status.BadStore seq bad_row) held = (bad_row ≡ true) × IfSome held (λ rows. BeginsAt rows seq)
+StoreCause (status.BadStore seq bad_row) held = IsBadStore held seq bad_row
 StoreCause _ held = Unit {0}
 
 -- this status, or want of memory

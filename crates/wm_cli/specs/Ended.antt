@@ -1,25 +1,28 @@
 -- How a run ends: what its log, its last state, the rows kept, the bytes given and the workers handed back are.
-use Rattle.std.specs.Prelude.{◌≡◌, ℕ, Bool, true, false, List, [], ◌∷◌, Option, Some, IfSome, MatchBool, option_map, Vec}
+use Rattle.std.specs.Prelude.{◌≡◌, ℕ, ℤ, Bool, true, false, List, [], Option, Some, IfSome, MatchBool, option_map, Err, Vec}
 use Rattle.std.specs.declared.alloc.Global.{Global}
 use Rattle.wm_bench.specs.declared.hand.Hand.{Hand}
 use Rattle.wm_cli.specs.Causes.{IsOpeningStatus, IsUnlessMemory, StoreCause}
+use Rattle.wm_cli.specs.Words.{options_of}
 use Rattle.wm_faults.specs.Faults.{Failed}
+use Rattle.wm_keeper.specs.Store.{Store, IsAtMost}
 use Rattle.wm_keeper.specs.declared.row.Row.{Row}
 use Rattle.wm_script.specs.Lines.{commands_in}
 use Rattle.wm_machine.specs.Opened.{opening_state, Opened}
 use Rattle.wm_machine.specs.Quiet.{IsQuiet}
 use Rattle.wm_machine.specs.Replay.{Replay}
-use Rattle.wm_machine.specs.Rows.{rows_of}
 use Rattle.wm_machine.specs.declared.command.Command.{Command}
 use Rattle.wm_machine.specs.declared.event.Event.{Event}
 use Rattle.wm_machine.specs.declared.state.Instance.{Instance}
 use Rattle.wm_machine.specs.declared.state.State.{State}
+use Rattle.wm_rows.specs.Sound.{checked}
 use Rattle.wm_session.specs.Ended.{AreBoxesBack, AreHandsBack, HasCommands, HaveTold, IsSerialRun, IsTextWritten}
 use Rattle.wm_session.specs.Hands.{instances_from}
 use Rattle.wm_session.specs.Tells.{Tells}
 use Rattle.wm_session.specs.declared.ended.Ended.{Ended}
 use Rattle.wm_session.specs.declared.status.Status.{Status}
 use Rattle.wm_session.specs.declared.status.Status.TheVariants as status
+use Rattle.wm_table.specs.Table.{row_fault, HoldsRowsOf}
 use Rattle.wm_table.specs.TableState.{TableState}
 use Rattle.wm_worker.specs.declared.answer.Entry.{Entry}
 use Rattle.wm_worker.specs.declared.kind.Kind.{Kind}
@@ -57,8 +60,12 @@ IsBegunBy _ began = began ≡ false
 -- ---- the rows kept
 
 -- where the keeper tells its rows, they are the last state's, and those of before where the table wasn't begun
-abbrev pub AreRowsKept : Bool → State → Option (List Row) → Option (List Row) → Type 0
-AreRowsKept began last held kept = MatchBool began (kept ≡ option_map (λ _. rows_of last) held) (kept ≡ held)
+abbrev pub AreRowsKept : Bool → State → Store → Store → Type 0
+AreRowsKept began last before now = MatchBool began (HoldsRowsOf last now) (IsAtMost before.rows now.rows)
+
+-- where the keeper tells the name that it was loaded with, it is the one that the words name
+abbrev pub IsStoreOf : List (List ℕ) → Option (List ℕ) → Type 0
+IsStoreOf words name = IsAtMost (option_map (λ options. options.store) (options_of words)) name
 
 -- ---- the lines
 
@@ -108,15 +115,15 @@ pub record IsEndedAtOnce {K W B : Type 0} (table : TableState K) (sink : W) (han
   pub sink_is : ended.sink ≡ sink
   pub hands_are : ended.hands ≡ hands
 
--- A run that is over whose commands, these, were read, and that was given these workers, this keeper and this sink. Each fact is the promise
--- of `run` of that name.
-pub record IsRunEnd {K W B : Type 0} (tells : Tells K W B) (commands : List Command) (hands : List (Hand B)) (keeper : K) (sink : W)
-    (ended : Ended K W B) : Type 0 where
-  pub replay : IsReplayed (tells.held keeper) (instances_from tells.kind_of 0 hands) ended.began ended.first ended.log ended.last
+-- A run that is over whose commands, these, were read, and that was given these workers, this keeper, which held these rows in the store of this
+-- name, where it tells them, and this sink. Each fact is the promise of `run` of that name.
+pub record IsRunEnd {K W B : Type 0} (tells : Tells K W B) (commands : List Command) (hands : List (Hand B)) (name : Option (List ℕ))
+    (held : Option (List Row)) (keeper : K) (sink : W) (ended : Ended K W B) : Type 0 where
+  pub replay : IsReplayed held (instances_from tells.kind_of 0 hands) ended.began ended.first ended.log ended.last
   pub begun : IsBegunBy ended.status ended.began
-  pub begins_empty : ended.began ≡ true → ended.first ≡ opening_state [] (instances_from tells.kind_of 0 hands)
   pub not_begun_keeps : ended.began ≡ false → ended.sink ≡ sink
-  pub rows : AreRowsKept ended.began ended.last (tells.held keeper) (tells.held ended.keeper)
+  pub rows : AreRowsKept ended.began ended.last (tells.store keeper) (tells.store ended.keeper)
+  pub store_is : ended.began ≡ true → IsAtMost name (tells.store ended.keeper).name
   pub has_commands : HasCommands commands ended.status ended.log
   pub bytes : IsTextWritten (tells.given sink) (tells.given ended.sink) ended.status ended.first ended.log
   pub end : IsQuietOnDone ended.status ended.last
@@ -125,8 +132,8 @@ pub record IsRunEnd {K W B : Type 0} (tells : Tells K W B) (commands : List Comm
   pub diaries : HaveToldOnDone tells.diary_of ended.status hands ended.first ended.log ended.last ended.hands.items
   pub serial : IsSerialRun commands ended.status ended.first ended.log ended.last
   pub opened : IsOpeningStatus ended.status
-  pub keeper_fault : ended.status ≡ status.KeeperFault → Failed (tells.keeper_faults keeper) (tells.keeper_faults ended.keeper)
+  pub keeper_fault : ended.status ≡ status.KeeperFault → Failed (tells.store keeper).faults (tells.store ended.keeper).faults
   pub sink_fault : ended.status ≡ status.SinkFault → Failed (tells.sink_faults sink) (tells.sink_faults ended.sink)
-  pub bad_store : StoreCause ended.status (tells.held keeper)
-  pub stored_row : (row : Row) (rest : List Row) → tells.held keeper ≡ Some (row ∷ rest)
-      → ¬ Failed (tells.keeper_faults keeper) (tells.keeper_faults ended.keeper) → IsUnlessMemory ended.status (status.BadStore row.seq true)
+  pub bad_store : StoreCause ended.status held
+  pub unsound : (rows : List Row) (seq : ℤ) (bad_row : Bool) → held ≡ Some rows → checked rows ≡ Err (row_fault seq bad_row)
+      → ¬ Failed (tells.store keeper).faults (tells.store ended.keeper).faults → IsUnlessMemory ended.status (status.BadStore seq bad_row)

@@ -1,22 +1,22 @@
-ghost use Rattle.std.specs.Prelude.{◌≡◌, ◌↔◌, ◌+◌, ◌≤◌, ◌<◌, ◌^◌, [], ◌∷◌, List, length, map, vec_len, true, false, None, Some, IfOk, IfErr, IsSome, OnOk, string_bytes};
+ghost use Rattle.std.specs.Prelude.{◌≡◌, ◌↔◌, ◌+◌, ◌≤◌, ◌<◌, ◌^◌, ℤ, Bool, List, length, map, vec_len, true, false, None, Some, Err, IfOk, IfErr, IfSome, IsSome, OnOk, string_bytes};
 ghost use Rattle.std.specs.List.{AllByRecursion};
 ghost use Rattle.wm_bench.specs.Places.{idle_hands, most_hands, place_of};
 ghost use Rattle.wm_cli.specs.Benched.{AreBenched, HasJustBegun};
 ghost use Rattle.wm_cli.specs.Causes.{IsToldTooLong, IsToldWithin, IsUnlessMemory, LimitCause, StoreCause};
-ghost use Rattle.wm_cli.specs.Ended.{AreBoxesOf, AreHandsOf, AreRowsKept, HasCommandsOf, HaveToldOnDone, IsBegunBy, IsEndedAtOnce, IsQuietOnDone, IsReplayed, IsRunEnd, IsSerialOver};
+ghost use Rattle.wm_cli.specs.Ended.{AreBoxesOf, AreHandsOf, AreRowsKept, HasCommandsOf, HaveToldOnDone, IsBegunBy, IsEndedAtOnce, IsQuietOnDone, IsReplayed, IsRunEnd, IsSerialOver, IsStoreOf};
 ghost use Rattle.wm_cli.specs.Reading.{AreCommandsOf, IsReadStatus};
 ghost use Rattle.wm_cli.specs.Script.{IsTakenWithin};
 ghost use Rattle.wm_cli.specs.Words.{options_of};
 ghost use Rattle.wm_faults.specs.Faults.{Failed};
 ghost use Rattle.wm_keeper.specs.declared.row.Row.{Row};
-ghost use Rattle.wm_machine.specs.Outcome.{IsBuilt};
-ghost use Rattle.wm_machine.specs.Opened.{opening_state};
+ghost use Rattle.wm_machine.specs.Outcome.{IsAskable};
+ghost use Rattle.wm_rows.specs.Sound.{checked, AreSound};
 ghost use Rattle.wm_script.specs.Limits.{most_script_bytes};
 ghost use Rattle.wm_script.specs.declared.limits.Limit.{Limit};
-ghost use Rattle.wm_session.specs.Inputs.{inputs_of};
 ghost use Rattle.wm_session.specs.Ended.{IsSerialEnd, IsTextWritten};
 ghost use Rattle.wm_session.specs.Hands.{instances_from};
-ghost use Rattle.wm_session.specs.Tells.{tells_of};
+ghost use Rattle.wm_session.specs.Tells.{tells_of, AreInputs};
+ghost use Rattle.wm_table.specs.Table.{row_fault};
 
 use crate::instances::instances_of;
 use crate::script::{ReadFault, read_script};
@@ -27,17 +27,17 @@ use wm_bench::{Bench, Hand};
 use wm_collections::Items;
 use wm_io::{Sink, Source};
 use wm_keeper::{Keeper, Row};
-use wm_machine::Command;
+use wm_machine::{Command, Instance};
 use wm_script::{Limit, ScriptFault, read_lines};
-use wm_session::{Book, Ended, Mark, Status, run_serial};
-use wm_table::{Table, TableEnd};
+use wm_session::{Book, Ended, Status, run_serial};
+use wm_table::{Mark, Table, TableEnd};
 use wm_worker::Worker;
 
 /// Reads the commands of a script, or says with which status a run ends without them.
 #[tactic(auto, using(crate::proofs::ScriptLimits::read_whole))]
 fn read_commands<S: Source>(alloc: Global, source: &mut S) -> Result<Items<Command>, Status>
     ensures commands { IfOk result (AreCommandsOf (S.left source.old)) }
-    ensures built { IfOk result (AllByRecursion IsBuilt) }
+    ensures askable { IfOk result (AllByRecursion IsAskable) }
     ensures few { IfOk result (λ commands. length commands < 2 ^ 32) }
     ensures no_fault { OnOk result (S.faults source.new ≡ S.faults source.old) }
     ensures reads { IsTakenWithin (most_script_bytes + 1) (S.left source.old) (S.left source.new) }
@@ -56,7 +56,7 @@ fn read_commands<S: Source>(alloc: Global, source: &mut S) -> Result<Items<Comma
     }
 }
 
-/// Opens the store of this name and executes the commands on it.
+/// Loads the store of this name, opens it and executes the commands on it.
 fn run_commands<W: Sink, K: Keeper, B: Worker>(
     alloc: Global,
     store: &str,
@@ -66,10 +66,10 @@ fn run_commands<W: Sink, K: Keeper, B: Worker>(
     mut keeper: K,
 ) -> Ended<K, W, B>
     requires few_hands { vec_len hands ≤ most_hands }
-    requires built { AllByRecursion IsBuilt commands }
+    requires askable { AllByRecursion IsAskable commands }
     requires few { length commands < 2 ^ 32 }
-    ensures { IsRunEnd (tells_of K.held K.faults W.given W.faults B.kind_of B.diary_of)
-        commands hands.items keeper sink result }
+    ensures { IsRunEnd (tells_of K.store W.given W.faults B.kind_of B.diary_of)
+        commands hands.items (Some store.now) (K.store keeper).rows keeper sink result }
 {
     let rows = match keeper.load(store) {
         Ok(rows) => rows,
@@ -80,8 +80,32 @@ fn run_commands<W: Sink, K: Keeper, B: Worker>(
     let Ok(instances) = instances_of(alloc, &hands) else {
         return Ended::before_begin(alloc, Status::Memory, keeper, sink, hands);
     };
-    match Table::begin(alloc, keeper, &rows, instances) {
-        Ok(table) => run_begun(alloc, table, commands, hands, sink),
+    run_loaded::<W, K, B, Brand>(alloc, rows, instances, commands, hands, sink, keeper)
+}
+
+/// Opens the rows that were loaded, and executes the commands on them, with these workers. The mark
+/// is what the run is given.
+fn run_loaded<W: Sink, K: Keeper, B: Worker, M: Mark>(
+    alloc: Global,
+    rows: Vec<Row>,
+    instances: Items<Instance>,
+    commands: Items<Command>,
+    hands: Vec<Hand<B>>,
+    sink: W,
+    keeper: K,
+) -> Ended<K, W, B>
+    requires inputs { AreInputs (tells_of K.store W.given W.faults B.kind_of B.diary_of) M.inputs
+        keeper rows.items instances commands sink }
+    requires instances { instances ≡ instances_from B.kind_of 0 hands.items }
+    requires rows { IfSome (K.store keeper).rows (λ held. rows.items ≡ held) }
+    requires few_hands { vec_len hands ≤ most_hands }
+    requires askable { AllByRecursion IsAskable commands }
+    requires few { length commands < 2 ^ 32 }
+    ensures { IsRunEnd (tells_of K.store W.given W.faults B.kind_of B.diary_of)
+        commands hands.items (K.store keeper).name (Some rows.items) keeper sink result }
+{
+    match Table::begin(alloc, keeper, rows, instances) {
+        Ok(table) => run_begun::<W, K, B, M>(alloc, table, commands, hands, sink),
         Err(refused) => {
             let (keeper, fault) = refused;
             Ended::before_begin(alloc, Status::from(fault), keeper, sink, hands)
@@ -89,25 +113,28 @@ fn run_commands<W: Sink, K: Keeper, B: Worker>(
     }
 }
 
-/// Executes the commands on a table that has just begun on an empty store, with these workers.
-fn run_begun<W: Sink, K: Keeper, B: Worker>(
+/// Executes the commands on a table that has just begun, with these workers.
+fn run_begun<W: Sink, K: Keeper, B: Worker, M: Mark>(
     alloc: Global,
-    table: Table<K>,
+    table: Table<K, M>,
     commands: Items<Command>,
     hands: Vec<Hand<B>>,
     sink: W,
 ) -> Ended<K, W, B>
+    requires lines { commands ≡ M.inputs.lines }
+    requires instances { M.inputs.instances ≡ instances_from B.kind_of 0 hands.items }
+    requires sink { W.given sink ≡ M.inputs.written }
+    requires sink_faults { W.faults sink ≡ M.inputs.sink_faults }
     requires few_hands { vec_len hands ≤ most_hands }
-    requires built { AllByRecursion IsBuilt commands }
+    requires askable { AllByRecursion IsAskable commands }
     requires few { length commands < 2 ^ 32 }
-    requires first { table.first ≡ opening_state [] (instances_from B.kind_of 0 hands.items) }
-    requires begun { HasJustBegun K.held table }
-    ensures { let tells = tells_of K.held K.faults W.given W.faults B.kind_of B.diary_of in
-        IsSerialEnd tells (inputs_of tells table commands sink)
-        (idle_hands (map place_of hands.items)) result }
+    requires begun { HasJustBegun (tells_of K.store W.given W.faults B.kind_of B.diary_of)
+        M.inputs table }
+    ensures { IsSerialEnd (tells_of K.store W.given W.faults B.kind_of B.diary_of)
+        M.inputs (idle_hands (map place_of hands.items)) result }
 {
     match Bench::new(alloc, hands) {
-        Ok(bench) => run_marked::<W, K, B, Brand>(alloc, table, bench, commands, sink),
+        Ok(bench) => run_benched(alloc, table, bench, commands, sink),
         Err(failed) => {
             let AllocFailed { value } = failed;
             end_at_once(table, value, sink)
@@ -115,21 +142,23 @@ fn run_begun<W: Sink, K: Keeper, B: Worker>(
     }
 }
 
-/// Executes the commands in a book whose mark is what the run was given.
-fn run_marked<W: Sink, K: Keeper, B: Worker, M: Mark>(
+/// Executes the commands in a book.
+fn run_benched<W: Sink, K: Keeper, B: Worker, M: Mark>(
     alloc: Global,
-    table: Table<K>,
+    table: Table<K, M>,
     bench: Bench<B>,
     commands: Items<Command>,
     sink: W,
 ) -> Ended<K, W, B>
-    requires inputs { M.inputs ≡ inputs_of (tells_of K.held K.faults W.given W.faults B.kind_of B.diary_of)
-        table commands sink }
-    requires benched { AreBenched B.kind_of bench table.first }
-    requires built { AllByRecursion IsBuilt commands }
+    requires lines { commands ≡ M.inputs.lines }
+    requires benched { AreBenched B.kind_of bench M.inputs.instances }
+    requires sink { W.given sink ≡ M.inputs.written }
+    requires sink_faults { W.faults sink ≡ M.inputs.sink_faults }
+    requires askable { AllByRecursion IsAskable commands }
     requires few { length commands < 2 ^ 32 }
-    requires begun { HasJustBegun K.held table }
-    ensures { IsSerialEnd (tells_of K.held K.faults W.given W.faults B.kind_of B.diary_of)
+    requires begun { HasJustBegun (tells_of K.store W.given W.faults B.kind_of B.diary_of)
+        M.inputs table }
+    ensures { IsSerialEnd (tells_of K.store W.given W.faults B.kind_of B.diary_of)
         M.inputs (idle_hands bench) result }
 {
     match Book::<K, W, B, M>::new(alloc, table, bench, commands, sink) {
@@ -142,8 +171,8 @@ fn run_marked<W: Sink, K: Keeper, B: Worker, M: Mark>(
 }
 
 /// Ends a run for want of memory whose table was begun, before its first event.
-fn end_at_once<W: Sink, K: Keeper, B: Worker>(
-    table: Table<K>,
+fn end_at_once<W: Sink, K: Keeper, B: Worker, M: Mark>(
+    table: Table<K, M>,
     hands: Vec<Hand<B>>,
     sink: W,
 ) -> Ended<K, W, B>
@@ -186,15 +215,15 @@ pub fn run<S: Source, W: Sink + Send, K: Keeper + Send, B: Worker>(
     requires few_hands { vec_len hands ≤ most_hands }
 
     // The log replays, from the state that the rows held opened to, as the state machine.
-    ensures replay { IsReplayed (K.held keeper) (instances_from B.kind_of 0 hands.items)
+    ensures replay { IsReplayed (K.store keeper).rows (instances_from B.kind_of 0 hands.items)
         result.began result.first result.log result.last }
     ensures begun { IsBegunBy result.status result.began }
-    // Nothing else than an empty store is begun, and where none is, the sink is as it was.
-    ensures begins_empty { result.began ≡ true
-        → result.first ≡ opening_state [] (instances_from B.kind_of 0 hands.items) }
+    // Where no store was opened, the sink is as it was.
     ensures not_begun_keeps { result.began ≡ false → result.sink ≡ sink }
-    // The rows kept are the last state's.
-    ensures rows { AreRowsKept result.began result.last (K.held keeper) (K.held result.keeper) }
+    // The rows kept are the last state's, and those of before where no store was opened.
+    ensures rows { AreRowsKept result.began result.last (K.store keeper) (K.store result.keeper) }
+    // They stand in the store that the words name.
+    ensures store { result.began ≡ true → IsStoreOf (map string_bytes words.now) (K.store result.keeper).name }
     // The log has the script's commands, a front of them, and on `Done` all.
     ensures commands { HasCommandsOf (S.left source.old) result.status result.log }
     // The bytes written are the log's text, a front of it, and on `Done` all.
@@ -236,20 +265,23 @@ pub fn run<S: Source, W: Sink + Send, K: Keeper + Send, B: Worker>(
         → ¬ Failed (S.faults source.old) (S.faults source.new)
         → IsUnlessMemory result.status (Status.ScriptTooLong limit) }
     ensures keeper_fault { result.status ≡ Status.KeeperFault
-        → Failed (K.faults keeper) (K.faults result.keeper) }
+        → Failed (K.store keeper).faults (K.store result.keeper).faults }
     ensures sink_fault { result.status ≡ Status.SinkFault
         → Failed (W.faults sink) (W.faults result.sink) }
-    ensures bad_store { StoreCause result.status (K.held keeper) }
-    ensures stored_row { (row : Row) (rest : List Row)
+    ensures bad_store { StoreCause result.status (K.store keeper).rows }
+    ensures unsound_store { (rows : List Row) (seq : ℤ) (bad_row : Bool)
         → IsSome (options_of (map string_bytes words.now))
         → IsToldWithin (S.left source.old) → ¬ Failed (S.faults source.old) (S.faults source.new)
-        → K.held keeper ≡ Some (row ∷ rest) → ¬ Failed (K.faults keeper) (K.faults result.keeper)
-        → IsUnlessMemory result.status (Status.BadStore row.seq true) }
+        → (K.store keeper).rows ≡ Some rows → checked rows ≡ Err (row_fault seq bad_row)
+        → ¬ Failed (K.store keeper).faults (K.store result.keeper).faults
+        → IsUnlessMemory result.status (Status.BadStore seq bad_row) }
 
-    // Completeness: right words, a script within its limits, an empty store and no fault.
-    ensures completes { IsSome (options_of (map string_bytes words.now))
+    // Completeness: right words, a script within its limits, a sound store and no fault.
+    ensures completes { (rows : List Row)
+        → IsSome (options_of (map string_bytes words.now))
         → IsToldWithin (S.left source.old) → ¬ Failed (S.faults source.old) (S.faults source.new)
-        → K.held keeper ≡ Some [] → ¬ Failed (K.faults keeper) (K.faults result.keeper)
+        → (K.store keeper).rows ≡ Some rows → AreSound rows
+        → ¬ Failed (K.store keeper).faults (K.store result.keeper).faults
         → ¬ Failed (W.faults sink) (W.faults result.sink)
         → IsUnlessMemory result.status Status.Done }
 {

@@ -77,7 +77,8 @@ pub All-from_filter : {T : Type 0} (P : T → Type 0) (test : T → Bool) (xs : 
 All-from_filter P test [] all = tt
 All-from_filter {T} P test (x ∷ xs) all =
     cond_both (test x) (x ∷ filter test xs) (filter test xs) (λ (l : List T). AllByRecursion P l → AllByRecursion (λ x. test x ≡ true → P x) (x ∷ xs))
-    (λ e both. (λ passes. both.0, All-from_filter P test xs both.1)) (λ e rest. (λ passes. absurd (false≢true (sym e ∙ passes)), All-from_filter P test xs rest))
+    (λ e both. (λ passes. both.0, All-from_filter P test xs both.1))
+    (λ e rest. (λ passes. absurd (false≢true (sym e ∙ passes)), All-from_filter P test xs rest))
     all
 
 -- what a filter leaves passes
@@ -185,6 +186,10 @@ AllLater-few R (x ∷ y ∷ xs) few = absurd (omega (arith, few))
 pub AllLater-front : {T : Type 0} (R : T → T → Type 0) (xs ys : List T) → AllLater R (xs ++ ys) → AllLater R xs
 AllLater-front R [] ys later = tt
 AllLater-front R (x ∷ xs) ys later = (All-front (R x) xs ys later.0, AllLater-front R xs ys later.1)
+
+pub AllLater-back : {T : Type 0} (R : T → T → Type 0) (xs ys : List T) → AllLater R (xs ++ ys) → AllLater R ys
+AllLater-back R [] ys later = later
+AllLater-back R (x ∷ xs) ys later = AllLater-back R xs ys later.1
 
 pub AllLater-map : {T U : Type 0} {R : T → T → Type 0} (Q : U → U → Type 0) (f : T → U) (xs : List T) → ((x y : T) → R x y → Q (f x) (f y)) → AllLater R xs
     → AllLater Q (map f xs)
@@ -350,6 +355,11 @@ all_pass test (x ∷ xs) all = let parts = and_parts (test x) (list_all test xs)
 pub list_all-each : {T : Type 0} (test : T → Bool) (xs : List T) → AllByRecursion (λ x. test x ≡ true) xs → list_all test xs ≡ true
 list_all-each test [] all = refl
 list_all-each test (x ∷ xs) all = and_from _ _ all.0 (list_all-each test xs all.1)
+
+-- two tests that agree on each element
+pub list_all-agree : {T : Type 0} (test other : T → Bool) (xs : List T) → AllByRecursion (λ x. test x ≡ other x) xs → list_all test xs ≡ list_all other xs
+list_all-agree test other [] same = refl
+list_all-agree test other (x ∷ xs) same = rw (same.0, list_all-agree test other xs same.1) refl
 
 -- what all pass they still pass
 pub list_all-weaker : {T : Type 0} (test then : T → Bool) (xs : List T) → ((x : T) → test x ≡ true → then x ≡ true) → list_all test xs ≡ true

@@ -20,7 +20,7 @@ use Rattle.wm_machine.specs.declared.state.State.{State}
 use Rattle.wm_machine.proofs.Steps.{Valid-after}
 use Rattle.wm_machine.specs.Enqueued.{enqueued, made_ready, placing_in}
 use Rattle.wm_machine.specs.Narrow.{IsReached}
-use Rattle.wm_machine.specs.Outcome.{outcome, IsBuilt, IsLegalLine}
+use Rattle.wm_machine.specs.Outcome.{outcome, IsAskable, IsLegalLine}
 use Rattle.wm_machine.specs.Plan.{Placing}
 use Rattle.wm_machine.specs.Replied.{Outcome}
 use Rattle.wm_machine.specs.Rows.{row_of, rows_of}
@@ -40,8 +40,8 @@ none_new : (next : ℕ) (new : List Record) → HaveNextNumbers next new → 1 �
 none_new next [] numbered some none = absurd (omega (arith, some))
 none_new next (work ∷ new) numbered some none = none.0 (ap pos numbered.0)
 
--- a batch that is built has works
-not_empty : (named : Option UniqueName) (batch : Batch) → IsBuilt (command.Enqueue named batch) → 1 ≤ length batch.works
+-- a batch that may be asked has works
+not_empty : (named : Option UniqueName) (batch : Batch) → IsAskable (command.Enqueue named batch) → 1 ≤ length batch.works
 not_empty None batch asked = let some = asked.batch.not_empty in omega (arith, some)
 not_empty (Some unique) batch asked = let some = asked.asked.batch.not_empty in omega (arith, some)
 
@@ -79,7 +79,7 @@ module _ (s : State) (line : ℕ) (named : Option UniqueName) (batch : Batch) (b
 
   legal : Legal s enqueue_event
   legal = (
-    can.built,
+    can.askable,
     Answers-outcome s (command.Enqueue named batch) (reply.Enqueued (seqs_of new)) (placing_in cleared_s (name_in named) by.after batch.works)
         outcome-is (ap reply.Enqueued (seqs-new cleared_s (name_in named) by.after batch.works)),
   )
@@ -106,7 +106,7 @@ module _ (s : State) (line : ℕ) (named : Option UniqueName) (batch : Batch) (b
       All-map _ row_of s.works (λ work below is. let clash : pos work.seq ≡ pos s.next = is in absurd (omega (arith, ints, below))) valid.works.numbers in
       let each = All-unmap _ row_of (with_cleared clearing s.works ++ new) (subst (AllByRecursion (λ (row : Row). row.seq ≢ pos s.next)) (sym rows) before) in
       let many = as_many cleared_s (name_in named) by.after batch.works in
-      let some = not_empty named batch can.built in
+      let some = not_empty named batch can.askable in
       none_new s.next new new-numbered (omega (arith, many, some)) (All-back _ (with_cleared clearing s.works) new each)
 
   -- a batch is placed

@@ -44,7 +44,7 @@ setting-executed s line asked answer to valid is =
           placed_rows = tt;
           apart = tt;
         };
-        legal = (is.built, Answers-outcome s asked answer out is.is refl);
+        legal = (is.askable, Answers-outcome s asked answer out is.is refl);
         state = ap (set_by to) (unplaced s s.works s.works refl) ∙ sym (ap (state_by s) is.is);
       };
       rows = inr refl;

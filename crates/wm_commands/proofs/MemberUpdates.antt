@@ -155,7 +155,7 @@ module _ (s : State) (line : ℕ) (unique : UniqueName) (batch : Batch) (number 
   updated_by_first (node ∷ later) is first =
       let member = member-is.member in
       updating-executed s line (command.Enqueue (Some unique) batch) index member node.request executed valid (at ∙ ap (λ (w : Record). Some w) itself)
-      (subst (AllByRecursion (λ n. IsRequest n.request)) is can.built.asked.requests).0 (member-is.kind node later is) can.built
+      (subst (AllByRecursion (λ n. IsRequest n.request)) is can.askable.asked.requests).0 (member-is.kind node later is) can.askable
       (outcome-enqueued s (Some unique) batch can.answered
       ∙ ap (λ (o : Outcome). Some o) (updated-outcome s unique batch.works member node later is member-is.planned fits))
       (subst (λ w. IsUpdating line (command.Enqueue (Some unique) batch) index w node.request executed) itself

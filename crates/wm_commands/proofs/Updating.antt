@@ -8,7 +8,7 @@ use Rattle.wm_machine.proofs.Records.{IsRecord-updated}
 use Rattle.wm_machine.proofs.Runnings.{changed}
 use Rattle.wm_machine.specs.Cancelled.{work_with_id}
 use Rattle.wm_machine.specs.Closed.{is_open}
-use Rattle.wm_machine.specs.Outcome.{IsBuilt, outcome}
+use Rattle.wm_machine.specs.Outcome.{IsAskable, outcome}
 use Rattle.wm_machine.specs.Replied.{unchanged}
 use Rattle.wm_machine.specs.Rows.{row_of, rows_of}
 use Rattle.wm_machine.specs.Runs.{changed_work}
@@ -35,12 +35,12 @@ use Rattle.wm_steps.specs.declared.change.StepChange.{StepChange}
 
 module _ (s : State) (line : ℕ) (asked : Command) (i : ℕ) (work : Record) (request : RequestFields) (executed : Executed) (valid : Valid s)
     (at : slice_get s.works i ≡ Some work) (within : IsRequest request) (kind : is_same_kind request.period work.request.period ≡ true)
-    (built : IsBuilt asked) (outcome-is : outcome s asked ≡ Some (update_of s request work)) (is : IsUpdating line asked i work request executed) where
+    (askable : IsAskable asked) (outcome-is : outcome s asked ≡ Some (update_of s request work)) (is : IsUpdating line asked i work request executed) where
   after-is : after_command s asked ≡ record s { works = changed_work (updated request) work.seq s.works }
   after-is = ap (state_by s) outcome-is
 
   legal : Legal s (event.Command line asked executed.reply)
-  legal = (built, Answers-outcome s asked executed.reply (update_of s request work) outcome-is is.answer)
+  legal = (askable, Answers-outcome s asked executed.reply (update_of s request work) outcome-is is.answer)
 
   fine : IsRecord (updated request work)
   fine = IsRecord-updated request work within kind (All-at IsRecord s.works i work valid.works.records at)

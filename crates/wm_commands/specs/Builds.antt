@@ -1,7 +1,7 @@
 -- What is built for a command: the change of its step, and its reply.
 use Rattle.std.specs.Prelude.{◌≡◌, ◌≢◌, ◌⊎◌, ℕ, [], Some}
 use Rattle.wm_commands.specs.declared.executed.Executed.{Executed}
-use Rattle.wm_machine.specs.Outcome.{IsBuilt, outcome}
+use Rattle.wm_machine.specs.Outcome.{IsAskable, outcome}
 use Rattle.wm_machine.specs.Replied.{Outcome}
 use Rattle.wm_machine.specs.Rows.{row_of, rows_of}
 use Rattle.wm_machine.specs.Step.{after_command}
@@ -27,9 +27,9 @@ ChangesNoRow s asked = rows_of (after_command s asked) ≡ rows_of s
 abbrev pub ChangesRows : State → Command → Type 0
 ChangesRows s asked = ChangesNoRow s asked → ⊥
 
--- a command that is built, and has this outcome
+-- an askable command, which has this outcome
 pub record HasOutcome (s : State) (asked : Command) (out : Outcome) : Type 0 where
-  pub built : IsBuilt asked
+  pub askable : IsAskable asked
   pub is : outcome s asked ≡ Some out
 
 -- the step of a command and its reply

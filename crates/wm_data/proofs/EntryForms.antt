@@ -5,10 +5,8 @@ use Rattle.std.proofs.lemmas.List.{take_more}
 use Rattle.std.specs.Cmp.Lexicographic.{slice_cmp}
 use Rattle.std.specs.Ordering.{ordering_reverse}
 use Rattle.serde_json.specs.Data as json
-use Rattle.wm_collections.proofs.Lists.{All-append}
 use Rattle.wm_collections.specs.Lists.{AscendByBytes}
 use Rattle.wm_data.specs.DataJson.{entries_json, value_json}
-use Rattle.wm_data.specs.InType.{AreInType, IsInType}
 use Rattle.wm_data.specs.declared.data.DataEntry.{DataEntry}
 use Rattle.wm_data.proofs.Places.{keys, first_before, AllBefore}
 
@@ -31,7 +29,3 @@ before_place (entry ∷ entries) (suc i) d up h = (first_before entry entries i 
 pub put_more : (entries : List DataEntry) (i : ℕ) (d : DataEntry) → AscendByBytes (keys entries) → i < length entries
     → json.put (get_or entries i d).key (value_json (get_or entries i d).value) (entries_json (take i entries)) ≡ entries_json (take (i + 1) entries)
 put_more entries i d up h = rw (take_more entries i d h) (put_last (take i entries) (get_or entries i d) (before_place entries i d up h))
-
-pub in_type_more : (entries : List DataEntry) (i : ℕ) (d : DataEntry) → i < length entries → AreInType (take i entries)
-    → IsInType (get_or entries i d).value → AreInType (take (i + 1) entries)
-in_type_more entries i d h are is = rw (take_more entries i d h) (All-append _ (take i entries) (get_or entries i d ∷ []) are (is, tt))

@@ -7,3 +7,4 @@ pub mod Places
 pub mod Puts
 pub mod ReadBack
 pub mod ReadData
+pub mod ReadTypes

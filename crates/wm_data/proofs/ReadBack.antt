@@ -8,7 +8,7 @@ use Rattle.wm_collections.specs.Lists.{AscendByBytes}
 use Rattle.serde_json.specs.Data as json
 use Rattle.serde_json.specs.Find.{as_bool, as_str}
 use Rattle.wm_data.specs.DataJson.{data_json, entries_json, list_of, value_json, whole}
-use Rattle.wm_data.specs.DataRead.{list_in, long_of, member_list, put_all, read_data, read_entry, read_value, whole_of}
+use Rattle.wm_data.specs.DataRead.{list_in, member_list, put_all, read_data, read_entry, read_value, whole_of}
 use Rattle.wm_data.specs.InType.{AreInType, IsInType}
 use Rattle.wm_data.specs.Entries.{is_after, is_before, with_entry}
 use Rattle.wm_data.specs.Size.{IsData}
@@ -19,10 +19,6 @@ use Rattle.wm_data.proofs.ItemLists.{item_list-items_of}
 use Rattle.wm_data.proofs.Places.{keys, AllBefore}
 
 -- ---- numbers
-
-long_of-whole : (n : ℤ) → FitsSigned w64 n → long_of (whole n) ≡ Some n
-long_of-whole (pos n) h = rw (lt-ltb n (2 ^ 63) h.sfits) refl
-long_of-whole (negsuc n) h = refl
 
 whole_of-long : (bits n : ℕ) → n < 2 ^ bits → n < 2 ^ 63 → whole_of bits (whole (pos n)) ≡ Some (pos n)
 whole_of-long bits n h long = rw (lt-ltb n (2 ^ 63) long, lt-ltb n (2 ^ bits) h) refl
@@ -37,6 +33,10 @@ byte_of-whole (negsuc n) h = whole_of-negsuc 7 n h.sfits
 int_of-whole : (n : ℤ) → FitsSigned w32 n → whole_of 31 (whole n) ≡ Some n
 int_of-whole (pos n) h = whole_of-long 31 n h.sfits (omega (arith, h.sfits))
 int_of-whole (negsuc n) h = whole_of-negsuc 31 n h.sfits
+
+long_of-whole : (n : ℤ) → FitsSigned w64 n → whole_of 63 (whole n) ≡ Some n
+long_of-whole (pos n) h = whole_of-long 63 n h.sfits h.sfits
+long_of-whole (negsuc n) h = whole_of-negsuc 63 n h.sfits
 
 -- ---- lists
 
@@ -65,7 +65,7 @@ read_value-value_json (value.Text text) h = refl
 read_value-value_json (value.Bools bs) h = rw (list_in-list_of json.boolean as_bool bs (All-any bs (λ b. refl))) refl
 read_value-value_json (value.Bytes ns) h = rw (list_in-list_of whole (whole_of 7) ns (All-weaker ns byte_of-whole h)) refl
 read_value-value_json (value.Ints ns) h = rw (list_in-list_of whole (whole_of 31) ns (All-weaker ns int_of-whole h)) refl
-read_value-value_json (value.Longs ns) h = rw (list_in-list_of whole long_of ns (All-weaker ns long_of-whole h)) refl
+read_value-value_json (value.Longs ns) h = rw (list_in-list_of whole (whole_of 63) ns (All-weaker ns long_of-whole h)) refl
 read_value-value_json (value.Texts texts) h = rw (list_in-list_of json.string as_str texts (All-any texts (λ text. refl))) refl
 
 -- ---- entries
@@ -110,7 +110,12 @@ no_empty_key : (entries : List DataEntry) → AllByRecursion (λ entry. 1 ≤ le
 no_empty_key [] h = refl
 no_empty_key (entry ∷ entries) h = rw (ne_eqb (length entry.key) 0 (λ e. omega (arith, e, h.0)), no_empty_key entries h.1) refl
 
-pub read_data-data_json : (entries : List DataEntry) → IsData entries → AreInType entries → read_data (data_json entries) ≡ Ok entries
-read_data-data_json entries is_data in_type =
-    rw (no_empty_key entries is_data.named, none_bad entries in_type, all_read entries in_type, put_all-ascending [] entries is_data.ascending)
+pub read_data-data_json : (entries : List DataEntry) → IsData entries → read_data (data_json entries) ≡ Ok entries
+read_data-data_json entries is_data =
+    rw (
+      no_empty_key entries is_data.named,
+      none_bad entries is_data.in_type,
+      all_read entries is_data.in_type,
+      put_all-ascending [] entries is_data.ascending,
+    )
     (rw (le-leb _ 10240 is_data.size) refl)

@@ -24,8 +24,8 @@ member_list (json.member key d ms) = (key, d) ∷ member_list ms
 -- ---- the form of a value
 
 -- a whole number as `serde_json` gives it: none is written with a fraction or an exponent, or as -0
-abbrev pub long_of : json.Data → Option ℤ
-long_of d = option_and_then as_i64 (as_number d)
+abbrev pub integer_of : json.Data → Option ℤ
+integer_of d = option_and_then as_i64 (as_number d)
 
 -- from -2^bits to 2^bits - 1, where negsuc n is -(n + 1)
 abbrev pub fits : ℕ → ℤ → Bool
@@ -33,7 +33,7 @@ fits bits (pos n) = nat_lt n (2 ^ bits)
 fits bits (negsuc n) = nat_lt n (2 ^ bits)
 
 abbrev pub whole_of : ℕ → json.Data → Option ℤ
-whole_of bits d = option_and_then (λ n. if fits bits n then Some n else None) (long_of d)
+whole_of bits d = option_and_then (λ n. if fits bits n then Some n else None) (integer_of d)
 
 -- a list, where each of its items is in the form
 abbrev pub list_in : {T : Type 0} → (json.Data → Option T) → json.Data → Option (List T)
@@ -46,12 +46,12 @@ forms =
     (codes "bool", λ d. option_map value.Bool (as_bool d)) ∷
     (codes "byte", λ d. option_map value.Byte (whole_of 7 d)) ∷
     (codes "int", λ d. option_map value.Int (whole_of 31 d)) ∷
-    (codes "long", λ d. option_map value.Long (long_of d)) ∷
+    (codes "long", λ d. option_map value.Long (whole_of 63 d)) ∷
     (codes "text", λ d. option_map value.Text (as_str d)) ∷
     (codes "bools", λ d. option_map value.Bools (list_in as_bool d)) ∷
     (codes "bytes", λ d. option_map value.Bytes (list_in (whole_of 7) d)) ∷
     (codes "ints", λ d. option_map value.Ints (list_in (whole_of 31) d)) ∷
-    (codes "longs", λ d. option_map value.Longs (list_in long_of d)) ∷
+    (codes "longs", λ d. option_map value.Longs (list_in (whole_of 63) d)) ∷
     (codes "texts", λ d. option_map value.Texts (list_in as_str d)) ∷ []
 
 -- the name and the content of an object with one member

@@ -3,6 +3,7 @@
 use Rattle.std.specs.Prelude.{ℕ, ◌+◌, ◌*◌, ◌≤◌, List, length, map}
 use Rattle.std.specs.List.{AllByRecursion, sum_by}
 use Rattle.wm_collections.specs.Lists.{AscendByBytes}
+use Rattle.wm_data.specs.InType.{AreInType}
 use Rattle.wm_data.specs.declared.data.DataEntry.{DataEntry}
 use Rattle.wm_data.specs.declared.value.Value.{Value}
 use Rattle.wm_data.specs.declared.value.Value.TheVariants as value
@@ -30,8 +31,14 @@ entry_size entry = 2 + length entry.key + 1 + payload entry.value
 abbrev pub size_of : List DataEntry → ℕ
 size_of entries = 2 + sum_by entry_size entries
 
--- the entries are Data: their keys ascend and none is empty, and they are within the size
+-- the keys ascend, and none is empty
+pub record AreOrdered (entries : List DataEntry) : Type 0 where
+  pub ascending : AscendByBytes (map (λ entry. entry.key) entries)
+  pub named : AllByRecursion (λ entry. 1 ≤ length entry.key) entries
+
+-- the entries are Data: their keys ascend and none is empty, each value is in its type, and they are within the size
 pub record IsData (entries : List DataEntry) : Type 0 where
   pub ascending : AscendByBytes (map (λ entry. entry.key) entries)
   pub named : AllByRecursion (λ entry. 1 ≤ length entry.key) entries
+  pub in_type : AreInType entries
   pub size : size_of entries ≤ 10240

@@ -1,7 +1,8 @@
-ghost use Rattle.std.specs.Prelude.{◌≡◌, [], length, ◌==◌, option_map, Decides, IfOk, IfErr};
+ghost use Rattle.std.specs.Prelude.{◌≡◌, ◌≤◌, [], length, ◌==◌, option_map, Decides, IfOk, IfErr};
 ghost use Rattle.std.specs.Cmp.Lexicographic.{pointwise};
 ghost use Rattle.wm_data.specs.Entries.{value_at};
-ghost use Rattle.wm_data.specs.Size.{IsData, size_of};
+ghost use Rattle.wm_data.specs.InType.{AreInType};
+ghost use Rattle.wm_data.specs.Size.{size_of, AreOrdered, IsData};
 
 use crate::fault::DataFault;
 use crate::search::search;
@@ -86,12 +87,14 @@ impl Data {
         }
     }
 
-    /// Entries that are Data, of a size.
+    /// Entries in the order of their keys, of a size within the limit.
     pub fn from_entries(entries: Items<DataEntry>, size: u64) -> Data
-        requires is_data { IsData entries }
+        requires ordered { AreOrdered entries }
+        requires within { size_of entries ≤ 10240 }
         requires sized { size ≡ size_of entries }
         ensures { result ≡ entries }
     {
+        read_entries(entries.as_slice());
         Data { entries, size }
     }
 
@@ -135,6 +138,15 @@ impl Data {
         ensures err { IfErr result (λ fault. fault ≡ DataFault.Memory) }
     {
         Ok(self.replica(alloc)?)
+    }
+}
+
+/// Reads the numbers of entries, which are then known to be in their types.
+fn read_entries(entries: &[DataEntry])
+    ensures { AreInType entries.now }
+{
+    for entry in entries {
+        entry.value.read();
     }
 }
 

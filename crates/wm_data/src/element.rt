@@ -1,12 +1,10 @@
 //! What values are made of, to JSON and back.
-ghost use Rattle.std.specs.Prelude.{◌≡◌, IfOk, OnOk, Option, FitsSigned};
-ghost use Rattle.std.specs.Int.{w8, w32, w64};
-ghost use Rattle.std.specs.List.{AllByRecursion};
+ghost use Rattle.std.specs.Prelude.{◌≡◌, IfOk, Option};
 ghost use Rattle.serde_json.specs.Data as json;
 ghost use Rattle.serde_json.specs.Find.{as_bool, as_str};
 ghost use Rattle.serde_json.specs.View.{view};
 ghost use Rattle.wm_data.specs.DataJson.{list_of, whole};
-ghost use Rattle.wm_data.specs.DataRead.{list_in, long_of, whole_of};
+ghost use Rattle.wm_data.specs.DataRead.{list_in, whole_of};
 
 use serde_json::{Value, push};
 use std::alloc::{AllocError, Global};
@@ -17,15 +15,11 @@ pub(crate) trait Element: Drop {
     /// It as JSON.
     ghost form: { Self → json.Data };
 
-    /// Its type holds it.
-    ghost is_in_type: { Self → Type 0 };
-
     /// What a JSON value is read as.
     ghost reading: { json.Data → Option Self };
 
     fn to_json(&self, alloc: Global) -> Result<Value, AllocError>
-        ensures form { IfOk result (λ value. view value ≡ form self.now) }
-        ensures in_type { is_in_type self.now };
+        ensures { IfOk result (λ value. view value ≡ form self.now) };
 
     fn from_json(alloc: Global, json: &Value) -> Result<Option<Self>, AllocError>
         ensures { IfOk result (λ element. element ≡ reading (view json.now)) };
@@ -33,8 +27,6 @@ pub(crate) trait Element: Drop {
 
 impl Element for bool {
     ghost form = { json.boolean };
-
-    ghost is_in_type = { λ _. Unit {0} };
 
     ghost reading = { as_bool };
 
@@ -50,8 +42,6 @@ impl Element for bool {
 impl Element for i8 {
     ghost form = { whole };
 
-    ghost is_in_type = { FitsSigned w8 };
-
     ghost reading = { whole_of 7 };
 
     fn to_json(&self, _alloc: Global) -> Result<Value, AllocError> {
@@ -65,8 +55,6 @@ impl Element for i8 {
 
 impl Element for i32 {
     ghost form = { whole };
-
-    ghost is_in_type = { FitsSigned w32 };
 
     ghost reading = { whole_of 31 };
 
@@ -82,9 +70,7 @@ impl Element for i32 {
 impl Element for i64 {
     ghost form = { whole };
 
-    ghost is_in_type = { FitsSigned w64 };
-
-    ghost reading = { long_of };
+    ghost reading = { whole_of 63 };
 
     fn to_json(&self, _alloc: Global) -> Result<Value, AllocError> {
         Ok(Value::from(*self))
@@ -97,8 +83,6 @@ impl Element for i64 {
 
 impl Element for Text {
     ghost form = { json.string };
-
-    ghost is_in_type = { λ _. Unit {0} };
 
     ghost reading = { as_str };
 
@@ -119,8 +103,7 @@ pub(crate) fn list_to_json<T: Element>(
     alloc: Global,
     elements: &Items<T>,
 ) -> Result<Value, AllocError>
-    ensures form { IfOk result (λ value. view value ≡ list_of T.form elements.now) }
-    ensures in_type { OnOk result (AllByRecursion T.is_in_type elements.now) }
+    ensures { IfOk result (λ value. view value ≡ list_of T.form elements.now) }
 {
     let mut values = Vec::new(alloc);
     for element in elements.as_slice() {

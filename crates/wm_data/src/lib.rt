@@ -10,6 +10,7 @@ mod element;
 pub mod fault;
 pub mod laws;
 pub mod merger;
+mod number;
 mod reading;
 pub mod search;
 mod size;

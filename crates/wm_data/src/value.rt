@@ -1,3 +1,6 @@
+ghost use Rattle.wm_data.specs.InType.{IsInType};
+
+use crate::number::{Number, read_each};
 use std::alloc::{AllocError, Global};
 use wm_collections::{Items, Replica, Text};
 
@@ -14,6 +17,23 @@ pub enum Value {
     Ints(Items<i32>),
     Longs(Items<i64>),
     Texts(Items<Text>),
+}
+
+impl Value {
+    /// Reads its numbers, which are then known to be in their types.
+    pub(crate) fn read(&self)
+        ensures { IsInType self.now }
+    {
+        match self {
+            Value::Byte(number) => number.read(),
+            Value::Int(number) => number.read(),
+            Value::Long(number) => number.read(),
+            Value::Bytes(numbers) => read_each(numbers),
+            Value::Ints(numbers) => read_each(numbers),
+            Value::Longs(numbers) => read_each(numbers),
+            Value::Bool(_) | Value::Text(_) | Value::Bools(_) | Value::Texts(_) => {}
+        }
+    }
 }
 
 impl Replica for Value {

@@ -1,11 +1,9 @@
 //! Data as JSON.
-ghost use Rattle.std.specs.Prelude.{◌≡◌, map, Ok, IfOk, IfErr, OnOk};
-ghost use Rattle.std.specs.List.{AllByRecursion};
+ghost use Rattle.std.specs.Prelude.{◌≡◌, map, Ok, IfOk, IfErr};
 ghost use Rattle.serde_json.specs.View.{view, members_view};
 ghost use Rattle.wm_collections.specs.Lists.{AscendByBytes};
 ghost use Rattle.wm_data.specs.DataJson.{data_json, data_text, entries_json, list_of, typed, value_json};
 ghost use Rattle.wm_data.specs.DataRead.{read_data};
-ghost use Rattle.wm_data.specs.InType.{AreInType, IsInType};
 
 use crate::data::{Data, DataEntry};
 use crate::element::{Element, list_to_json};
@@ -37,8 +35,7 @@ impl Data {
 
 fn entries_to_json(alloc: Global, entries: &[DataEntry]) -> Result<serde_json::Value, AllocError>
     requires { AscendByBytes (map (λ entry. entry.key) entries.now) }
-    ensures form { IfOk result (λ value. view value ≡ data_json entries.now) }
-    ensures in_type { OnOk result (AreInType entries.now) }
+    ensures { IfOk result (λ value. view value ≡ data_json entries.now) }
 {
     let mut members = Map::new(alloc);
     for entry in entries {
@@ -50,8 +47,7 @@ fn entries_to_json(alloc: Global, entries: &[DataEntry]) -> Result<serde_json::V
 
 /// A value, under the name of its type.
 fn value_to_json(alloc: Global, value: &Value) -> Result<serde_json::Value, AllocError>
-    ensures form { IfOk result (λ json. view json ≡ value_json value.now) }
-    ensures in_type { OnOk result (IsInType value.now) }
+    ensures { IfOk result (λ json. view json ≡ value_json value.now) }
 {
     match value {
         Value::Bool(value) => one(alloc, "bool", value),
@@ -68,8 +64,7 @@ fn value_to_json(alloc: Global, value: &Value) -> Result<serde_json::Value, Allo
 }
 
 fn one<T: Element>(alloc: Global, name: &str, element: &T) -> Result<serde_json::Value, AllocError>
-    ensures form { IfOk result (λ json. view json ≡ typed name.now (T.form element.now)) }
-    ensures in_type { OnOk result (T.is_in_type element.now) }
+    ensures { IfOk result (λ json. view json ≡ typed name.now (T.form element.now)) }
 {
     named(alloc, name, element.to_json(alloc)?)
 }
@@ -79,8 +74,7 @@ fn many<T: Element>(
     name: &str,
     elements: &Items<T>,
 ) -> Result<serde_json::Value, AllocError>
-    ensures form { IfOk result (λ json. view json ≡ typed name.now (list_of T.form elements.now)) }
-    ensures in_type { OnOk result (AllByRecursion T.is_in_type elements.now) }
+    ensures { IfOk result (λ json. view json ≡ typed name.now (list_of T.form elements.now)) }
 {
     named(alloc, name, list_to_json(alloc, elements)?)
 }

@@ -1,3 +1,4 @@
 pub mod Ascending
 pub mod Equal
 mod Places
+pub mod Stores

@@ -1,6 +1,6 @@
 -- What the changes of a commit do to the rows held, and what a keeper's answer says of its count of
 -- faults.
-use Rattle.std.specs.Prelude.{◌≡◌, ◌≢◌, ℕ, ℤ, Bool, true, false, List, [], ◌∷◌, Result, Ok, Err, if◌then◌else◌, int_lt, ◌<ℤ◌}
+use Rattle.std.specs.Prelude.{◌≢◌, ℕ, ℤ, Bool, true, false, List, [], ◌∷◌, Result, Err, if◌then◌else◌, int_lt, ◌<ℤ◌}
 use Rattle.std.specs.List.{AllByRecursion}
 use Rattle.wm_faults.specs.Faults as faults
 use Rattle.wm_keeper.specs.declared.keeper.KeepFault.{KeepFault}

@@ -1,11 +1,13 @@
 -- What a `MemoryKeeper` holds, and what a call does to it.
-use Rattle.std.specs.Prelude.{◌≡◌, ◌==◌, ℕ, ◌+◌, ◌-◌, ◌^◌, min, Bool, List, if◌then◌else◌}
+use Rattle.std.specs.Prelude.{◌≡◌, ◌==◌, ℕ, ◌+◌, ◌-◌, ◌^◌, min, Bool, List, Option, Some, if◌then◌else◌}
 use Rattle.std.specs.List.{list_any}
+use Rattle.wm_keeper.specs.Store.{Store}
 use Rattle.wm_keeper.specs.declared.row.Row.{Row}
 
--- its rows, the numbers of the calls that fail, and how many calls and faults there were
+-- its rows, the name that it was last loaded with, the numbers of the calls that fail, and how many calls and faults there were
 pub record MemoryState : Type 0 where
   pub rows : List Row
+  pub name : Option (List ℕ)
   pub failing : List ℕ
   pub calls : ℕ
   pub faults : ℕ
@@ -23,3 +25,7 @@ pub record CountsCall (before after : MemoryState) : Type 0 where
   pub failing : after.failing ≡ before.failing
   pub calls : after.calls ≡ next_call before
   pub faults : after.faults ≡ (if fails_next before then min (before.faults + 1) (2 ^ 64 - 1) else before.faults)
+
+-- it tells all that it holds, and a crash leaves just that
+abbrev pub store_of : MemoryState → Store
+store_of keeper = record { rows = Some keeper.rows; images = λ image. image ≡ keeper.rows; name = keeper.name; faults = keeper.faults }

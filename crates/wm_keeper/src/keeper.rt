@@ -1,4 +1,4 @@
-ghost use Rattle.std.specs.Prelude.{◌≡◌, ℕ, List, Option, option_map, IfOk, IfSome, OnOk, OnErr};
+ghost use Rattle.std.specs.Prelude.{◌≡◌, Some, IfOk, IfSome, OnOk, OnErr};
 
 use crate::row::{Change, Row};
 use std::alloc::AllocError;
@@ -23,28 +23,30 @@ impl From<AllocError> for KeepFault {
     }
 }
 
-/// A keeper of rows, each under a number of its own.
+/// A keeper of rows, each under a number of its own. What a call makes of what it shows is said in
+/// `specs/Store.antt`.
 pub trait Keeper {
-    ghost use Rattle.wm_keeper.specs.Keeper.{Ascends, changed, AreOfDifferentNumbers, KeepCause};
-    ghost use Rattle.wm_keeper.specs.declared.row.Row.{Row};
+    ghost use Rattle.wm_keeper.specs.Keeper.{Ascends, AreOfDifferentNumbers, KeepCause};
+    ghost use Rattle.wm_keeper.specs.Store.{Store, IsAtMost, IsCommitted, IsNotCommitted, IsStoreKept};
 
-    /// The rows that it holds, in ascending number, where it tells them.
-    ghost held: { Self → Option (List Row) };
-
-    /// How many faults it has met.
-    ghost faults: { Self → ℕ };
+    /// What it shows: the rows that it holds, what a crash now may leave, the name that it was last
+    /// loaded with, and its count of faults.
+    ghost store: { Self → Store };
 
     /// The rows held, in ascending number: those of the store of this name, none where it is new.
     fn load(&mut self, name: &str) -> Result<Vec<Row>, KeepFault>
-        ensures rows { IfOk result (λ rows. IfSome (held self.old) (λ held. rows.items ≡ held)) }
-        ensures ascending { IfSome (held self.old) Ascends }
-        ensures kept { held self.new ≡ held self.old }
-        ensures cause { KeepCause result (faults self.old) (faults self.new) };
+        ensures rows { IfOk result (λ rows. IfSome (store self.old).rows (λ held. rows.items ≡ held)) }
+        ensures ascending { IfSome (store self.old).rows Ascends }
+        ensures kept { IsStoreKept (store self.old) (store self.new) }
+        ensures name { OnOk result (IsAtMost (Some name.now) (store self.new).name) }
+        ensures same_name { OnErr result (IsAtMost (store self.old).name (store self.new).name) }
+        ensures cause { KeepCause result (store self.old).faults (store self.new).faults };
 
     /// Makes the changes, all or none. No number occurs in two of them.
     fn commit(&mut self, changes: &[Change]) -> Result<(), KeepFault>
         requires { AreOfDifferentNumbers changes.now }
-        ensures ok { OnOk result (held self.new ≡ option_map (changed changes.now) (held self.old)) }
-        ensures err { OnErr result (held self.new ≡ held self.old) }
-        ensures cause { KeepCause result (faults self.old) (faults self.new) };
+        ensures ok { OnOk result (IsCommitted changes.now (store self.old) (store self.new)) }
+        ensures err { OnErr result (IsNotCommitted changes.now (store self.old) (store self.new)) }
+        ensures same_name { IsAtMost (store self.old).name (store self.new).name }
+        ensures cause { KeepCause result (store self.old).faults (store self.new).faults };
 }

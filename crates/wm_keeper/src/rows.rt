@@ -39,11 +39,16 @@ impl Rows {
         self.rows
     }
 
+    /// Where its memory comes from.
+    pub fn alloc(&self) -> Global {
+        *self.rows.allocator()
+    }
+
     /// Copies of the rows.
     pub fn copies(&self) -> Result<Vec<Row>, AllocError>
         ensures { IfOk result (λ copies. copies.items ≡ self.now.rows.items) }
     {
-        replicas(&self.rows, *self.rows.allocator())
+        replicas(&self.rows, self.alloc())
     }
 
     /// Makes the changes, all or none. All memory is taken before the first of them is made, and no
@@ -52,7 +57,7 @@ impl Rows {
         ensures ok { OnOk result (self.new.rows.items ≡ changed changes.now self.old.rows.items) }
         ensures err { OnErr result (self.new.rows.items ≡ self.old.rows.items) }
     {
-        let copies = replicas(changes, *self.rows.allocator())?;
+        let copies = replicas(changes, self.alloc())?;
         self.rows.reserve(copies.len())?;
         make_changes(&mut self.rows, copies);
         Ok(())

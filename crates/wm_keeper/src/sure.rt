@@ -6,7 +6,7 @@ use crate::rows::Rows;
 use std::marker::Model;
 
 /// A keeper that holds its rows in memory and never fails by itself. A contract sees it as the
-/// list of its rows, in ascending number.
+/// list of its rows, in ascending number, and it always tells them.
 #[derive(Drop)]
 pub struct SureKeeper {
     rows: Rows,
@@ -36,12 +36,10 @@ impl SureKeeper {
 }
 
 impl Keeper for SureKeeper {
-    ghost use Rattle.std.specs.Prelude.{Some};
     ghost use Rattle.wm_keeper.specs.Keeper.{Ascends, changed};
+    ghost use Rattle.wm_keeper.specs.Sure.{store_of};
 
-    ghost held = { λ rows. Some rows };
-
-    ghost faults = { λ _. 0 };
+    ghost store = { store_of };
 
     /// Copies of the rows held, whatever the name.
     fn load(&mut self, _name: &str) -> Result<Vec<Row>, KeepFault>

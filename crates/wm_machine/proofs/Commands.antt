@@ -12,7 +12,7 @@ use Rattle.wm_machine.proofs.Retirings.{retire-answered}
 use Rattle.wm_machine.proofs.Settings.{conditions-answered, hush-answered, moment-answered}
 use Rattle.wm_machine.proofs.Settles.{settle-answered}
 use Rattle.wm_machine.proofs.Updates.{update-answered}
-use Rattle.wm_machine.specs.Outcome.{outcome, IsBuilt, IsLegalLine}
+use Rattle.wm_machine.specs.Outcome.{outcome, IsAskable, IsLegalLine}
 use Rattle.wm_machine.specs.Pruned.{removable}
 use Rattle.wm_machine.specs.Replied.{Outcome}
 use Rattle.wm_machine.specs.Step.{Legal}
@@ -24,32 +24,32 @@ reply_in : (o : Option Outcome) → IsSome o → (answer : Reply) × IsSomeAnd o
 reply_in None is = absurd (false≢true is)
 reply_in (Some out) is = (out.reply, refl)
 
--- each command that is built has an outcome at rest, keeps what holds of the states, leaves the runs, and retires what it retires
-pub answered : (s : State) (asked : Command) → IsBuilt asked → IsAnswered s asked
-answered s (command.Enqueue None batch) built = enqueue-answered s batch built
-answered s (command.Enqueue (Some unique) batch) built = enqueue-named-answered s unique batch built
-answered s (command.Cancel target) built = cancel-answered s target
-answered s (command.Update request) built = update-answered s request built
-answered s (command.Moment at) built = moment-answered s at built
-answered s (command.Conditions conditions) built = conditions-answered s conditions
-answered s command.Prune built = record {
+-- each askable command has an outcome at rest, keeps what holds of the states, leaves the runs, and retires what it retires
+pub answered : (s : State) (asked : Command) → IsAskable asked → IsAnswered s asked
+answered s (command.Enqueue None batch) askable = enqueue-answered s batch askable
+answered s (command.Enqueue (Some unique) batch) askable = enqueue-named-answered s unique batch askable
+answered s (command.Cancel target) askable = cancel-answered s target
+answered s (command.Update request) askable = update-answered s request askable
+answered s (command.Moment at) askable = moment-answered s at askable
+answered s (command.Conditions conditions) askable = conditions-answered s conditions
+answered s command.Prune askable = record {
   answered = λ rest. refl;
   reached = λ reached. reached-removed s (removable s.works) reached (All-any s.works (λ work is. is));
   frame = refl;
 }
-answered s (command.Query query) built = record { answered = λ rest. refl; reached = λ reached. reached; frame = refl }
-answered s (command.Observe query) built = observe-answered s query
-answered s (command.Retire class) built = retire-answered s class
-answered s command.Settle built = settle-answered s
-answered s command.Hush built = hush-answered s
-answered s command.Summary built = record { answered = λ rest. refl; reached = λ reached. reached; frame = refl }
-answered s (command.Faulty fault) built = record { answered = λ rest. refl; reached = λ reached. reached; frame = refl }
+answered s (command.Query query) askable = record { answered = λ rest. refl; reached = λ reached. reached; frame = refl }
+answered s (command.Observe query) askable = observe-answered s query
+answered s (command.Retire class) askable = retire-answered s class
+answered s command.Settle askable = settle-answered s
+answered s command.Hush askable = hush-answered s
+answered s command.Summary askable = record { answered = λ rest. refl; reached = λ reached. reached; frame = refl }
+answered s (command.Faulty fault) askable = record { answered = λ rest. refl; reached = λ reached. reached; frame = refl }
 
--- at rest each command that is built is legal
-pub legal_line-at_rest : (s : State) (asked : Command) → IsBuilt asked → IsAtRest s asked → IsLegalLine s asked
-legal_line-at_rest s asked built rest = record { built = built; answered = (answered s asked built).answered rest }
+-- at rest each askable command is legal
+pub legal_line-at_rest : (s : State) (asked : Command) → IsAskable asked → IsAtRest s asked → IsLegalLine s asked
+legal_line-at_rest s asked askable rest = record { askable = askable; answered = (answered s asked askable).answered rest }
 
 -- and has a reply
-pub reply_at_rest : (s : State) (asked : Command) (line : ℕ) → IsBuilt asked → IsAtRest s asked → (answer : Reply) × Legal s (event.Command line asked answer)
-reply_at_rest s asked line built rest =
-    let replied = reply_in (outcome s asked) ((answered s asked built).answered rest) in (replied.0, (built, replied.1))
+pub reply_at_rest : (s : State) (asked : Command) (line : ℕ) → IsAskable asked → IsAtRest s asked → (answer : Reply) × Legal s (event.Command line asked answer)
+reply_at_rest s asked line askable rest =
+    let replied = reply_in (outcome s asked) ((answered s asked askable).answered rest) in (replied.0, (askable, replied.1))

@@ -9,7 +9,7 @@ use Rattle.wm_machine.proofs.Inputs.{start_refusal-some}
 use Rattle.wm_machine.proofs.Runnings.{found_narrow, found_valid}
 use Rattle.wm_machine.proofs.Roles.{closed, Closes, continued, Continues, opened, Opens}
 use Rattle.wm_machine.proofs.Steps.{framed, IsReached-after, kept}
-use Rattle.wm_machine.specs.Outcome.{IsBuilt}
+use Rattle.wm_machine.specs.Outcome.{IsAskable}
 use Rattle.wm_machine.specs.Ends.{given_by}
 use Rattle.wm_machine.specs.First.{first_of, idle_instance}
 use Rattle.wm_machine.specs.Frame.{Frame, frame_of}
@@ -235,15 +235,15 @@ settle (suc n) s reached few below = settle_by s s.runs refl (λ t v one fewer. 
 -- ---- the lines
 
 -- the lines follow one another, each once all before it is done
-pub goes_on : (lines : List Command) (s : State) → AllByRecursion IsBuilt lines → IsReached s → length s.runs ≤ 1 → GoesOn lines s
-goes_on [] s built reached few = settle (suc (left_to_drain s)) s reached few (omega arith)
-goes_on (asked ∷ lines) s built reached few =
+pub goes_on : (lines : List Command) (s : State) → AllByRecursion IsAskable lines → IsReached s → length s.runs ≤ 1 → GoesOn lines s
+goes_on [] s askable reached few = settle (suc (left_to_drain s)) s reached few (omega arith)
+goes_on (asked ∷ lines) s askable reached few =
     let done = settle (suc (left_to_drain s)) s reached few (omega arith) in
     let t = done.last in
-    let owed = answered t asked built.0 in
-    let answer = reply_at_rest t asked 0 built.0 (record { no_run = done.quiet.no_run; settled = λ settles. done.quiet.nothing_startable }) in
+    let owed = answered t asked askable.0 in
+    let answer = reply_at_rest t asked 0 askable.0 (record { no_run = done.quiet.no_run; settled = λ settles. done.quiet.nothing_startable }) in
     let e = event.Command 0 asked answer.0 in
     let legal : Legal t e = answer.1 in
     let no_run : (after t e).runs ≡ [] = ap (λ (f : Frame). f.runs) owed.frame ∙ done.quiet.no_run in
     GoesOn-then s (asked ∷ lines) done (GoesOn-more t e lines legal done.quiet
-    (goes_on lines (after t e) built.1 (IsReached-after t e done.reached legal) (subst (λ (runs : List Run). length runs ≤ 1) (sym no_run) (omega arith))))
+    (goes_on lines (after t e) askable.1 (IsReached-after t e done.reached legal) (subst (λ (runs : List Run). length runs ≤ 1) (sym no_run) (omega arith))))

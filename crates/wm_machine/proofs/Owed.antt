@@ -1,4 +1,4 @@
--- What is owed for each command that is built, and for each event that is legal in a state that is reached.
+-- What is owed for each command that may be asked, and for each event that is legal in a state that is reached.
 use Rattle.std.proofs.Common.{◌≡◌, [], ◌∷◌, None, IsSome}
 use Rattle.wm_machine.specs.First.{first_of}
 use Rattle.wm_machine.specs.Frame.{lined_frame, untouched}

@@ -16,7 +16,7 @@ use Rattle.wm_request.specs.Requests.{IsRequest, IsShortText, RequestFields}
 
 -- no entry is Data
 pub IsData-empty : IsData []
-IsData-empty = record { ascending = tt; named = tt; size = omega arith }
+IsData-empty = record { ascending = tt; named = tt; in_type = tt; size = omega arith }
 
 output_in : (p : Phase) (output : List DataEntry) → IsOutputIn p output → IsData output
 output_in phase.Waiting output is = subst IsData (sym is) IsData-empty

@@ -6,7 +6,7 @@ use Rattle.wm_machine.proofs.Commands.{answered, reply_at_rest}
 use Rattle.wm_machine.proofs.Drains.{AreInTurn-append, commands_of-append, goes_on, Replay-append}
 use Rattle.wm_machine.proofs.Settles.{quiet-settled}
 use Rattle.wm_machine.proofs.Steps.{IsReached-after}
-use Rattle.wm_machine.specs.Outcome.{IsBuilt}
+use Rattle.wm_machine.specs.Outcome.{IsAskable}
 use Rattle.wm_machine.specs.Frame.{Frame}
 use Rattle.wm_machine.specs.Log.{commands_of}
 use Rattle.wm_machine.specs.Narrow.{IsNarrow, IsReached}
@@ -71,10 +71,10 @@ pub AreInOrder-nothing : (lines : List Command) (first : State) → AreInOrder l
 AreInOrder-nothing lines first = nothing-by (drains_first lines) first
 
 -- a log that has begun goes on
-begun : (lines left : List Command) (first now : State) (log : List Event) → AllByRecursion IsBuilt left → lines ≡ commands_of log ++ left
+begun : (lines left : List Command) (first now : State) (log : List Event) → AllByRecursion IsAskable left → lines ≡ commands_of log ++ left
     → Replay first log now → IsReached now → length now.runs ≤ 1 → AreInOrder lines first log → MayGoOn lines log → BeginsSerial lines first log
-begun lines left first now log built whole replays reached few order may =
-    let rest = goes_on left now built reached few in record {
+begun lines left first now log askable whole replays reached few order may =
+    let rest = goes_on left now askable reached few in record {
       rest = rest.log;
       last = rest.last;
       whole = record {
@@ -86,17 +86,17 @@ begun lines left first now log built whole replays reached few order may =
     }
 
 -- no event yet: the first line comes at once
-unbegun : (asked : Command) (lines : List Command) (first : State) → drains_first (asked ∷ lines) ≡ false → AllByRecursion IsBuilt (asked ∷ lines)
+unbegun : (asked : Command) (lines : List Command) (first : State) → drains_first (asked ∷ lines) ≡ false → AllByRecursion IsAskable (asked ∷ lines)
     → IsReached first → first.runs ≡ [] → BeginsSerial (asked ∷ lines) first []
-unbegun asked lines first drains built reached no_run =
-    let owed = answered first asked built.0 in
+unbegun asked lines first drains askable reached no_run =
+    let owed = answered first asked askable.0 in
     let answer =
-    reply_at_rest first asked 0 built.0
+    reply_at_rest first asked 0 askable.0
     (record { no_run = no_run; settled = λ settles. absurd (false≢true (sym drains ∙ ap (λ a. drains_first (a ∷ lines)) settles)) }) in
     let e = event.Command 0 asked answer.0 in
     let legal : Legal first e = answer.1 in
     let rest =
-    goes_on lines (after first e) built.1 (IsReached-after first e reached legal)
+    goes_on lines (after first e) askable.1 (IsReached-after first e reached legal)
     (subst (λ (runs : List Run). length runs ≤ 1) (sym (ap (λ (f : Frame). f.runs) owed.frame ∙ no_run)) (omega arith)) in
     record {
       rest = e ∷ rest.log;
@@ -110,17 +110,17 @@ unbegun asked lines first drains built reached no_run =
     }
 
 -- a log in serial order with at most one unreturned run goes on to the log of a whole serial run
-goes-on : (lines left : List Command) (first now : State) (log : List Event) → AllByRecursion IsBuilt left → lines ≡ commands_of log ++ left
+goes-on : (lines left : List Command) (first now : State) (log : List Event) → AllByRecursion IsAskable left → lines ≡ commands_of log ++ left
     → first.runs ≡ [] → Replay first log now → IsReached now → length now.runs ≤ 1 → AreInOrder lines first log → BeginsSerial lines first log
-goes-on lines left first now (e ∷ log) built whole rest replays reached few order =
-    begun lines left first now (e ∷ log) built whole replays reached few order tt
-goes-on [] left first now [] built whole rest replays reached few order = begun [] left first now [] built whole replays reached few order refl
-goes-on (asked ∷ lines) left first now [] built whole rest replays reached few order = elim (cases_Bool (drains_first (asked ∷ lines))) [
-  | inl drains ↦ begun (asked ∷ lines) left first now [] built whole replays reached few order drains
-  | inr at_once ↦ unbegun asked lines first at_once (subst (AllByRecursion IsBuilt) (sym whole) built) (subst IsReached replays reached) rest
+goes-on lines left first now (e ∷ log) askable whole rest replays reached few order =
+    begun lines left first now (e ∷ log) askable whole replays reached few order tt
+goes-on [] left first now [] askable whole rest replays reached few order = begun [] left first now [] askable whole replays reached few order refl
+goes-on (asked ∷ lines) left first now [] askable whole rest replays reached few order = elim (cases_Bool (drains_first (asked ∷ lines))) [
+  | inl drains ↦ begun (asked ∷ lines) left first now [] askable whole replays reached few order drains
+  | inr at_once ↦ unbegun asked lines first at_once (subst (AllByRecursion IsAskable) (sym whole) askable) (subst IsReached replays reached) rest
 ]
 
-pub BeginsSerial-goes-on : (lines left : List Command) (first now : State) (log : List Event) → AllByRecursion IsBuilt left → lines ≡ commands_of log ++ left
+pub BeginsSerial-goes-on : (lines left : List Command) (first now : State) (log : List Event) → AllByRecursion IsAskable left → lines ≡ commands_of log ++ left
     → first.runs ≡ [] → Replay first log now → Valid now → IsNarrow now → length now.runs ≤ 1 → AreInOrder lines first log → BeginsSerial lines first log
-BeginsSerial-goes-on lines left first now log built whole rest replays valid narrow few order =
-    goes-on lines left first now log built whole rest replays (record { valid = valid; narrow = narrow }) few order
+BeginsSerial-goes-on lines left first now log askable whole rest replays valid narrow few order =
+    goes-on lines left first now log askable whole rest replays (record { valid = valid; narrow = narrow }) few order

@@ -1,4 +1,4 @@
--- What is built of the commands. Each step of the work widens it.
+-- What a line may ask to enqueue.
 use Rattle.std.specs.Prelude.{ℕ, List}
 use Rattle.std.specs.List.{AllByRecursion}
 use Rattle.wm_request.specs.Batches.{IsBatch}

@@ -1,5 +1,5 @@
--- What a command does: the one reply to it in a state, and the state after it; and which commands are built. Each has its rule in a file of
--- its own.
+-- What a command does: the one reply to it in a state, and the state after it; and which commands may be asked. Each has its rule in a file
+-- of its own.
 use Rattle.std.specs.Prelude.{◌^◌, ◌<◌, if◌then◌else◌, Option, Some, None, IsSome}
 use Rattle.wm_machine.specs.Built.{AreAsked, AreAskedUnder}
 use Rattle.wm_machine.specs.Cancelled.{cancelled}
@@ -36,25 +36,25 @@ outcome s command.Hush = Some (hushed s)
 outcome s command.Summary = Some (unchanged s (reply.Summary (counts_of s)))
 outcome s (command.Faulty fault) = Some (unchanged s (reply.Refused (Line fault)))
 
--- the command is one of those that are built
-abbrev pub IsBuilt : Command → Type 0
-IsBuilt (command.Enqueue None batch) = AreAsked batch.works
-IsBuilt (command.Enqueue (Some unique) batch) = AreAskedUnder unique.name batch.works
-IsBuilt (command.Cancel target) = Unit {0}
-IsBuilt (command.Update request) = IsRequest request
-IsBuilt (command.Moment at) = at < 2 ^ 53
-IsBuilt (command.Conditions conditions) = Unit {0}
-IsBuilt command.Prune = Unit {0}
-IsBuilt (command.Query query) = Unit {0}
-IsBuilt (command.Observe query) = Unit {0}
-IsBuilt (command.Retire class) = Unit {0}
-IsBuilt command.Settle = Unit {0}
-IsBuilt command.Hush = Unit {0}
-IsBuilt command.Summary = Unit {0}
-IsBuilt (command.Faulty fault) = Unit {0}
+-- a command that may be asked in some state: what it asks for is within its limits
+abbrev pub IsAskable : Command → Type 0
+IsAskable (command.Enqueue None batch) = AreAsked batch.works
+IsAskable (command.Enqueue (Some unique) batch) = AreAskedUnder unique.name batch.works
+IsAskable (command.Cancel target) = Unit {0}
+IsAskable (command.Update request) = IsRequest request
+IsAskable (command.Moment at) = at < 2 ^ 53
+IsAskable (command.Conditions conditions) = Unit {0}
+IsAskable command.Prune = Unit {0}
+IsAskable (command.Query query) = Unit {0}
+IsAskable (command.Observe query) = Unit {0}
+IsAskable (command.Retire class) = Unit {0}
+IsAskable command.Settle = Unit {0}
+IsAskable command.Hush = Unit {0}
+IsAskable command.Summary = Unit {0}
+IsAskable (command.Faulty fault) = Unit {0}
 
--- A command is legal in a state: it is built, and has an outcome there. Between runs each has, but for one that settles, which has one in a
+-- A command is legal in a state: it is askable, and has an outcome there. Between runs each has, but for one that settles, which has one in a
 -- quiet state alone.
 pub record IsLegalLine (s : State) (asked : Command) : Type 0 where
-  pub built : IsBuilt asked
+  pub askable : IsAskable asked
   pub answered : IsSome (outcome s asked)

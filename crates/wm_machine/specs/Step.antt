@@ -2,7 +2,7 @@
 -- Only the events that are built are legal. Each row is a rule of the machine, whose file says where it comes from.
 use Rattle.std.specs.Prelude.{◌≡◌, ℕ, ◌<◌, true, List, Option, Some, None, Ok, IsSomeAnd}
 use Rattle.wm_data.specs.declared.data.DataEntry.{DataEntry}
-use Rattle.wm_machine.specs.Outcome.{IsBuilt, outcome}
+use Rattle.wm_machine.specs.Outcome.{IsAskable, outcome}
 use Rattle.wm_machine.specs.Ends.{end_of, given_by, with_start_failed}
 use Rattle.wm_machine.specs.First.{first_of, idle_instance}
 use Rattle.wm_machine.specs.Input.{input_of}
@@ -91,7 +91,7 @@ start_of s (Some work) input = start_on s work (idle_instance s.instances work.r
 
 -- the event may happen in this state
 abbrev pub Legal : State → Event → Type 0
-Legal s (event.Command line asked answer) = IsBuilt asked × Answers s asked answer
+Legal s (event.Command line asked answer) = IsAskable asked × Answers s asked answer
 Legal s (event.Start run seq instance input) = IsStart s run seq instance input
 Legal s (event.StartFailed seq cause) = IsStartFailure s seq cause
 Legal s (event.Turn run progress) = IsTurn s run progress

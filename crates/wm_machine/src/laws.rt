@@ -5,7 +5,7 @@ ghost use Rattle.std.specs.List.{AllByRecursion};
 ghost use Rattle.wm_machine.specs.Closed.{IsDescendantWhere};
 ghost use Rattle.wm_machine.specs.Enqueued.{enqueued, plan_in, refusal_of};
 ghost use Rattle.wm_machine.specs.Group.{is_name, members_of, AreAloneOrOneTime, IsApartFrom};
-ghost use Rattle.wm_machine.specs.Outcome.{IsBuilt};
+ghost use Rattle.wm_machine.specs.Outcome.{IsAskable};
 ghost use Rattle.wm_machine.specs.Log.{commands_of};
 ghost use Rattle.wm_machine.specs.Narrow.{IsNarrow};
 ghost use Rattle.wm_machine.specs.Opened.{IsOfLog, Opened};
@@ -49,12 +49,12 @@ pub fn every_step_keeps_valid()
 /// it, leaves a front of a serial log.
 pub fn serial_order_goes_on()
     ensures from_rest { (lines left : List Command) (first now : State) (log : List Event)
-        → AllByRecursion IsBuilt left → lines ≡ commands_of log ++ left
+        → AllByRecursion IsAskable left → lines ≡ commands_of log ++ left
         → first.runs ≡ [] → Replay first log now → Valid now → IsNarrow now → length now.runs ≤ 1
         → AreInOrder lines first log → BeginsSerial lines first log }
     ensures from_opened { (lines left : List Command) (rows : List Row) (instances : List Instance)
         (first now : State) (log : List Event)
-        → AllByRecursion IsBuilt left → lines ≡ commands_of log ++ left
+        → AllByRecursion IsAskable left → lines ≡ commands_of log ++ left
         → Opened rows instances first → Replay first log now → length now.runs ≤ 1
         → AreInOrder lines first log → BeginsSerial lines first log }
 {}

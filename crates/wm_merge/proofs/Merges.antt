@@ -2,13 +2,14 @@
 use Rattle.std.proofs.Common.{◌≡◌, ℕ, zero, suc, ◌<◌, ◌≤◌, Bool, true, false, cond, Option, None, is_some, unwrap_or, true≢false, List, [], ◌∷◌, ◌++◌, append_assoc, append-nil, length, filter_map, find, fold, get_or, set, insert, Some, slice_get, refl, sym, ap, ◌∙◌, subst, arith}
 use Rattle.wm_collections.proofs.Lists.{All-any, filter_map-same}
 use Rattle.wm_data.specs.Entries.{is_at, with_entry, IsFoundAt, IsMissingAt}
+use Rattle.wm_data.specs.Size.{AreOrdered}
 use Rattle.wm_data.specs.declared.data.DataEntry.{DataEntry}
 use Rattle.wm_data.specs.declared.merger.Merger.{Merger}
 use Rattle.wm_data.specs.declared.merger.Merger.TheVariants as merger
 use Rattle.wm_data.specs.declared.value.Value.{Value}
 use Rattle.wm_data.proofs.Places.{keys}
 use Rattle.wm_data.proofs.Puts.{all_with_entry, ascend_with_entry, with_entry-insert, with_entry-set}
-use Rattle.wm_merge.specs.Growing.{differs, grown_beside, grown_with, next_value, noted, nothing_grown, AreOrdered, Grown}
+use Rattle.wm_merge.specs.Growing.{differs, grown_beside, grown_with, next_value, noted, nothing_grown, Grown}
 use Rattle.wm_merge.specs.Inputs.{all_entries, by_key, entry_of, keys_of, values_of}
 use Rattle.wm_merge.specs.Merged.{answer_of, merged}
 use Rattle.wm_merge.proofs.KeyOrder.{found_by_keys, key_at, keys-set, named-set}

@@ -1,9 +1,7 @@
 -- What has grown of the entries so far, and what one more does to it. This project's own way to `merged`.
-use Rattle.std.specs.Prelude.{ℕ, ◌≤◌, List, [], ◌++◌, find, length, map, Bool, false, not, cond, Option, None, Some}
+use Rattle.std.specs.Prelude.{ℕ, List, [], ◌++◌, find, Bool, false, not, cond, Option, None, Some}
 use Rattle.std.specs.Cmp.Lexicographic.{slice_cmp}
-use Rattle.std.specs.List.{AllByRecursion}
 use Rattle.std.specs.Ordering.{nat_cmp, is_lt}
-use Rattle.wm_collections.specs.Lists.{AscendByBytes}
 use Rattle.wm_data.specs.Entries.{is_at, with_entry}
 use Rattle.wm_data.specs.declared.data.DataEntry.{DataEntry}
 use Rattle.wm_data.specs.declared.merger.Merger.{Merger}
@@ -19,11 +17,6 @@ pub record Grown : Type 0 where
 
 abbrev pub nothing_grown : Grown
 nothing_grown = record { entries = []; conflict = None }
-
--- the keys ascend, and none is empty
-pub record AreOrdered (entries : List DataEntry) : Type 0 where
-  pub ascending : AscendByBytes (map (λ entry. entry.key) entries)
-  pub named : AllByRecursion (λ entry. 1 ≤ length entry.key) entries
 
 -- ---- a value
 

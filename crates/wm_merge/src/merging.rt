@@ -24,7 +24,7 @@ impl Model for Merging {
 
     ghost Value = { Grown };
 
-    ghost use Rattle.wm_merge.specs.Growing.{AreOrdered};
+    ghost use Rattle.wm_data.specs.Size.{AreOrdered};
 
     ghost view = { λ m. record { entries = m.entries.items; conflict = m.conflict } };
 

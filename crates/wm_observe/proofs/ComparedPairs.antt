@@ -3,7 +3,7 @@ use Rattle.std.proofs.Common.{◌≡◌, ℕ, ◌<◌, ◌≤◌, Bool, false, n
 use Rattle.std.specs.List.{AllByRecursion, list_all, list_any}
 use Rattle.std.proofs.lemmas.Bool.{cases_Bool, le-leb, leb-true, or_parts}
 use Rattle.std.proofs.lemmas.List.Elements.{filter-append}
-use Rattle.wm_collections.proofs.Lists.{All-weaker, All-with2, filter-each, filter-none, map-filter, map-same, map-twice, none_pass}
+use Rattle.wm_collections.proofs.Lists.{All-weaker, All-with2, filter-each, filter-none, list_all-agree, map-filter, map-same, map-twice, none_pass}
 use Rattle.wm_machine.specs.First.{all_met, has_succeeded}
 use Rattle.wm_machine.specs.Input.{work_numbered}
 use Rattle.wm_machine.specs.Shown.{info_in, info_of, infos_of, shown_in}
@@ -22,10 +22,6 @@ use Rattle.wm_observe.specs.Notes.{differs, differs_in, has_number, notes, notes
 use Rattle.wm_observe.specs.declared.note.Pair.{Pair}
 
 -- ---- what is told of a record that isn't compared
-
-list_all-agree : {T : Type 0} (test other : T → Bool) (xs : List T) → AllByRecursion (λ x. test x ≡ other x) xs → list_all test xs ≡ list_all other xs
-list_all-agree test other [] same = refl
-list_all-agree test other (x ∷ xs) same = rw (same.0, list_all-agree test other xs same.1) refl
 
 -- its prerequisites have succeeded where they had
 met-after : (s : State) (change : StepChange) → Valid s → Fits s change → (work : Record) → IsRecord work → work.seq < s.next

@@ -3,7 +3,7 @@ use Rattle.std.proofs.Common.{◌≡◌, ℕ, Bool, false, ◌&&◌, ◌||◌, e
 use Rattle.std.specs.List.{AllByRecursion, cons_option}
 use Rattle.std.proofs.lemmas.Bool.{eqb-true}
 use Rattle.std.proofs.lemmas.List.Folds.{list_any-append}
-use Rattle.wm_collections.proofs.Lists.{All-back, All-find, All-front, All-weaker, All-with2, find-none, find-passes, list_any-false}
+use Rattle.wm_collections.proofs.Lists.{All-back, All-find, All-front, All-weaker, All-with2, AllLater-back, find-none, find-passes, list_any-false}
 use Rattle.wm_collections.specs.Lists.{AllLater}
 use Rattle.wm_machine.proofs.Runnings.{WorksAscend-in_order}
 use Rattle.wm_machine.proofs.Steps.{Valid-after}
@@ -33,10 +33,6 @@ each-left P change [] all = tt
 each-left P change (work ∷ works) all =
     let parts = left-fact P (then_of change work) (filter_map (then_of change) works) all in
     (parts.0, each-left P change works parts.1)
-
-AllLater-back : {T : Type 0} (R : T → T → Type 0) (xs ys : List T) → AllLater R (xs ++ ys) → AllLater R ys
-AllLater-back R [] ys later = later
-AllLater-back R (x ∷ xs) ys later = AllLater-back R xs ys later.1
 
 -- ---- after a step
 

@@ -141,15 +141,15 @@ read-again d deep is within =
     let value_is = ap (json.value max_depth) text ∙ value-json_tokens (outline d) max_depth [] (omega (arith, is.shallow)) in
     ap (λ o. option_and_then of_json (option_and_then (λ p. json.if_last p.0 p.1) o)) value_is ∙ is.same
 
-again-data : (entries : List DataEntry) → IsData entries → AreInType entries → IsReadAgain 3 (data_json entries)
-again-data entries is are = record {
-  same = ap (option_map Rattle.serde_json.specs.Data.object) (again-entries [] entries is.ascending are);
-  numbers = numbers-entries entries are;
-  shallow = omega (arith, shallow-entries entries are);
+again-data : (entries : List DataEntry) → IsData entries → IsReadAgain 3 (data_json entries)
+again-data entries is = record {
+  same = ap (option_map Rattle.serde_json.specs.Data.object) (again-entries [] entries is.ascending is.in_type);
+  numbers = numbers-entries entries is.in_type;
+  shallow = omega (arith, shallow-entries entries is.in_type);
 }
 
 -- Data is read from its canonical text
-pub data_in-data_text : (entries : List DataEntry) → IsData entries → AreInType entries → data_in (data_text entries) ≡ Some entries
+pub data_in-data_text : (entries : List DataEntry) → IsData entries → data_in (data_text entries) ≡ Some entries
 unfolding data_in
-data_in-data_text entries is are =
-    rw (read-again (data_json entries) 3 (again-data entries is are) (omega arith), read_data-data_json entries is are, bytes_eq-refl (data_text entries)) refl
+data_in-data_text entries is =
+    rw (read-again (data_json entries) 3 (again-data entries is) (omega arith), read_data-data_json entries is, bytes_eq-refl (data_text entries)) refl

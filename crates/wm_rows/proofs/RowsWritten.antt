@@ -5,7 +5,6 @@ use Rattle.std.proofs.lemmas.List.Elements.{recursion_from_All}
 use Rattle.std.specs.List.{AllByRecursion}
 use Rattle.wm_collections.proofs.Lists.{All-weaker, All-with2, list_all-each}
 use Rattle.wm_data.specs.DataJson.{data_text}
-use Rattle.wm_data.specs.InType.{AreInType}
 use Rattle.wm_data.specs.Size.{IsData}
 use Rattle.wm_data.specs.declared.data.DataEntry.{DataEntry}
 use Rattle.wm_machine.proofs.Records.{IsData-empty}
@@ -21,7 +20,7 @@ use Rattle.wm_rows.proofs.DataTexts.{data_in-data_text}
 use Rattle.wm_rows.proofs.FieldCodes.{constraints_in-written, IsOfWork, may_be_in, merger-written, number_in-written, period_in-written, phase_in-written, policy-written, prior_in-written}
 use Rattle.wm_rows.proofs.Tags.{ascend-AscendByBytes}
 use Rattle.wm_rows.specs.Fields.{are_tags, greatest, has_given, least_attempt, most_prior, most_runs, name_in, output_in}
-use Rattle.wm_rows.specs.Grammar.{IsStored, IsTyped, read_row, request_in, standing_in, terms_in}
+use Rattle.wm_rows.specs.Grammar.{IsStored, read_row, request_in, standing_in, terms_in}
 use Rattle.wm_rows.specs.declared.reading.Standing.{Standing}
 use Rattle.wm_rows.specs.declared.reading.Terms.{Terms}
 use Rattle.wm_schedule.specs.declared.schedule.Period.{Period}
@@ -43,13 +42,13 @@ name_in-written (Some name) is = rw (is_short-written name is) refl
 no_output : (output : List DataEntry) → output ≡ [] → IsData output
 no_output output is = rw is IsData-empty
 
-output_in-written : (p : Phase) (output : List DataEntry) → IsOutputIn p output → AreInType output → output_in p (data_text output) ≡ Some output
+output_in-written : (p : Phase) (output : List DataEntry) → IsOutputIn p output → output_in p (data_text output) ≡ Some output
 unfolding output_in
-output_in-written phase.Waiting output is typed = rw (data_in-data_text output (no_output output is) typed) (rw is refl)
-output_in-written phase.Running output is typed = rw (data_in-data_text output (no_output output is) typed) (rw is refl)
-output_in-written (phase.Done how.Succeeded) output is typed = rw (data_in-data_text output is typed) refl
-output_in-written (phase.Done how.Failed) output is typed = rw (data_in-data_text output is typed) refl
-output_in-written (phase.Done how.Cancelled) output is typed = rw (data_in-data_text output (no_output output is) typed) (rw is refl)
+output_in-written phase.Waiting output is = rw (data_in-data_text output (no_output output is)) (rw is refl)
+output_in-written phase.Running output is = rw (data_in-data_text output (no_output output is)) (rw is refl)
+output_in-written (phase.Done how.Succeeded) output is = rw (data_in-data_text output is) refl
+output_in-written (phase.Done how.Failed) output is = rw (data_in-data_text output is) refl
+output_in-written (phase.Done how.Cancelled) output is = rw (data_in-data_text output (no_output output is)) (rw is refl)
 
 -- ---- what a kind and a phase ask for
 
@@ -101,7 +100,7 @@ standing_of work = record {
   enqueued_at = work.enqueued_at;
 }
 
-module _ (work : Record) (is : IsStored work) (typed : IsTyped work) where
+module _ (work : Record) (is : IsStored work) where
   terms_in-written : terms_in (row_of work) ≡ Some (terms_of work.request)
   unfolding terms_in terms_of
   terms_in-written =
@@ -140,7 +139,7 @@ module _ (work : Record) (is : IsStored work) (typed : IsTyped work) where
         id_is,
         is_short-written request.class is.request.within.class_is,
         are_tags-written request.tags is.request.within.tags_are,
-        data_in-data_text request.input is.request.input typed.input,
+        data_in-data_text request.input is.request.input,
       ) refl
 
   each_prior : AllByRecursion IsOfWork work.prior
@@ -157,6 +156,6 @@ module _ (work : Record) (is : IsStored work) (typed : IsTyped work) where
         standing_in-written,
         name_in-written work.name is.name,
         prior_in-written work.request.period work.prior each_prior (few_prior work.request.period work is.kind is.few),
-        output_in-written work.phase work.output is.output typed.output,
+        output_in-written work.phase work.output is.output,
         request_in-written,
       ) (ap (λ (progress : List DataEntry). Some (record work { progress = progress })) none_told)

@@ -21,7 +21,7 @@ use Rattle.wm_rows.proofs.FieldCodes.{of_some}
 use Rattle.wm_rows.proofs.RowsWritten.{read_row-written}
 use Rattle.wm_rows.proofs.Soundness.{OfOneKindAs}
 use Rattle.wm_rows.proofs.Tags.{All-before}
-use Rattle.wm_rows.specs.Grammar.{IsStored, IsTyped}
+use Rattle.wm_rows.specs.Grammar.{IsStored}
 use Rattle.wm_rows.specs.Sound.{are_different, checked, checked_after, is_name_free, is_periodic, is_sound_after, serves}
 use Rattle.wm_schedule.specs.declared.schedule.Period.{Period}
 
@@ -202,15 +202,15 @@ sound next before work more are =
 -- ---- all of them
 
 checked-from : (next : ℕ) (before more : List Record) → AreWorks next (before ++ more) → AllByRecursion (λ work. work.progress ≡ []) more
-    → AllByRecursion IsTyped more → checked_after before (map row_of more) ≡ Ok (before ++ more)
-checked-from next before [] are none typed = ap Ok (sym (append-nil before))
-checked-from next before (work ∷ more) are none typed =
-    let reading = read_row-written work (IsStored-record work (All-middle IsRecord before work more are.records) none.0) typed.0 in
+    → checked_after before (map row_of more) ≡ Ok (before ++ more)
+checked-from next before [] are none = ap Ok (sym (append-nil before))
+checked-from next before (work ∷ more) are none =
+    let reading = read_row-written work (IsStored-record work (All-middle IsRecord before work more are.records) none.0) in
     let passes = sound next before work more are in
     let whole = append_assoc before (work ∷ []) more in
     rw (reading, passes)
-    (checked-from next (before ++ work ∷ []) more (subst (AreWorks next) (sym whole) are) none.1 typed.1 ∙ ap Ok whole)
+    (checked-from next (before ++ work ∷ []) more (subst (AreWorks next) (sym whole) are) none.1 ∙ ap Ok whole)
 
-pub checked-written : (next : ℕ) (works : List Record) → AreWorks next works → AllByRecursion (λ work. work.progress ≡ []) works → AllByRecursion IsTyped works
+pub checked-written : (next : ℕ) (works : List Record) → AreWorks next works → AllByRecursion (λ work. work.progress ≡ []) works
     → checked (map row_of works) ≡ Ok works
-checked-written next works are none typed = checked-from next [] works are none typed
+checked-written next works are none = checked-from next [] works are none

@@ -1,7 +1,6 @@
 -- Which rows are records. The grammar is this project's own choice.
 use Rattle.std.specs.Prelude.{◌≡◌, ◌≤◌, ℕ, List, [], length, Option, Some, IfSome}
 use Rattle.std.specs.List.{AllByRecursion}
-use Rattle.wm_data.specs.InType.{AreInType}
 use Rattle.wm_data.specs.declared.data.DataEntry.{DataEntry}
 use Rattle.wm_keeper.specs.declared.row.Row.{Row}
 use Rattle.wm_machine.specs.Limits.{FitsRow}
@@ -131,8 +130,3 @@ pub record IsStored (work : Record) : Type 0 where
   pub kind : IsOfKind work.request.period work
   pub output : IsOutputIn work.phase work.output
   pub progress : work.progress ≡ []
-
--- the values that it was given and gave are in their types
-pub record IsTyped (work : Record) : Type 0 where
-  pub input : AreInType work.request.input
-  pub output : AreInType work.output

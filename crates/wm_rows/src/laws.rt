@@ -6,7 +6,7 @@ ghost use Rattle.wm_machine.specs.Opened.{next_number};
 ghost use Rattle.wm_machine.specs.Rows.{row_of};
 ghost use Rattle.wm_machine.specs.Valid.{AreWorks};
 ghost use Rattle.wm_machine.specs.declared.record.Record.{Record};
-ghost use Rattle.wm_rows.specs.Grammar.{read_row, IsStored, IsTyped};
+ghost use Rattle.wm_rows.specs.Grammar.{read_row, IsStored};
 ghost use Rattle.wm_rows.specs.Sound.{checked, IsFirstFault};
 ghost use Rattle.wm_rows.specs.declared.fault.RowFault.{RowFault};
 
@@ -19,7 +19,7 @@ pub fn what_is_read_has_its_row()
 
 /// A record within the limits of a row that has told nothing is read from its row.
 pub fn a_record_is_read_from_its_row()
-    ensures { (work : Record) → IsStored work → IsTyped work → read_row (row_of work) ≡ Some work }
+    ensures { (work : Record) → IsStored work → read_row (row_of work) ≡ Some work }
 {}
 
 /// The records of sound rows have just those rows, each is within the limits of a row and has told
@@ -40,6 +40,5 @@ pub fn the_first_fault_is_told()
 /// Works as a state of the machine has them, which have told nothing, have sound rows.
 pub fn works_have_sound_rows()
     ensures { (next : ℕ) (works : List Record) → AreWorks next works
-        → AllByRecursion (λ work. work.progress ≡ []) works → AllByRecursion IsTyped works
-        → checked (map row_of works) ≡ Ok works }
+        → AllByRecursion (λ work. work.progress ≡ []) works → checked (map row_of works) ≡ Ok works }
 {}

@@ -10,6 +10,7 @@ use Rattle.wm_chain.proofs.Sound.{IsBatch-sound}
 use Rattle.wm_chain.specs.Layers.{layered, no_layer, node_after, ContinuationFields}
 use Rattle.wm_chain.specs.Walk.{batched, batched_by, fault_in}
 use Rattle.wm_chain.specs.declared.fault.ChainFault.{ChainFault}
+use Rattle.wm_collections.proofs.Options.{either, tested, then_any, then_of}
 use Rattle.wm_data.proofs.ReadData.{IsData-read_data}
 use Rattle.wm_data.specs.Size.{IsData}
 use Rattle.wm_data.specs.declared.data.DataEntry.{DataEntry}
@@ -22,7 +23,6 @@ use Rattle.wm_request.specs.Requests.{AreSortedTags, IsRequest, IsShortText, Req
 use Rattle.wm_request.specs.declared.request.Node.{Node}
 use Rattle.wm_schedule.proofs.Clamps.{IsBackoffDelay-clamped, IsPeriod-clamped}
 use Rattle.wm_schedule.specs.Clamped.{clamped_period, IsPeriod}
-use Rattle.wm_script.proofs.Options.{either, tested, then_any, then_of}
 use Rattle.wm_script.proofs.PartsLemmas.{bind_any, bind_holds, formed_holds, list_holds, or_holds, some_holds, AreSome}
 use Rattle.wm_script.proofs.PartsLemmas.{tested as tested_ok}
 use Rattle.wm_script.specs.Batches.{are_few, batch_in, chained, layer_in, layers_in, works_in}
@@ -104,7 +104,7 @@ IsRequest-asked work tags input sixteen short is_data =
     (λ limits. record { id = sixteen; input = is_data; within = limits })
 
 IsData-input_in : (input : Option json.Data) → IfOk (input_in input) IsData
-IsData-input_in None = record { ascending = tt; named = tt; size = omega arith }
+IsData-input_in None = record { ascending = tt; named = tt; in_type = tt; size = omega arith }
 IsData-input_in (Some d) = IsData-read_data d
 
 HasRequest : Node → Type 0

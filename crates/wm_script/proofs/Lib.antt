@@ -2,5 +2,4 @@ pub mod BatchesLemmas
 pub mod BuiltCommands
 pub mod BuiltRequests
 pub mod LinesLemmas
-pub mod Options
 pub mod PartsLemmas

@@ -2,7 +2,7 @@
 ghost use Rattle.std.specs.Prelude.{◌≡◌, ◌==◌, position, ◌∷◌, ◌<◌, ◌≤◌, length, option_map, Err, IfOk, IfErr, None, Ok, OnErr, OnOk, Some};
 ghost use Rattle.std.specs.List.{AllByRecursion};
 ghost use Rattle.serde_json.specs.View.{view};
-ghost use Rattle.wm_machine.specs.Outcome.{IsBuilt};
+ghost use Rattle.wm_machine.specs.Outcome.{IsAskable};
 ghost use Rattle.wm_script.specs.Limits.{first_limit, IsFaultOf as IsScriptFaultOf};
 ghost use Rattle.wm_script.specs.Lines.{alone, asked_by, asked_in, cancel_of, command_of, commands_in, conditions_of, cut, enqueue_of, id_under, is_of_all, moment_of, named_command, observe_of, one_key, query_of, retire_of, target_of, text_under, update_of, value_of, whole_under};
 ghost use Rattle.wm_script.specs.Parts.{IsFaultOf};
@@ -38,7 +38,7 @@ pub fn read_lines(alloc: Global, bytes: &[u8]) -> Result<Items<Command>, ScriptF
     ensures fault { IfErr result (IsScriptFaultOf bytes.now) }
 
     // What follows of the commands.
-    ensures built { IfOk result (λ commands. AllByRecursion IsBuilt commands) }
+    ensures askable { IfOk result (λ commands. AllByRecursion IsAskable commands) }
     ensures few { IfOk result (λ commands. length commands ≤ length bytes.now) }
 {
     if let Some(limit) = first_limit(bytes) {

@@ -20,7 +20,7 @@ use Rattle.wm_session.proofs.BookParts.{AwayInvariant-from, claimed_step}
 use Rattle.wm_session.specs.Bench.{instance_traits, is_away, place_traits}
 use Rattle.wm_session.specs.Book as book
 use Rattle.wm_session.specs.BookState.{BookState}
-use Rattle.wm_session.specs.Inputs.{Inputs}
+use Rattle.wm_table.specs.Inputs.{Inputs}
 use Rattle.wm_session.specs.Invariant.{BookInvariant}
 use Rattle.wm_session.specs.Pending.{PendingState, nothing}
 use Rattle.wm_session.specs.Tells.{Tells}
@@ -47,7 +47,7 @@ module _ {K W B : Type 0} {run : Inputs} {tells : Tells K W B} where
   -- the worker of the instance that starts is at its place
   pub claimed_idle : {old : BookState K W B} (table : TableState K) (number seq instance place : ℕ) (input : List DataEntry)
       → BookInvariant run tells old → old.status ≡ None
-      → IsOneStep tells.held (event.Start number seq instance input) old.table table → place ≡ instance
+      → IsOneStep tells.store (event.Start number seq instance input) old.table table → place ≡ instance
       → None ≡ option_map (λ worker. let made : Seat B = record { number = place; worker = worker } in made) (idle_at place old.places) → ⊥
   claimed_idle {old = old} table number seq instance place input kept going step same none =
       let start = step.legal in
@@ -59,8 +59,8 @@ module _ {K W B : Type 0} {run : Inputs} {tells : Tells K W B} where
       (no_seat place (idle_at place old.places) none)
 
   -- the workers are those of the instances after a claim
-  claimed_traits : (claimed : Claim) (old : BookState K W B) (table : TableState K) → BookInvariant run tells old
-      → IsClaimAnswer tells.held (Some claimed) old.table table
+  claimed_traits : {M : Type 0} (claimed : Claim M) (old : BookState K W B) (table : TableState K) → BookInvariant run tells old
+      → IsClaimAnswer tells.store (Some claimed) old.table table
       → map (place_traits tells.kind_of) old.places ≡ map instance_traits table.state.instances
   claimed_traits (claim.Run ticket) old table kept claimed =
       let s = old.table.state in
@@ -75,11 +75,11 @@ module _ {K W B : Type 0} {run : Inputs} {tells : Tells K W B} where
   pub BookInvariant-begun : {old : BookState K W B} (table : TableState K) (places : List (Place B)) (pending : PendingState) (sink : W)
       (number seq instance place : ℕ) (input : List DataEntry) (seat : Seat B)
       → BookInvariant run tells old → old.status ≡ None
-      → IsOneStep tells.held (event.Start number seq instance input) old.table table → place ≡ instance
+      → IsOneStep tells.store (event.Start number seq instance input) old.table table → place ≡ instance
       → Some seat ≡ option_map (λ worker. record { number = place; worker = worker }) (idle_at place old.places)
       → places ≡ changed_at (made_away tells.kind_of) place old.places
       → IsTold run tells old table pending sink old.status
-      → tells.keeper_faults table.keeper ≡ tells.keeper_faults old.table.keeper
+      → (tells.store table.keeper).faults ≡ (tells.store old.table.keeper).faults
       → BookInvariant run tells (record old { table = table; places = places; pending = pending; sink = sink })
   BookInvariant-begun {old = old} table places pending sink number seq instance place input seat kept going step same taken there told no_fault =
       let s = old.table.state in
@@ -104,10 +104,10 @@ module _ {K W B : Type 0} {run : Inputs} {tells : Tells K W B} where
   pub IsBegun-taken : {old : BookState K W B} (table : TableState K) (places : List (Place B)) (pending : PendingState) (sink : W) (ticket : TicketState)
       (place : ℕ) (seat : Seat B) (signal : SignalState)
       → BookInvariant run tells old → old.status ≡ None
-      → IsOneStep tells.held (event.Start ticket.task.run ticket.seq ticket.instance ticket.task.input) old.table table → IsTicketIn table.state ticket
+      → IsOneStep tells.store (event.Start ticket.task.run ticket.seq ticket.instance ticket.task.input) old.table table → IsTicketIn table.state ticket
       → place ≡ ticket.instance → Some seat ≡ option_map (λ worker. record { number = place; worker = worker }) (idle_at place old.places)
       → places ≡ changed_at (made_away tells.kind_of) place old.places → signal ≡ record { run = ticket.task.run; never = true } → pending ≡ nothing
-      → book.IsBegun tells.held tells.kind_of ticket seat signal old
+      → book.IsBegun tells.store tells.kind_of ticket seat signal old
       (record old { table = table; places = places; pending = pending; sink = sink })
   IsBegun-taken {old = old} table places pending sink ticket place seat signal kept going step ticket_in same taken are signal_is written =
       let seated = seat_is place (idle_at place old.places) seat taken in
@@ -120,7 +120,7 @@ module _ {K W B : Type 0} {run : Inputs} {tells : Tells K W B} where
         number = seated.1 ∙ same;
         kind = ticket_kind tells.kind_of seat.worker table.state ticket (run_numbered ticket.task.run table.state.runs) old.places
             (reached_after start old (record old { table = table; places = places }) kept step).valid
-            (claimed_traits (claim.Run ticket) old table kept (record { step = step; ticket_in = ticket_in })) refl ticket_in there;
+            (claimed_traits {M = Unit {0}} (claim.Run ticket) old table kept (record { step = step; ticket_in = ticket_in })) refl ticket_in there;
         worker = there;
         places = are ∙ ap (λ n. changed_at (made_away tells.kind_of) n old.places) same;
         signal_is = signal_is;
@@ -131,9 +131,9 @@ module _ {K W B : Type 0} {run : Inputs} {tells : Tells K W B} where
   -- ---- a work that couldn't start
 
   pub BookInvariant-start_failed : {old : BookState K W B} (table : TableState K) (pending : PendingState) (sink : W) (seq : ℕ) (cause : Cause)
-      → BookInvariant run tells old → old.status ≡ None → IsOneStep tells.held (event.StartFailed seq cause) old.table table
+      → BookInvariant run tells old → old.status ≡ None → IsOneStep tells.store (event.StartFailed seq cause) old.table table
       → IsTold run tells old table pending sink old.status
-      → tells.keeper_faults table.keeper ≡ tells.keeper_faults old.table.keeper
+      → (tells.store table.keeper).faults ≡ (tells.store old.table.keeper).faults
       → BookInvariant run tells (record old { table = table; pending = pending; sink = sink })
   BookInvariant-start_failed {old = old} table pending sink seq cause kept going step told no_fault =
       let instances : table.state.instances ≡ old.table.state.instances = ap (λ (t : State). t.instances) step.state in
@@ -144,8 +144,8 @@ module _ {K W B : Type 0} {run : Inputs} {tells : Tells K W B} where
       no_fault
 
   pub IsStartFailed-kept : {old : BookState K W B} (table : TableState K) (pending : PendingState) (sink : W) (seq : ℕ) (cause : Cause)
-      → BookInvariant run tells old → old.status ≡ None → IsOneStep tells.held (event.StartFailed seq cause) old.table table → pending ≡ nothing
-      → book.IsStartFailed tells.held old (record old { table = table; pending = pending; sink = sink })
+      → BookInvariant run tells old → old.status ≡ None → IsOneStep tells.store (event.StartFailed seq cause) old.table table → pending ≡ nothing
+      → book.IsStartFailed tells.store old (record old { table = table; pending = pending; sink = sink })
   IsStartFailed-kept {old = old} table pending sink seq cause kept going step written = record {
     seq = seq;
     cause = cause;
@@ -159,13 +159,14 @@ module _ {K W B : Type 0} {run : Inputs} {tells : Tells K W B} where
   -- ---- a claim that couldn't be told
 
   -- the session stopped while the claim was told, and its ticket was taken back
-  pub BookInvariant-untold : {old : BookState K W B} (claimed : Claim) (between table : TableState K) (pending : PendingState) (sink : W) (stop : Stop)
-      → BookInvariant run tells old → old.status ≡ None → IsClaimAnswer tells.held (Some claimed) old.table between → table ≡ between
+  pub BookInvariant-untold : {M : Type 0} {old : BookState K W B} (claimed : Claim M) (between table : TableState K) (pending : PendingState)
+      (sink : W) (stop : Stop)
+      → BookInvariant run tells old → old.status ≡ None → IsClaimAnswer tells.store (Some claimed) old.table between → table ≡ between
       → IsTold run tells old between pending sink (Some stop)
-      → tells.keeper_faults between.keeper ≡ tells.keeper_faults old.table.keeper
+      → (tells.store between.keeper).faults ≡ (tells.store old.table.keeper).faults
       → BookInvariant run tells (record old { table = table; pending = pending; sink = sink; status = Some stop })
   BookInvariant-untold {old = old} claimed between table pending sink stop kept going done same told no_fault =
-      let step = claimed_step tells.held claimed old.table between done in
+      let step = claimed_step tells.store claimed old.table between done in
       subst (λ t. BookInvariant run tells (record old { table = t; pending = pending; sink = sink; status = Some stop })) (sym same)
       (BookInvariant-event step.0 old between old.places pending sink (Some stop) kept going step.1 step.2 told
       (claimed_traits claimed old between kept done) tt no_fault)

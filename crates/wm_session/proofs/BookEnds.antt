@@ -13,7 +13,7 @@ use Rattle.wm_session.proofs.WrittenTexts.{IsAppended-kept, IsPartAppended-kept}
 use Rattle.wm_session.specs.BookState.{BookState}
 use Rattle.wm_session.specs.Causes.{status_by_stop, stop_by_fault, EndsBy, StopCause}
 use Rattle.wm_session.specs.Ended.{HasCommands, IsSessionStatus, IsTextWritten}
-use Rattle.wm_session.specs.Inputs.{Inputs}
+use Rattle.wm_table.specs.Inputs.{Inputs}
 use Rattle.wm_session.specs.Invariant.{LinesInvariant, TextsInvariant, BookInvariant}
 use Rattle.wm_session.specs.Pending.{pending_text}
 use Rattle.wm_session.specs.Tells.{Tells}

@@ -1,15 +1,14 @@
 -- A book as it begins, and after a line.
-use Rattle.std.proofs.Common.{◌≡◌, ◌+◌, ◌^◌, ◌<◌, ◌≤◌, false, List, [], ◌∷◌, ◌++◌, length, map, Option, None, option_map, refl, sym, ◌∙◌, ap, subst, arith}
+use Rattle.std.proofs.Common.{◌≡◌, ◌+◌, ◌^◌, ◌<◌, ◌≤◌, false, List, [], ◌∷◌, ◌++◌, length, map, Option, None, refl, sym, ◌∙◌, ap, subst, arith}
 use Rattle.std.specs.List.{AllByRecursion}
 use Rattle.wm_bench.specs.declared.place.Place.{Place}
 use Rattle.wm_machine.proofs.Logs.{AreNumberedFrom-push}
 use Rattle.wm_machine.proofs.Steps.{framed}
-use Rattle.wm_machine.specs.Outcome.{IsBuilt}
+use Rattle.wm_machine.specs.Outcome.{IsAskable}
 use Rattle.wm_machine.specs.Frame.{instances_after, Frame}
 use Rattle.wm_machine.specs.Log.{commands_of, AreNumberedFrom}
 use Rattle.wm_machine.specs.Narrow.{IsNarrow}
 use Rattle.wm_machine.specs.Replay.{Replay}
-use Rattle.wm_machine.specs.Rows.{rows_of}
 use Rattle.wm_machine.specs.Valid.{Valid}
 use Rattle.wm_machine.specs.declared.command.Command.{Command}
 use Rattle.wm_machine.specs.declared.reply.Reply.{Reply}
@@ -21,7 +20,7 @@ use Rattle.wm_session.proofs.BookParts.{AwayInvariant-from}
 use Rattle.wm_session.proofs.WrittenTexts.{TextsInvariant-unwritten}
 use Rattle.wm_session.specs.Bench.{instance_traits, place_traits, places_after, NoneAway}
 use Rattle.wm_session.specs.BookState.{BookState}
-use Rattle.wm_session.specs.Inputs.{Inputs}
+use Rattle.wm_table.specs.Inputs.{Inputs}
 use Rattle.wm_session.specs.Invariant.{BookInvariant}
 use Rattle.wm_session.specs.Pending.{PendingState, nothing}
 use Rattle.wm_session.specs.Tells.{Tells}
@@ -35,8 +34,8 @@ module _ {K W B : Type 0} {run : Inputs} {tells : Tells K W B} where
   pub BookInvariant-line : {old : BookState K W B} (table : TableState K) (places : List (Place B)) (left : List Command) (pending : PendingState) (sink : W)
       (status : Option Stop) (command : Command) (reply : Reply)
       → BookInvariant run tells old → old.status ≡ None
-      → IsOneStep tells.held (event.Command (old.line + 1) command reply) old.table table → old.left ≡ command ∷ left
-      → tells.keeper_faults table.keeper ≡ tells.keeper_faults old.table.keeper
+      → IsOneStep tells.store (event.Command (old.line + 1) command reply) old.table table → old.left ≡ command ∷ left
+      → (tells.store table.keeper).faults ≡ (tells.store old.table.keeper).faults
       → IsTold run tells old table pending sink status → places ≡ places_after tells.kind_of command old.places
       → BookInvariant run tells
       (record old { table = table; places = places; left = left; line = old.line + 1; pending = pending; sink = sink; status = status })
@@ -44,7 +43,7 @@ module _ {K W B : Type 0} {run : Inputs} {tells : Tells K W B} where
       let new : BookState K W B =
       record old { table = table; places = places; left = left; line = old.line + 1; pending = pending; sink = sink; status = status } in
       let e = event.Command (old.line + 1) command reply in
-      let built : AllByRecursion IsBuilt (command ∷ left) = subst (AllByRecursion IsBuilt) next kept.built in
+      let askable : AllByRecursion IsAskable (command ∷ left) = subst (AllByRecursion IsAskable) next kept.askable in
       let number : old.line + 1 ≡ 1 + length (commands_of old.table.log) = ap (λ n. n + 1) kept.line ∙ omega arith in
       let before = old.table.state.instances in
       let instances : table.state.instances ≡ instances_after command before =
@@ -53,7 +52,7 @@ module _ {K W B : Type 0} {run : Inputs} {tells : Tells K W B} where
         going = going;
         step = step;
         left = next;
-        built = built.1;
+        askable = askable.1;
         line = refl;
         workers = rw (places_are, instances) (workers-after tells.kind_of command old.places before kept.workers);
         no_fault = no_fault;
@@ -66,29 +65,27 @@ module _ {K W B : Type 0} {run : Inputs} {tells : Tells K W B} where
 
 pub BookInvariant-new : {K W B : Type 0} (run : Inputs) (tells : Tells K W B) (table : TableState K) (places : List (Place B)) (left : List Command)
     (pending : PendingState) (sink : W)
-    → table.log ≡ [] → left ≡ run.lines → pending ≡ nothing → map (place_traits tells.kind_of) places ≡ map instance_traits table.state.instances → NoneAway places
+    → table.log ≡ [] → left ≡ run.lines → pending ≡ nothing
+    → map (place_traits tells.kind_of) places ≡ map instance_traits table.state.instances → NoneAway places
     → AllByRecursion (λ instance. instance.out ≡ false) table.state.instances → Valid table.state → IsNarrow table.state
-    → 0 + length left < 2 ^ 32 → AllByRecursion IsBuilt left
-    → table.state ≡ table.first → table.first ≡ run.first → tells.held table.keeper ≡ option_map (λ _. rows_of table.state) run.rows
-    → tells.given sink ≡ run.written
-    → run.keeper_faults ≤ tells.keeper_faults table.keeper → run.sink_faults ≤ tells.sink_faults sink
+    → 0 + length left < 2 ^ 32 → AllByRecursion IsAskable left
+    → table.state ≡ table.first → tells.given sink ≡ run.written
+    → run.store.faults ≤ (tells.store table.keeper).faults → run.sink_faults ≤ tells.sink_faults sink
     → BookInvariant run tells
     (record { table = table; places = places; left = left; line = 0; pending = pending; sink = sink; status = None })
-BookInvariant-new run tells table places left pending sink empty lines none workers idle all_in valid narrow few built begun first
-    rows written keeper sink_later =
+BookInvariant-new run tells table places left pending sink empty lines none workers idle all_in valid narrow few askable begun written
+    keeper sink_later =
     record {
-      first = first;
       replay = subst (λ log. Replay table.first log table.state) (sym empty) begun;
       valid = valid;
       narrow = narrow;
       lines = sym lines ∙ ap (λ log. commands_of log ++ left) (sym empty);
-      built = built;
+      askable = askable;
       numbered = subst (AreNumberedFrom 1) (sym empty) tt;
       line = ap (λ log. length (commands_of log)) (sym empty);
       few_lines = few;
       texts = rw (empty, none, written) (TextsInvariant-unwritten run.written []);
       all_told = λ same. ap (λ (p : PendingState). p.untold) none;
-      rows = rows;
       workers = workers;
       away = all_here tells.kind_of places table.state.instances workers idle all_in;
       keeper_later = keeper;

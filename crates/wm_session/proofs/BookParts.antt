@@ -1,16 +1,15 @@
 -- Parts of what a book keeps, after a change.
-use Rattle.std.proofs.Common.{◌≡◌, ◌⊎◌, ℕ, ◌+◌, ◌-◌, ◌^◌, ◌≤◌, min, List, [], ◌++◌, map, Option, Some, None, IsSome, IsSomeAnd, option_map, Err, refl, sym, ◌∙◌, ap, subst, inr, arith}
+use Rattle.std.proofs.Common.{◌≡◌, ◌⊎◌, ℕ, ◌+◌, ◌-◌, ◌^◌, ◌≤◌, min, List, [], ◌++◌, map, Option, Some, None, IsSome, IsSomeAnd, Err, refl, sym, ap, subst, inr, arith}
 use Rattle.std.proofs.Math.Nat.{le-min, le_trans, min-le_left, min-le_right}
 use Rattle.wm_faults.specs.Faults.{Failed}
-use Rattle.wm_keeper.specs.declared.row.Row.{Row}
+use Rattle.wm_keeper.proofs.Stores.{IsAtMost-same}
+use Rattle.wm_keeper.specs.Store.{Store}
 use Rattle.wm_machine.specs.declared.command.Command.{Command}
 use Rattle.wm_machine.specs.declared.event.Event.{Event}
 use Rattle.wm_machine.specs.declared.state.Run.{Run}
-use Rattle.wm_machine.specs.declared.state.State.{State}
 use Rattle.wm_machine.proofs.Logs.{Replay-push}
 use Rattle.wm_machine.specs.Log.{command_in, HasPrefix}
 use Rattle.wm_machine.specs.Replay.{Replay}
-use Rattle.wm_machine.specs.Rows.{rows_of}
 use Rattle.wm_machine.specs.Runs.{run_numbered}
 use Rattle.wm_machine.specs.declared.event.Event.TheVariants as event
 use Rattle.wm_session.specs.Bench.{is_away}
@@ -31,12 +30,6 @@ use Rattle.wm_table.specs.declared.table.TurnAnswer.TheVariants as turn
 use Rattle.wm_session.specs.declared.writing.WriteFault.TheVariants as fault
 use Rattle.wm_session.specs.declared.writing.WriteFault.{WriteFault}
 use Rattle.wm_worker.specs.Told.{Report}
-
--- rows that are a state's where they are told are then those of the next one
-pub rows_then : (old new : State) (stored held kept : Option (List Row)) → held ≡ option_map (λ _. rows_of old) stored
-    → kept ≡ option_map (λ _. rows_of new) held → kept ≡ option_map (λ _. rows_of new) stored
-rows_then old new None held kept is then = then ∙ ap (option_map (λ _. rows_of new)) is
-rows_then old new (Some rows) held kept is then = then ∙ ap (option_map (λ _. rows_of new)) is
 
 pub LinesInvariant-from : (status : Option Stop) (lines done left : List Command) → lines ≡ done ++ left → LinesInvariant status lines done left
 LinesInvariant-from None lines done left is = is
@@ -68,10 +61,11 @@ failed_since start before now failed later =
     }
 
 -- why a session stops whose table had trouble at the end of a turn
-pub StopCause-turn : (ticket : TicketState) (told : Report) (why : Trouble) (before now start sink sink_now : ℕ)
-    → TurnCause (turn.Refused ticket told why) before now → start ≤ before → (before ≤ now) × StopCause (Some (stop_by_trouble why)) start now sink sink_now
-StopCause-turn ticket told trouble.KeeperFault before now start sink sink_now failed later = (failed.later, failed_since start before now failed later)
-StopCause-turn ticket told trouble.Memory before now start sink sink_now same later = (omega arith, tt)
+pub StopCause-turn : (M : Type 0) (ticket : TicketState) (told : Report) (why : Trouble) (before now start sink sink_now : ℕ)
+    → TurnCause {M = M} (turn.Refused ticket told why) before now → start ≤ before
+    → (before ≤ now) × StopCause (Some (stop_by_trouble why)) start now sink sink_now
+StopCause-turn M ticket told trouble.KeeperFault before now start sink sink_now failed later = (failed.later, failed_since start before now failed later)
+StopCause-turn M ticket told trouble.Memory before now start sink sink_now same later = (omega arith, tt)
 
 -- why a session stops whose sink refused a write
 pub StopCause-write : (why : WriteFault) (keeper keeper_now before now start : ℕ) → WriteCause {T = Unit {0}} (Err why) before now → start ≤ before
@@ -81,26 +75,26 @@ StopCause-write fault.Memory keeper keeper_now before now start same later = (om
 
 -- ---- the table
 
-pub IsUntouched-same : {K : Type 0} (held : K → Option (List Row)) (old new : TableState K) → new ≡ old → IsUntouched held old new
-IsUntouched-same held old new same =
-    subst (IsUntouched held old) (sym same) (record { first = refl; state = refl; log = refl; rows = refl })
+pub IsUntouched-same : {K : Type 0} (store : K → Store) (old new : TableState K) → new ≡ old → IsUntouched store old new
+IsUntouched-same store old new same =
+    subst (IsUntouched store old) (sym same) (record { first = refl; state = refl; log = refl; rows = IsAtMost-same (store old.keeper).rows })
 
 -- the log replays with its new event
-pub Replay-step : {K : Type 0} (held : K → Option (List Row)) (e : Event) (old new : TableState K) → Replay old.first old.log old.state
-    → IsOneStep held e old new → Replay new.first new.log new.state
-Replay-step held e old new replays step =
+pub Replay-step : {K : Type 0} (store : K → Store) (e : Event) (old new : TableState K) → Replay old.first old.log old.state
+    → IsOneStep store e old new → Replay new.first new.log new.state
+Replay-step store e old new replays step =
     rw (step.first, step.appended, step.state) (Replay-push old.first old.log old.state e replays step.legal)
 
-pub Replay-same : {K : Type 0} (held : K → Option (List Row)) (old new : TableState K) → Replay old.first old.log old.state → IsUntouched held old new
+pub Replay-same : {K : Type 0} (store : K → Store) (old new : TableState K) → Replay old.first old.log old.state → IsUntouched store old new
     → Replay new.first new.log new.state
-Replay-same held old new replays same = rw (same.first, same.log, same.state) replays
+Replay-same store old new replays same = rw (same.first, same.log, same.state) replays
 
 -- a claim's event, which is no line
-pub claimed_step : {K : Type 0} (held : K → Option (List Row)) (claimed : Claim) (old new : TableState K) → IsClaimAnswer held (Some claimed) old new
-    → (e : Event) × IsOneStep held e old new × (command_in e ≡ [])
-claimed_step held (claim.Run ticket) old new run =
+pub claimed_step : {K M : Type 0} (store : K → Store) (claimed : Claim M) (old new : TableState K) → IsClaimAnswer store (Some claimed) old new
+    → (e : Event) × IsOneStep store e old new × (command_in e ≡ [])
+claimed_step store (claim.Run ticket) old new run =
     (event.Start ticket.task.run ticket.seq ticket.instance ticket.task.input, run.step, refl)
-claimed_step held (claim.Failed seq cause) old new step = (event.StartFailed seq cause, step, refl)
+claimed_step store (claim.Failed seq cause) old new step = (event.StartFailed seq cause, step, refl)
 
 -- a ticket that holds what its run keeps stands
 ticket_stands : (found : Option Run) (ticket : TicketState) → IsSomeAnd found (λ run. ticket ≡ ticket_of run)
@@ -109,21 +103,21 @@ ticket_stands None ticket is = absurd is
 ticket_stands (Some run) ticket is = (ap (λ (t : TicketState). t.instance) (sym is), ap (λ (t : TicketState). t.kind) (sym is))
 
 -- so a claim can be given up
-pub claimed_in : {K : Type 0} (held : K → Option (List Row)) (claimed : Claim) (old new : TableState K) → IsClaimAnswer held (Some claimed) old new
+pub claimed_in : {K M : Type 0} (store : K → Store) (claimed : Claim M) (old new : TableState K) → IsClaimAnswer store (Some claimed) old new
     → book.IsClaimIn new.state claimed
-claimed_in held (claim.Run ticket) old new run = ticket_stands (run_numbered ticket.task.run new.state.runs) ticket run.ticket_in
-claimed_in held (claim.Failed seq cause) old new step = tt
+claimed_in store (claim.Run ticket) old new run = ticket_stands (run_numbered ticket.task.run new.state.runs) ticket run.ticket_in
+claimed_in store (claim.Failed seq cause) old new step = tt
 
 -- the session stopped while a claim was told, and its ticket was taken back
-pub IsUntold-claimed : {K W B : Type 0} (held : K → Option (List Row)) (claimed : Claim) (old : BookState K W B) (between table : TableState K)
+pub IsUntold-claimed : {K W B M : Type 0} (store : K → Store) (claimed : Claim M) (old : BookState K W B) (between table : TableState K)
     (pending : PendingState) (sink : W) (stop : Stop)
-    → old.status ≡ None → IsClaimAnswer held (Some claimed) old.table between → table ≡ between
-    → book.HasStopped held old (record old { table = table; pending = pending; sink = sink; status = Some stop })
-    ⊎ book.IsClaimUntold held old (record old { table = table; pending = pending; sink = sink; status = Some stop })
-IsUntold-claimed held claimed old between table pending sink stop going done same = inr (record {
+    → old.status ≡ None → IsClaimAnswer store (Some claimed) old.table between → table ≡ between
+    → book.HasStopped store old (record old { table = table; pending = pending; sink = sink; status = Some stop })
+    ⊎ book.IsClaimUntold M store old (record old { table = table; pending = pending; sink = sink; status = Some stop })
+IsUntold-claimed store claimed old between table pending sink stop going done same = inr (record {
   made = claimed;
   before = going;
   status = refl;
-  claimed = subst (IsClaimAnswer held (Some claimed) old.table) (sym same) done;
+  claimed = subst (IsClaimAnswer store (Some claimed) old.table) (sym same) done;
   left = refl;
 })

@@ -3,7 +3,7 @@ use Rattle.std.proofs.Common.{◌≡◌, ◌⊎◌, ℕ, ◌+◌, Bool, true, fa
 use Rattle.wm_bench.specs.Places.{changed_at, made_back, IsAwayAt}
 use Rattle.wm_bench.specs.Seat.{Seat}
 use Rattle.wm_bench.specs.declared.place.Place.{Place}
-use Rattle.wm_keeper.specs.declared.row.Row.{Row}
+use Rattle.wm_keeper.specs.Store.{Store}
 use Rattle.wm_machine.specs.declared.state.Instance.{Instance}
 use Rattle.wm_machine.specs.declared.state.State.{State}
 use Rattle.wm_machine.proofs.Turns.{after_turn}
@@ -16,7 +16,7 @@ use Rattle.wm_session.proofs.BookParts.{AwayInvariant-from}
 use Rattle.wm_session.specs.Bench.{instance_traits, is_away, place_traits}
 use Rattle.wm_session.specs.Book as book
 use Rattle.wm_session.specs.BookState.{BookState}
-use Rattle.wm_session.specs.Inputs.{Inputs}
+use Rattle.wm_table.specs.Inputs.{Inputs}
 use Rattle.wm_session.specs.Invariant.{BookInvariant}
 use Rattle.wm_session.specs.Pending.{PendingState, nothing}
 use Rattle.wm_session.specs.Tells.{Tells}
@@ -29,40 +29,40 @@ use Rattle.wm_worker.specs.Told.{Report}
 use Rattle.wm_session.proofs.BookSteps.{IsTold, away_now, reached, BookInvariant-event}
 
 -- an answer of the table by which a run is over
-abbrev pub IsEndAnswer : TurnAnswer → Type 0
+abbrev pub IsEndAnswer : {M : Type 0} → TurnAnswer M → Type 0
 IsEndAnswer answer = (answer ≡ turn.Finished) ⊎ (answer ≡ turn.TimedOut)
 
 -- a report counts, and its run is over, for want of a turn or not
-record HasEnded {K : Type 0} (held : K → Option (List Row)) (ticket : TicketState) (told : Report) (old new : TableState K) : Type 0 where
+record HasEnded {K : Type 0} (store : K → Store) (ticket : TicketState) (told : Report) (old new : TableState K) : Type 0 where
   timed_out : Bool
-  over : IsTurnOver held ticket told timed_out old new
+  over : IsTurnOver store ticket told timed_out old new
 
-ended_by : {K : Type 0} (held : K → Option (List Row)) (ticket : TicketState) (told : Report) (answer : TurnAnswer) (old new : TableState K)
-    → IsEndAnswer answer → IsTurnAnswer held ticket told answer old new → HasEnded held ticket told old new
-ended_by held ticket told answer old new (inl is) answered =
-    record { timed_out = false; over = subst (λ a. IsTurnAnswer held ticket told a old new) is answered }
-ended_by held ticket told answer old new (inr is) answered =
-    record { timed_out = true; over = subst (λ a. IsTurnAnswer held ticket told a old new) is answered }
+ended_by : {K M : Type 0} (store : K → Store) (ticket : TicketState) (told : Report) (answer : TurnAnswer M) (old new : TableState K)
+    → IsEndAnswer answer → IsTurnAnswer store ticket told answer old new → HasEnded store ticket told old new
+ended_by store ticket told answer old new (inl is) answered =
+    record { timed_out = false; over = subst (λ a. IsTurnAnswer store ticket told a old new) is answered }
+ended_by store ticket told answer old new (inr is) answered =
+    record { timed_out = true; over = subst (λ a. IsTurnAnswer store ticket told a old new) is answered }
 
 -- and no fault was counted
-unfaulted_end : (answer : TurnAnswer) (before now : ℕ) → IsEndAnswer answer → TurnCause answer before now → now ≡ before
+unfaulted_end : {M : Type 0} (answer : TurnAnswer M) (before now : ℕ) → IsEndAnswer answer → TurnCause answer before now → now ≡ before
 unfaulted_end answer before now (inl is) cause = subst (λ a. TurnCause a before now) is cause
 unfaulted_end answer before now (inr is) cause = subst (λ a. TurnCause a before now) is cause
 
 -- the instances stay where a run goes on
-turned_instances : {K : Type 0} (held : K → Option (List Row)) (old table : TableState K) (ticket next : TicketState) (told : Report)
-    → HasGoneOn held ticket told next old table → table.state.instances ≡ old.state.instances
-turned_instances held old table ticket next told on =
+turned_instances : {K : Type 0} (store : K → Store) (old table : TableState K) (ticket next : TicketState) (told : Report)
+    → HasGoneOn store ticket told next old table → table.state.instances ≡ old.state.instances
+turned_instances store old table ticket next told on =
     ap (λ (t : State). t.instances) (on.step.state ∙ after_turn old.state ticket.task.run on.progress on.step.legal)
 
 module _ {K W B : Type 0} {run : Inputs} {tells : Tells K W B} where
-  pub IsOver-ended : {old : BookState K W B} (table : TableState K) (places : List (Place B)) (pending : PendingState) (sink : W) (ticket : TicketState)
-      (seat : Seat B) (told : Report) (answer : TurnAnswer)
-      → BookInvariant run tells old → old.status ≡ None → IsEndAnswer answer → IsTurnAnswer tells.held ticket told answer old.table table
+  pub IsOver-ended : {M : Type 0} {old : BookState K W B} (table : TableState K) (places : List (Place B)) (pending : PendingState) (sink : W)
+      (ticket : TicketState) (seat : Seat B) (told : Report) (answer : TurnAnswer M)
+      → BookInvariant run tells old → old.status ≡ None → IsEndAnswer answer → IsTurnAnswer tells.store ticket told answer old.table table
       → places ≡ changed_at (made_back tells.kind_of seat.worker) seat.number old.places → pending ≡ nothing
-      → book.IsOver tells.held tells.kind_of ticket seat told old (record old { table = table; places = places; pending = pending; sink = sink })
+      → book.IsOver tells.store tells.kind_of ticket seat told old (record old { table = table; places = places; pending = pending; sink = sink })
   IsOver-ended {old = old} table places pending sink ticket seat told answer kept going ends answered are written =
-      let over = ended_by tells.held ticket told answer old.table table ends answered in
+      let over = ended_by tells.store ticket told answer old.table table ends answered in
       let ended = over.over.finished in
       record {
         timed_out = over.timed_out;
@@ -76,13 +76,13 @@ module _ {K W B : Type 0} {run : Inputs} {tells : Tells K W B} where
       }
 
   -- the session stopped while that was told
-  pub IsEndUntold-ended : {old : BookState K W B} (table : TableState K) (places : List (Place B)) (pending : PendingState) (sink : W) (stop : Stop)
-      (ticket : TicketState) (told : Report) (answer : TurnAnswer)
-      → BookInvariant run tells old → old.status ≡ None → IsEndAnswer answer → IsTurnAnswer tells.held ticket told answer old.table table
-      → book.IsEndUntold tells.held ticket told old
+  pub IsEndUntold-ended : {M : Type 0} {old : BookState K W B} (table : TableState K) (places : List (Place B)) (pending : PendingState) (sink : W)
+      (stop : Stop) (ticket : TicketState) (told : Report) (answer : TurnAnswer M)
+      → BookInvariant run tells old → old.status ≡ None → IsEndAnswer answer → IsTurnAnswer tells.store ticket told answer old.table table
+      → book.IsEndUntold tells.store ticket told old
       (record old { table = table; places = places; pending = pending; sink = sink; status = Some stop })
   IsEndUntold-ended {old = old} table places pending sink stop ticket told answer kept going ends answered =
-      let over = ended_by tells.held ticket told answer old.table table ends answered in
+      let over = ended_by tells.store ticket told answer old.table table ends answered in
       let ended = over.over.finished in
       record {
         timed_out = over.timed_out;
@@ -96,17 +96,18 @@ module _ {K W B : Type 0} {run : Inputs} {tells : Tells K W B} where
       }
 
   -- a run is over, and its text told or not
-  pub BookInvariant-over : {old : BookState K W B} (table : TableState K) (places : List (Place B)) (pending : PendingState) (sink : W) (status : Option Stop)
-      (ticket : TicketState) (place : ℕ) (told : Report) (worker : B) (answer : TurnAnswer)
+  pub BookInvariant-over : {M : Type 0} {old : BookState K W B} (table : TableState K) (places : List (Place B)) (pending : PendingState) (sink : W)
+      (status : Option Stop)
+      (ticket : TicketState) (place : ℕ) (told : Report) (worker : B) (answer : TurnAnswer M)
       → BookInvariant run tells old → old.status ≡ None → Stands old.table.state ticket → place ≡ ticket.instance
       → IsAwayAt place (tells.kind_of worker) old.places → places ≡ changed_at (made_back tells.kind_of worker) place old.places
-      → IsEndAnswer answer → IsTurnAnswer tells.held ticket told answer old.table table
-      → TurnCause answer (tells.keeper_faults old.table.keeper) (tells.keeper_faults table.keeper)
+      → IsEndAnswer answer → IsTurnAnswer tells.store ticket told answer old.table table
+      → TurnCause answer (tells.store old.table.keeper).faults (tells.store table.keeper).faults
       → IsTold run tells old table pending sink status
       → BookInvariant run tells (record old { table = table; places = places; pending = pending; sink = sink; status = status })
   BookInvariant-over {old = old} table places pending sink status ticket place told worker answer kept going stands same away are ends answered cause written =
       let s = old.table.state in
-      let ended = (ended_by tells.held ticket told answer old.table table ends answered).over.finished in
+      let ended = (ended_by tells.store ticket told answer old.table table ends answered).over.finished in
       let number = ticket.task.run in
       let e = ended.ending in
       let step = ended.step in
@@ -126,14 +127,14 @@ module _ {K W B : Type 0} {run : Inputs} {tells : Tells K W B} where
       kept.valid.instances.numbered (away_now old going kept.away)
       ∙ ap (λ n. map (λ instance. instance.out) (with_out false n s.instances)) from_zero
       ∙ ap (map (λ instance. instance.out)) (sym instances)))
-      (unfaulted_end answer (tells.keeper_faults old.table.keeper) (tells.keeper_faults table.keeper) ends cause)
+      (unfaulted_end answer (tells.store old.table.keeper).faults (tells.store table.keeper).faults ends cause)
 
   -- ---- a run goes on
 
   pub IsTurnTold-made : {old : BookState K W B} (table : TableState K) (pending : PendingState) (sink : W) (ticket next : TicketState) (seat : Seat B)
       (told : Report)
-      → BookInvariant run tells old → old.status ≡ None → HasGoneOn tells.held ticket told next old.table table → pending ≡ nothing
-      → book.IsTurnTold tells.held ticket next seat seat told old (record old { table = table; pending = pending; sink = sink })
+      → BookInvariant run tells old → old.status ≡ None → HasGoneOn tells.store ticket told next old.table table → pending ≡ nothing
+      → book.IsTurnTold tells.store ticket next seat seat told old (record old { table = table; pending = pending; sink = sink })
   IsTurnTold-made {old = old} table pending sink ticket next seat told kept going on written = record {
     goes_on = record { before = going; now = going; written = written };
     turn = on;
@@ -144,28 +145,28 @@ module _ {K W B : Type 0} {run : Inputs} {tells : Tells K W B} where
   }
 
   -- the session stopped while that was told, and the ticket was taken back
-  pub IsTurnUntold-made : {old : BookState K W B} (between table : TableState K) (places : List (Place B)) (pending : PendingState) (sink : W) (stop : Stop)
-      (ticket next : TicketState) (told : Report)
-      → BookInvariant run tells old → old.status ≡ None → HasGoneOn tells.held ticket told next old.table between → table ≡ between
-      → book.IsTurnUntold tells.held ticket told old
+  pub IsTurnUntold-made : {old : BookState K W B} (between table : TableState K) (places : List (Place B)) (pending : PendingState) (sink : W)
+      (stop : Stop) (ticket next : TicketState) (told : Report)
+      → BookInvariant run tells old → old.status ≡ None → HasGoneOn tells.store ticket told next old.table between → table ≡ between
+      → book.IsTurnUntold tells.store ticket told old
       (record old { table = table; places = places; pending = pending; sink = sink; status = Some stop })
   IsTurnUntold-made {old = old} between table places pending sink stop ticket next told kept going on same = record {
     next = next;
     before = going;
     status = refl;
-    turn = subst (HasGoneOn tells.held ticket told next old.table) (sym same) on;
+    turn = subst (HasGoneOn tells.store ticket told next old.table) (sym same) on;
     left = refl;
     no_more = rw (same, on.step.state) (no_more_after_turn old.table.state ticket.task.run on.progress (reached kept) on.step.legal);
   }
 
   -- a run goes on, and its text is told
   pub BookInvariant-turned : {old : BookState K W B} (table : TableState K) (pending : PendingState) (sink : W) (ticket next : TicketState) (told : Report)
-      → BookInvariant run tells old → old.status ≡ None → HasGoneOn tells.held ticket told next old.table table
+      → BookInvariant run tells old → old.status ≡ None → HasGoneOn tells.store ticket told next old.table table
       → IsTold run tells old table pending sink old.status
-      → tells.keeper_faults table.keeper ≡ tells.keeper_faults old.table.keeper
+      → (tells.store table.keeper).faults ≡ (tells.store old.table.keeper).faults
       → BookInvariant run tells (record old { table = table; pending = pending; sink = sink })
   BookInvariant-turned {old = old} table pending sink ticket next told kept going on written no_fault =
-      let instances = turned_instances tells.held old.table table ticket next told on in
+      let instances = turned_instances tells.store old.table table ticket next told on in
       BookInvariant-event (event.Turn ticket.task.run on.progress) old table old.places pending sink old.status kept going on.step refl
       written
       (kept.workers ∙ ap (map instance_traits) (sym instances))
@@ -176,13 +177,13 @@ module _ {K W B : Type 0} {run : Inputs} {tells : Tells K W B} where
   -- the session stopped while that was told: the ticket was taken back, and the worker is at its place again
   pub BookInvariant-turn_untold : {old : BookState K W B} (between table : TableState K) (places : List (Place B)) (pending : PendingState) (sink : W)
       (stop : Stop) (ticket next : TicketState) (told : Report)
-      → BookInvariant run tells old → old.status ≡ None → HasGoneOn tells.held ticket told next old.table between → table ≡ between
+      → BookInvariant run tells old → old.status ≡ None → HasGoneOn tells.store ticket told next old.table between → table ≡ between
       → map (place_traits tells.kind_of) places ≡ map (place_traits tells.kind_of) old.places
       → IsTold run tells old between pending sink (Some stop)
-      → tells.keeper_faults between.keeper ≡ tells.keeper_faults old.table.keeper
+      → (tells.store between.keeper).faults ≡ (tells.store old.table.keeper).faults
       → BookInvariant run tells (record old { table = table; places = places; pending = pending; sink = sink; status = Some stop })
   BookInvariant-turn_untold {old = old} between table places pending sink stop ticket next told kept going on same workers written no_fault =
-      let instances = turned_instances tells.held old.table between ticket next told on in
+      let instances = turned_instances tells.store old.table between ticket next told on in
       subst (λ t. BookInvariant run tells (record old { table = t; places = places; pending = pending; sink = sink; status = Some stop })) (sym same)
       (BookInvariant-event (event.Turn ticket.task.run on.progress) old between places pending sink (Some stop) kept going on.step refl
       written

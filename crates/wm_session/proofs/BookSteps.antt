@@ -6,19 +6,19 @@ use Rattle.wm_bench.specs.declared.place.Place.{Place}
 use Rattle.wm_machine.proofs.Logs.{commands_of-push}
 use Rattle.wm_texts.proofs.LogTexts.{log_text-last}
 use Rattle.wm_machine.proofs.Steps.{IsReached-after}
-use Rattle.wm_machine.specs.Outcome.{IsBuilt}
+use Rattle.wm_machine.specs.Outcome.{IsAskable}
 use Rattle.wm_machine.specs.Log.{command_in, commands_of, AreNumberedFrom}
 use Rattle.wm_machine.specs.Narrow.{IsReached}
 use Rattle.wm_texts.specs.Texts.{last_text, log_text}
 use Rattle.wm_machine.specs.declared.command.Command.{Command}
 use Rattle.wm_machine.specs.declared.event.Event.{Event}
 use Rattle.wm_session.proofs.BookEvents.{AreNumberedFrom-silent}
-use Rattle.wm_session.proofs.BookParts.{LinesInvariant-from, StopCause-write, Replay-step, rows_then}
+use Rattle.wm_session.proofs.BookParts.{LinesInvariant-from, StopCause-write, Replay-step}
 use Rattle.wm_session.proofs.WrittenTexts.{TextsInvariant-more}
 use Rattle.wm_session.specs.Bench.{instance_traits, is_away, place_traits}
 use Rattle.wm_session.specs.BookState.{BookState}
 use Rattle.wm_session.specs.Causes.{stop_by_fault, StopCause}
-use Rattle.wm_session.specs.Inputs.{Inputs}
+use Rattle.wm_table.specs.Inputs.{Inputs}
 use Rattle.wm_session.specs.Invariant.{AwayInvariant, LinesInvariant, TextsInvariant, BookInvariant}
 use Rattle.wm_session.specs.Pending.{PendingState, nothing, pending_text}
 use Rattle.wm_session.specs.Tells.{Tells}
@@ -31,12 +31,12 @@ use Rattle.wm_session.specs.declared.writing.WriteFault.{WriteFault}
 -- what is the same in every step of the table
 pub record IsStep {K W B : Type 0} (tells : Tells K W B) (e : Event) (old new : BookState K W B) : Type 0 where
   pub going : old.status ≡ None
-  pub step : IsOneStep tells.held e old.table new.table
+  pub step : IsOneStep tells.store e old.table new.table
   pub left : old.left ≡ command_in e ++ new.left
-  pub built : AllByRecursion IsBuilt new.left
+  pub askable : AllByRecursion IsAskable new.left
   pub line : new.line ≡ old.line + length (command_in e)
   pub workers : map (place_traits tells.kind_of) new.places ≡ map instance_traits new.table.state.instances
-  pub no_fault : tells.keeper_faults new.table.keeper ≡ tells.keeper_faults old.table.keeper
+  pub no_fault : (tells.store new.table.keeper).faults ≡ (tells.store old.table.keeper).faults
 
 -- what telling a table's last event made of what is pending and of the sink, and why the session stopped, where it did
 pub record IsTold {K W B : Type 0} (run : Inputs) (tells : Tells K W B) (old : BookState K W B) (table : TableState K) (pending : PendingState)
@@ -44,7 +44,7 @@ pub record IsTold {K W B : Type 0} (run : Inputs) (tells : Tells K W B) (old : B
   pub texts : TextsInvariant (tells.given old.sink) (tells.given sink) (old.pending.bytes ++ last_text table.first table.log) (pending_text table pending)
   pub all_told : status ≡ None → pending.untold ≡ false
   pub later : tells.sink_faults old.sink ≤ tells.sink_faults sink
-  pub cause : StopCause status run.keeper_faults (tells.keeper_faults table.keeper) run.sink_faults (tells.sink_faults sink)
+  pub cause : StopCause status run.store.faults (tells.store table.keeper).faults run.sink_faults (tells.sink_faults sink)
 
 -- the workers that are away are those of the instances that are out
 pub away_now : {K W B : Type 0} (old : BookState K W B) → old.status ≡ None → AwayInvariant old.status old
@@ -55,11 +55,11 @@ module _ {K W B : Type 0} {run : Inputs} {tells : Tells K W B} where
   pub reached : {book : BookState K W B} → BookInvariant run tells book → IsReached book.table.state
   reached kept = record { valid = kept.valid; narrow = kept.narrow }
 
-  pub reached_after : (e : Event) (old new : BookState K W B) → BookInvariant run tells old → IsOneStep tells.held e old.table new.table
+  pub reached_after : (e : Event) (old new : BookState K W B) → BookInvariant run tells old → IsOneStep tells.store e old.table new.table
       → IsReached new.table.state
   reached_after e old new kept step = rw step.state (IsReached-after old.table.state e (reached kept) step.legal)
 
-  text_is : (e : Event) (old new : BookState K W B) → BookInvariant run tells old → IsOneStep tells.held e old.table new.table
+  text_is : (e : Event) (old new : BookState K W B) → BookInvariant run tells old → IsOneStep tells.store e old.table new.table
       → log_text new.table.first new.table.log ≡ log_text old.table.first old.table.log ++ last_text new.table.first new.table.log
   text_is e old new kept step = rw (step.first, step.appended) (log_text-last old.table.first old.table.log e)
 
@@ -75,19 +75,18 @@ module _ {K W B : Type 0} {run : Inputs} {tells : Tells K W B} where
       let left_is : length old.left ≡ length (command_in e) + length new.left = ap length more.left ∙ length-append (command_in e) new.left in
       let line_is : new.line ≡ old.line + length (command_in e) = more.line in
       let sink_before : run.sink_faults ≤ tells.sink_faults old.sink = kept.sink_later in
-      let keeper_before : run.keeper_faults ≤ tells.keeper_faults old.table.keeper = kept.keeper_later in
+      let keeper_before : run.store.faults ≤ (tells.store old.table.keeper).faults = kept.keeper_later in
       let later : tells.sink_faults old.sink ≤ tells.sink_faults new.sink = told.later in
       let before : TextsInvariant run.written (tells.given old.sink) (log_text old.table.first old.table.log) old.pending.bytes =
       rw (kept.all_told more.going) at kept.texts in
       record {
-        first = step.first ∙ kept.first;
-        replay = Replay-step tells.held e old.table new.table kept.replay step;
+        replay = Replay-step tells.store e old.table new.table kept.replay step;
         valid = (reached_after e old new kept step).valid;
         narrow = (reached_after e old new kept step).narrow;
         lines = LinesInvariant-from new.status run.lines (commands_of new.table.log) new.left
             (lines ∙ ap (λ (l : List Command). done ++ l) more.left ∙ sym (append_assoc done (command_in e) new.left) ∙ ap (λ (l : List Command). l ++ new.left)
             (sym commands));
-        built = more.built;
+        askable = more.askable;
         numbered = subst (AreNumberedFrom 1) (sym step.appended) numbered;
         line = more.line ∙ ap (λ n. n + length (command_in e)) kept.line ∙ sym (length-append done (command_in e)) ∙ ap length (sym commands);
         few_lines = omega arith;
@@ -95,10 +94,9 @@ module _ {K W B : Type 0} {run : Inputs} {tells : Tells K W B} where
             (TextsInvariant-more run.written (tells.given old.sink) (tells.given new.sink) (log_text old.table.first old.table.log)
             (last_text new.table.first new.table.log) old.pending.bytes (pending_text new.table new.pending) before told.texts);
         all_told = told.all_told;
-        rows = rows_then old.table.state new.table.state run.rows (tells.held old.table.keeper) (tells.held new.table.keeper) kept.rows step.rows;
         workers = more.workers;
         away = away;
-        keeper_later = subst (λ n. run.keeper_faults ≤ n) (sym more.no_fault) keeper_before;
+        keeper_later = subst (λ n. run.store.faults ≤ n) (sym more.no_fault) keeper_before;
         sink_later = omega arith;
         cause = told.cause;
       }
@@ -112,7 +110,7 @@ module _ {K W B : Type 0} {run : Inputs} {tells : Tells K W B} where
     texts = texts;
     all_told = λ same. ap (λ (p : PendingState). p.untold) none;
     later = omega arith;
-    cause = subst (λ status. StopCause status run.keeper_faults (tells.keeper_faults table.keeper) run.sink_faults (tells.sink_faults sink)) (sym going) tt;
+    cause = subst (λ status. StopCause status run.store.faults (tells.store table.keeper).faults run.sink_faults (tells.sink_faults sink)) (sym going) tt;
   }
 
   -- the session stopped while the text was told
@@ -123,23 +121,23 @@ module _ {K W B : Type 0} {run : Inputs} {tells : Tells K W B} where
       → IsTold run tells old table pending sink (Some stop)
   IsTold-cut {old = old} table pending sink refused stop kept texts trouble stop_is =
       let cause =
-      StopCause-write refused run.keeper_faults (tells.keeper_faults table.keeper) (tells.sink_faults old.sink)
+      StopCause-write refused run.store.faults (tells.store table.keeper).faults (tells.sink_faults old.sink)
       (tells.sink_faults sink) run.sink_faults trouble kept.sink_later in record {
         texts = texts;
         all_told = λ none. absurd (none-some stop (sym none));
         later = cause.0;
-        cause = subst (λ s. StopCause (Some s) run.keeper_faults (tells.keeper_faults table.keeper) run.sink_faults (tells.sink_faults sink))
+        cause = subst (λ s. StopCause (Some s) run.store.faults (tells.store table.keeper).faults run.sink_faults (tells.sink_faults sink))
             (sym stop_is) cause.1;
       }
 
   -- an event that is no line, and its text told or not
   pub BookInvariant-event : (e : Event) (old : BookState K W B) (table : TableState K) (places : List (Place B)) (pending : PendingState) (sink : W)
       (status : Option Stop)
-      → BookInvariant run tells old → old.status ≡ None → IsOneStep tells.held e old.table table → command_in e ≡ []
+      → BookInvariant run tells old → old.status ≡ None → IsOneStep tells.store e old.table table → command_in e ≡ []
       → IsTold run tells old table pending sink status
       → map (place_traits tells.kind_of) places ≡ map instance_traits table.state.instances
       → AwayInvariant status (record old { table = table; places = places; pending = pending; sink = sink; status = status })
-      → tells.keeper_faults table.keeper ≡ tells.keeper_faults old.table.keeper
+      → (tells.store table.keeper).faults ≡ (tells.store old.table.keeper).faults
       → BookInvariant run tells (record old { table = table; places = places; pending = pending; sink = sink; status = status })
   BookInvariant-event e old table places pending sink status kept going step none told workers away no_fault =
       let new : BookState K W B = record old { table = table; places = places; pending = pending; sink = sink; status = status } in
@@ -147,7 +145,7 @@ module _ {K W B : Type 0} {run : Inputs} {tells : Tells K W B} where
         going = going;
         step = step;
         left = ap (λ (l : List Command). l ++ old.left) (sym none);
-        built = kept.built;
+        askable = kept.askable;
         line = let empty : length (command_in e) ≡ 0 = ap length none in omega arith;
         workers = workers;
         no_fault = no_fault;

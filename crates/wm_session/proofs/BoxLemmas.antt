@@ -9,7 +9,7 @@ use Rattle.wm_bench.specs.declared.place.Presence.{Presence}
 use Rattle.wm_bench.specs.declared.place.Presence.TheVariants.{Idle, Away, Gone}
 use Rattle.wm_collections.proofs.Lists.{HasOne-front, HasOne-last}
 use Rattle.wm_collections.specs.Lists.{HasOne}
-use Rattle.wm_keeper.specs.declared.row.Row.{Row}
+use Rattle.wm_keeper.specs.Store.{Store}
 use Rattle.wm_machine.specs.Diaries.{event_lines, log_lines, DiaryLine, IsDiaryWith, IsEntry}
 use Rattle.wm_machine.specs.Diaries as diary_line
 use Rattle.wm_machine.specs.Frame.{Frame}
@@ -80,15 +80,15 @@ boxes-given diary_of log hands number worker idle =
 
 module _ {K W B : Type 0} (diary_of : B → Option (List Entry)) (old new : BookState K W B) where
   -- the session has stopped early without an event
-  of_given-same : {held : K → Option (List Row)} → IsUntouched held old.table new.table → IsSome new.status → (number : ℕ) (given now : B)
+  of_given-same : {store : K → Store} → IsUntouched store old.table new.table → IsSome new.status → (number : ℕ) (given now : B)
       → IsOfGiven diary_of old number given now → IsOfGiven diary_of new number given now
   of_given-same same stopped number given now is = record {
     box = rw same.log is.box;
     told = no_longer new.status stopped;
   }
 
-  module _ {held : K → Option (List Row)} {e : Event} (replays : Replay old.table.first old.table.log old.table.state)
-      (step : IsOneStep held e old.table new.table) (goes : new.status ≡ None → old.status ≡ None) where
+  module _ {store : K → Store} {e : Event} (replays : Replay old.table.first old.table.log old.table.state)
+      (step : IsOneStep store e old.table new.table) (goes : new.status ≡ None → old.status ≡ None) where
     -- an event of which it writes nothing down
     of_given-silent : (number : ℕ) → (new.status ≡ None → event_lines number old.table.state e ≡ []) → (given now : B)
         → IsOfGiven diary_of old number given now → IsOfGiven diary_of new number given now
@@ -136,15 +136,15 @@ IsFromGiven diary_of given book number worker = IsSomeAnd (slice_get given numbe
 
 module _ {K W B : Type 0} (diary_of : B → Option (List Entry)) (given : List (Hand B)) (old new : BookState K W B) where
   -- the session has stopped early without an event
-  pub KeepBoxes-same : {held : K → Option (List Row)} → IsUntouched held old.table new.table → IsSome new.status → new.places ≡ old.places
+  pub KeepBoxes-same : {store : K → Store} → IsUntouched store old.table new.table → IsSome new.status → new.places ≡ old.places
       → KeepBoxes diary_of given old → KeepBoxes diary_of given new
   KeepBoxes-same same stopped places keep number worker idle =
       IsSomeAnd-weaker (slice_get given number) (λ hand. of_given-same diary_of old new same stopped number hand.worker worker)
       (keep number worker (rw places at idle))
 
   -- an event of which no worker writes anything down
-  pub KeepBoxes-silent : {held : K → Option (List Row)} {e : Event} → Replay old.table.first old.table.log old.table.state
-      → IsOneStep held e old.table new.table → (new.status ≡ None → old.status ≡ None)
+  pub KeepBoxes-silent : {store : K → Store} {e : Event} → Replay old.table.first old.table.log old.table.state
+      → IsOneStep store e old.table new.table → (new.status ≡ None → old.status ≡ None)
       → (new.status ≡ None → (number : ℕ) → event_lines number old.table.state e ≡ [])
       → ((number : ℕ) (worker : B) → idle_at number new.places ≡ Some worker → idle_at number old.places ≡ Some worker)
       → KeepBoxes diary_of given old → KeepBoxes diary_of given new
@@ -163,8 +163,8 @@ module _ {K W B : Type 0} (diary_of : B → Option (List Entry)) (given : List (
         | inr before ↦ others number worker before
       ]
 
-  module _ {held : K → Option (List Row)} {e : Event} (at : ℕ) (line : DiaryLine) (written : Entry)
-      (replays : Replay old.table.first old.table.log old.table.state) (step : IsOneStep held e old.table new.table)
+  module _ {store : K → Store} {e : Event} (at : ℕ) (line : DiaryLine) (written : Entry)
+      (replays : Replay old.table.first old.table.log old.table.state) (step : IsOneStep store e old.table new.table)
       (goes : new.status ≡ None → old.status ≡ None) (lines : (n : ℕ) → event_lines n old.table.state e ≡ cond (eqb at n) (line ∷ []) [])
       (entry : IsEntry line written) where
     -- an event of which the worker of one instance alone writes something down
@@ -197,9 +197,9 @@ KeepBoxes-begin diary_of book begins number worker idle =
     (idle_at-given hands number worker (rw begins.all_idle at idle))
 
 -- a run starts, whose worker is to write down that it began
-pub KeepBoxes-begun : {K W B : Type 0} {held : K → Option (List Row)} {kind_of : B → Kind} {ticket : TicketState} {seat : Seat B} {signal : SignalState}
+pub KeepBoxes-begun : {K W B : Type 0} {store : K → Store} {kind_of : B → Kind} {ticket : TicketState} {seat : Seat B} {signal : SignalState}
     {old new : BookState K W B} (diary_of : B → Option (List Entry)) (given : List (Hand B))
-    → IsBetweenRuns old → IsBegun held kind_of ticket seat signal old new → KeepBoxes diary_of given old
+    → IsBetweenRuns old → IsBegun store kind_of ticket seat signal old new → KeepBoxes diary_of given old
     → KeepBoxesOut diary_of ticket.instance (diary_of seat.worker) (diary_with (Begun ticket.task.run ∷ []) (diary_of seat.worker)) given new
 KeepBoxes-begun {kind_of = kind_of} {ticket = ticket} {seat = seat} {old = old} {new = new} diary_of given rest begun keep =
     let task = ticket.task in
@@ -235,9 +235,9 @@ KeepBoxesOut-later diary_of number has owes given book later keep = record {
 }
 
 -- a run goes on, and its worker has written down what it gave
-pub KeepBoxes-turned : {K W B : Type 0} {held : K → Option (List Row)} {kind_of : B → Kind} {diary_of : B → Option (List Entry)}
+pub KeepBoxes-turned : {K W B : Type 0} {store : K → Store} {kind_of : B → Kind} {diary_of : B → Option (List Entry)}
     {ticket next : TicketState} {worker : B} {seat : Seat B} {old new : BookState K W B} (given : List (Hand B))
-    → IsUnderWay kind_of ticket old → IsOtherTurn held kind_of diary_of ticket worker next seat old new
+    → IsUnderWay kind_of ticket old → IsOtherTurn store kind_of diary_of ticket worker next seat old new
     → KeepBoxesOut diary_of ticket.instance (diary_of worker) (diary_of worker) given old
     → KeepBoxesOut diary_of next.instance (diary_of seat.worker) (diary_of seat.worker) given new
 KeepBoxes-turned {kind_of = kind_of} {diary_of = diary_of} {ticket = ticket} {next = next} {worker = worker} {seat = seat} {old = old} {new = new} given
@@ -265,9 +265,9 @@ KeepBoxes-turned {kind_of = kind_of} {diary_of = diary_of} {ticket = ticket} {ne
     })
 
 -- a run is over, and its worker has written down what it gave
-pub KeepBoxes-last : {K W B : Type 0} {held : K → Option (List Row)} {kind_of : B → Kind} {diary_of : B → Option (List Entry)} {ticket : TicketState}
+pub KeepBoxes-last : {K W B : Type 0} {store : K → Store} {kind_of : B → Kind} {diary_of : B → Option (List Entry)} {ticket : TicketState}
     {worker : B} {old new : BookState K W B} (given : List (Hand B))
-    → IsUnderWay kind_of ticket old → IsLastTurn held kind_of diary_of ticket worker old new
+    → IsUnderWay kind_of ticket old → IsLastTurn store kind_of diary_of ticket worker old new
     → KeepBoxesOut diary_of ticket.instance (diary_of worker) (diary_of worker) given old → KeepBoxes diary_of given new
 KeepBoxes-last {kind_of = kind_of} {diary_of = diary_of} {ticket = ticket} {worker = worker} {old = old} {new = new} given under_way last
     keep =
@@ -292,10 +292,10 @@ KeepBoxes-last {kind_of = kind_of} {diary_of = diary_of} {ticket = ticket} {work
     (HasOne-front (IsStartOn at) old.table.log _ out.started) out.diary out.told) (written ∷ [], last.diary) (λ going. last.diary))
     keep.own)
 
-module _ {K W B : Type 0} {held : K → Option (List Row)} {kind_of : B → Kind} {diary_of : B → Option (List Entry)} {ticket : TicketState}
+module _ {K W B : Type 0} {store : K → Store} {kind_of : B → Kind} {diary_of : B → Option (List Entry)} {ticket : TicketState}
     {has : Option (List Entry)} (owes : Option (List Entry)) {old new : BookState K W B} (given : List (Hand B)) where
   -- the session has stopped early without an event
-  pub KeepBoxes-given_up : IsGivenUp held kind_of diary_of ticket has old new → KeepBoxesOut diary_of ticket.instance has owes given old
+  pub KeepBoxes-given_up : IsGivenUp store kind_of diary_of ticket has old new → KeepBoxesOut diary_of ticket.instance has owes given old
       → KeepBoxes diary_of given new
   KeepBoxes-given_up over keep =
       let at = ticket.instance in
@@ -310,7 +310,7 @@ module _ {K W B : Type 0} {held : K → Option (List Row)} {kind_of : B → Kind
       keep.own)
 
   -- the session has stopped early while a turn was told
-  pub KeepBoxes-cut : Replay old.table.first old.table.log old.table.state → IsCutShort held kind_of diary_of ticket has old new
+  pub KeepBoxes-cut : Replay old.table.first old.table.log old.table.state → IsCutShort store kind_of diary_of ticket has old new
       → KeepBoxesOut diary_of ticket.instance has owes given old → KeepBoxes diary_of given new
   KeepBoxes-cut replays cut keep =
       let at = ticket.instance in

@@ -7,14 +7,14 @@ use Rattle.wm_bench.specs.Places.{idle_at, changed_at, idle_hands, made_back, Is
 use Rattle.wm_bench.specs.Seat.{Seat}
 use Rattle.wm_bench.specs.declared.hand.Hand.{Hand}
 use Rattle.wm_data.specs.declared.data.DataEntry.{DataEntry}
-use Rattle.wm_keeper.specs.declared.row.Row.{Row}
+use Rattle.wm_keeper.specs.Store.{Store}
 use Rattle.wm_machine.specs.declared.command.Command.{Command}
 use Rattle.wm_machine.specs.declared.event.Cause.{Cause}
 use Rattle.wm_machine.specs.declared.event.Event.{Event}
 use Rattle.wm_machine.specs.declared.state.State.{State}
 use Rattle.wm_worker.specs.declared.kind.Kind.{Kind}
 use Rattle.wm_machine.proofs.Serials.{AreInOrder-first, AreInOrder-nothing, AreInOrder-push, BeginsSerial-goes-on}
-use Rattle.wm_machine.specs.Outcome.{IsBuilt}
+use Rattle.wm_machine.specs.Outcome.{IsAskable}
 use Rattle.wm_machine.specs.Frame.{Frame}
 use Rattle.wm_machine.specs.Log.{commands_of}
 use Rattle.wm_machine.specs.Narrow.{IsNarrow}
@@ -63,14 +63,14 @@ use Rattle.std.specs.Prelude.{map, option_to_list}
 
 -- ---- a turn is reported
 
-module _ {K W B : Type 0} (held : K → Option (List Row)) (kind_of : B → Kind) (diary_of : B → Option (List Entry)) (ticket : TicketState) (worker : B)
+module _ {K W B : Type 0} (store : K → Store) (kind_of : B → Kind) (diary_of : B → Option (List Entry)) (ticket : TicketState) (worker : B)
     (seat : Seat B) (number : seat.number ≡ ticket.instance) (old new : BookState K W B) where
   at_place : new.places ≡ changed_at (made_back kind_of seat.worker) seat.number old.places
       → new.places ≡ changed_at (made_back kind_of seat.worker) ticket.instance old.places
   at_place places = places ∙ ap (λ n. changed_at (made_back kind_of seat.worker) n old.places) number
 
-  given_up : IsDiaryLater (diary_of worker) (diary_of seat.worker) → IsGivenBack held kind_of seat old new
-      → IsGivenUp held kind_of diary_of ticket (diary_of worker) old new
+  given_up : IsDiaryLater (diary_of worker) (diary_of seat.worker) → IsGivenBack store kind_of seat old new
+      → IsGivenUp store kind_of diary_of ticket (diary_of worker) old new
   given_up later given = record { back = seat.worker; diary_later = later; stopped = given.stopped; places = at_place given.places }
 
   -- what a worker has written down that gave this
@@ -80,11 +80,11 @@ module _ {K W B : Type 0} (held : K → Option (List Row)) (kind_of : B → Kind
   wrote gave answered is written =
       written ∙ ap (λ given. diary_with (map (λ given. Gave ticket.task.run ticket.k given) (option_to_list given)) (diary_of worker)) is
 
-  last_turn : (told : Report) (timed_out : Bool) → old.status ≡ None → IsFinished held ticket.task.run told timed_out old.table new.table
+  last_turn : (told : Report) (timed_out : Bool) → old.status ≡ None → IsFinished store ticket.task.run told timed_out old.table new.table
       → new.places ≡ changed_at (made_back kind_of seat.worker) seat.number old.places → new.left ≡ old.left
       → left_to_drain new.table.state ≤ left_to_drain old.table.state
       → diary_of seat.worker ≡ diary_with (turn_entries ticket.task.run ticket.k told.answer) (diary_of worker)
-      → IsLastTurn held kind_of diary_of ticket worker old new
+      → IsLastTurn store kind_of diary_of ticket worker old new
   last_turn told timed_out before ended places left no_more written = record {
     ending = ended.ending;
     reported = ended.reported;
@@ -100,8 +100,8 @@ module _ {K W B : Type 0} (held : K → Option (List Row)) (kind_of : B → Kind
     no_more = no_more;
   }
 
-  cut_short : (told : Report) → IsTurnUntold held ticket told old new → new.places ≡ changed_at (made_back kind_of seat.worker) seat.number old.places
-      → IsDiaryLater (diary_of worker) (diary_of seat.worker) → IsCutShort held kind_of diary_of ticket (diary_of worker) old new
+  cut_short : (told : Report) → IsTurnUntold store ticket told old new → new.places ≡ changed_at (made_back kind_of seat.worker) seat.number old.places
+      → IsDiaryLater (diary_of worker) (diary_of seat.worker) → IsCutShort store kind_of diary_of ticket (diary_of worker) old new
   cut_short told untold places later = record {
     progress = untold.turn.progress;
     back = seat.worker;
@@ -115,9 +115,9 @@ module _ {K W B : Type 0} (held : K → Option (List Row)) (kind_of : B → Kind
   }
 
   -- once a worker's report is given, and the run doesn't go on, it is over, or the session has stopped early
-  pub IsNoTurn-reported : (told : Result Report AllocError) (result : After B) → IsReported held kind_of ticket seat told result old new
+  pub IsNoTurn-reported : {M : Type 0} (told : Result Report AllocError) (result : After B M) → IsReported store kind_of ticket seat told result old new
       → (result ≡ report.Over) ⊎ (result ≡ report.Stopped) → HasWritten diary_of ticket worker seat.worker told
-      → IsNoTurn held kind_of diary_of ticket worker old new
+      → IsNoTurn store kind_of diary_of ticket worker old new
   IsNoTurn-reported (Ok told) report.Over done ends written =
       inl (last_turn told done.timed_out done.goes_on.before done.ended done.places done.left done.no_more written)
   IsNoTurn-reported (Ok told) (report.Go next kept) done (inl ends) written = absurd (cc)
@@ -138,16 +138,16 @@ module _ {K W B : Type 0} (held : K → Option (List Row)) (kind_of : B → Kind
   IsNoTurn-reported (Err refused) _ done ends written = absurd done
 
   -- the runs of a turn that was made
-  turned_runs : (progress : Option (List DataEntry)) (step : IsOneStep held (event.Turn ticket.task.run progress) old.table new.table)
+  turned_runs : (progress : Option (List DataEntry)) (step : IsOneStep store (event.Turn ticket.task.run progress) old.table new.table)
       → new.table.state.runs ≡ with_turned step.legal.report.run.run old.table.state.runs
   turned_runs progress step =
       ap (λ (t : State). t.runs) (step.state ∙ after_turn old.table.state ticket.task.run progress step.legal)
 
   -- where it goes on, the next ticket is at the next turn
-  pub IsOtherTurn-reported : (told : Result Report AllocError) (next : TicketState) (kept : Seat B) → IsUnderWay kind_of ticket old
-      → kind_of seat.worker ≡ ticket.kind → IsReported held kind_of ticket seat told (report.Go next kept) old new
-      → HasWritten diary_of ticket worker seat.worker told → IsOtherTurn held kind_of diary_of ticket worker next kept old new
-  IsOtherTurn-reported (Ok told) next kept under_way kind done written =
+  pub IsOtherTurn-reported : (M : Type 0) (told : Result Report AllocError) (next : TicketState) (kept : Seat B) → IsUnderWay kind_of ticket old
+      → kind_of seat.worker ≡ ticket.kind → IsReported {M = M} store kind_of ticket seat told (report.Go next kept) old new
+      → HasWritten diary_of ticket worker seat.worker told → IsOtherTurn store kind_of diary_of ticket worker next kept old new
+  IsOtherTurn-reported M (Ok told) next kept under_way kind done written =
       let on = done.turn in
       let its = on.step.legal.report in
       let run = its.run in
@@ -178,7 +178,7 @@ module _ {K W B : Type 0} (held : K → Option (List Row)) (kind_of : B → Kind
         left = done.left;
         no_more = done.no_more;
       }
-  IsOtherTurn-reported (Err refused) next kept under_way kind done written = absurd done
+  IsOtherTurn-reported M (Err refused) next kept under_way kind done written = absurd done
 
 -- ---- the order
 
@@ -187,8 +187,8 @@ MayGoOn-push : (lines : List Command) (log : List Event) (e : Event) → MayGoOn
 MayGoOn-push lines [] e = tt
 MayGoOn-push lines (d ∷ log) e = tt
 
-module _ {K W B : Type 0} (held : K → Option (List Row)) (lines : List Command) (e : Event) (old new : BookState K W B)
-    (step : IsOneStep held e old.table new.table) (few : length new.table.state.runs ≤ 1) where
+module _ {K W B : Type 0} (store : K → Store) (lines : List Command) (e : Event) (old new : BookState K W B)
+    (step : IsOneStep store e old.table new.table) (few : length new.table.state.runs ≤ 1) where
   -- an event that keeps the order
   GoesInOrder-event : old.table.first.runs ≡ [] → AreInOrder lines old.table.first (old.table.log ++ e ∷ []) → GoesInOrder lines new
   GoesInOrder-event from_rest in_order = record {
@@ -203,7 +203,7 @@ module _ {K W B : Type 0} (held : K → Option (List Row)) (lines : List Command
       GoesInOrder-event goes.order.from_rest
       (AreInOrder-push lines old.table.first old.table.log old.table.state e goes.order.in_order replays (goes.may_go_on going) turn)
 
-module _ {K W B : Type 0} (held : K → Option (List Row)) (lines : List Command) (old new : BookState K W B) (same : IsUntouched held old.table new.table) where
+module _ {K W B : Type 0} (store : K → Store) (lines : List Command) (old new : BookState K W B) (same : IsUntouched store old.table new.table) where
   IsInOrder-same : IsInOrder lines old → IsInOrder lines new
   IsInOrder-same order = record {
     in_order = rw (same.first, same.log) order.in_order;
@@ -238,9 +238,9 @@ rest_again : {K W B : Type 0} {old new : BookState K W B} → IsBetweenRuns old 
 rest_again rest replays none places =
     record { replay = replays; no_run = none; none_away = rw places rest.none_away }
 
-module _ {K W B : Type 0} (held : K → Option (List Row)) (old new : BookState K W B) (rest : IsBetweenRuns old) (going : old.status ≡ None) where
+module _ {K W B : Type 0} (store : K → Store) (old new : BookState K W B) (rest : IsBetweenRuns old) (going : old.status ≡ None) where
   -- where a run began, it alone is unreturned
-  begun_alone : (run seq instance : ℕ) (input : List DataEntry) (step : IsOneStep held (event.Start run seq instance input) old.table new.table)
+  begun_alone : (run seq instance : ℕ) (input : List DataEntry) (step : IsOneStep store (event.Start run seq instance input) old.table new.table)
       → new.table.state.runs ≡ (framed old.table.state (event.Start run seq instance input) step.legal).run ∷ []
   begun_alone run seq instance input step =
       ap (λ (t : State). t.runs) step.state
@@ -248,29 +248,29 @@ module _ {K W B : Type 0} (held : K → Option (List Row)) (old new : BookState 
       ∙ ap (λ runs. runs ++ (framed old.table.state (event.Start run seq instance input) step.legal).run ∷ []) (rest.no_run going)
 
   -- where a work couldn't start, none is
-  failed_none : (seq : ℕ) (cause : Cause) → IsOneStep held (event.StartFailed seq cause) old.table new.table → new.table.state.runs ≡ []
+  failed_none : (seq : ℕ) (cause : Cause) → IsOneStep store (event.StartFailed seq cause) old.table new.table → new.table.state.runs ≡ []
   failed_none seq cause step = ap (λ (t : State). t.runs) step.state ∙ rest.no_run going
 
   -- the event of a claim comes in its turn
-  pub GoesInOrder-claimed : (claimed : Claim) → IsClaimAnswer held (Some claimed) old.table new.table → (lines : List Command) → GoesInOrder lines old
-      → GoesInOrder lines new
+  pub GoesInOrder-claimed : {M : Type 0} (claimed : Claim M) → IsClaimAnswer store (Some claimed) old.table new.table → (lines : List Command)
+      → GoesInOrder lines old → GoesInOrder lines new
   GoesInOrder-claimed (claim.Run ticket) run lines =
-      GoesInOrder-step held lines (event.Start ticket.task.run ticket.seq ticket.instance ticket.task.input) old new run.step
+      GoesInOrder-step store lines (event.Start ticket.task.run ticket.seq ticket.instance ticket.task.input) old new run.step
       (rw (begun_alone ticket.task.run ticket.seq ticket.instance ticket.task.input run.step) (omega arith)) rest.replay going (rest.no_run going)
   GoesInOrder-claimed (claim.Failed seq cause) step lines =
-      GoesInOrder-step held lines (event.StartFailed seq cause) old new step (rw (failed_none seq cause step) (omega arith)) rest.replay going
+      GoesInOrder-step store lines (event.StartFailed seq cause) old new step (rw (failed_none seq cause step) (omega arith)) rest.replay going
       (rest.no_run going)
 
 -- a run that starts in a book at rest is under way
-pub IsUnderWay-begun : {K W B : Type 0} {held : K → Option (List Row)} {kind_of : B → Kind} {ticket : TicketState} {seat : Seat B} {signal : SignalState}
-    {old new : BookState K W B} → IsBetweenRuns old → IsBegun held kind_of ticket seat signal old new → IsUnderWay kind_of ticket new
-IsUnderWay-begun {held = held} {kind_of = kind_of} {ticket = ticket} {seat = seat} {old = old} {new = new} rest begun =
+pub IsUnderWay-begun : {K W B : Type 0} {store : K → Store} {kind_of : B → Kind} {ticket : TicketState} {seat : Seat B} {signal : SignalState}
+    {old new : BookState K W B} → IsBetweenRuns old → IsBegun store kind_of ticket seat signal old new → IsUnderWay kind_of ticket new
+IsUnderWay-begun {store = store} {kind_of = kind_of} {ticket = ticket} {seat = seat} {old = old} {new = new} rest begun =
     let task = ticket.task in
     let start = event.Start task.run ticket.seq ticket.instance task.input in
     let its = framed old.table.state start begun.step.legal in
-    let one = begun_alone held old new rest begun.goes_on.before task.run ticket.seq ticket.instance task.input begun.step in
+    let one = begun_alone store old new rest begun.goes_on.before task.run ticket.seq ticket.instance task.input begun.step in
     record {
-      replay = Replay-step held start old.table new.table rest.replay begun.step;
+      replay = Replay-step store start old.table new.table rest.replay begun.step;
       ticket_in = begun.ticket_in;
       alone = rw (one, eq-eqb its.run.run task.run (sym its.number_is)) refl;
       away = rw (begun.places, ← begun.kind) (IsAwayAt-taken kind_of seat.worker ticket.instance old.places begun.worker);
@@ -278,44 +278,44 @@ IsUnderWay-begun {held = held} {kind_of = kind_of} {ticket = ticket} {seat = sea
     }
 
 -- a work that couldn't start
-pub IsBetweenRuns-failed : {K W B : Type 0} {held : K → Option (List Row)} {old new : BookState K W B} → IsBetweenRuns old → IsStartFailed held old new
+pub IsBetweenRuns-failed : {K W B : Type 0} {store : K → Store} {old new : BookState K W B} → IsBetweenRuns old → IsStartFailed store old new
     → IsBetweenRuns new
-IsBetweenRuns-failed {held = held} {old = old} {new = new} rest failed =
-    rest_again rest (Replay-step held (event.StartFailed failed.seq failed.cause) old.table new.table rest.replay failed.step)
-    (λ going. failed_none held old new rest failed.goes_on.before failed.seq failed.cause failed.step) failed.places
+IsBetweenRuns-failed {store = store} {old = old} {new = new} rest failed =
+    rest_again rest (Replay-step store (event.StartFailed failed.seq failed.cause) old.table new.table rest.replay failed.step)
+    (λ going. failed_none store old new rest failed.goes_on.before failed.seq failed.cause failed.step) failed.places
 
 -- the session has stopped early, with or without the event of a claim
-module _ {K W B : Type 0} (held : K → Option (List Row)) (old new : BookState K W B) where
-  pub status-halted : IsClaimStopped held old new → IsSome new.status
+module _ {K W B M : Type 0} (store : K → Store) (old new : BookState K W B) where
+  pub status-halted : IsClaimStopped M store old new → IsSome new.status
   status-halted halted = elim halted.how [ inl stopped ↦ stopped.status | inr untold ↦ untold.status ]
 
-  pub left-halted : IsClaimStopped held old new → new.left ≡ old.left
+  pub left-halted : IsClaimStopped M store old new → new.left ≡ old.left
   left-halted halted = elim halted.how [ inl stopped ↦ stopped.left | inr untold ↦ untold.left ]
 
-  pub IsBetweenRuns-halted : IsBetweenRuns old → IsClaimStopped held old new → IsBetweenRuns new
+  pub IsBetweenRuns-halted : IsBetweenRuns old → IsClaimStopped M store old new → IsBetweenRuns new
   IsBetweenRuns-halted rest halted =
       elim halted.how [
         | inl stopped ↦
-            rest_again rest (Replay-same held old.table new.table rest.replay stopped.table) (no_longer new.status stopped.status) halted.places
+            rest_again rest (Replay-same store old.table new.table rest.replay stopped.table) (no_longer new.status stopped.status) halted.places
         | inr untold ↦
-            let step = claimed_step held untold.made old.table new.table untold.claimed in
-            rest_again rest (Replay-step held step.0 old.table new.table rest.replay step.1) (no_longer new.status untold.status) halted.places
+            let step = claimed_step store untold.made old.table new.table untold.claimed in
+            rest_again rest (Replay-step store step.0 old.table new.table rest.replay step.1) (no_longer new.status untold.status) halted.places
       ]
 
-  pub GoesInOrder-halted : IsBetweenRuns old → IsClaimStopped held old new → (lines : List Command) → GoesInOrder lines old → GoesInOrder lines new
+  pub GoesInOrder-halted : IsBetweenRuns old → IsClaimStopped M store old new → (lines : List Command) → GoesInOrder lines old → GoesInOrder lines new
   GoesInOrder-halted rest halted lines =
       elim halted.how [
-        | inl stopped ↦ GoesInOrder-stopped held lines old new stopped.table stopped.status
-        | inr untold ↦ GoesInOrder-claimed held old new rest untold.before untold.made untold.claimed lines
+        | inl stopped ↦ GoesInOrder-stopped store lines old new stopped.table stopped.status
+        | inr untold ↦ GoesInOrder-claimed store old new rest untold.before untold.made untold.claimed lines
       ]
 
-  pub KeepBoxes-halted : (diary_of : B → Option (List Entry)) (given : List (Hand B)) → IsBetweenRuns old → IsClaimStopped held old new
+  pub KeepBoxes-halted : (diary_of : B → Option (List Entry)) (given : List (Hand B)) → IsBetweenRuns old → IsClaimStopped M store old new
       → KeepBoxes diary_of given old → KeepBoxes diary_of given new
   KeepBoxes-halted diary_of given rest halted =
       elim halted.how [
         | inl stopped ↦ KeepBoxes-same diary_of given old new stopped.table stopped.status halted.places
         | inr untold ↦
-            let step = claimed_step held untold.made old.table new.table untold.claimed in
+            let step = claimed_step store untold.made old.table new.table untold.claimed in
             KeepBoxes-silent diary_of given old new rest.replay step.1 (no_longer new.status untold.status) (no_longer new.status untold.status)
             (λ number worker idle. rw halted.places at idle)
       ]
@@ -344,50 +344,50 @@ IsDriven-begun {old = old} diary_of number has owes later driven = record {
 }
 
 -- the session has stopped early
-pub IsDriven-given_up : {K W B : Type 0} {held : K → Option (List Row)} {kind_of : B → Kind} {ticket : TicketState} {old new : BookState K W B}
+pub IsDriven-given_up : {K W B : Type 0} {store : K → Store} {kind_of : B → Kind} {ticket : TicketState} {old new : BookState K W B}
     (diary_of : B → Option (List Entry)) (has owes : Option (List Entry)) → IsUnderWay kind_of ticket old
-    → IsGivenUp held kind_of diary_of ticket has old new → IsDriven diary_of ticket.instance has owes old new
-IsDriven-given_up {held = held} {old = old} {new = new} diary_of has owes under_way over =
+    → IsGivenUp store kind_of diary_of ticket has old new → IsDriven diary_of ticket.instance has owes old new
+IsDriven-given_up {store = store} {old = old} {new = new} diary_of has owes under_way over =
     let same = over.stopped.table in
     let stopped = over.stopped.status in
     record {
-      rest = rest_back over.back under_way (Replay-same held old.table new.table under_way.replay same) (no_longer new.status stopped) over.places;
+      rest = rest_back over.back under_way (Replay-same store old.table new.table under_way.replay same) (no_longer new.status stopped) over.places;
       left = over.stopped.left;
       no_more = rw same.state (omega arith);
-      order = λ lines. GoesInOrder-stopped held lines old new same stopped;
+      order = λ lines. GoesInOrder-stopped store lines old new same stopped;
       boxes = λ given. KeepBoxes-given_up owes given over;
     }
 
 -- the order is kept by a turn of the run that there is
-GoesInOrder-turned : {K W B : Type 0} (held : K → Option (List Row)) (number : ℕ) (progress : Option (List DataEntry)) (lines : List Command)
-    (old new : BookState K W B) → IsOneStep held (event.Turn number progress) old.table new.table → Replay old.table.first old.table.log old.table.state
+GoesInOrder-turned : {K W B : Type 0} (store : K → Store) (number : ℕ) (progress : Option (List DataEntry)) (lines : List Command)
+    (old new : BookState K W B) → IsOneStep store (event.Turn number progress) old.table new.table → Replay old.table.first old.table.log old.table.state
     → old.status ≡ None → GoesInOrder lines old → GoesInOrder lines new
-GoesInOrder-turned held number progress lines old new step replays going goes =
+GoesInOrder-turned store number progress lines old new step replays going goes =
     let s = old.table.state in
     let run = step.legal.report.run in
     let as_many : length new.table.state.runs ≡ length s.runs =
     ap (λ (t : State). length t.runs) (step.state ∙ after_turn s number progress step.legal) ∙ length-turned run.run s.runs in
-    GoesInOrder-step held lines (event.Turn number progress) old new step (subst (λ n. n ≤ 1) (sym as_many) goes.order.few_runs) replays going tt goes
+    GoesInOrder-step store lines (event.Turn number progress) old new step (subst (λ n. n ≤ 1) (sym as_many) goes.order.few_runs) replays going tt goes
 
 -- the session has stopped early while a turn was told
-IsDriven-cut : {K W B : Type 0} {held : K → Option (List Row)} {kind_of : B → Kind} {ticket : TicketState} {old new : BookState K W B}
+IsDriven-cut : {K W B : Type 0} {store : K → Store} {kind_of : B → Kind} {ticket : TicketState} {old new : BookState K W B}
     (diary_of : B → Option (List Entry)) (has owes : Option (List Entry)) → IsUnderWay kind_of ticket old
-    → IsCutShort held kind_of diary_of ticket has old new → IsDriven diary_of ticket.instance has owes old new
-IsDriven-cut {held = held} {ticket = ticket} {old = old} {new = new} diary_of has owes under_way cut =
+    → IsCutShort store kind_of diary_of ticket has old new → IsDriven diary_of ticket.instance has owes old new
+IsDriven-cut {store = store} {ticket = ticket} {old = old} {new = new} diary_of has owes under_way cut =
     let number = ticket.task.run in
     record {
-      rest = rest_back cut.back under_way (Replay-step held (event.Turn number cut.progress) old.table new.table under_way.replay cut.step)
+      rest = rest_back cut.back under_way (Replay-step store (event.Turn number cut.progress) old.table new.table under_way.replay cut.step)
           (no_longer new.status cut.status) cut.places;
       left = cut.left;
       no_more = cut.no_more;
-      order = λ lines. GoesInOrder-turned held number cut.progress lines old new cut.step under_way.replay cut.before;
+      order = λ lines. GoesInOrder-turned store number cut.progress lines old new cut.step under_way.replay cut.before;
       boxes = λ given. KeepBoxes-cut owes given under_way.replay cut;
     }
 
-module _ {K W B : Type 0} {held : K → Option (List Row)} {kind_of : B → Kind} {diary_of : B → Option (List Entry)} {ticket : TicketState} {worker : B}
+module _ {K W B : Type 0} {store : K → Store} {kind_of : B → Kind} {diary_of : B → Option (List Entry)} {ticket : TicketState} {worker : B}
     {old new : BookState K W B} where
   -- its last turn
-  IsDriven-last : IsUnderWay kind_of ticket old → IsLastTurn held kind_of diary_of ticket worker old new
+  IsDriven-last : IsUnderWay kind_of ticket old → IsLastTurn store kind_of diary_of ticket worker old new
       → IsDriven diary_of ticket.instance (diary_of worker) (diary_of worker) old new
   IsDriven-last under_way last =
       let s = old.table.state in
@@ -399,25 +399,25 @@ module _ {K W B : Type 0} {held : K → Option (List Row)} {kind_of : B → Kind
       ∙ ap (λ (t : TicketState). other_runs t.task.run s.runs) (sym (ticket-found ticket under_way.ticket_in ended.is_running))
       ∙ under_way.alone in
       record {
-        rest = rest_back last.back under_way (Replay-step held last.ending old.table new.table under_way.replay last.step) (λ going. none) last.places;
+        rest = rest_back last.back under_way (Replay-step store last.ending old.table new.table under_way.replay last.step) (λ going. none) last.places;
         left = last.left;
         no_more = last.no_more;
-        order = λ lines. GoesInOrder-step held lines last.ending old new last.step (rw none (omega arith)) under_way.replay last.before
+        order = λ lines. GoesInOrder-step store lines last.ending old new last.step (rw none (omega arith)) under_way.replay last.before
             (end_in_turn s number last.reported last.ending last.ends);
         boxes = λ given. KeepBoxes-last given under_way last;
       }
 
   -- a turn after which no turn follows
-  pub IsDriven-turned : IsUnderWay kind_of ticket old → IsNoTurn held kind_of diary_of ticket worker old new
+  pub IsDriven-turned : IsUnderWay kind_of ticket old → IsNoTurn store kind_of diary_of ticket worker old new
       → IsDriven diary_of ticket.instance (diary_of worker) (diary_of worker) old new
   IsDriven-turned under_way (inl last) = IsDriven-last under_way last
   IsDriven-turned under_way (inr (inl over)) = IsDriven-given_up diary_of (diary_of worker) (diary_of worker) under_way over
   IsDriven-turned under_way (inr (inr cut)) = IsDriven-cut diary_of (diary_of worker) (diary_of worker) under_way cut
 
-module _ {K W B : Type 0} {held : K → Option (List Row)} {kind_of : B → Kind} {diary_of : B → Option (List Entry)} {ticket next : TicketState} {worker : B}
+module _ {K W B : Type 0} {store : K → Store} {kind_of : B → Kind} {diary_of : B → Option (List Entry)} {ticket next : TicketState} {worker : B}
     {seat : Seat B} {old new : BookState K W B} where
   -- after another turn the run is under way
-  pub IsUnderWay-turned : IsUnderWay kind_of ticket old → IsOtherTurn held kind_of diary_of ticket worker next seat old new → IsUnderWay kind_of next new
+  pub IsUnderWay-turned : IsUnderWay kind_of ticket old → IsOtherTurn store kind_of diary_of ticket worker next seat old new → IsUnderWay kind_of next new
   IsUnderWay-turned under_way turned =
       let s = old.table.state in
       let number = ticket.task.run in
@@ -427,7 +427,7 @@ module _ {K W B : Type 0} {held : K → Option (List Row)} {kind_of : B → Kind
       ap (λ (t : State). t.runs) (step.state ∙ after_turn s number turned.progress step.legal)
       ∙ ap (λ (t : TicketState). with_turned t.task.run s.runs) (sym of_run) in
       record {
-        replay = Replay-step held (event.Turn number turned.progress) old.table new.table under_way.replay step;
+        replay = Replay-step store (event.Turn number turned.progress) old.table new.table under_way.replay step;
         ticket_in = turned.ticket_in;
         alone = ap (λ (t : TicketState). other_runs t.task.run new.table.state.runs) turned.next_is
             ∙ ap (other_runs number) runs
@@ -439,7 +439,7 @@ module _ {K W B : Type 0} {held : K → Option (List Row)} {kind_of : B → Kind
       }
 
   -- what drives it to its end from there has driven it from here
-  pub IsDriven-further : (last : BookState K W B) → IsUnderWay kind_of ticket old → IsOtherTurn held kind_of diary_of ticket worker next seat old new
+  pub IsDriven-further : (last : BookState K W B) → IsUnderWay kind_of ticket old → IsOtherTurn store kind_of diary_of ticket worker next seat old new
       → IsDriven diary_of next.instance (diary_of seat.worker) (diary_of seat.worker) new last
       → IsDriven diary_of ticket.instance (diary_of worker) (diary_of worker) old last
   IsDriven-further last under_way turned driven = record {
@@ -447,37 +447,37 @@ module _ {K W B : Type 0} {held : K → Option (List Row)} {kind_of : B → Kind
     left = driven.left ∙ turned.left;
     no_more = omega (arith, driven.no_more, turned.no_more);
     order = λ lines goes. driven.order lines
-        (GoesInOrder-turned held ticket.task.run turned.progress lines old new turned.step under_way.replay turned.goes_on.before goes);
+        (GoesInOrder-turned store ticket.task.run turned.progress lines old new turned.step under_way.replay turned.goes_on.before goes);
     boxes = λ given keep. driven.boxes given (KeepBoxes-turned given under_way turned keep);
   }
 
 -- ---- a line
 
-module _ {K W B : Type 0} {held : K → Option (List Row)} {kind_of : B → Kind} {old new : BookState K W B} (rest : IsBetweenRuns old) where
-  line_none : old.status ≡ None → IsLineDone held kind_of old new → new.table.state.runs ≡ []
+module _ {K W B : Type 0} {store : K → Store} {kind_of : B → Kind} {old new : BookState K W B} (rest : IsBetweenRuns old) where
+  line_none : old.status ≡ None → IsLineDone store kind_of old new → new.table.state.runs ≡ []
   line_none going done =
       ap (λ (t : State). t.runs) done.step.state
       ∙ ap (λ (f : Frame). f.runs) (framed old.table.state (event.Command (old.line + 1) done.command done.reply) done.step.legal)
       ∙ rest.no_run going
 
   -- a line was executed
-  pub IsBetweenRuns-line : old.status ≡ None → IsLineDone held kind_of old new → IsBetweenRuns new
+  pub IsBetweenRuns-line : old.status ≡ None → IsLineDone store kind_of old new → IsBetweenRuns new
   IsBetweenRuns-line going done = record {
-    replay = Replay-step held (event.Command (old.line + 1) done.command done.reply) old.table new.table rest.replay done.step;
+    replay = Replay-step store (event.Command (old.line + 1) done.command done.reply) old.table new.table rest.replay done.step;
     no_run = λ still. line_none going done;
     none_away = rw done.places (NoneAway-after kind_of done.command old.places rest.none_away);
   }
 
   -- who is at its place was there before
-  pub idle_at-line : (done : IsLineDone held kind_of old new) (number : ℕ) (worker : B) → idle_at number new.places ≡ Some worker
+  pub idle_at-line : (done : IsLineDone store kind_of old new) (number : ℕ) (worker : B) → idle_at number new.places ≡ Some worker
       → idle_at number old.places ≡ Some worker
   idle_at-line done number worker idle = idle_at-after kind_of done.command worker number old.places (rw done.places at idle)
 
   -- it came in its turn, or as the first, and runs may start
-  pub GoesInOrder-line : (lines : List Command) → old.status ≡ None → IsLineDone held kind_of old new → IsReady lines old → GoesInOrder lines new
+  pub GoesInOrder-line : (lines : List Command) → old.status ≡ None → IsLineDone store kind_of old new → IsReady lines old → GoesInOrder lines new
   GoesInOrder-line lines going done ready =
       let e = event.Command (old.line + 1) done.command done.reply in
-      GoesInOrder-event held lines e old new done.step (rw (line_none going done) (omega arith)) ready.order.from_rest
+      GoesInOrder-event store lines e old new done.step (rw (line_none going done) (omega arith)) ready.order.from_rest
       (elim (ready.next going) [
         | inl quiet ↦ AreInOrder-push lines old.table.first old.table.log old.table.state e ready.order.in_order rest.replay quiet.1 quiet.0
         | inr begins ↦
@@ -487,21 +487,21 @@ module _ {K W B : Type 0} {held : K → Option (List Row)} {kind_of : B → Kind
       ])
 
   -- the session has stopped early, with or without a line
-  pub IsBetweenRuns-front : IsFrontStopped held kind_of old new → IsBetweenRuns new
+  pub IsBetweenRuns-front : IsFrontStopped store kind_of old new → IsBetweenRuns new
   IsBetweenRuns-front stopped =
       elim stopped.how [
-        | inl same ↦ rest_again rest (Replay-same held old.table new.table rest.replay same.table) (no_longer new.status stopped.status) same.places
+        | inl same ↦ rest_again rest (Replay-same store old.table new.table rest.replay same.table) (no_longer new.status stopped.status) same.places
         | inr untold ↦ IsBetweenRuns-line untold.before untold.line
       ]
 
-  pub IsReady-front : (lines : List Command) → IsFrontStopped held kind_of old new → IsReady lines old → IsReady lines new
+  pub IsReady-front : (lines : List Command) → IsFrontStopped store kind_of old new → IsReady lines old → IsReady lines new
   IsReady-front lines stopped ready =
       elim stopped.how [
-        | inl same ↦ record { order = IsInOrder-same held lines old new same.table ready.order; next = no_longer new.status stopped.status }
+        | inl same ↦ record { order = IsInOrder-same store lines old new same.table ready.order; next = no_longer new.status stopped.status }
         | inr untold ↦ record { order = (GoesInOrder-line lines untold.before untold.line ready).order; next = no_longer new.status stopped.status }
       ]
 
-  pub KeepBoxes-front : (diary_of : B → Option (List Entry)) (given : List (Hand B)) → IsFrontStopped held kind_of old new → KeepBoxes diary_of given old
+  pub KeepBoxes-front : (diary_of : B → Option (List Entry)) (given : List (Hand B)) → IsFrontStopped store kind_of old new → KeepBoxes diary_of given old
       → KeepBoxes diary_of given new
   KeepBoxes-front diary_of given stopped =
       elim stopped.how [
@@ -533,20 +533,20 @@ IsReady-begin {lines = lines} {book = book} begins = record {
   next = λ going. inr (begins.log, begins.lines_are);
 }
 
--- all lines that are left are built
-built_left : (done left : List Command) → AllByRecursion IsBuilt (done ++ left) → AllByRecursion IsBuilt left
-built_left [] left built = built
-built_left (asked ∷ done) left built = built_left done left built.1
+-- all lines that are left are askable
+askable_left : (done left : List Command) → AllByRecursion IsAskable (done ++ left) → AllByRecursion IsAskable left
+askable_left [] left askable = askable
+askable_left (asked ∷ done) left askable = askable_left done left askable.1
 
 -- a log in order is that of a serial run, once all is done, and else begins one
-pub IsSerialRun-order : (lines : List Command) (ended : Status) (first last : State) (log : List Event) → AllByRecursion IsBuilt lines
+pub IsSerialRun-order : (lines : List Command) (ended : Status) (first last : State) (log : List Event) → AllByRecursion IsAskable lines
     → HasCommands lines ended log → first.runs ≡ [] → Replay first log last → Valid last → IsNarrow last → length last.runs ≤ 1
     → AreInOrder lines first log
     → (ended ≡ status.Done → IsQuiet last) → IsSerialRun lines ended first log last
-IsSerialRun-order lines status.Done first last log built commands from_rest replays valid narrow few order quiet =
+IsSerialRun-order lines status.Done first last log askable commands from_rest replays valid narrow few order quiet =
     record { replay = replays; commands = commands.all refl; in_order = order; quiet = quiet refl }
-IsSerialRun-order lines _ first last log built commands from_rest replays valid narrow few order quiet =
+IsSerialRun-order lines _ first last log askable commands from_rest replays valid narrow few order quiet =
     let left = commands.front.0 in
     let whole = commands.front.1 in
     BeginsSerial-goes-on lines left first last log
-    (built_left (commands_of log) left (subst (AllByRecursion IsBuilt) whole built)) whole from_rest replays valid narrow few order
+    (askable_left (commands_of log) left (subst (AllByRecursion IsAskable) whole askable)) whole from_rest replays valid narrow few order

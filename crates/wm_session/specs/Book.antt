@@ -3,7 +3,7 @@ use Rattle.std.specs.Prelude.{◌≡◌, ◌⊎◌, ℕ, ◌+◌, ◌<◌, ◌�
 use Rattle.std.specs.declared.alloc.AllocError.{AllocError}
 use Rattle.wm_bench.specs.Places.{changed_at, idle_at, made_away, made_back}
 use Rattle.wm_bench.specs.Seat.{Seat}
-use Rattle.wm_keeper.specs.declared.row.Row.{Row}
+use Rattle.wm_keeper.specs.Store.{Store}
 use Rattle.wm_machine.specs.First.{first_of}
 use Rattle.wm_machine.specs.Quiet.{IsQuiet}
 use Rattle.wm_machine.specs.Waiting.{left_to_drain}
@@ -46,17 +46,17 @@ pub record StaysStopped {K W B : Type 0} (old new : BookState K W B) : Type 0 wh
 -- ---- a line
 
 -- the next line was executed, in one step, and a class that it retires is retired on the bench
-pub record IsLineDone {K W B : Type 0} (held : K → Option (List Row)) (kind_of : B → Kind) (old new : BookState K W B) : Type 0 where
+pub record IsLineDone {K W B : Type 0} (store : K → Store) (kind_of : B → Kind) (old new : BookState K W B) : Type 0 where
   pub command : Command
   pub reply : Reply
   pub next : old.left ≡ command ∷ new.left
-  pub step : IsOneStep held (event.Command (old.line + 1) command reply) old.table new.table
+  pub step : IsOneStep store (event.Command (old.line + 1) command reply) old.table new.table
   pub places : new.places ≡ places_after kind_of command old.places
 
 -- the next line was executed and its reply told
-pub record HasMoved {K W B : Type 0} (held : K → Option (List Row)) (kind_of : B → Kind) (old new : BookState K W B) : Type 0 where
+pub record HasMoved {K W B : Type 0} (store : K → Store) (kind_of : B → Kind) (old new : BookState K W B) : Type 0 where
   pub goes_on : GoesOn old new
-  pub line : IsLineDone held kind_of old new
+  pub line : IsLineDone store kind_of old new
 
 -- the first of these lines settles
 abbrev pub SettlesNext : List Command → Type 0
@@ -81,36 +81,36 @@ pub record HasNoLine {K W B : Type 0} (old new : BookState K W B) : Type 0 where
   pub book_is : new ≡ old
 
 -- a line was executed, and the session stopped while its reply was told
-pub record IsLineUntold {K W B : Type 0} (held : K → Option (List Row)) (kind_of : B → Kind) (old new : BookState K W B) : Type 0 where
+pub record IsLineUntold {K W B : Type 0} (store : K → Store) (kind_of : B → Kind) (old new : BookState K W B) : Type 0 where
   pub before : old.status ≡ None
-  pub line : IsLineDone held kind_of old new
+  pub line : IsLineDone store kind_of old new
 
 -- no line was executed
-pub record IsNoLineDone {K W B : Type 0} (held : K → Option (List Row)) (old new : BookState K W B) : Type 0 where
-  pub table : IsUntouched held old.table new.table
+pub record IsNoLineDone {K W B : Type 0} (store : K → Store) (old new : BookState K W B) : Type 0 where
+  pub table : IsUntouched store old.table new.table
   pub places : new.places ≡ old.places
 
 -- the session has stopped early, with or without the next line's event, or had before
-pub record IsFrontStopped {K W B : Type 0} (held : K → Option (List Row)) (kind_of : B → Kind) (old new : BookState K W B) : Type 0 where
+pub record IsFrontStopped {K W B : Type 0} (store : K → Store) (kind_of : B → Kind) (old new : BookState K W B) : Type 0 where
   pub status : IsSome new.status
   pub stays : IsSome old.status → StaysStopped old new
-  pub how : IsNoLineDone held old new ⊎ IsLineUntold held kind_of old new
+  pub how : IsNoLineDone store old new ⊎ IsLineUntold store kind_of old new
 
 -- Moved where a line was executed; NotSettled where the next one settles and can't come yet; Ended where none is left; Stopped where the
 -- session has stopped early
-abbrev pub IsFronted : {K W B : Type 0} → (K → Option (List Row)) → (B → Kind) → Front → BookState K W B → BookState K W B → Type 0
-IsFronted held kind_of front.Moved old new = HasMoved held kind_of old new
-IsFronted held kind_of front.NotSettled old new = IsNotSettled old new
-IsFronted held kind_of front.Ended old new = HasNoLine old new
-IsFronted held kind_of front.Stopped old new = IsFrontStopped held kind_of old new
+abbrev pub IsFronted : {K W B : Type 0} → (K → Store) → (B → Kind) → Front → BookState K W B → BookState K W B → Type 0
+IsFronted store kind_of front.Moved old new = HasMoved store kind_of old new
+IsFronted store kind_of front.NotSettled old new = IsNotSettled old new
+IsFronted store kind_of front.Ended old new = HasNoLine old new
+IsFronted store kind_of front.Stopped old new = IsFrontStopped store kind_of old new
 
 -- ---- a start
 
 -- a run began: its ticket holds what it keeps, the worker of its instance is out with the seat, and fewer works are left to drain
-pub record IsBegun {K W B : Type 0} (held : K → Option (List Row)) (kind_of : B → Kind) (ticket : TicketState) (seat : Seat B) (signal : SignalState)
+pub record IsBegun {K W B : Type 0} (store : K → Store) (kind_of : B → Kind) (ticket : TicketState) (seat : Seat B) (signal : SignalState)
     (old new : BookState K W B) : Type 0 where
   pub goes_on : GoesOn old new
-  pub step : IsOneStep held (event.Start ticket.task.run ticket.seq ticket.instance ticket.task.input) old.table new.table
+  pub step : IsOneStep store (event.Start ticket.task.run ticket.seq ticket.instance ticket.task.input) old.table new.table
   pub ticket_in : IsTicketIn new.table.state ticket
   pub number : seat.number ≡ ticket.instance
   pub kind : kind_of seat.worker ≡ ticket.kind
@@ -121,39 +121,39 @@ pub record IsBegun {K W B : Type 0} (held : K → Option (List Row)) (kind_of : 
   pub fewer : left_to_drain new.table.state < left_to_drain old.table.state
 
 -- a work couldn't start, and fewer are left to drain
-pub record IsStartFailed {K W B : Type 0} (held : K → Option (List Row)) (old new : BookState K W B) : Type 0 where
+pub record IsStartFailed {K W B : Type 0} (store : K → Store) (old new : BookState K W B) : Type 0 where
   pub seq : ℕ
   pub cause : Cause
   pub goes_on : GoesOn old new
-  pub step : IsOneStep held (event.StartFailed seq cause) old.table new.table
+  pub step : IsOneStep store (event.StartFailed seq cause) old.table new.table
   pub places : new.places ≡ old.places
   pub left : new.left ≡ old.left
   pub fewer : left_to_drain new.table.state < left_to_drain old.table.state
 
 -- the session has stopped early, or had before; nothing else is different
-pub record HasStopped {K W B : Type 0} (held : K → Option (List Row)) (old new : BookState K W B) : Type 0 where
+pub record HasStopped {K W B : Type 0} (store : K → Store) (old new : BookState K W B) : Type 0 where
   pub status : IsSome new.status
   pub stays : IsSome old.status → StaysStopped old new
-  pub table : IsUntouched held old.table new.table
+  pub table : IsUntouched store old.table new.table
   pub left : new.left ≡ old.left
 
 -- the ticket of a claim stands in the state, where it has one
-abbrev pub IsClaimIn : State → Claim → Type 0
+abbrev pub IsClaimIn : {M : Type 0} → State → Claim M → Type 0
 IsClaimIn s (claim.Run ticket) = Stands s ticket
 IsClaimIn s (claim.Failed seq cause) = Unit {0}
 
 -- a work was started, or couldn't start, and the session stopped while that was told: a run that began stays in the state, without a
 -- ticket, and its worker stays on the bench
-pub record IsClaimUntold {K W B : Type 0} (held : K → Option (List Row)) (old new : BookState K W B) : Type 0 where
-  pub made : Claim
+pub record IsClaimUntold {K W B : Type 0} (M : Type 0) (store : K → Store) (old new : BookState K W B) : Type 0 where
+  pub made : Claim M
   pub before : old.status ≡ None
   pub status : IsSome new.status
-  pub claimed : IsClaimAnswer held (Some made) old.table new.table
+  pub claimed : IsClaimAnswer store (Some made) old.table new.table
   pub left : new.left ≡ old.left
 
 -- the session has stopped early, with or without the event of a claim; the bench is as it was
-pub record IsClaimStopped {K W B : Type 0} (held : K → Option (List Row)) (old new : BookState K W B) : Type 0 where
-  pub how : HasStopped held old new ⊎ IsClaimUntold held old new
+pub record IsClaimStopped {K W B : Type 0} (M : Type 0) (store : K → Store) (old new : BookState K W B) : Type 0 where
+  pub how : HasStopped store old new ⊎ IsClaimUntold M store old new
   pub places : new.places ≡ old.places
 
 -- the session goes on, but no work can start, and nothing changes
@@ -164,51 +164,51 @@ pub record NothingStarts {K W B : Type 0} (old new : BookState K W B) : Type 0 w
 
 -- Run where a run began; Failed where the work that is first couldn't start; None where nothing is startable; Stopped where the session has
 -- stopped early
-abbrev pub IsClaimed : {K W B : Type 0} → (K → Option (List Row)) → (B → Kind) → Job B → BookState K W B → BookState K W B → Type 0
-IsClaimed held kind_of (job.Run ticket seat signal) old new = IsBegun held kind_of ticket seat signal old new
-IsClaimed held kind_of job.Failed old new = IsStartFailed held old new
-IsClaimed held kind_of job.None old new = NothingStarts old new
-IsClaimed held kind_of job.Stopped old new = IsClaimStopped held old new
+abbrev pub IsClaimed : {K W B M : Type 0} → (K → Store) → (B → Kind) → Job B M → BookState K W B → BookState K W B → Type 0
+IsClaimed store kind_of (job.Run ticket seat signal) old new = IsBegun store kind_of ticket seat signal old new
+IsClaimed store kind_of job.Failed old new = IsStartFailed store old new
+IsClaimed store kind_of job.None old new = NothingStarts old new
+IsClaimed {M = M} store kind_of job.Stopped old new = IsClaimStopped M store old new
 
 -- ---- a report
 
 -- a run goes on: its turn was made, the next ticket holds what it keeps, the seat is out as it was, and no more works are left to drain
-pub record IsTurnTold {K W B : Type 0} (held : K → Option (List Row)) (ticket next : TicketState) (seat kept : Seat B) (told : Report)
+pub record IsTurnTold {K W B : Type 0} (store : K → Store) (ticket next : TicketState) (seat kept : Seat B) (told : Report)
     (old new : BookState K W B) : Type 0 where
   pub goes_on : GoesOn old new
-  pub turn : HasGoneOn held ticket told next old.table new.table
+  pub turn : HasGoneOn store ticket told next old.table new.table
   pub seat_is : kept ≡ seat
   pub places : new.places ≡ old.places
   pub left : new.left ≡ old.left
   pub no_more : left_to_drain new.table.state ≤ left_to_drain old.table.state
 
 -- a run's turn was made, and the session stopped while that was told: the run stays in the state, without a ticket
-pub record IsTurnUntold {K W B : Type 0} (held : K → Option (List Row)) (ticket : TicketState) (told : Report) (old new : BookState K W B) : Type 0 where
+pub record IsTurnUntold {K W B : Type 0} (store : K → Store) (ticket : TicketState) (told : Report) (old new : BookState K W B) : Type 0 where
   pub next : TicketState
   pub before : old.status ≡ None
   pub status : IsSome new.status
-  pub turn : HasGoneOn held ticket told next old.table new.table
+  pub turn : HasGoneOn store ticket told next old.table new.table
   pub left : new.left ≡ old.left
   pub no_more : left_to_drain new.table.state ≤ left_to_drain old.table.state
 
 -- a run is over, for want of a turn or not, its worker is back, and no more works are left to drain
-pub record IsOver {K W B : Type 0} (held : K → Option (List Row)) (kind_of : B → Kind) (ticket : TicketState) (seat : Seat B) (told : Report)
+pub record IsOver {K W B : Type 0} (store : K → Store) (kind_of : B → Kind) (ticket : TicketState) (seat : Seat B) (told : Report)
     (old new : BookState K W B) : Type 0 where
   pub timed_out : Bool
   pub goes_on : GoesOn old new
   pub counts : CountsIn old.table.state ticket.task.run told
-  pub ended : IsFinished held ticket.task.run told timed_out old.table new.table
+  pub ended : IsFinished store ticket.task.run told timed_out old.table new.table
   pub places : new.places ≡ changed_at (made_back kind_of seat.worker) seat.number old.places
   pub left : new.left ≡ old.left
   pub no_more : left_to_drain new.table.state ≤ left_to_drain old.table.state
 
 -- a run is over, for want of a turn or not, and the session stopped while that was told
-pub record IsEndUntold {K W B : Type 0} (held : K → Option (List Row)) (ticket : TicketState) (told : Report) (old new : BookState K W B) : Type 0 where
+pub record IsEndUntold {K W B : Type 0} (store : K → Store) (ticket : TicketState) (told : Report) (old new : BookState K W B) : Type 0 where
   pub timed_out : Bool
   pub before : old.status ≡ None
   pub status : IsSome new.status
   pub counts : CountsIn old.table.state ticket.task.run told
-  pub ended : IsFinished held ticket.task.run told timed_out old.table new.table
+  pub ended : IsFinished store ticket.task.run told timed_out old.table new.table
   pub left : new.left ≡ old.left
   pub no_more : left_to_drain new.table.state ≤ left_to_drain old.table.state
 
@@ -221,23 +221,23 @@ pub record IsAskedAgain {K W B : Type 0} (ticket same : TicketState) (seat kept 
   pub book_is : new ≡ old
 
 -- the session has stopped early without an event of the run, or had before, and the worker is back
-pub record IsGivenBack {K W B : Type 0} (held : K → Option (List Row)) (kind_of : B → Kind) (seat : Seat B) (old new : BookState K W B) : Type 0 where
-  pub stopped : HasStopped held old new
+pub record IsGivenBack {K W B : Type 0} (store : K → Store) (kind_of : B → Kind) (seat : Seat B) (old new : BookState K W B) : Type 0 where
+  pub stopped : HasStopped store old new
   pub places : new.places ≡ changed_at (made_back kind_of seat.worker) seat.number old.places
 
 -- the session has stopped early, without an event of the run, or with the one by which it is over or goes on, and the worker is back
-pub record IsReportStopped {K W B : Type 0} (held : K → Option (List Row)) (kind_of : B → Kind) (ticket : TicketState) (seat : Seat B) (told : Report)
+pub record IsReportStopped {K W B : Type 0} (store : K → Store) (kind_of : B → Kind) (ticket : TicketState) (seat : Seat B) (told : Report)
     (old new : BookState K W B) : Type 0 where
-  pub how : HasStopped held old new ⊎ (IsEndUntold held ticket told old new ⊎ IsTurnUntold held ticket told old new)
+  pub how : HasStopped store old new ⊎ (IsEndUntold store ticket told old new ⊎ IsTurnUntold store ticket told old new)
   pub places : new.places ≡ changed_at (made_back kind_of seat.worker) seat.number old.places
 
 -- Go and Over where what was told counts, with its event; Again where it doesn't; Stopped where the session has stopped early, as it has where
 -- memory was refused to the worker
-abbrev pub IsReported : {K W B : Type 0} → (K → Option (List Row)) → (B → Kind) → TicketState → Seat B → Result Report AllocError → After B
+abbrev pub IsReported : {K W B M : Type 0} → (K → Store) → (B → Kind) → TicketState → Seat B → Result Report AllocError → After B M
     → BookState K W B → BookState K W B → Type 0
-IsReported held kind_of ticket seat (Ok told) (after.Go next kept) old new = IsTurnTold held ticket next seat kept told old new
-IsReported held kind_of ticket seat (Ok told) after.Over old new = IsOver held kind_of ticket seat told old new
-IsReported held kind_of ticket seat (Ok told) (after.Again same kept) old new = IsAskedAgain ticket same seat kept told old new
-IsReported held kind_of ticket seat (Ok told) after.Stopped old new = IsReportStopped held kind_of ticket seat told old new
-IsReported held kind_of ticket seat (Err refused) after.Stopped old new = IsGivenBack held kind_of seat old new
-IsReported held kind_of ticket seat (Err refused) _ old new = ⊥
+IsReported store kind_of ticket seat (Ok told) (after.Go next kept) old new = IsTurnTold store ticket next seat kept told old new
+IsReported store kind_of ticket seat (Ok told) after.Over old new = IsOver store kind_of ticket seat told old new
+IsReported store kind_of ticket seat (Ok told) (after.Again same kept) old new = IsAskedAgain ticket same seat kept told old new
+IsReported store kind_of ticket seat (Ok told) after.Stopped old new = IsReportStopped store kind_of ticket seat told old new
+IsReported store kind_of ticket seat (Err refused) after.Stopped old new = IsGivenBack store kind_of seat old new
+IsReported store kind_of ticket seat (Err refused) _ old new = ⊥

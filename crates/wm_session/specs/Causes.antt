@@ -16,6 +16,7 @@ use Rattle.wm_session.specs.declared.writing.WriteFault.TheVariants as fault
 
 abbrev pub status_by_begin : BeginFault → Status
 status_by_begin (begin.Bad seq bad_row) = status.BadStore seq bad_row
+status_by_begin begin.KeeperFault = status.KeeperFault
 status_by_begin begin.Memory = status.Memory
 
 abbrev pub status_by_stop : Stop → Status

@@ -6,7 +6,7 @@ use Rattle.wm_bench.specs.Seat.{Seat}
 use Rattle.wm_bench.specs.declared.hand.Hand.{Hand}
 use Rattle.wm_collections.specs.Lists.{HasOne}
 use Rattle.wm_data.specs.declared.data.DataEntry.{DataEntry}
-use Rattle.wm_keeper.specs.declared.row.Row.{Row}
+use Rattle.wm_keeper.specs.Store.{Store}
 use Rattle.wm_machine.specs.Diaries.{log_lines, IsDiaryWith}
 use Rattle.wm_machine.specs.Replay.{Replay}
 use Rattle.wm_machine.specs.Role as role
@@ -66,7 +66,7 @@ HasWritten diary_of ticket worker now (Ok told) = diary_of now ≡ diary_with (t
 HasWritten diary_of ticket worker now (Err refused) = diary_of now ≡ diary_of worker
 
 -- the run is over by this event, told or not, and its worker, which has written down what it gave, is back
-pub record IsLastTurn {K W B : Type 0} (held : K → Option (List Row)) (kind_of : B → Kind) (diary_of : B → Option (List Entry)) (ticket : TicketState)
+pub record IsLastTurn {K W B : Type 0} (store : K → Store) (kind_of : B → Kind) (diary_of : B → Option (List Entry)) (ticket : TicketState)
     (worker : B) (old new : BookState K W B) : Type 0 where
   pub ending : Event
   pub reported : Reported
@@ -75,39 +75,39 @@ pub record IsLastTurn {K W B : Type 0} (held : K → Option (List Row)) (kind_of
   pub before : old.status ≡ None
   pub has_given : HasGiven reported gave
   pub ends : role_of ending ≡ role.Ends ticket.task.run reported
-  pub step : IsOneStep held ending old.table new.table
+  pub step : IsOneStep store ending old.table new.table
   pub diary : diary_of back ≡ diary_with (Gave ticket.task.run ticket.k gave ∷ []) (diary_of worker)
   pub places : new.places ≡ changed_at (made_back kind_of back) ticket.instance old.places
   pub left : new.left ≡ old.left
   pub no_more : left_to_drain new.table.state ≤ left_to_drain old.table.state
 
 -- the session has stopped early, and the worker, whose diary begins with this, is back
-pub record IsGivenUp {K W B : Type 0} (held : K → Option (List Row)) (kind_of : B → Kind) (diary_of : B → Option (List Entry)) (ticket : TicketState)
+pub record IsGivenUp {K W B : Type 0} (store : K → Store) (kind_of : B → Kind) (diary_of : B → Option (List Entry)) (ticket : TicketState)
     (diary : Option (List Entry)) (old new : BookState K W B) : Type 0 where
   pub back : B
   pub diary_later : IsDiaryLater diary (diary_of back)
-  pub stopped : HasStopped held old new
+  pub stopped : HasStopped store old new
   pub places : new.places ≡ changed_at (made_back kind_of back) ticket.instance old.places
 
 -- the session has stopped early while it was told that the run goes on, and the worker, whose diary begins with this, is back
-pub record IsCutShort {K W B : Type 0} (held : K → Option (List Row)) (kind_of : B → Kind) (diary_of : B → Option (List Entry)) (ticket : TicketState)
+pub record IsCutShort {K W B : Type 0} (store : K → Store) (kind_of : B → Kind) (diary_of : B → Option (List Entry)) (ticket : TicketState)
     (diary : Option (List Entry)) (old new : BookState K W B) : Type 0 where
   pub progress : Option (List DataEntry)
   pub back : B
   pub diary_later : IsDiaryLater diary (diary_of back)
   pub before : old.status ≡ None
   pub status : IsSome new.status
-  pub step : IsOneStep held (event.Turn ticket.task.run progress) old.table new.table
+  pub step : IsOneStep store (event.Turn ticket.task.run progress) old.table new.table
   pub places : new.places ≡ changed_at (made_back kind_of back) ticket.instance old.places
   pub left : new.left ≡ old.left
   pub no_more : left_to_drain new.table.state ≤ left_to_drain old.table.state
 
 -- The run goes on with this ticket, which is at the next turn of at most 1,000, and this seat, whose worker has written down what it gave.
-pub record IsOtherTurn {K W B : Type 0} (held : K → Option (List Row)) (kind_of : B → Kind) (diary_of : B → Option (List Entry)) (ticket : TicketState)
+pub record IsOtherTurn {K W B : Type 0} (store : K → Store) (kind_of : B → Kind) (diary_of : B → Option (List Entry)) (ticket : TicketState)
     (worker : B) (next : TicketState) (seat : Seat B) (old new : BookState K W B) : Type 0 where
   pub progress : Option (List DataEntry)
   pub goes_on : GoesOn old new
-  pub step : IsOneStep held (event.Turn ticket.task.run progress) old.table new.table
+  pub step : IsOneStep store (event.Turn ticket.task.run progress) old.table new.table
   pub next_is : next ≡ record ticket { k = ticket.k + 1 }
   pub turns_left : next.k < 1000
   pub ticket_in : IsTicketIn new.table.state next
@@ -119,17 +119,17 @@ pub record IsOtherTurn {K W B : Type 0} (held : K → Option (List Row)) (kind_o
   pub no_more : left_to_drain new.table.state ≤ left_to_drain old.table.state
 
 -- no turn follows: the run is over, or the session has stopped early
-abbrev pub IsNoTurn : {K W B : Type 0} → (K → Option (List Row)) → (B → Kind) → (B → Option (List Entry)) → TicketState → B → BookState K W B
+abbrev pub IsNoTurn : {K W B : Type 0} → (K → Store) → (B → Kind) → (B → Option (List Entry)) → TicketState → B → BookState K W B
     → BookState K W B → Type 0
-IsNoTurn held kind_of diary_of ticket worker old new =
-    IsLastTurn held kind_of diary_of ticket worker old new ⊎
-    (IsGivenUp held kind_of diary_of ticket (diary_of worker) old new ⊎ IsCutShort held kind_of diary_of ticket (diary_of worker) old new)
+IsNoTurn store kind_of diary_of ticket worker old new =
+    IsLastTurn store kind_of diary_of ticket worker old new ⊎
+    (IsGivenUp store kind_of diary_of ticket (diary_of worker) old new ⊎ IsCutShort store kind_of diary_of ticket (diary_of worker) old new)
 
 -- the worker of a run took a turn: no turn follows, or the run goes on
-abbrev pub IsTurned : {K W B : Type 0} → (K → Option (List Row)) → (B → Kind) → (B → Option (List Entry)) → TicketState → B
+abbrev pub IsTurned : {K W B : Type 0} → (K → Store) → (B → Kind) → (B → Option (List Entry)) → TicketState → B
     → Option (TicketState × Seat B) → BookState K W B → BookState K W B → Type 0
-IsTurned held kind_of diary_of ticket worker None old new = IsNoTurn held kind_of diary_of ticket worker old new
-IsTurned held kind_of diary_of ticket worker (Some run) old new = IsOtherTurn held kind_of diary_of ticket worker run.0 run.1 old new
+IsTurned store kind_of diary_of ticket worker None old new = IsNoTurn store kind_of diary_of ticket worker old new
+IsTurned store kind_of diary_of ticket worker (Some run) old new = IsOtherTurn store kind_of diary_of ticket worker run.0 run.1 old new
 
 -- ---- all turns
 

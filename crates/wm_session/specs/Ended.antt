@@ -1,15 +1,15 @@
 -- How a session ends: what its log, its last state, the bytes given and the workers handed back are.
-use Rattle.std.specs.Prelude.{◌≡◌, ℕ, true, false, not, List, [], map, filter, Option, option_map, Result, OnOk, Vec}
+use Rattle.std.specs.Prelude.{◌≡◌, ℕ, true, false, not, List, [], map, filter, Option, Result, OnOk, Vec}
 use Rattle.std.specs.declared.alloc.Global.{Global}
 use Rattle.wm_bench.specs.Places.{idle_hands}
 use Rattle.wm_bench.specs.declared.hand.Hand.{Hand}
 use Rattle.wm_faults.specs.Faults.{Failed}
+use Rattle.wm_keeper.specs.Store.{IsAtMost}
 use Rattle.wm_machine.specs.Log.{commands_of, AreNumberedFrom, HasPrefix}
 use Rattle.wm_machine.specs.Narrow.{IsNarrow}
-use Rattle.wm_machine.specs.Opened.{opening_state}
+use Rattle.wm_machine.specs.Opened.{opening_state, Opened}
 use Rattle.wm_machine.specs.Quiet.{IsQuiet}
 use Rattle.wm_machine.specs.Replay.{Replay}
-use Rattle.wm_machine.specs.Rows.{rows_of}
 use Rattle.wm_machine.specs.Serial.{IsSerial, BeginsSerial}
 use Rattle.wm_machine.specs.Valid.{Valid}
 use Rattle.wm_texts.specs.Texts.{log_text}
@@ -20,7 +20,7 @@ use Rattle.wm_session.specs.Bench.{hand_traits, instance_traits, place_traits}
 use Rattle.wm_session.specs.BookState.{BookState}
 use Rattle.wm_session.specs.Boxes.{EachBack, HasTold, IsBoxAfter}
 use Rattle.wm_session.specs.Causes.{EndsBy}
-use Rattle.wm_session.specs.Inputs.{Inputs}
+use Rattle.wm_table.specs.Inputs.{Inputs}
 use Rattle.wm_session.specs.Invariant.{TextsInvariant}
 use Rattle.wm_session.specs.Pending.{pending_text}
 use Rattle.wm_session.specs.Tells.{Tells}
@@ -29,6 +29,7 @@ use Rattle.wm_session.specs.declared.ended.Ended.{Ended}
 use Rattle.wm_session.specs.declared.status.Status.{Status}
 use Rattle.wm_session.specs.declared.status.Status.TheVariants as status
 use Rattle.wm_session.specs.declared.writing.WriteFault.{WriteFault}
+use Rattle.wm_table.specs.Table.{HoldsRowsOf}
 use Rattle.wm_worker.specs.declared.answer.Entry.{Entry}
 use Rattle.wm_worker.specs.declared.kind.Kind.{Kind}
 
@@ -75,17 +76,19 @@ AreBoxesBack diary_of given log last hands = EachBack (IsBoxAfter diary_of log) 
 
 -- ---- what is handed back
 
--- A session that is over, of what its run was given: the log replays from the first state, has a front of the lines and on `Done` all;
--- its text was written, a front of it and on `Done` all; the rows kept are the last state's; and a fault is answered where one was met.
+-- A session that is over, of what its run was given: its rows open to the first state, from which the log replays; that has a front of the lines
+-- and on `Done` all; its text was written, a front of it and on `Done` all; the rows kept are the last state's, in the store that was loaded; and a
+-- fault is answered where one was met.
 pub record IsSessionEnd {K W B : Type 0} (tells : Tells K W B) (run : Inputs) (ended : Ended K W B) : Type 0 where
   pub status_is : IsSessionStatus ended.status
   pub began : ended.began ≡ true
-  pub first : ended.first ≡ run.first
+  pub opened : Opened run.rows run.instances ended.first
   pub replay : Replay ended.first ended.log ended.last
   pub commands : HasCommands run.lines ended.status ended.log
   pub bytes : IsTextWritten run.written (tells.given ended.sink) ended.status ended.first ended.log
-  pub rows : tells.held ended.keeper ≡ option_map (λ _. rows_of ended.last) run.rows
-  pub keeper_fault : ended.status ≡ status.KeeperFault → Failed run.keeper_faults (tells.keeper_faults ended.keeper)
+  pub rows : HoldsRowsOf ended.last (tells.store ended.keeper)
+  pub name : IsAtMost run.store.name (tells.store ended.keeper).name
+  pub keeper_fault : ended.status ≡ status.KeeperFault → Failed run.store.faults (tells.store ended.keeper).faults
   pub sink_fault : ended.status ≡ status.SinkFault → Failed run.sink_faults (tells.sink_faults ended.sink)
 
 -- what a book that is over hands back: its states, its log, and the workers of its bench, which are the instances

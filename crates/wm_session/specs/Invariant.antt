@@ -1,18 +1,17 @@
 -- What the type of a book keeps at every moment.
-use Rattle.std.specs.Prelude.{◌≡◌, ℕ, ◌+◌, ◌^◌, ◌<◌, ◌≤◌, false, List, ◌++◌, length, map, Option, Some, None, option_map}
+use Rattle.std.specs.Prelude.{◌≡◌, ℕ, ◌+◌, ◌^◌, ◌<◌, ◌≤◌, false, List, ◌++◌, length, map, Option, Some, None}
 use Rattle.std.specs.List.{AllByRecursion}
-use Rattle.wm_machine.specs.Outcome.{IsBuilt}
+use Rattle.wm_machine.specs.Outcome.{IsAskable}
 use Rattle.wm_machine.specs.Log.{commands_of, AreNumberedFrom, HasPrefix}
 use Rattle.wm_machine.specs.Narrow.{IsNarrow}
 use Rattle.wm_machine.specs.Replay.{Replay}
-use Rattle.wm_machine.specs.Rows.{rows_of}
 use Rattle.wm_texts.specs.Texts.{log_text}
 use Rattle.wm_machine.specs.Valid.{Valid}
 use Rattle.wm_machine.specs.declared.command.Command.{Command}
 use Rattle.wm_session.specs.Bench.{instance_traits, is_away, place_traits}
 use Rattle.wm_session.specs.BookState.{BookState}
 use Rattle.wm_session.specs.Causes.{StopCause}
-use Rattle.wm_session.specs.Inputs.{Inputs}
+use Rattle.wm_table.specs.Inputs.{Inputs}
 use Rattle.wm_session.specs.Pending.{pending_text}
 use Rattle.wm_session.specs.Tells.{Tells}
 use Rattle.wm_session.specs.Writing.{IsAppended}
@@ -35,24 +34,22 @@ abbrev pub AwayInvariant : {K W B : Type 0} → Option Stop → BookState K W B 
 AwayInvariant None book = map (λ place. is_away place.presence) book.places ≡ map (λ instance. instance.out) book.table.state.instances
 AwayInvariant (Some why) book = Unit {0}
 
--- The facts of a book, of what its run was given: the log replays from the first state to the state now, which is valid, and narrow for now; its commands are
--- the lines up to the one that is next; the bytes written and pending are its text, and while the session goes on each text is made; the rows held are those of the state; the workers are
--- the instances; and the counts of faults haven't fallen, and have risen where a fault stopped the session.
+-- The facts of a book, of what its run was given, beside those that its table keeps: the log replays to the state now, which is valid, and narrow
+-- for now; its commands are the lines up to the one that is next; the bytes written and pending are its text, and while the session goes on each
+-- text is made; the workers are the instances; and the counts of faults haven't fallen, and have risen where a fault stopped the session.
 pub record BookInvariant {K W B : Type 0} (run : Inputs) (tells : Tells K W B) (book : BookState K W B) : Type 0 where
-  pub first : book.table.first ≡ run.first
   pub replay : Replay book.table.first book.table.log book.table.state
   pub valid : Valid book.table.state
   pub narrow : IsNarrow book.table.state
   pub lines : LinesInvariant book.status run.lines (commands_of book.table.log) book.left
-  pub built : AllByRecursion IsBuilt book.left
+  pub askable : AllByRecursion IsAskable book.left
   pub numbered : AreNumberedFrom 1 book.table.log
   pub line : book.line ≡ length (commands_of book.table.log)
   pub few_lines : book.line + length book.left < 2 ^ 32
   pub texts : TextsInvariant run.written (tells.given book.sink) (log_text book.table.first book.table.log) (pending_text book.table book.pending)
   pub all_told : book.status ≡ None → book.pending.untold ≡ false
-  pub rows : tells.held book.table.keeper ≡ option_map (λ _. rows_of book.table.state) run.rows
   pub workers : map (place_traits tells.kind_of) book.places ≡ map instance_traits book.table.state.instances
   pub away : AwayInvariant book.status book
-  pub keeper_later : run.keeper_faults ≤ tells.keeper_faults book.table.keeper
+  pub keeper_later : run.store.faults ≤ (tells.store book.table.keeper).faults
   pub sink_later : run.sink_faults ≤ tells.sink_faults book.sink
-  pub cause : StopCause book.status run.keeper_faults (tells.keeper_faults book.table.keeper) run.sink_faults (tells.sink_faults book.sink)
+  pub cause : StopCause book.status run.store.faults (tells.store book.table.keeper).faults run.sink_faults (tells.sink_faults book.sink)

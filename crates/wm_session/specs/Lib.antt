@@ -8,7 +8,6 @@ pub mod Causes
 pub mod Drive
 pub mod Ended
 pub mod Hands
-pub mod Inputs
 pub mod Invariant
 pub mod Pending
 pub mod Status

@@ -1,12 +1,11 @@
 //! The book of a session: the table with the bench, the lines that are left, and what is still to
 //! be written.
-ghost use Rattle.std.specs.Prelude.{◌≡◌, ◌↔◌, ◌^◌, ◌<◌, ◌≤◌, ◌+◌, [], None, Some, length, map, option_map, IsSome, IsNone, IsTrue, IfOk, IfErr, MatchBool, Ok, false};
+ghost use Rattle.std.specs.Prelude.{◌≡◌, ◌↔◌, ◌^◌, ◌<◌, ◌≤◌, ◌+◌, [], None, Some, length, map, IsSome, IsNone, IsTrue, IfOk, IfErr, MatchBool, Ok, false};
 ghost use Rattle.std.specs.List.{AllByRecursion};
 ghost use Rattle.wm_bench.specs.Places.{IsAwayAt};
-ghost use Rattle.wm_machine.specs.Outcome.{IsBuilt};
+ghost use Rattle.wm_machine.specs.Outcome.{IsAskable};
 ghost use Rattle.wm_machine.specs.Narrow.{IsNarrow};
 ghost use Rattle.wm_machine.specs.Quiet.{IsQuiet};
-ghost use Rattle.wm_machine.specs.Rows.{rows_of};
 ghost use Rattle.wm_machine.specs.Serial.{drains_first};
 ghost use Rattle.wm_machine.specs.Valid.{Valid};
 ghost use Rattle.wm_session.specs.Bench.{instance_traits, place_traits, NoneAway};
@@ -16,7 +15,6 @@ ghost use Rattle.wm_session.specs.Tells.{tells_of};
 ghost use Rattle.wm_table.specs.Table.{Stands};
 
 use crate::ended::Ended;
-use crate::mark::Mark;
 use crate::pending::Pending;
 use crate::status::Status;
 use crate::steps::{execute, give_back, give_up, status_after};
@@ -29,7 +27,7 @@ use wm_collections::Items;
 use wm_io::Sink;
 use wm_keeper::Keeper;
 use wm_machine::Command;
-use wm_table::{Claim, Table, TableEnd, Ticket, Trouble, TurnAnswer};
+use wm_table::{Claim, Mark, Table, TableEnd, Ticket, Trouble, TurnAnswer};
 use wm_worker::{Signal, Told, Worker};
 
 /// Why a session ended before its last line.
@@ -85,9 +83,9 @@ pub enum Front {
 }
 
 /// What there is to drive.
-pub enum Job<B> {
+pub enum Job<B, M: Mark> {
     /// A run began: its ticket, its worker and its signal.
-    Run(Ticket, Seated<B>, Signal),
+    Run(Ticket<M>, Seated<B>, Signal),
     /// A work couldn't start.
     Failed,
     /// Nothing is startable.
@@ -97,13 +95,13 @@ pub enum Job<B> {
 }
 
 /// What became of a run whose worker reported.
-pub enum After<B> {
+pub enum After<B, M: Mark> {
     /// It goes on, with the ticket of its next turn and the same seat.
-    Go(Ticket, Seated<B>),
+    Go(Ticket<M>, Seated<B>),
     /// It is over, and its worker is back.
     Over,
     /// What was told isn't a report on the run's turn: ticket and seat are as they were.
-    Again(Ticket, Seated<B>),
+    Again(Ticket<M>, Seated<B>),
     /// The session has ended early, and the worker is back.
     Stopped,
 }
@@ -114,7 +112,7 @@ pub enum After<B> {
 /// all that it holds.
 pub struct Book<K: Keeper, W: Sink, B: Worker, M: Mark> {
     alloc: Global,
-    table: Table<K>,
+    table: Table<K, M>,
     bench: Bench<B>,
     left: VecDeque<Command>,
     line: u32,
@@ -134,7 +132,7 @@ impl<K: Keeper, W: Sink, B: Worker, M: Mark> Model for Book<K, W, B, M> {
 
     ghost view = { λ b. record { table = b.table; places = b.bench; left = b.left.items; line = b.line; pending = b.pending; sink = b.sink; status = b.status } };
 
-    ghost invariant = { λ b. BookInvariant M.inputs (tells_of K.held K.faults W.given W.faults B.kind_of B.diary_of) (record { table = b.table; places = b.bench; left = b.left.items; line = b.line; pending = b.pending; sink = b.sink; status = b.status }) };
+    ghost invariant = { λ b. BookInvariant M.inputs (tells_of K.store W.given W.faults B.kind_of B.diary_of) (record { table = b.table; places = b.bench; left = b.left.items; line = b.line; pending = b.pending; sink = b.sink; status = b.status }) };
 }
 
 impl<K: Keeper, W: Sink, B: Worker, M: Mark> Book<K, W, B, M> {
@@ -142,11 +140,11 @@ impl<K: Keeper, W: Sink, B: Worker, M: Mark> Book<K, W, B, M> {
     /// bench and the sink come back.
     pub fn new(
         alloc: Global,
-        table: Table<K>,
+        table: Table<K, M>,
         bench: Bench<B>,
         lines: Items<Command>,
         sink: W,
-    ) -> Result<Book<K, W, B, M>, (Table<K>, Bench<B>, W)>
+    ) -> Result<Book<K, W, B, M>, (Table<K, M>, Bench<B>, W)>
         requires log { table.log ≡ [] }
         requires no_run { table.state.runs ≡ [] }
         requires workers { map (place_traits B.kind_of) bench
@@ -156,15 +154,13 @@ impl<K: Keeper, W: Sink, B: Worker, M: Mark> Book<K, W, B, M> {
         requires valid { Valid table.state }
         requires narrow { IsNarrow table.state }
         requires few { length lines < 2 ^ 32 }
-        requires built { AllByRecursion IsBuilt lines }
+        requires askable { AllByRecursion IsAskable lines }
 
         // These are what the run was given.
         requires begun { table.state ≡ table.first }
-        requires first { table.first ≡ M.inputs.first }
         requires lines { lines ≡ M.inputs.lines }
-        requires rows { K.held table.keeper ≡ option_map (λ _. rows_of table.state) M.inputs.rows }
         requires written { W.given sink ≡ M.inputs.written }
-        requires keeper_faults { M.inputs.keeper_faults ≤ K.faults table.keeper }
+        requires keeper_faults { M.inputs.store.faults ≤ (K.store table.keeper).faults }
         requires sink_faults { M.inputs.sink_faults ≤ W.faults sink }
 
         ensures table { IfOk result (λ book. book.table ≡ table) }
@@ -194,7 +190,7 @@ impl<K: Keeper, W: Sink, B: Worker, M: Mark> Book<K, W, B, M> {
     /// session goes on.
     pub fn front_step(&mut self) -> Front
         requires { self.old.status ≡ None → self.old.table.state.runs ≡ [] }
-        ensures { IsFronted K.held B.kind_of result self.old self.new }
+        ensures { IsFronted K.store B.kind_of result self.old self.new }
     {
         if self.status.is_some() {
             return Front::Stopped;
@@ -223,8 +219,8 @@ impl<K: Keeper, W: Sink, B: Worker, M: Mark> Book<K, W, B, M> {
     }
 
     /// Starts the work that is first, tells it, and takes the worker of its instance from the bench.
-    pub fn claim(&mut self) -> Job<B>
-        ensures { IsClaimed K.held B.kind_of result self.old self.new }
+    pub fn claim(&mut self) -> Job<B, M>
+        ensures { IsClaimed K.store B.kind_of result self.old self.new }
     {
         if self.status.is_some() {
             return Job::Stopped;
@@ -266,15 +262,15 @@ impl<K: Keeper, W: Sink, B: Worker, M: Mark> Book<K, W, B, M> {
     /// is over. Where memory was refused to the worker, the session ends.
     pub fn report(
         &mut self,
-        ticket: Ticket,
+        ticket: Ticket<M>,
         seat: Seated<B>,
         told: Result<Told, AllocError>,
-    ) -> After<B>
+    ) -> After<B, M>
         requires stands { Stands self.old.table.state ticket }
         requires number { seat.number ≡ ticket.instance }
         requires kind { B.kind_of seat.worker ≡ ticket.kind }
         requires away { IsAwayAt seat.number (B.kind_of seat.worker) self.old.places }
-        ensures { IsReported K.held B.kind_of ticket seat told result self.old self.new }
+        ensures { IsReported K.store B.kind_of ticket seat told result self.old self.new }
     {
         if self.status.is_some() {
             drop(told);
@@ -292,12 +288,12 @@ impl<K: Keeper, W: Sink, B: Worker, M: Mark> Book<K, W, B, M> {
     }
 
     /// Ends the turn of a run as its worker told, while the session goes on.
-    fn end_turn(&mut self, ticket: Ticket, seat: Seated<B>, told: Told) -> After<B>
+    fn end_turn(&mut self, ticket: Ticket<M>, seat: Seated<B>, told: Told) -> After<B, M>
         requires going { self.old.status ≡ None }
         requires stands { Stands self.old.table.state ticket }
         requires number { seat.number ≡ ticket.instance }
         requires away { IsAwayAt seat.number (B.kind_of seat.worker) self.old.places }
-        ensures { IsReported K.held B.kind_of ticket seat (Ok told) result self.old self.new }
+        ensures { IsReported K.store B.kind_of ticket seat (Ok told) result self.old self.new }
     {
         match self.table.turn(ticket, told) {
             TurnAnswer::Go(next) => {
@@ -377,10 +373,10 @@ impl<K: Keeper, W: Sink, B: Worker, M: Mark> Book<K, W, B, M> {
         requires none_away { NoneAway self.places }
         requires lines { self.status ≡ None → self.left ≡ [] }
         requires quiet { self.status ≡ None → IsQuiet self.table.state }
-        ensures session { IsSessionEnd (tells_of K.held K.faults W.given W.faults B.kind_of B.diary_of)
+        ensures session { IsSessionEnd (tells_of K.store W.given W.faults B.kind_of B.diary_of)
             M.inputs result }
         ensures back { IsHandedBack B.kind_of self result }
-        ensures written { IsWrittenOut (tells_of K.held K.faults W.given W.faults B.kind_of B.diary_of)
+        ensures written { IsWrittenOut (tells_of K.store W.given W.faults B.kind_of B.diary_of)
             self result }
         ensures done { result.status ≡ Status.Done → self.status ≡ None }
     {

@@ -2,14 +2,13 @@
 //!
 //! [`Book`] holds a [`Table`](wm_table::Table) with the bench of workers, the lines that are left and
 //! what is still to be written. Its type keeps what the promises of a run rest on, of what the run
-//! was given, for which its [`Mark`] stands. [`run_serial`] executes the lines one after another, and
+//! was given, for which its [`Mark`](wm_table::Mark) stands. [`run_serial`] executes the lines one after another, and
 //! after each of them drives all that may start. [`Ended`] is what a run hands back, with the
 //! [`Status`] that it ended with.
 #![tactic(auto)]
 
 pub mod book;
 pub mod ended;
-mod mark;
 mod pending;
 pub mod serial;
 pub mod status;
@@ -18,6 +17,5 @@ mod writing;
 
 pub use book::{After, Book, Front, Job, Stop};
 pub use ended::Ended;
-pub use mark::Mark;
 pub use serial::run_serial;
 pub use status::Status;

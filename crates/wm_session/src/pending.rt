@@ -10,7 +10,7 @@ use std::alloc::{AllocError, Global};
 use std::marker::Model;
 use wm_io::Sink;
 use wm_keeper::Keeper;
-use wm_table::Table;
+use wm_table::{Mark, Table};
 use wm_texts::event_text;
 
 /// How many bytes there is room for from the start.
@@ -45,10 +45,10 @@ impl Pending {
 
     /// Puts the text of the table's last event behind what is pending, and writes that as far as the
     /// sink takes it. Where memory is refused for the text, it is still to be made.
-    pub fn tell_last<K: Keeper, W: Sink>(
+    pub fn tell_last<K: Keeper, W: Sink, M: Mark>(
         &mut self,
         alloc: Global,
-        table: &Table<K>,
+        table: &Table<K, M>,
         sink: &mut W,
     ) -> Result<(), WriteFault>
         requires { self.old.untold ≡ false }
@@ -68,10 +68,10 @@ impl Pending {
 
     /// Writes what is pending in the end, as far as the sink takes it; a text that is still to be made
     /// is tried once more.
-    pub fn finish<K: Keeper, W: Sink>(
+    pub fn finish<K: Keeper, W: Sink, M: Mark>(
         &mut self,
         alloc: Global,
-        table: &Table<K>,
+        table: &Table<K, M>,
         sink: &mut W,
     ) -> Result<(), WriteFault>
         ensures told { TextsInvariant (W.given sink.old) (W.given sink.new)
@@ -88,7 +88,11 @@ impl Pending {
     }
 
     /// Puts the text of the table's last event behind the bytes.
-    fn add_last<K: Keeper>(&mut self, alloc: Global, table: &Table<K>) -> Result<(), AllocError>
+    fn add_last<K: Keeper, M: Mark>(
+        &mut self,
+        alloc: Global,
+        table: &Table<K, M>,
+    ) -> Result<(), AllocError>
         ensures ok { OnOk result (self.new ≡ record self.old {
           bytes = self.old.bytes ++ last_text table.now.first table.now.log;
         }) }
@@ -112,7 +116,7 @@ impl Pending {
 }
 
 /// The text of a table's last event; nothing where there is none.
-fn last_text<K: Keeper>(alloc: Global, table: &Table<K>) -> Result<Vec<u8>, AllocError>
+fn last_text<K: Keeper, M: Mark>(alloc: Global, table: &Table<K, M>) -> Result<Vec<u8>, AllocError>
     ensures { IfOk result (λ text. text.items ≡ last_text table.now.first table.now.log) }
 {
     match table.last_event() {

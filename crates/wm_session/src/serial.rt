@@ -3,7 +3,7 @@ ghost use Rattle.std.specs.Prelude.{◌≡◌, ◌<◌, ◌∷◌, [], List, Non
 ghost use Rattle.std.specs.List.{AllByRecursion};
 ghost use Rattle.wm_bench.specs.Places.{idle_hands};
 ghost use Rattle.wm_bench.specs.declared.hand.Hand.{Hand};
-ghost use Rattle.wm_machine.specs.Outcome.{IsBuilt};
+ghost use Rattle.wm_machine.specs.Outcome.{IsAskable};
 ghost use Rattle.wm_machine.specs.Quiet.{IsQuiet};
 ghost use Rattle.wm_machine.specs.Waiting.{left_to_drain};
 ghost use Rattle.wm_machine.specs.declared.command.Command.{Command};
@@ -18,12 +18,11 @@ ghost use Rattle.wm_worker.specs.declared.answer.Entry.TheVariants.{Begun};
 
 use crate::book::{After, Book, Front, Job};
 use crate::ended::Ended;
-use crate::mark::Mark;
 use std::alloc::{AllocError, Global};
 use wm_bench::Seated;
 use wm_io::Sink;
 use wm_keeper::Keeper;
-use wm_table::Ticket;
+use wm_table::{Mark, Ticket};
 use wm_worker::{Signal, Told, Worker};
 
 /// What became of the work that was first.
@@ -45,8 +44,8 @@ pub fn run_serial<K: Keeper, W: Sink, B: Worker, M: Mark>(
     mut book: Book<K, W, B, M>,
 ) -> Ended<K, W, B>
     requires begins { IsAtBegin M.inputs.lines book }
-    requires built { AllByRecursion IsBuilt M.inputs.lines }
-    ensures { IsSerialEnd (tells_of K.held K.faults W.given W.faults B.kind_of B.diary_of)
+    requires askable { AllByRecursion IsAskable M.inputs.lines }
+    ensures { IsSerialEnd (tells_of K.store W.given W.faults B.kind_of B.diary_of)
         M.inputs (idle_hands book.places) result }
 {
     execute_lines(alloc, &mut book);
@@ -124,7 +123,7 @@ fn drive_first<K: Keeper, W: Sink, B: Worker, M: Mark>(
 fn drive<K: Keeper, W: Sink, B: Worker, M: Mark>(
     alloc: Global,
     book: &mut Book<K, W, B, M>,
-    ticket: Ticket,
+    ticket: Ticket<M>,
     mut seat: Seated<B>,
     signal: &Signal,
 )
@@ -149,7 +148,7 @@ fn drive<K: Keeper, W: Sink, B: Worker, M: Mark>(
 fn take_turns<K: Keeper, W: Sink, B: Worker, M: Mark>(
     alloc: Global,
     book: &mut Book<K, W, B, M>,
-    mut ticket: Ticket,
+    mut ticket: Ticket<M>,
     mut seat: Seated<B>,
     signal: &Signal,
 )
@@ -174,15 +173,15 @@ fn take_turns<K: Keeper, W: Sink, B: Worker, M: Mark>(
 fn turn_once<K: Keeper, W: Sink, B: Worker, M: Mark>(
     alloc: Global,
     book: &mut Book<K, W, B, M>,
-    ticket: Ticket,
+    ticket: Ticket<M>,
     mut seat: Seated<B>,
     signal: &Signal,
-) -> Option<(Ticket, Seated<B>)>
+) -> Option<(Ticket<M>, Seated<B>)>
     requires under_way { IsUnderWay B.kind_of ticket book.old }
     requires number { seat.number ≡ ticket.instance }
     requires kind { B.kind_of seat.worker ≡ ticket.kind }
     requires signal_is { signal.now ≡ record { run = ticket.task.run; never = true } }
-    ensures { IsTurned K.held B.kind_of B.diary_of ticket seat.worker result book.old book.new }
+    ensures { IsTurned K.store B.kind_of B.diary_of ticket seat.worker result book.old book.new }
 {
     let told = turn(alloc, &mut seat, &ticket, signal);
     match book.report(ticket, seat, told) {
@@ -193,10 +192,10 @@ fn turn_once<K: Keeper, W: Sink, B: Worker, M: Mark>(
 }
 
 /// Has the worker of a run take its turn, whose signal is never raised.
-fn turn<B: Worker>(
+fn turn<B: Worker, M: Mark>(
     alloc: Global,
     seat: &mut Seated<B>,
-    ticket: &Ticket,
+    ticket: &Ticket<M>,
     signal: &Signal,
 ) -> Result<Told, AllocError>
     requires { signal.now ≡ record { run = ticket.now.task.run; never = true } }

@@ -48,6 +48,7 @@ impl From<BeginFault> for Status {
     fn from(fault: BeginFault) -> Status {
         match fault {
             BeginFault::Bad { seq, bad_row } => Status::BadStore { seq, bad_row },
+            BeginFault::KeeperFault => Status::KeeperFault,
             BeginFault::Memory => Status::Memory,
         }
     }

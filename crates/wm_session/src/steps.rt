@@ -17,24 +17,24 @@ use crate::writing::WriteFault;
 use wm_bench::{Bench, Seated};
 use wm_keeper::Keeper;
 use wm_machine::{Command, Event};
-use wm_table::{Claim, Table, Ticket, Trouble};
+use wm_table::{Claim, Mark, Table, Ticket, Trouble};
 use wm_worker::Worker;
 
 /// Executes the command of a line, and retires a class that it retires on the bench. Its reply
 /// stands in the table's last event.
-pub fn execute<K: Keeper, B: Worker>(
-    table: &mut Table<K>,
+pub fn execute<K: Keeper, B: Worker, M: Mark>(
+    table: &mut Table<K, M>,
     bench: &mut Bench<B>,
     line: u32,
     command: Command,
 ) -> Result<(), Trouble>
     requires { IsLegalLine table.old.state command }
     ensures ok { OnOk result ((reply : Reply)
-        × IsOneStep K.held (event.Command line command reply) table.old table.new) }
-    ensures err { OnErr result (IsUntouched K.held table.old table.new) }
+        × IsOneStep K.store (event.Command line command reply) table.old table.new) }
+    ensures err { OnErr result (IsUntouched K.store table.old table.new) }
     ensures places { OnOk result (bench.new ≡ places_after B.kind_of command bench.old) }
     ensures places_err { OnErr result (bench.new ≡ bench.old) }
-    ensures cause { TroubleCause result (K.faults table.old.keeper) (K.faults table.new.keeper) }
+    ensures cause { TroubleCause result (K.store table.old.keeper).faults (K.store table.new.keeper).faults }
 {
     match table.command(line, command) {
         Ok(reply) => {
@@ -47,7 +47,7 @@ pub fn execute<K: Keeper, B: Worker>(
 }
 
 /// Retires a class on the bench, where the table's last event is a line that retires it.
-fn retire_last<K: Keeper, B: Worker>(table: &Table<K>, bench: &mut Bench<B>)
+fn retire_last<K: Keeper, B: Worker, M: Mark>(table: &Table<K, M>, bench: &mut Bench<B>)
     ensures { (line : ℕ) (asked : Command) (reply : Reply)
         → last_of table.now.log ≡ Some (event.Command line asked reply)
         → bench.new ≡ places_after B.kind_of asked bench.old }
@@ -67,10 +67,10 @@ fn retire<B: Worker>(bench: &mut Bench<B>, command: &Command)
 }
 
 /// Takes a ticket without an event, and gives its worker back to the bench.
-pub fn give_back<K: Keeper, B: Worker>(
-    table: &mut Table<K>,
+pub fn give_back<K: Keeper, B: Worker, M: Mark>(
+    table: &mut Table<K, M>,
     bench: &mut Bench<B>,
-    ticket: Ticket,
+    ticket: Ticket<M>,
     seat: Seated<B>,
 )
     requires stands { Stands table.old.state ticket }
@@ -83,7 +83,7 @@ pub fn give_back<K: Keeper, B: Worker>(
 }
 
 /// Gives up a claim: a ticket of it is taken without an event.
-pub fn give_up<K: Keeper>(table: &mut Table<K>, claim: Claim)
+pub fn give_up<K: Keeper, M: Mark>(table: &mut Table<K, M>, claim: Claim<M>)
     requires { IsClaimIn table.old.state claim }
     ensures { table.new ≡ table.old }
 {

@@ -6,7 +6,10 @@ use Rattle.std.proofs.lemmas.Int.{ints}
 use Rattle.std.proofs.lemmas.List.{map-append, append-nil, length-map}
 use Rattle.std.proofs.lemmas.Option.{none-some, same_Some, slice_get_within}
 use Rattle.wm_keeper.proofs.Ascending.{int_lt-true, int_lt-false, put_row-above}
+use Rattle.std.specs.Prelude.{IfSome}
+use Rattle.wm_keeper.proofs.Stores.{IfSome-still}
 use Rattle.wm_keeper.specs.Keeper.{changed, changed_by, put_row, remove_row}
+use Rattle.wm_keeper.specs.Store.{changed_rows, IsAtMost, Store}
 use Rattle.wm_keeper.specs.declared.row.Change.{Change}
 use Rattle.wm_keeper.specs.declared.row.Row.{Row}
 use Rattle.wm_machine.specs.declared.record.Record.{Record}
@@ -144,21 +147,19 @@ rows-changed s change valid fits =
     (changed-append puts removes (rows_of s) ∙ ap (changed removes) (ap (changed puts) (sym told.rows) ∙ replaced.0) ∙ left.0)
     ∙ rows-placed s.next change.placed (without change.removed (with_replaced change.replaced works)) fits.placed left.1.1
 
--- what makes the rows of one state those of another does so to rows that are held
-rows-held : (s t : State) (change : List Row → List Row) (held : Option (List Row)) → HoldsRowsOf s held → change (rows_of s) ≡ rows_of t
-    → option_map change held ≡ option_map (λ _. rows_of t) held
-rows-held s t change None holds makes = refl
-rows-held s t change (Some rows) holds makes =
-    let same : rows ≡ rows_of s = cc in
-    ap (λ (rs : List Row). Some rs) (ap change same ∙ makes)
+-- what makes the rows of one state those of another does so to rows that are told
+rows-held : (s t : State) (change : List Row → List Row) (stored : Option (List Row)) → IfSome stored (λ rows. rows ≡ rows_of s)
+    → change (rows_of s) ≡ rows_of t → IfSome (option_map change stored) (λ rows. rows ≡ rows_of t)
+rows-held s t change None holds makes = tt
+rows-held s t change (Some rows) holds makes = ap change holds ∙ makes
 
 -- the rows held after a change are those of the state after it
-pub rows-made : (s now : State) (change : StepChange) (stored held : Option (List Row)) → Valid s → Fits s change → HoldsRowsOf s stored
-    → now ≡ changed_state change s → held ≡ option_map (changed (row_changes change)) stored → held ≡ option_map (λ _. rows_of now) stored
-rows-made s now change stored held valid fits holds state rows =
-    rows
-    ∙ rows-held s (changed_state change s) (changed (row_changes change)) stored holds (rows-changed s change valid fits)
-    ∙ ap (λ (t : State). option_map (λ _. rows_of t) stored) (sym state)
+pub rows-made : (s now : State) (change : StepChange) (before after : Store) → Valid s → Fits s change → HoldsRowsOf s before
+    → now ≡ changed_state change s → IsAtMost (changed_rows (row_changes change) before) after.rows → HoldsRowsOf now after
+rows-made s now change before after valid fits holds state rows =
+    subst (λ (t : State). HoldsRowsOf t after) (sym state)
+    (IfSome-still (λ rows. rows ≡ rows_of (changed_state change s)) _ after.rows
+    (rows-held s (changed_state change s) (changed (row_changes change)) before.rows holds (rows-changed s change valid fits)) rows)
 
 -- a change begins one run at most
 pub next_run-changed : (s : State) (change : StepChange) → (changed_state change s).next_run ≤ s.next_run + 1

@@ -1,5 +1,6 @@
 -- What no head of these files takes from a page of the guide is this project's own choice.
 pub mod Following
+pub mod Inputs
 pub mod Table
 pub mod TableState
 pub mod Trouble

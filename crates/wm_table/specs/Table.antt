@@ -1,9 +1,11 @@
 -- What the calls of the table do to the state, its log and the rows held.
-use Rattle.std.specs.Prelude.{◌≡◌, ℕ, ◌+◌, ◌≤◌, Bool, true, false, List, [], ◌∷◌, ◌++◌, length, Option, Some, None, IsSomeAnd, option_map, Result, Err}
+use Rattle.std.specs.Prelude.{◌≡◌, ℕ, ℤ, ◌+◌, ◌≤◌, Bool, true, false, if◌then◌else◌, List, [], ◌∷◌, ◌++◌, length, Option, Some, None, IsSomeAnd, IfSome, Result, Ok, Err}
 use Rattle.wm_data.specs.declared.data.DataEntry.{DataEntry}
 use Rattle.wm_faults.specs.Faults as faults
+use Rattle.wm_keeper.specs.Store.{Store, IsAtMost}
 use Rattle.wm_keeper.specs.declared.row.Row.{Row}
 use Rattle.wm_machine.specs.First.{first_of}
+use Rattle.wm_machine.specs.Opened.{Opened}
 use Rattle.wm_machine.specs.Replay.{Replay}
 use Rattle.wm_machine.specs.Role as role
 use Rattle.wm_machine.specs.Role.{HasGiven, Reported}
@@ -18,6 +20,11 @@ use Rattle.wm_observe.specs.declared.note.Note.{Note}
 use Rattle.wm_runs.specs.Reports.{is_timeout, CountsIn}
 use Rattle.wm_runs.specs.declared.starting.Claimed.{Claimed}
 use Rattle.wm_runs.specs.declared.starting.Claimed.TheVariants as claimed
+use Rattle.wm_rows.specs.Sound.{checked, AreSound}
+use Rattle.wm_rows.specs.declared.fault.RowFault.{RowFault}
+use Rattle.wm_rows.specs.declared.fault.RowFault.TheVariants as row
+use Rattle.wm_rows.specs.declared.fault.RowFault.TheVariants.{BadRow, Unsound}
+use Rattle.wm_table.specs.Inputs.{Inputs}
 use Rattle.wm_table.specs.TableState.{TableState, TicketState, ticket_of}
 use Rattle.wm_table.specs.declared.table.BeginFault.{BeginFault}
 use Rattle.wm_table.specs.declared.table.BeginFault.TheVariants as begin
@@ -34,20 +41,24 @@ use Rattle.wm_worker.specs.declared.answer.Given.TheVariants.{More}
 
 -- ---- one event
 
--- one step of the machine: its event is appended, the state is the one after it, and the rows held are those of the new state
-pub record IsOneStep {K : Type 0} (held : K → Option (List Row)) (e : Event) (old new : TableState K) : Type 0 where
+-- where the keeper tells its rows, they are those of the state
+abbrev pub HoldsRowsOf : State → Store → Type 0
+HoldsRowsOf s store = IfSome store.rows (λ rows. rows ≡ rows_of s)
+
+-- one step of the machine: its event is appended, the state is the one after it, and the rows held, where they are told, are the new state's
+pub record IsOneStep {K : Type 0} (store : K → Store) (e : Event) (old new : TableState K) : Type 0 where
   pub first : new.first ≡ old.first
   pub legal : Legal old.state e
   pub state : new.state ≡ after old.state e
   pub appended : new.log ≡ old.log ++ e ∷ []
-  pub rows : held new.keeper ≡ option_map (λ _. rows_of new.state) (held old.keeper)
+  pub rows : HoldsRowsOf new.state (store new.keeper)
 
 -- state, log and the rows held are as they were
-pub record IsUntouched {K : Type 0} (held : K → Option (List Row)) (old new : TableState K) : Type 0 where
+pub record IsUntouched {K : Type 0} (store : K → Store) (old new : TableState K) : Type 0 where
   pub first : new.first ≡ old.first
   pub state : new.state ≡ old.state
   pub log : new.log ≡ old.log
-  pub rows : held new.keeper ≡ held old.keeper
+  pub rows : IsAtMost (store old.keeper).rows (store new.keeper).rows
 
 abbrev pub is_keeper_fault : {T : Type 0} → Result T Trouble → Bool
 is_keeper_fault (Err trouble.KeeperFault) = true
@@ -59,11 +70,38 @@ TroubleCause result before now = faults.HasCause (is_keeper_fault result) before
 
 -- ---- begin
 
--- `Bad` names the first row, as one that is out of form
-abbrev pub BeginCause : List Row → BeginFault → Type 0
-BeginCause [] (begin.Bad seq bad_row) = ⊥
-BeginCause (row ∷ rows) (begin.Bad seq bad_row) = (seq ≡ row.seq) × (bad_row ≡ true)
-BeginCause rows begin.Memory = Unit {0}
+-- the fault of a row, by which its store isn't opened
+abbrev pub row_fault : ℤ → Bool → RowFault
+row_fault seq bad_row = if bad_row then BadRow seq else Unsound seq
+
+-- why a table isn't begun whose rows have a fault, or whose opening commit is refused
+abbrev pub begin_fault_of : RowFault → BeginFault
+begin_fault_of (BadRow seq) = begin.Bad seq true
+begin_fault_of (Unsound seq) = begin.Bad seq false
+begin_fault_of row.Memory = begin.Memory
+
+abbrev pub begin_trouble_of : Trouble → BeginFault
+begin_trouble_of trouble.KeeperFault = begin.KeeperFault
+begin_trouble_of trouble.Memory = begin.Memory
+
+-- `Bad` names the first row with a fault, and says whether it is out of form; the keeper isn't asked to commit unless the rows are sound
+abbrev pub IsBeginFault : List Row → BeginFault → Type 0
+IsBeginFault rows (begin.Bad seq bad_row) = checked rows ≡ Err (row_fault seq bad_row)
+IsBeginFault rows begin.KeeperFault = AreSound rows
+IsBeginFault rows begin.Memory = Unit {0}
+
+abbrev pub is_refused_by_keeper : {T K : Type 0} → Result T (K × BeginFault) → Bool
+is_refused_by_keeper (Err (keeper, begin.KeeperFault)) = true
+is_refused_by_keeper _ = false
+
+-- the keeper, which the table has or which comes back
+abbrev pub keeper_after : {K : Type 0} → Result (TableState K) (K × BeginFault) → K
+keeper_after (Ok table) = table.keeper
+keeper_after (Err refused) = refused.0
+
+-- `KeeperFault` comes only where the keeper's count rose, and any other answer leaves it
+abbrev pub BeginCause : {K : Type 0} → (K → Store) → K → Result (TableState K) (K × BeginFault) → Type 0
+BeginCause store keeper result = faults.HasCause (is_refused_by_keeper result) (store keeper).faults (store (keeper_after result)).faults
 
 -- ---- claim
 
@@ -77,15 +115,15 @@ pub record IsNothingClaimed {K : Type 0} (old new : TableState K) : Type 0 where
   pub same : new ≡ old
 
 -- a run began, and the ticket is its
-pub record IsRunClaimed {K : Type 0} (held : K → Option (List Row)) (ticket : TicketState) (old new : TableState K) : Type 0 where
-  pub step : IsOneStep held (event.Start ticket.task.run ticket.seq ticket.instance ticket.task.input) old new
+pub record IsRunClaimed {K : Type 0} (store : K → Store) (ticket : TicketState) (old new : TableState K) : Type 0 where
+  pub step : IsOneStep store (event.Start ticket.task.run ticket.seq ticket.instance ticket.task.input) old new
   pub ticket_in : IsTicketIn new.state ticket
 
 -- none where nothing is startable, else one event: the start of the work that is first, or that it couldn't start
-abbrev pub IsClaimAnswer : {K : Type 0} → (K → Option (List Row)) → Option Claim → TableState K → TableState K → Type 0
-IsClaimAnswer held None old new = IsNothingClaimed old new
-IsClaimAnswer held (Some (claim.Run ticket)) old new = IsRunClaimed held ticket old new
-IsClaimAnswer held (Some (claim.Failed seq cause)) old new = IsOneStep held (event.StartFailed seq cause) old new
+abbrev pub IsClaimAnswer : {K M : Type 0} → (K → Store) → Option (Claim M) → TableState K → TableState K → Type 0
+IsClaimAnswer store None old new = IsNothingClaimed old new
+IsClaimAnswer store (Some (claim.Run ticket)) old new = IsRunClaimed store ticket old new
+IsClaimAnswer store (Some (claim.Failed seq cause)) old new = IsOneStep store (event.StartFailed seq cause) old new
 
 -- a run that was claimed is in the state, and took this input
 abbrev pub HasClaimed : State → Claimed → Type 0
@@ -93,7 +131,7 @@ HasClaimed s (claimed.Run number input) = IsSomeAnd (run_numbered number s.runs)
 HasClaimed s (claimed.Failed seq cause) = Unit {0}
 
 -- what is answered of what was claimed: the ticket of its run, or that the work couldn't start
-abbrev pub IsClaim : State → Claimed → Claim → Type 0
+abbrev pub IsClaim : {M : Type 0} → State → Claimed → Claim M → Type 0
 IsClaim s (claimed.Run number input) (claim.Run ticket) = (ticket.task.run ≡ number) × (ticket.task.input ≡ input) × IsTicketIn s ticket
 IsClaim s (claimed.Failed seq cause) (claim.Failed failed why) = (failed ≡ seq) × (why ≡ cause)
 IsClaim s _ _ = ⊥
@@ -105,7 +143,7 @@ abbrev pub Stands : State → TicketState → Type 0
 Stands s ticket = IsSomeAnd (run_numbered ticket.task.run s.runs) (λ run. (run.instance ≡ ticket.instance) × (run.kind ≡ ticket.kind))
 
 -- the run of this number is over, by an event that ends it as was told; whether for want of a turn
-pub record IsFinished {K : Type 0} (held : K → Option (List Row)) (number : ℕ) (told : Report) (timed_out : Bool) (old new : TableState K) : Type 0 where
+pub record IsFinished {K : Type 0} (store : K → Store) (number : ℕ) (told : Report) (timed_out : Bool) (old new : TableState K) : Type 0 where
   pub ending : Event
   pub reported : Reported
   pub gave : Given
@@ -113,30 +151,30 @@ pub record IsFinished {K : Type 0} (held : K → Option (List Row)) (number : �
   pub has_given : HasGiven reported gave
   pub ends : role_of ending ≡ role.Ends number reported
   pub how : is_timeout ending ≡ timed_out
-  pub step : IsOneStep held ending old new
+  pub step : IsOneStep store ending old new
 
 -- the run of this number is at its next turn, as was told, by an event of which the keeper learns nothing, and keeps what it took
-pub record IsTurned {K : Type 0} (held : K → Option (List Row)) (number : ℕ) (told : Report) (old new : TableState K) : Type 0 where
+pub record IsTurned {K : Type 0} (store : K → Store) (number : ℕ) (told : Report) (old new : TableState K) : Type 0 where
   pub progress : Option (List DataEntry)
   pub told_is : given_of told.answer ≡ Some (More progress)
-  pub step : IsOneStep held (event.Turn number progress) old new
+  pub step : IsOneStep store (event.Turn number progress) old new
   pub keeper : new.keeper ≡ old.keeper
   pub input : IsSomeAnd (run_numbered number new.state.runs) (λ run. told.input ≡ run.input)
 
 -- the report counts, and the run is over
-pub record IsTurnOver {K : Type 0} (held : K → Option (List Row)) (ticket : TicketState) (told : Report) (timed_out : Bool) (old new : TableState K)
+pub record IsTurnOver {K : Type 0} (store : K → Store) (ticket : TicketState) (told : Report) (timed_out : Bool) (old new : TableState K)
     : Type 0 where
   pub counts : CountsIn old.state ticket.task.run told
-  pub finished : IsFinished held ticket.task.run told timed_out old new
+  pub finished : IsFinished store ticket.task.run told timed_out old new
 
 -- the report counts, and the run goes on, by an event of which the keeper learns nothing: the next ticket is of the same run, and holds what
 -- that keeps
-pub record HasGoneOn {K : Type 0} (held : K → Option (List Row)) (ticket : TicketState) (told : Report) (next : TicketState) (old new : TableState K)
+pub record HasGoneOn {K : Type 0} (store : K → Store) (ticket : TicketState) (told : Report) (next : TicketState) (old new : TableState K)
     : Type 0 where
   pub progress : Option (List DataEntry)
   pub counts : CountsIn old.state ticket.task.run told
   pub told_is : given_of told.answer ≡ Some (More progress)
-  pub step : IsOneStep held (event.Turn ticket.task.run progress) old new
+  pub step : IsOneStep store (event.Turn ticket.task.run progress) old new
   pub keeper : new.keeper ≡ old.keeper
   pub same_run : next.task.run ≡ ticket.task.run
   pub ticket_in : IsTicketIn new.state next
@@ -148,38 +186,37 @@ pub record IsTurnKept {K : Type 0} (ticket : TicketState) (told : Report) (back 
   pub same : new ≡ old
 
 -- the report counts and there was trouble: ticket and report are given back, and the table is untouched
-pub record IsTurnRefused {K : Type 0} (held : K → Option (List Row)) (ticket : TicketState) (told : Report) (back : TicketState) (report : Report)
+pub record IsTurnRefused {K : Type 0} (store : K → Store) (ticket : TicketState) (told : Report) (back : TicketState) (report : Report)
     (old new : TableState K) : Type 0 where
   pub counts : CountsIn old.state ticket.task.run told
   pub same_ticket : back ≡ ticket
   pub same_report : report ≡ told
-  pub untouched : IsUntouched held old new
+  pub untouched : IsUntouched store old new
 
 -- Go, Finished or TimedOut where the report counts, with its event; Again where it doesn't; Refused where it counts and there is trouble
-abbrev pub IsTurnAnswer : {K : Type 0} → (K → Option (List Row)) → TicketState → Report → TurnAnswer → TableState K → TableState K → Type 0
-IsTurnAnswer held ticket told (turn.Go next) old new = HasGoneOn held ticket told next old new
-IsTurnAnswer held ticket told turn.Finished old new = IsTurnOver held ticket told false old new
-IsTurnAnswer held ticket told turn.TimedOut old new = IsTurnOver held ticket told true old new
-IsTurnAnswer held ticket told (turn.Again back) old new = IsTurnKept ticket told back old new
-IsTurnAnswer held ticket told (turn.Refused back report why) old new = IsTurnRefused held ticket told back report old new
+abbrev pub IsTurnAnswer : {K M : Type 0} → (K → Store) → TicketState → Report → TurnAnswer M → TableState K → TableState K → Type 0
+IsTurnAnswer store ticket told (turn.Go next) old new = HasGoneOn store ticket told next old new
+IsTurnAnswer store ticket told turn.Finished old new = IsTurnOver store ticket told false old new
+IsTurnAnswer store ticket told turn.TimedOut old new = IsTurnOver store ticket told true old new
+IsTurnAnswer store ticket told (turn.Again back) old new = IsTurnKept ticket told back old new
+IsTurnAnswer store ticket told (turn.Refused back report why) old new = IsTurnRefused store ticket told back report old new
 
-abbrev pub is_refused_for_keeper : TurnAnswer → Bool
+abbrev pub is_refused_for_keeper : {M : Type 0} → TurnAnswer M → Bool
 is_refused_for_keeper (turn.Refused same report trouble.KeeperFault) = true
 is_refused_for_keeper _ = false
 
 -- `KeeperFault` comes only where the keeper's count rose, and any other answer leaves it
-abbrev pub TurnCause : TurnAnswer → ℕ → ℕ → Type 0
+abbrev pub TurnCause : {M : Type 0} → TurnAnswer M → ℕ → ℕ → Type 0
 TurnCause answer before now = faults.HasCause (is_refused_for_keeper answer) before now
 
 -- ---- what a table keeps
 
--- where the keeper tells its rows, they are those of the state
-abbrev pub HoldsRowsOf : State → Option (List Row) → Type 0
-HoldsRowsOf s held = held ≡ option_map (λ _. rows_of s) held
-
--- the log replays from the first state to the state now, whose rows are held, and the notes are those of its last event
-pub record TableInvariant (first state : State) (log : List Event) (notes : List Note) (held : Option (List Row)) : Type 0 where
+-- of what the run was given: the first state is the one that its rows open to, the log replays from there to the state now, whose rows are held in
+-- the store that was loaded, and the notes are those of its last event
+pub record TableInvariant (run : Inputs) (first state : State) (log : List Event) (notes : List Note) (store : Store) : Type 0 where
+  pub opened : Opened run.rows run.instances first
   pub replay : Replay first log state
   pub notes_are : notes ≡ last_notes first log
-  pub rows : HoldsRowsOf state held
+  pub rows : HoldsRowsOf state store
+  pub name : IsAtMost run.store.name store.name
   pub few_runs : state.next_run ≤ length log + 1

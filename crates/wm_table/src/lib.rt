@@ -3,9 +3,11 @@
 //! [`Table`] makes the events of the machine, one a call, and keeps their rows.
 #![tactic(auto)]
 
-mod opening;
+pub mod mark;
+pub mod opening;
 pub mod table;
 
+pub use mark::Mark;
 pub use opening::opening_state;
 pub use table::ticket::Ticket;
 pub use table::{BeginFault, Claim, Table, TableEnd, Trouble, TurnAnswer};

@@ -1,12 +1,10 @@
 ghost use Rattle.std.specs.Prelude.{◌≡◌, []};
-ghost use Rattle.wm_machine.specs.Opened.{opening_state, AreFresh};
+ghost use Rattle.wm_machine.specs.Opened.{opening_state};
 
 use std::alloc::Global;
 use wm_collections::Items;
 use wm_conditions::Conditions;
-use wm_graph::Graph;
 use wm_machine::{Instance, State};
-use wm_steps::View;
 
 /// The state that an empty store opens to, with these instances. It takes no memory.
 pub fn opening_state(alloc: Global, instances: Items<Instance>) -> State
@@ -22,16 +20,5 @@ pub fn opening_state(alloc: Global, instances: Items<Instance>) -> State
         next_run: 1,
         observers: Items::new(alloc),
         hushed: false,
-    }
-}
-
-/// The view of that state. It takes no memory.
-pub fn opening_view(alloc: Global, instances: Items<Instance>) -> View
-    requires { AreFresh instances }
-    ensures { result ≡ opening_state [] instances }
-{
-    View {
-        state: opening_state(alloc, instances),
-        graph: Graph::new(alloc),
     }
 }

@@ -4,33 +4,38 @@ ghost use Rattle.std.specs.Option.{option_copied};
 ghost use Rattle.wm_collections.specs.Lists.{last_of};
 ghost use Rattle.wm_machine.specs.Outcome.{IsLegalLine};
 ghost use Rattle.wm_machine.specs.Narrow.{IsNarrow};
-ghost use Rattle.wm_machine.specs.Opened.{opening_state, AreFresh, Opened};
+ghost use Rattle.wm_keeper.specs.Store.{IsAtMost};
+ghost use Rattle.wm_machine.specs.Opened.{AreFresh, Opened};
 ghost use Rattle.wm_machine.specs.Quiet.{IsQuiet};
 ghost use Rattle.wm_machine.specs.Replay.{Replay};
+ghost use Rattle.wm_machine.specs.Rows.{rows_of};
 ghost use Rattle.wm_machine.specs.Valid.{Valid};
 ghost use Rattle.wm_observe.specs.Notes.{last_notes};
 ghost use Rattle.wm_machine.specs.declared.event.Event.TheVariants as event;
+ghost use Rattle.wm_rows.specs.Sound.{AreSound};
 ghost use Rattle.wm_steps.specs.StepChanges.{row_changes, IsStepOf};
 ghost use Rattle.wm_commands.specs.Builds.{ChangesNoRow, ChangesRows};
 ghost use Rattle.wm_runs.specs.Reports.{goes_on, CountsIn};
-ghost use Rattle.wm_table.specs.Table.{BeginCause, HasClaimed, HoldsRowsOf, IsClaim, IsClaimAnswer, IsFinished, IsOneStep, IsTurnAnswer, IsTurned, IsUntouched, Stands, TroubleCause, TurnCause};
+ghost use Rattle.wm_table.specs.Table.{BeginCause, HasClaimed, HoldsRowsOf, IsClaim, IsBeginFault, IsClaimAnswer, IsFinished, IsOneStep, IsTurnAnswer, IsTurned, IsUntouched, Stands, TroubleCause, TurnCause};
 
 mod carry;
 mod follow;
 mod row_changes;
 pub mod ticket;
 
-use crate::opening::{opening_state, opening_view};
-use crate::table::carry::carry_out;
+use crate::mark::Mark;
+use crate::table::carry::{carry_out, commit};
 use std::alloc::{AllocError, Global};
-use std::marker::Model;
+use std::marker::{Model, PhantomData};
 use ticket::{Ticket, ticket_for};
 use wm_collections::{Items, Replica};
 use wm_commands::{Executed, execute};
 use wm_keeper::{KeepFault, Keeper, Row};
 use wm_machine::{Cause, Command, Event, Instance, Reply, State};
 use wm_observe::{Note, step_notes};
+use wm_opening::{Opening, open};
 use wm_query::first_index;
+use wm_rows::RowFault;
 use wm_runs::{Claimed, Claiming, Ending, claim_first, counts_in, finish, goes_on, next_turn};
 use wm_steps::{StepChange, View};
 use wm_worker::Told;
@@ -70,17 +75,49 @@ impl From<AllocError> for Trouble {
 /// Why a table wasn't begun.
 #[derive(Clone, Copy, Debug, PartialEq, Eq)]
 pub enum BeginFault {
+    /// The keeper failed.
+    KeeperFault,
     /// The store has a row that can't be opened: its number, and whether the row is out of form.
     Bad { seq: i64, bad_row: bool },
     /// Memory was refused.
     Memory,
 }
 
+impl From<RowFault> for BeginFault {
+    ghost use Rattle.wm_table.specs.Table.{begin_fault_of};
+
+    ghost from_gives = { λ fault begin_fault. begin_fault ≡ begin_fault_of fault };
+
+    fn from(fault: RowFault) -> BeginFault {
+        match fault {
+            RowFault::BadRow { seq } => BeginFault::Bad { seq, bad_row: true },
+            RowFault::Unsound { seq } => BeginFault::Bad {
+                seq,
+                bad_row: false,
+            },
+            RowFault::Memory => BeginFault::Memory,
+        }
+    }
+}
+
+impl From<Trouble> for BeginFault {
+    ghost use Rattle.wm_table.specs.Table.{begin_trouble_of};
+
+    ghost from_gives = { λ trouble begin_fault. begin_fault ≡ begin_trouble_of trouble };
+
+    fn from(trouble: Trouble) -> BeginFault {
+        match trouble {
+            Trouble::KeeperFault => BeginFault::KeeperFault,
+            Trouble::Memory => BeginFault::Memory,
+        }
+    }
+}
+
 /// What became of the work that was first.
 #[derive(Debug)]
-pub enum Claim {
+pub enum Claim<M: Mark> {
     /// A run of it began.
-    Run(Ticket),
+    Run(Ticket<M>),
     /// It couldn't start.
     Failed { seq: u64, cause: Cause },
 }
@@ -94,7 +131,7 @@ fn is_quiet(view: &View) -> bool
 
 /// What was claimed: the ticket of its run, which the state has, or that the work couldn't start. It
 /// takes no memory.
-fn claim_of(view: &View, claimed: Claimed) -> Claim
+fn claim_of<M: Mark>(view: &View, claimed: Claimed) -> Claim<M>
     requires { HasClaimed view.now claimed }
     ensures { IsClaim view.entry.now claimed result }
 {
@@ -106,17 +143,17 @@ fn claim_of(view: &View, claimed: Claimed) -> Claim
 
 /// What became of a run whose worker reported.
 #[derive(Debug)]
-pub enum TurnAnswer {
+pub enum TurnAnswer<M: Mark> {
     /// It goes on: the ticket is for its next turn.
-    Go(Ticket),
+    Go(Ticket<M>),
     /// It is over, as its worker reported.
     Finished,
     /// It is over, since its worker wanted one more turn after the last.
     TimedOut,
     /// The report isn't one on the run's turn: nothing has changed, and the ticket is as it was.
-    Again(Ticket),
+    Again(Ticket<M>),
     /// There was trouble: nothing has changed.
-    Refused(Ticket, Told, Trouble),
+    Refused(Ticket<M>, Told, Trouble),
 }
 
 /// What a table hands back in the end.
@@ -140,16 +177,17 @@ pub struct TableEnd<K> {
 /// Each call makes at most one event. It takes all its memory first, then commits the rows that
 /// change, and changes the state last: so nothing can fail after a commit, and where there is
 /// trouble nothing has changed.
-pub struct Table<K: Keeper> {
+pub struct Table<K: Keeper, M: Mark> {
     alloc: Global,
     first: State,
     view: View,
     log: Items<Event>,
     notes: Items<Note>,
     keeper: K,
+    of: PhantomData<M>,
 }
 
-impl<K: Keeper> Model for Table<K> {
+impl<K: Keeper, M: Mark> Model for Table<K, M> {
     ghost use Rattle.wm_table.specs.TableState.{TableState};
 
     ghost Value = { TableState K };
@@ -158,46 +196,59 @@ impl<K: Keeper> Model for Table<K> {
 
     ghost view = { λ t. record { first = t.first; state = t.view; log = t.log; keeper = t.keeper } };
 
-    ghost invariant = { λ t. TableInvariant t.first t.view t.log t.notes (K.held t.keeper) };
+    ghost invariant = { λ t. TableInvariant M.inputs t.first t.view t.log t.notes (K.store t.keeper) };
 }
 
-impl<K: Keeper> Table<K> {
-    /// Opens the rows that the keeper loaded, with these instances. No row is in a form that is
-    /// built, so the first one is bad. A refusal gives the keeper back.
+impl<K: Keeper, M: Mark> Table<K, M> {
+    /// Opens the rows that the keeper loaded, with these instances: what was running waits again. The
+    /// rows that change by that are committed at once, and nothing is where none does.
+    ///
+    /// A refusal gives the keeper back. It is `Bad` exactly where the rows aren't sound, with the first
+    /// one that has a fault; `KeeperFault` or `Memory` where the commit is refused, after which the
+    /// rows held are as they were; or `Memory` before it.
     pub fn begin(
         alloc: Global,
         keeper: K,
-        rows: &[Row],
+        rows: Vec<Row>,
         instances: Items<Instance>,
-    ) -> Result<Table<K>, (K, BeginFault)>
-        requires rows { IfSome (K.held keeper) (λ held. rows.now ≡ held) }
+    ) -> Result<Table<K, M>, (K, BeginFault)>
+        requires rows { IfSome (K.store keeper).rows (λ held. rows.items ≡ held) }
         requires instances { AreFresh instances }
-        ensures opened { IfOk result (λ table. Opened rows.now instances table.first) }
-        ensures first { IfOk result (λ table. table.first ≡ opening_state [] instances) }
+        requires given_rows { rows.items ≡ M.inputs.rows }
+        requires given_instances { instances ≡ M.inputs.instances }
+        requires given_name { IsAtMost M.inputs.store.name (K.store keeper).name }
+        ensures opened { IfOk result (λ table. Opened rows.items instances table.first) }
+        ensures sound { OnOk result (AreSound rows.items) }
         ensures state { IfOk result (λ table. table.state ≡ table.first) }
         ensures log { IfOk result (λ table. table.log ≡ []) }
-        ensures keeper { IfOk result (λ table. table.keeper ≡ keeper) }
-        ensures empty { OnOk result (rows.now ≡ []) }
-        ensures bad { IfErr result (λ refused. BeginCause rows.now refused.1) }
-        ensures kept { IfErr result (λ refused. refused.0 ≡ keeper) }
+        ensures held { IfOk result (λ table. HoldsRowsOf table.first (K.store table.keeper)) }
+        ensures name { IfOk result (λ table. IsAtMost (K.store keeper).name (K.store table.keeper).name) }
+        ensures only_changed { IfOk result (λ table. rows_of table.first ≡ rows.items → table.keeper ≡ keeper) }
+        ensures bad { IfErr result (λ refused. IsBeginFault rows.items refused.1) }
+        ensures kept { IfErr result (λ refused. IsAtMost (K.store keeper).rows (K.store refused.0).rows) }
+        ensures cause { BeginCause K.store keeper result }
     {
-        if let Some(row) = rows.first() {
-            let fault = BeginFault::Bad {
-                seq: row.seq,
-                bad_row: true,
-            };
-            return Err((keeper, fault));
-        }
-        match instances.replica(alloc) {
-            Ok(copies) => Ok(Table {
+        let opening = match open(alloc, &rows, instances) {
+            Ok(opening) => opening,
+            Err(fault) => return Err((keeper, BeginFault::from(fault))),
+        };
+        let Opening {
+            first,
+            view,
+            changes,
+        } = opening;
+        let mut keeper = keeper;
+        match commit(&mut keeper, &changes) {
+            Ok(()) => Ok(Table {
                 alloc,
-                first: opening_state(alloc, copies),
-                view: opening_view(alloc, instances),
+                first,
+                view,
                 log: Items::new(alloc),
                 notes: Items::new(alloc),
                 keeper,
+                of: PhantomData,
             }),
-            Err(_) => Err((keeper, BeginFault::Memory)),
+            Err(trouble) => Err((keeper, BeginFault::from(trouble))),
         }
     }
 
@@ -206,9 +257,9 @@ impl<K: Keeper> Table<K> {
     pub fn command(&mut self, line: u32, command: Command) -> Result<Reply, Trouble>
         requires legal { IsLegalLine self.old.state command }
         ensures ok { IfOk result (λ reply.
-            IsOneStep K.held (event.Command line command reply) self.old self.new) }
-        ensures err { OnErr result (IsUntouched K.held self.old self.new) }
-        ensures cause { TroubleCause result (K.faults self.old.keeper) (K.faults self.new.keeper) }
+            IsOneStep K.store (event.Command line command reply) self.old self.new) }
+        ensures err { OnErr result (IsUntouched K.store self.old self.new) }
+        ensures cause { TroubleCause result (K.store self.old.keeper).faults (K.store self.new.keeper).faults }
         ensures untouched_keeper { ChangesNoRow self.old.state command
             → self.new.keeper ≡ self.old.keeper }
         ensures keeper_fault { result ≡ Err Trouble.KeeperFault
@@ -226,10 +277,10 @@ impl<K: Keeper> Table<K> {
 
     /// Starts the work that is first, in one event: on the idle instance of its class, or as a work
     /// that can't start. None where nothing is startable.
-    pub fn claim(&mut self) -> Result<Option<Claim>, Trouble>
-        ensures ok { IfOk result (λ claim. IsClaimAnswer K.held claim self.old self.new) }
-        ensures err { OnErr result (IsUntouched K.held self.old self.new) }
-        ensures cause { TroubleCause result (K.faults self.old.keeper) (K.faults self.new.keeper) }
+    pub fn claim(&mut self) -> Result<Option<Claim<M>>, Trouble>
+        ensures ok { IfOk result (λ claim. IsClaimAnswer K.store claim self.old self.new) }
+        ensures err { OnErr result (IsUntouched K.store self.old self.new) }
+        ensures cause { TroubleCause result (K.store self.old.keeper).faults (K.store self.new.keeper).faults }
     {
         let Some(claiming) = claim_first(self.alloc, &self.view)? else {
             return Ok(None);
@@ -247,10 +298,10 @@ impl<K: Keeper> Table<K> {
     /// Ends the turn of a run as its worker told, in one event: the run goes on or is over. Where it
     /// goes on, the keeper isn't called. Where the report isn't on the run's turn, or the worker was
     /// cut, nothing changes.
-    pub fn turn(&mut self, ticket: Ticket, told: Told) -> TurnAnswer
+    pub fn turn(&mut self, ticket: Ticket<M>, told: Told) -> TurnAnswer<M>
         requires { Stands self.old.state ticket }
-        ensures answer { IsTurnAnswer K.held ticket told result self.old self.new }
-        ensures cause { TurnCause result (K.faults self.old.keeper) (K.faults self.new.keeper) }
+        ensures answer { IsTurnAnswer K.store ticket told result self.old self.new }
+        ensures cause { TurnCause result (K.store self.old.keeper).faults (K.store self.new.keeper).faults }
     {
         if !counts_in(&self.view, ticket.task().run, &told) {
             drop(told);
@@ -265,7 +316,7 @@ impl<K: Keeper> Table<K> {
 
     /// Takes a ticket without an event, after a trouble that ends the session. Its run stays in the
     /// state.
-    pub fn take_back(&mut self, ticket: Ticket)
+    pub fn take_back(&mut self, ticket: Ticket<M>)
         requires { Stands self.old.state ticket }
         ensures { self.new ≡ self.old }
     {
@@ -318,7 +369,9 @@ impl<K: Keeper> Table<K> {
         ensures replay { Replay result.first result.log result.last }
         ensures valid { Valid result.last }
         ensures narrow { IsNarrow result.last }
-        ensures rows { HoldsRowsOf result.last (K.held result.keeper) }
+        ensures opened { Opened M.inputs.rows M.inputs.instances result.first }
+        ensures rows { HoldsRowsOf result.last (K.store result.keeper) }
+        ensures name { IsAtMost M.inputs.store.name (K.store result.keeper).name }
     {
         let Table {
             alloc: _,
@@ -327,6 +380,7 @@ impl<K: Keeper> Table<K> {
             log,
             notes: _,
             keeper,
+            of: _,
         } = self;
         let View { state, graph: _ } = view;
         TableEnd {
@@ -338,13 +392,13 @@ impl<K: Keeper> Table<K> {
     }
 }
 
-impl<K: Keeper> Table<K> {
+impl<K: Keeper, M: Mark> Table<K, M> {
     /// Ends the turn of a ticket's run, for which the report counts, and which goes on.
-    fn go_on(&mut self, ticket: Ticket, told: Told) -> TurnAnswer
+    fn go_on(&mut self, ticket: Ticket<M>, told: Told) -> TurnAnswer<M>
         requires counts { CountsIn self.old.state ticket.task.run told }
         requires goes_on { goes_on told ≡ true }
-        ensures answer { IsTurnAnswer K.held ticket told result self.old self.new }
-        ensures cause { TurnCause result (K.faults self.old.keeper) (K.faults self.new.keeper) }
+        ensures answer { IsTurnAnswer K.store ticket told result self.old self.new }
+        ensures cause { TurnCause result (K.store self.old.keeper).faults (K.store self.new.keeper).faults }
     {
         let number = ticket.task().run;
         match self.advance(number, &told) {
@@ -360,20 +414,20 @@ impl<K: Keeper> Table<K> {
     fn advance(&mut self, number: u64, told: &Told) -> Result<(), Trouble>
         requires counts { CountsIn self.old.state number told.now }
         requires goes_on { goes_on told.now ≡ true }
-        ensures ok { OnOk result (IsTurned K.held number told.now self.old self.new) }
-        ensures err { OnErr result (IsUntouched K.held self.old self.new) }
-        ensures cause { TroubleCause result (K.faults self.old.keeper) (K.faults self.new.keeper) }
+        ensures ok { OnOk result (IsTurned K.store number told.now self.old self.new) }
+        ensures err { OnErr result (IsUntouched K.store self.old self.new) }
+        ensures cause { TroubleCause result (K.store self.old.keeper).faults (K.store self.new.keeper).faults }
     {
         let change = next_turn(self.alloc, &self.view, number, told)?;
         self.make(change)
     }
 
     /// Ends a ticket's run, for which the report counts, and which doesn't go on.
-    fn end_run(&mut self, ticket: Ticket, told: Told) -> TurnAnswer
+    fn end_run(&mut self, ticket: Ticket<M>, told: Told) -> TurnAnswer<M>
         requires counts { CountsIn self.old.state ticket.task.run told }
         requires over { goes_on told ≡ false }
-        ensures answer { IsTurnAnswer K.held ticket told result self.old self.new }
-        ensures cause { TurnCause result (K.faults self.old.keeper) (K.faults self.new.keeper) }
+        ensures answer { IsTurnAnswer K.store ticket told result self.old self.new }
+        ensures cause { TurnCause result (K.store self.old.keeper).faults (K.store self.new.keeper).faults }
     {
         match self.finish(ticket.task().run, &told) {
             Ok(timed_out) => {
@@ -394,9 +448,9 @@ impl<K: Keeper> Table<K> {
         requires counts { CountsIn self.old.state number told.now }
         requires over { goes_on told.now ≡ false }
         ensures ok { IfOk result (λ timed_out.
-            IsFinished K.held number told.now timed_out self.old self.new) }
-        ensures err { OnErr result (IsUntouched K.held self.old self.new) }
-        ensures cause { TroubleCause result (K.faults self.old.keeper) (K.faults self.new.keeper) }
+            IsFinished K.store number told.now timed_out self.old self.new) }
+        ensures err { OnErr result (IsUntouched K.store self.old self.new) }
+        ensures cause { TroubleCause result (K.store self.old.keeper).faults (K.store self.new.keeper).faults }
     {
         let ending = finish(self.alloc, &self.view, number, told)?;
         let Ending { change, timed_out } = ending;
@@ -408,9 +462,9 @@ impl<K: Keeper> Table<K> {
     /// keeper is as it was.
     fn make(&mut self, change: StepChange) -> Result<(), Trouble>
         requires { IsStepOf self.old.state change }
-        ensures ok { OnOk result (IsOneStep K.held change.event self.old self.new) }
-        ensures err { OnErr result (IsUntouched K.held self.old self.new) }
-        ensures cause { TroubleCause result (K.faults self.old.keeper) (K.faults self.new.keeper) }
+        ensures ok { OnOk result (IsOneStep K.store change.event self.old self.new) }
+        ensures err { OnErr result (IsUntouched K.store self.old self.new) }
+        ensures cause { TroubleCause result (K.store self.old.keeper).faults (K.store self.new.keeper).faults }
         ensures untouched_keeper { row_changes change ≡ [] → self.new.keeper ≡ self.old.keeper }
         ensures no_keeper_fault { row_changes change ≡ [] → result ≢ Err Trouble.KeeperFault }
     {

@@ -1,5 +1,5 @@
--- What workers answer: the one answer of each stock kind, and what any worker may answer. Numbers are whole numbers. A sum is a Long's number wherever the input is
--- within the size of Data; elsewhere a Sum has no answer that a program could make.
+-- What workers answer: the one answer of each stock kind, and what any worker may answer. Numbers are whole numbers. A sum is a Long's number
+-- wherever the input is within the size of Data; elsewhere a Sum has no answer that a program could make.
 use Rattle.std.specs.Prelude.{◌≡◌, ℕ, ℤ, pos, ◌+◌, ◌+ℤ◌, int_le, int_lt, Bool, List, [], ◌∷◌, map, fold, codes, Option, Some, None, unwrap_or, option_and_then, IfSome, if◌then◌else◌}
 use Rattle.wm_data.specs.Entries.{value_at}
 use Rattle.wm_data.specs.Size.{IsData}

@@ -1,11 +1,11 @@
 //! How the change of a step is carried out: first all that takes memory, then the commit of the
 //! rows, and the state last.
-ghost use Rattle.std.specs.Prelude.{◌≡◌, ◌≢◌, ◌+◌, ◌^◌, ◌<◌, ◌≤◌, ◌∷◌, ◌++◌, [], length, map, take, vec_len, vec_capacity, option_map, Err, OnOk, OnErr};
+ghost use Rattle.std.specs.Prelude.{◌≡◌, ◌≢◌, ◌+◌, ◌^◌, ◌<◌, ◌≤◌, ◌∷◌, ◌++◌, [], length, map, take, vec_len, vec_capacity, Err, OnOk, OnErr};
 ghost use Rattle.std.specs.List.{AllByRecursion};
-ghost use Rattle.wm_keeper.specs.Keeper.{changed, AreOfDifferentNumbers};
+ghost use Rattle.wm_keeper.specs.Keeper.{AreOfDifferentNumbers};
+ghost use Rattle.wm_keeper.specs.Store.{changed_rows, IsAtMost};
 ghost use Rattle.wm_machine.specs.Limits.{FitsRow};
 ghost use Rattle.wm_machine.specs.Retired.{with_retired};
-ghost use Rattle.wm_machine.specs.Rows.{rows_of};
 ghost use Rattle.wm_machine.specs.Runs.{other_runs, with_out};
 ghost use Rattle.wm_machine.specs.Turns.{with_turned};
 ghost use Rattle.wm_steps.specs.StepChanges.{changed_state, instances_by, new_observers, next_run_by, observers_by, other_works, row_changes, runs_by, set_by, with_replaced, without, IsStepOf};
@@ -298,11 +298,12 @@ fn set_each_out(instances: &mut [Instance], number: u32, out: bool)
 }
 
 /// Commits changes of rows, in one commit, and none where there are none.
-fn commit<K: Keeper>(keeper: &mut K, changes: &[Change]) -> Result<(), Trouble>
+pub(crate) fn commit<K: Keeper>(keeper: &mut K, changes: &[Change]) -> Result<(), Trouble>
     requires { AreOfDifferentNumbers changes.now }
-    ensures ok { OnOk result (K.held keeper.new ≡ option_map (changed changes.now) (K.held keeper.old)) }
-    ensures err { OnErr result (K.held keeper.new ≡ K.held keeper.old) }
-    ensures cause { TroubleCause result (K.faults keeper.old) (K.faults keeper.new) }
+    ensures ok { OnOk result (IsAtMost (changed_rows changes.now (K.store keeper.old)) (K.store keeper.new).rows) }
+    ensures err { OnErr result (IsAtMost (K.store keeper.old).rows (K.store keeper.new).rows) }
+    ensures cause { TroubleCause result (K.store keeper.old).faults (K.store keeper.new).faults }
+    ensures name { IsAtMost (K.store keeper.old).name (K.store keeper.new).name }
     ensures untouched_keeper { changes.now ≡ [] → keeper.new ≡ keeper.old }
     ensures no_keeper_fault { changes.now ≡ [] → result ≢ Err Trouble.KeeperFault }
 {
@@ -336,9 +337,10 @@ fn store<K: Keeper>(
     ensures log_room { OnOk result (vec_len lists.new.log < vec_capacity lists.new.log) }
     ensures nodes { OnOk result (graph.new ≡ graph.old ++ map placed_node change.now.placed) }
     ensures first_nodes { take (length graph.old) graph.new ≡ graph.old }
-    ensures ok { OnOk result (K.held keeper.new ≡ option_map (changed (row_changes change.now)) (K.held keeper.old)) }
-    ensures err { OnErr result (K.held keeper.new ≡ K.held keeper.old) }
-    ensures cause { TroubleCause result (K.faults keeper.old) (K.faults keeper.new) }
+    ensures ok { OnOk result (IsAtMost (changed_rows (row_changes change.now) (K.store keeper.old)) (K.store keeper.new).rows) }
+    ensures err { OnErr result (IsAtMost (K.store keeper.old).rows (K.store keeper.new).rows) }
+    ensures cause { TroubleCause result (K.store keeper.old).faults (K.store keeper.new).faults }
+    ensures name { IsAtMost (K.store keeper.old).name (K.store keeper.new).name }
     ensures untouched_keeper { row_changes change.now ≡ [] → keeper.new ≡ keeper.old }
     ensures no_keeper_fault { row_changes change.now ≡ [] → result ≢ Err Trouble.KeeperFault }
 {
@@ -358,15 +360,16 @@ pub fn carry_out<K: Keeper>(
     change: StepChange,
 ) -> Result<(), Trouble>
     requires step { IsStepOf view.old change }
-    requires rows { HoldsRowsOf view.old (K.held keeper.old) }
+    requires rows { HoldsRowsOf view.old (K.store keeper.old) }
     requires few_runs { view.old.next_run ≤ length log.old + 1 }
     ensures view { OnOk result (view.new ≡ changed_state change view.old) }
     ensures log { OnOk result (log.new ≡ log.old ++ change.event ∷ []) }
-    ensures rows { OnOk result (K.held keeper.new ≡ option_map (λ _. rows_of view.new) (K.held keeper.old)) }
+    ensures rows { OnOk result (HoldsRowsOf view.new (K.store keeper.new)) }
     ensures view_err { OnErr result (view.new ≡ view.old) }
     ensures log_err { OnErr result (log.new ≡ log.old) }
-    ensures rows_err { OnErr result (K.held keeper.new ≡ K.held keeper.old) }
-    ensures cause { TroubleCause result (K.faults keeper.old) (K.faults keeper.new) }
+    ensures rows_err { OnErr result (IsAtMost (K.store keeper.old).rows (K.store keeper.new).rows) }
+    ensures cause { TroubleCause result (K.store keeper.old).faults (K.store keeper.new).faults }
+    ensures name { IsAtMost (K.store keeper.old).name (K.store keeper.new).name }
     ensures untouched_keeper { row_changes change ≡ [] → keeper.new ≡ keeper.old }
     ensures no_keeper_fault { row_changes change ≡ [] → result ≢ Err Trouble.KeeperFault }
 {

@@ -3,7 +3,8 @@ ghost use Rattle.wm_machine.specs.Runs.{run_numbered};
 ghost use Rattle.wm_table.specs.Table.{IsTicketIn};
 ghost use Rattle.wm_table.specs.TableState.{ticket_of};
 
-use std::marker::Model;
+use crate::mark::Mark;
+use std::marker::{Model, PhantomData};
 use wm_data::Data;
 use wm_machine::Run;
 use wm_runs::run_numbered;
@@ -12,17 +13,19 @@ use wm_worker::{Kind, Task};
 
 /// The right to report on one run of a work: it names the work, and holds what the run took and
 /// which turn it is at. It must be spent: [`Table::turn`](crate::Table::turn) or
-/// [`Table::take_back`](crate::Table::take_back) takes it. A contract sees all that it holds.
+/// [`Table::take_back`](crate::Table::take_back) takes it. A contract sees all that it holds. Its
+/// parameter is the [`Mark`] of its run.
 #[derive(Debug)]
-pub struct Ticket {
+pub struct Ticket<M: Mark> {
     pub(crate) seq: u64,
     pub(crate) task: Task,
     pub(crate) kind: Kind,
     pub(crate) instance: u32,
     pub(crate) k: u32,
+    pub(crate) of: PhantomData<M>,
 }
 
-impl Model for Ticket {
+impl<M: Mark> Model for Ticket<M> {
     ghost use Rattle.wm_table.specs.TableState.{TicketState};
 
     ghost Value = { TicketState };
@@ -30,7 +33,7 @@ impl Model for Ticket {
     ghost view = { λ t. record { seq = t.seq; task = t.task; kind = t.kind; instance = t.instance; k = t.k } };
 }
 
-impl Ticket {
+impl<M: Mark> Ticket<M> {
     /// What the worker is asked: the number of the run, the attempt and the input that it took.
     pub fn task(&self) -> &Task
         ensures { result.now ≡ self.now.task }
@@ -67,7 +70,7 @@ impl Ticket {
     }
 
     /// The ticket of a run, with a copy of the input that it took. It takes no memory.
-    fn of(run: &Run, input: Data) -> Ticket
+    fn of_run(run: &Run, input: Data) -> Ticket<M>
         requires { input ≡ run.now.input }
         ensures { result ≡ ticket_of run.entry.now }
     {
@@ -81,6 +84,7 @@ impl Ticket {
             kind: run.kind,
             instance: run.instance,
             k: run.turn,
+            of: PhantomData,
         }
     }
 
@@ -92,19 +96,20 @@ impl Ticket {
             kind: _,
             instance: _,
             k: _,
+            of: _,
         } = self;
     }
 }
 
 /// The ticket of the run of this number, which took this input. It takes no memory.
-pub(crate) fn ticket_for(view: &View, number: u64, input: Data) -> Ticket
+pub(crate) fn ticket_for<M: Mark>(view: &View, number: u64, input: Data) -> Ticket<M>
     requires { IsSomeAnd (run_numbered number view.now.runs) (λ run. input ≡ run.input) }
     ensures run { result.task.run ≡ number }
     ensures input { result.task.input ≡ input }
     ensures ticket { IsTicketIn view.entry.now result }
 {
     match run_numbered(view.state.runs.as_slice(), number) {
-        Some(run) => Ticket::of(run, input),
+        Some(run) => Ticket::of_run(run, input),
         None => unreachable!(),
     }
 }

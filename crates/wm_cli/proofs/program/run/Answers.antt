@@ -3,7 +3,7 @@ use Rattle.wm_cli.proofs.RunsWithoutEvents.{IsTextWritten-nothing, HasCommands-n
 use Rattle.wm_cli.proofs.Opening.{IsSerialRun-unopened}
 use Rattle.wm_session.specs.Ended.{HasCommands, IsSerialRun}
 use Rattle.wm_session.specs.declared.status.Status.TheVariants.{Done, Usage}
-use Rattle.wm_script.proofs.BuiltCommands.{IsBuilt-commands_in}
+use Rattle.wm_script.proofs.BuiltCommands.{IsAskable-commands_in}
 use Rattle.wm_script.specs.Lines.{commands_in}
 use Rattle.wm_cli.proofs.program.run.Goals as goal
 
@@ -12,19 +12,19 @@ pub returns-in_default-clause-serial : goal.returns-in_default-clause-serial
 returns-in_default-clause-serial g c =
     let ended = c.before_begin.result in
     ForScript-any (g.S.Source.left c.args.source.now) (λ bytes. IsSerialRun (commands_in bytes) ended.status ended.first ended.log ended.last)
-    (λ bytes. IsSerialRun-unopened (commands_in bytes) ended.status ended.first ended.log ended.last (IsBuilt-commands_in bytes)
+    (λ bytes. IsSerialRun-unopened (commands_in bytes) ended.status ended.first ended.log ended.last (IsAskable-commands_in bytes)
     (λ done. let clash : Usage ≡ Done = sym c.before_begin.ensures.status_is ∙ done in absurd (cc)) c.before_begin.ensures.first c.before_begin.ensures.log)
 
 pub returns-in-Err-clause-serial : goal.returns-in-Err-clause-serial
 returns-in-Err-clause-serial g c =
     let ended = c.before_begin-in-Err.result in
     ForScript-any (g.S.Source.left c.args.source.now) (λ bytes. IsSerialRun (commands_in bytes) ended.status ended.first ended.log ended.last)
-    (λ bytes. IsSerialRun-unopened (commands_in bytes) ended.status ended.first ended.log ended.last (IsBuilt-commands_in bytes)
+    (λ bytes. IsSerialRun-unopened (commands_in bytes) ended.status ended.first ended.log ended.last (IsAskable-commands_in bytes)
     (λ done. not_done c.in-Err.status _ _ _ c.in-Err.ensures.status
     (sym c.before_begin-in-Err.ensures.status_is ∙ done)) c.before_begin-in-Err.ensures.first c.before_begin-in-Err.ensures.log)
 
-pub returns-in-Ok-clause-stored_row : goal.returns-in-Ok-clause-stored_row
-returns-in-Ok-clause-stored_row g c = λ row rest words within source held keeper. c.run_commands.ensures.stored_row row rest held keeper
+pub returns-in-Ok-clause-unsound_store : goal.returns-in-Ok-clause-unsound_store
+returns-in-Ok-clause-unsound_store g c = λ rows seq bad_row words within source held refused. c.run_commands.ensures.unsound rows seq bad_row held refused
 
 pub returns-in_default-clause-commands : goal.returns-in_default-clause-commands
 returns-in_default-clause-commands g c =

@@ -8,7 +8,7 @@ pub setting-requires : goal.setting-requires
 setting-requires c =
     let s = c.args.view.now in
     record {
-      built = tt;
+      askable = tt;
       is = some-of (list_any (is_stopped_by c.args.conditions) s.runs)
           (record { reply = reply.Conditions 0; state = record s { conditions = c.args.conditions } }) c.requires.legal.answered;
     }

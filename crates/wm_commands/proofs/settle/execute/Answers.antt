@@ -2,4 +2,4 @@ use Rattle.wm_machine.proofs.Settles.{settled-unchanged}
 use Rattle.wm_commands.proofs.settle.execute.Goals as goal
 
 pub answering-requires : goal.answering-requires
-answering-requires c = record { built = tt; is = settled-unchanged c.args.view.now c.requires.legal.answered }
+answering-requires c = record { askable = tt; is = settled-unchanged c.args.view.now c.requires.legal.answered }

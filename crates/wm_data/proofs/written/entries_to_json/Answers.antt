@@ -2,18 +2,15 @@
 use Rattle.std.proofs.Common.{ap, ◌∙◌, take_all}
 use Rattle.serde_json.specs.Data.{object}
 use Rattle.serde_json.proofs.Views.{view-Object}
-use Rattle.wm_data.proofs.EntryForms.{in_type_more, put_more}
+use Rattle.wm_data.proofs.EntryForms.{put_more}
 use Rattle.wm_data.proofs.written.entries_to_json.Goals as goal
 
 pub loop-entry-preserved : goal.loop-entry-preserved
 loop-entry-preserved c =
-    let more = rw (← c.entry-item.is) at (put_more c.args.entries.now c.loop-entry.entry-index c.entry-item.result c.requires c.loop-entry-test.true) in (
-      c.in_ok-put.ensures.ok ∙ rw (c.loop-entry.invariant.0, c.in_ok-value.ensures.form, c.as_str.ensures) more,
-      in_type_more c.args.entries.now c.loop-entry.entry-index c.entry-item.result c.loop-entry-test.true c.loop-entry.invariant.1
-          (rw (← c.entry-item.is) c.in_ok-value.ensures.in_type),
-    )
+    let more = rw (← c.entry-item.is) at (put_more c.args.entries.now c.loop-entry.entry-index c.entry-item.result c.requires c.loop-entry-test.true) in
+    c.in_ok-put.ensures.ok ∙ rw (c.loop-entry.invariant, c.in_ok-value.ensures, c.as_str.ensures) more
 
-pub returns-clause-form : goal.returns-clause-form
-returns-clause-form c =
-    let all = rw (take_all c.loop-entry.entry-index c.args.entries.now c.loop-entry-test.false) at c.loop-entry.invariant.0 in
+pub returns : goal.returns
+returns c =
+    let all = rw (take_all c.loop-entry.entry-index c.args.entries.now c.loop-entry-test.false) at c.loop-entry.invariant in
     view-Object c.loop-entry.members ∙ ap object all

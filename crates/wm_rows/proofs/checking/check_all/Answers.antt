@@ -15,10 +15,12 @@ pub returns-clause-rows : goal.returns-clause-rows
 returns-clause-rows c =
     let rows = c.args.rows.now in
     checked_rows rows c.into_works.result
-    (all_checked rows c.loop-row.row-index c.loop-row.before c.into_works.result c.loop-row.invariant (omega (arith, c.loop-row-test.false)) c.into_works.ensures)
+    (all_checked rows c.loop-row.row-index c.loop-row.before c.into_works.result c.loop-row.invariant (omega (arith, c.loop-row-test.false))
+    c.into_works.ensures)
 
 pub returns-clause-works : goal.returns-clause-works
 returns-clause-works c =
     let rows = c.args.rows.now in
     checked_works rows c.into_works.result
-    (all_checked rows c.loop-row.row-index c.loop-row.before c.into_works.result c.loop-row.invariant (omega (arith, c.loop-row-test.false)) c.into_works.ensures)
+    (all_checked rows c.loop-row.row-index c.loop-row.before c.into_works.result c.loop-row.invariant (omega (arith, c.loop-row-test.false))
+    c.into_works.ensures)

@@ -1,6 +1,6 @@
-use Rattle.wm_script.proofs.BuiltCommands.{IsBuilt-commands_in}
+use Rattle.wm_script.proofs.BuiltCommands.{IsAskable-commands_in}
 use Rattle.wm_script.proofs.lines.read_lines.Goals as goal
 
--- the commands of a script are built
-pub returns-in-Ok-clause-built : goal.returns-in-Ok-clause-built
-returns-in-Ok-clause-built c = rw (c.in-Ok.ensures.commands) (IsBuilt-commands_in c.args.bytes.now)
+-- the commands of a script are askable
+pub returns-in-Ok-clause-askable : goal.returns-in-Ok-clause-askable
+returns-in-Ok-clause-askable c = rw (c.in-Ok.ensures.commands) (IsAskable-commands_in c.args.bytes.now)

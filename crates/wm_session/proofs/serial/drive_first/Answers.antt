@@ -11,8 +11,8 @@ pub returns-in-Run-clause-order : goal.returns-in-Run-clause-order
 returns-in-Run-clause-order g c lines goes =
     let begun = c.in-Run.ensures in
     c.drive.ensures.order lines
-    (GoesInOrder-claimed g.K.Keeper.held c.args.book.now c.claim.new.self c.requires begun.goes_on.before
-    (claim.Run c.in-Run.ticket) (record { step = begun.step; ticket_in = begun.ticket_in }) lines goes)
+    (GoesInOrder-claimed g.K.Keeper.store c.args.book.now c.claim.new.self c.requires begun.goes_on.before
+    {M = Unit {0}} (claim.Run c.in-Run.ticket) (record { step = begun.step; ticket_in = begun.ticket_in }) lines goes)
 
 pub returns-in-Run-clause-boxes : goal.returns-in-Run-clause-boxes
 returns-in-Run-clause-boxes g c given keep =
@@ -24,7 +24,8 @@ returns-in-Failed-clause-rest g c = IsBetweenRuns-failed c.requires c.in-Failed.
 pub returns-in-Failed-clause-order : goal.returns-in-Failed-clause-order
 returns-in-Failed-clause-order g c =
     let failed = c.in-Failed.ensures in
-    GoesInOrder-claimed g.K.Keeper.held c.args.book.now c.claim.new.self c.requires failed.goes_on.before (claim.Failed failed.seq failed.cause) failed.step
+    GoesInOrder-claimed g.K.Keeper.store c.args.book.now c.claim.new.self c.requires failed.goes_on.before {M = Unit {0}}
+    (claim.Failed failed.seq failed.cause) failed.step
 
 pub returns-in-Failed-clause-boxes : goal.returns-in-Failed-clause-boxes
 returns-in-Failed-clause-boxes g c given =
@@ -34,18 +35,18 @@ returns-in-Failed-clause-boxes g c given =
 
 pub returns-in-Stopped-clause-rest : goal.returns-in-Stopped-clause-rest
 returns-in-Stopped-clause-rest g c =
-    IsBetweenRuns-halted g.K.Keeper.held c.args.book.now c.claim.new.self c.requires c.in-Stopped.ensures
+    IsBetweenRuns-halted g.K.Keeper.store c.args.book.now c.claim.new.self c.requires c.in-Stopped.ensures
 
 pub returns-in-Stopped-clause-left : goal.returns-in-Stopped-clause-left
-returns-in-Stopped-clause-left g c = left-halted g.K.Keeper.held c.args.book.now c.claim.new.self c.in-Stopped.ensures
+returns-in-Stopped-clause-left g c = left-halted g.K.Keeper.store c.args.book.now c.claim.new.self c.in-Stopped.ensures
 
 pub returns-in-Stopped-clause-stopped : goal.returns-in-Stopped-clause-stopped
-returns-in-Stopped-clause-stopped g c is = status-halted g.K.Keeper.held c.args.book.now c.claim.new.self c.in-Stopped.ensures
+returns-in-Stopped-clause-stopped g c is = status-halted g.K.Keeper.store c.args.book.now c.claim.new.self c.in-Stopped.ensures
 
 pub returns-in-Stopped-clause-order : goal.returns-in-Stopped-clause-order
 returns-in-Stopped-clause-order g c =
-    GoesInOrder-halted g.K.Keeper.held c.args.book.now c.claim.new.self c.requires c.in-Stopped.ensures
+    GoesInOrder-halted g.K.Keeper.store c.args.book.now c.claim.new.self c.requires c.in-Stopped.ensures
 
 pub returns-in-Stopped-clause-boxes : goal.returns-in-Stopped-clause-boxes
 returns-in-Stopped-clause-boxes g c given =
-    KeepBoxes-halted g.K.Keeper.held c.args.book.now c.claim.new.self g.B.Worker.diary_of given c.requires c.in-Stopped.ensures
+    KeepBoxes-halted g.K.Keeper.store c.args.book.now c.claim.new.self g.B.Worker.diary_of given c.requires c.in-Stopped.ensures

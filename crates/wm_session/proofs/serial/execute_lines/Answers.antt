@@ -54,13 +54,13 @@ lines-preserved g c =
 pub returns-in-Ended : goal.returns-in-Ended
 returns-in-Ended g c =
     let kept = c.lines.invariant in
-    let held = g.K.Keeper.held in
+    let store = g.K.Keeper.store in
     let kind_of = g.B.Worker.kind_of in
     let old = c.lines.book in
     let new = c.front_step.new.self in
     elim c.in-Ended.is [
       | inl ended ↦
-          let is : IsFronted held kind_of front.Ended old new = subst (λ r. IsFronted held kind_of r old new) ended c.front_step.ensures in
+          let is : IsFronted store kind_of front.Ended old new = subst (λ r. IsFronted store kind_of r old new) ended c.front_step.ensures in
           rw is.book_is (record {
             rest = kept.rest;
             done = λ going. is.none_left;
@@ -69,7 +69,7 @@ returns-in-Ended g c =
             boxes = kept.boxes;
           })
       | inr stopped ↦
-          let is : IsFronted held kind_of front.Stopped old new = subst (λ r. IsFronted held kind_of r old new) stopped c.front_step.ensures in record {
+          let is : IsFronted store kind_of front.Stopped old new = subst (λ r. IsFronted store kind_of r old new) stopped c.front_step.ensures in record {
             rest = IsBetweenRuns-front kept.rest is;
             done = no_longer new.status is.status;
             quiet = no_longer new.status is.status;

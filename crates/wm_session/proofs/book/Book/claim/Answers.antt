@@ -7,7 +7,7 @@ use Rattle.wm_session.proofs.book.Book.claim.Goals as goal
 pub give_up-requires : goal.give_up-requires
 give_up-requires g c =
     let done = rw c.in-Ok-Some.field-0-is at c.in-Ok-Some.ensures.ok in
-    claimed_in g.K.Keeper.held c.in-Ok-Some.claim c.self.inside.table c.claim.new.self done
+    claimed_in g.K.Keeper.store c.in-Ok-Some.claim c.self.inside.table c.claim.new.self done
 
 pub invariant_of-self-in-Err-tell_last : goal.invariant_of-self-in-Err-tell_last
 invariant_of-self-in-Err-tell_last g c =
@@ -51,7 +51,7 @@ returns-in-Err-tell_last g c =
     let done = rw c.in-Ok-Some.field-0-is at c.in-Ok-Some.ensures.ok in
     let told = c.tell_last.new in
     rw (← c.self.view_is) (record {
-      how = IsUntold-claimed g.K.Keeper.held c.in-Ok-Some.claim _ c.claim.new.self c.give_up.new.table told.self told.sink
+      how = IsUntold-claimed g.K.Keeper.store c.in-Ok-Some.claim _ c.claim.new.self c.give_up.new.table told.self told.sink
           c.from-in-Err-tell_last.result (search rules) done c.give_up.ensures;
       places = refl;
     })

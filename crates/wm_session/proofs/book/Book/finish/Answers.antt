@@ -1,6 +1,4 @@
-use Rattle.std.proofs.Common.{◌≡◌, [], None, option_map, refl, sym, ◌∙◌, ap, subst}
-use Rattle.wm_machine.specs.Rows.{rows_of}
-use Rattle.wm_machine.specs.declared.state.State.{State}
+use Rattle.std.proofs.Common.{◌≡◌, [], None, refl, sym, subst}
 use Rattle.wm_session.proofs.BookEnds.{HasCommands-kept, IsSessionStatus-ends, IsTextWritten-kept, keeper_fault-ends, sink_fault-ends}
 use Rattle.wm_session.specs.Causes.{StopCause}
 use Rattle.wm_session.specs.Pending.{pending_text}
@@ -16,22 +14,23 @@ returns-clause-session g c =
     let ends = c.status_after-status.ensures in
     let wrote = c.finish-written in
     let before = g.W.Sink.faults c.self.inside.sink in
-    let keeper_now = g.K.Keeper.faults last.result.keeper in
-    let cause = subst (λ keeper. StopCause stop run.keeper_faults (g.K.Keeper.faults keeper) run.sink_faults before) (sym last.ensures.keeper) kept.cause in
+    let keeper_now = (g.K.Keeper.store last.result.keeper).faults in
+    let cause = subst (λ keeper. StopCause stop run.store.faults (g.K.Keeper.store keeper).faults run.sink_faults before) (sym last.ensures.keeper)
+    kept.cause in
     record {
       status_is = IsSessionStatus-ends stop wrote.result ended ends;
       began = refl;
-      first = last.ensures.first ∙ kept.first;
+      opened = last.ensures.opened;
       replay = last.ensures.replay;
       commands = HasCommands-kept ended last.result.log kept last.ensures.log ends.stopped
           (subst (λ book. book.status ≡ None → book.left ≡ []) (sym c.self.view_is) c.requires.lines);
-      bytes = IsTextWritten-kept ended last.result.first last.result.log (g.W.Sink.given wrote.new.sink) (pending_text c.self.inside.table wrote.new.self) wrote.result kept
+      bytes = IsTextWritten-kept ended last.result.first last.result.log (g.W.Sink.given wrote.new.sink) (pending_text c.self.inside.table wrote.new.self)
+          wrote.result kept
           last.ensures.first last.ensures.log wrote.ensures.told wrote.ensures.all ends;
-      rows = ap g.K.Keeper.held last.ensures.keeper
-          ∙ kept.rows
-          ∙ ap (λ (s : State). option_map (λ _. rows_of s) run.rows) (sym last.ensures.last);
-      keeper_fault = keeper_fault-ends stop wrote.result ended run.keeper_faults keeper_now run.sink_faults before ends cause;
-      sink_fault = sink_fault-ends stop wrote.result ended run.keeper_faults keeper_now run.sink_faults before (g.W.Sink.faults wrote.new.sink) ends
+      rows = last.ensures.rows;
+      name = last.ensures.name;
+      keeper_fault = keeper_fault-ends stop wrote.result ended run.store.faults keeper_now run.sink_faults before ends cause;
+      sink_fault = sink_fault-ends stop wrote.result ended run.store.faults keeper_now run.sink_faults before (g.W.Sink.faults wrote.new.sink) ends
           cause wrote.ensures.cause kept.sink_later;
     }
 

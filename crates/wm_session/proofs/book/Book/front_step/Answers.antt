@@ -1,7 +1,7 @@
 use Rattle.std.proofs.Common.{◌≡◌, [], ◌∷◌, Some, rules, sym, subst}
 use Rattle.std.specs.List.{AllByRecursion}
 use Rattle.wm_machine.proofs.Commands.{legal_line-at_rest}
-use Rattle.wm_machine.specs.Outcome.{IsBuilt}
+use Rattle.wm_machine.specs.Outcome.{IsAskable}
 use Rattle.wm_machine.specs.Quiet.{IsQuiet}
 use Rattle.wm_session.specs.Book.{SettlesNext}
 use Rattle.wm_session.proofs.BookSteps.{IsTold-all, IsTold-cut}
@@ -14,10 +14,10 @@ execute-requires g c =
     let s = c.self.inside.table.state in
     let left = c.self.inside.left.items in
     let items : left ≡ c.in-Some.command ∷ c.pop_front.new.self.items = c.in-Some.ensures.items in
-    let built = subst (AllByRecursion IsBuilt) items c.self.invariant.built in
+    let askable = subst (AllByRecursion IsAskable) items c.self.invariant.askable in
     let no_run : s.runs ≡ [] = search rules in
     let quiet : SettlesNext left → IsQuiet s = search rules in
-    legal_line-at_rest s c.in-Some.command built.0
+    legal_line-at_rest s c.in-Some.command askable.0
     (record { no_run = no_run; settled = λ settles. (quiet (subst SettlesNext (sym items) settles)).nothing_startable })
 
 pub invariant_of-self-in-Ok : goal.invariant_of-self-in-Ok

@@ -1,4 +1,6 @@
-use Rattle.std.proofs.Common.{◌≡◌, ◌+◌, ◌≤◌, refl, sym, ◌∙◌, ap, subst}
+use Rattle.std.proofs.Common.{◌≡◌, ◌+◌, ◌≤◌, Result, Ok, Err, refl, sym, ◌∙◌, ap, subst}
+use Rattle.std.specs.Prelude.{OnErr}
+use Rattle.wm_keeper.proofs.Stores.{IsAtMost-same}
 use Rattle.wm_machine.specs.declared.state.State.{State}
 use Rattle.wm_observe.specs.Notes.{notes_between}
 use Rattle.wm_table.proofs.StepRows.{next_run-changed}
@@ -21,7 +23,7 @@ carry_out-requires-clause-step g c =
 pub invariant_of-self : goal.invariant_of-self
 invariant_of-self g c =
     let i = c.self.inside in
-    kept-untouched g.K.Keeper.held
+    kept-untouched g.M.Mark.inputs g.K.Keeper.store
     (record { first = i.first; state = i.view; log = i.log; keeper = i.keeper })
     (record { first = i.first; state = c.carry_out.new.view; log = c.carry_out.new.log; keeper = c.carry_out.new.keeper }) i.notes c.self.invariant
     (record {
@@ -30,6 +32,7 @@ invariant_of-self g c =
       log = c.in_err-carry_out.ensures.log_err;
       rows = c.in_err-carry_out.ensures.rows_err;
     })
+    c.carry_out.ensures.name
 
 pub invariant_of-self-2 : goal.invariant_of-self-2
 invariant_of-self-2 g c =
@@ -40,10 +43,10 @@ invariant_of-self-2 g c =
     let state_is : c.args.self.now.state ≡ i.view = ap (λ (t : TableState g.row.K.Denot). t.state) (sym c.self.view_is) in
     let is : IsStepOf i.view c.args.change = subst (λ (s : State). IsStepOf s c.args.change) state_is c.requires in
     let done = c.in_ok-carry_out.ensures in
-    kept-step g.K.Keeper.held old new c.args.change.event i.notes c.in_ok-notes.notes c.self.invariant
-    (made-step g.K.Keeper.held old c.args.change new.state new.log new.keeper is done.view done.log done.rows)
+    kept-step g.M.Mark.inputs g.K.Keeper.store old new c.args.change.event i.notes c.in_ok-notes.notes c.self.invariant
+    (made-step g.K.Keeper.store old c.args.change new.state new.log new.keeper is done.view done.log done.rows)
     (c.in_ok-notes.ensures ∙ ap (notes_between i.view) (sym done.view))
-    (subst (λ (s : State). s.next_run ≤ i.view.next_run + 1) (sym done.view) (next_run-changed i.view c.args.change))
+    (subst (λ (s : State). s.next_run ≤ i.view.next_run + 1) (sym done.view) (next_run-changed i.view c.args.change)) c.carry_out.ensures.name
 
 pub returns-clause-ok : goal.returns-clause-ok
 returns-clause-ok g c =
@@ -54,5 +57,15 @@ returns-clause-ok g c =
     let state_is : c.args.self.now.state ≡ i.view = ap (λ (t : TableState g.row.K.Denot). t.state) (sym c.self.view_is) in
     let is : IsStepOf i.view c.args.change = subst (λ (s : State). IsStepOf s c.args.change) state_is c.requires in
     let done = c.in_ok-carry_out.ensures in
-    subst (λ (t : TableState g.row.K.Denot). IsOneStep g.K.Keeper.held c.args.change.event t new) c.self.view_is
-    (made-step g.K.Keeper.held old c.args.change new.state new.log new.keeper is done.view done.log done.rows)
+    subst (λ (t : TableState g.row.K.Denot). IsOneStep g.K.Keeper.store c.args.change.event t new) c.self.view_is
+    (made-step g.K.Keeper.store old c.args.change new.state new.log new.keeper is done.view done.log done.rows)
+
+-- what holds holds on a refusal
+on_refusal : {T E P : Type 0} (answer : Result T E) → P → OnErr answer P
+on_refusal (Ok value) holds = tt
+on_refusal (Err refusal) holds = holds
+
+pub returns-in_err-notes-clause-err : goal.returns-in_err-notes-clause-err
+returns-in_err-notes-clause-err g c =
+    on_refusal c.from_residual.result
+    (record { first = refl; state = refl; log = refl; rows = IsAtMost-same (g.K.Keeper.store c.args.self.now.keeper).rows })

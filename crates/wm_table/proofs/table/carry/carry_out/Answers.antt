@@ -104,6 +104,7 @@ returns-in-Ok-clause-rows g c =
     let s = c.view.inside.state in
     let change = c.args.change in
     let is = step-inside s _ change c.view.view_is c.requires.step in
-    let holds = subst (λ (t : State). HoldsRowsOf t (g.K.Keeper.held c.args.keeper.now)) (sym c.view.view_is) c.requires.rows in
+    let holds = subst (λ (t : State). HoldsRowsOf t (g.K.Keeper.store c.args.keeper.now)) (sym c.view.view_is) c.requires.rows in
     let made_is : c.put_back.new.state ≡ changed_state change s = search rules in
-    rows-made s c.put_back.new.state change _ _ c.view.invariant.valid is.fits holds made_is c.in-Ok.ensures.ok
+    rows-made s c.put_back.new.state change (g.K.Keeper.store c.args.keeper.now) (g.K.Keeper.store c.store.new.keeper)
+    c.view.invariant.valid is.fits holds made_is c.in-Ok.ensures.ok

@@ -15,15 +15,15 @@ ticket-in s number run found =
     subst (λ (o : Option Run). IsSomeAnd o (λ r. ticket_of run ≡ ticket_of r)) (sym there) refl
 
 pub returns-clause-run : goal.returns-clause-run
-returns-clause-run c =
+returns-clause-run g c =
     let s = c.args.view.now in
     let run = c.in-Some.run'.now in
     let found : run_numbered c.args.number s.runs ≡ Some run = search rules in
-    ap (λ (t : TicketState). t.task.run) c.of.ensures ∙ found-numbered c.args.number s.runs run found
+    ap (λ (t : TicketState). t.task.run) c.of_run.ensures ∙ found-numbered c.args.number s.runs run found
 
 pub returns-clause-ticket : goal.returns-clause-ticket
-returns-clause-ticket c =
+returns-clause-ticket g c =
     let s = c.args.view.now in
     let run = c.in-Some.run'.now in
     let found : run_numbered c.args.number s.runs ≡ Some run = search rules in
-    subst (λ (t : TicketState). IsTicketIn s t) (sym c.of.ensures) (ticket-in s c.args.number run found)
+    subst (λ (t : TicketState). IsTicketIn s t) (sym c.of_run.ensures) (ticket-in s c.args.number run found)

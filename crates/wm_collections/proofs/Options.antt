@@ -1,5 +1,5 @@
 -- What holds of a value where there is one.
-use Rattle.std.proofs.Common.{◌≡◌, Bool, true, false, cond, List, [], ◌∷◌, filter_map, Option, Some, None, IfSome, option_and_then, option_map, refl}
+use Rattle.std.proofs.Common.{◌≡◌, Bool, true, false, cond, List, [], ◌∷◌, filter_map, find, Option, Some, None, IfSome, option_and_then, option_map, refl}
 use Rattle.std.specs.List.{AllByRecursion, cons_option}
 
 pub either : {A : Type 0} (P : A → Type 0) (b : Bool) (o other : Option A) → IfSome o P → IfSome other P → IfSome (cond b o other) P
@@ -30,7 +30,8 @@ map_any P f (Some x) h = h x
 
 -- ---- lists
 
-one_more : {A : Type 0} (P : A → Type 0) (o : Option A) (xs : List A) → IfSome o P → AllByRecursion P xs → AllByRecursion P (cons_option o xs)
+-- where there is one, it goes before the others
+pub one_more : {A : Type 0} (P : A → Type 0) (o : Option A) (xs : List A) → IfSome o P → AllByRecursion P xs → AllByRecursion P (cons_option o xs)
 one_more P None xs h all = all
 one_more P (Some x) xs h all = (h, all)
 
@@ -38,3 +39,8 @@ one_more P (Some x) xs h all = (h, all)
 pub each_read : {A B : Type 0} (P : B → Type 0) (f : A → Option B) → ((x : A) → IfSome (f x) P) → (xs : List A) → AllByRecursion P (filter_map f xs)
 each_read P f h [] = tt
 each_read P f h (x ∷ xs) = one_more P (f x) (filter_map f xs) (h x) (each_read P f h xs)
+
+-- what is found of them, where anything is
+pub found : {A : Type 0} (P : A → Type 0) (test : A → Bool) (xs : List A) → AllByRecursion P xs → IfSome (find test xs) P
+found P test [] all = tt
+found P test (x ∷ xs) all = either P (test x) (Some x) (find test xs) all.0 (found P test xs all.1)

@@ -1,0 +1,6 @@
+use Rattle.wm_table.specs.Inputs.{no_inputs}
+use Rattle.run_tests.proofs.table.outcome_at.Given as goal
+
+-- the mark of the table is an empty store with these instances
+abbrev pub ghosts-outcome_on : goal.ghosts-outcome_on
+ghosts-outcome_on a = record { inputs = record no_inputs { instances = a.instances } }

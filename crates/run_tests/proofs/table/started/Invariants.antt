@@ -1,0 +1,6 @@
+use Rattle.wm_table.specs.Inputs.{no_inputs}
+use Rattle.run_tests.proofs.table.started.Given as goal
+
+-- the mark of the table is an empty store with these instances
+abbrev pub ghosts-started_on : goal.ghosts-started_on
+ghosts-started_on a = record { inputs = record no_inputs { instances = a.instances } }

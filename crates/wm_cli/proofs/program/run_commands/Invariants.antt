@@ -1,0 +1,10 @@
+use Rattle.wm_session.specs.Tells.{inputs_of, tells_of}
+use Rattle.wm_cli.proofs.program.run_commands.Given as goal
+
+-- the mark of the run is what it is given
+abbrev pub ghosts-run_loaded : goal.ghosts-run_loaded
+ghosts-run_loaded g a =
+    record {
+      inputs = inputs_of (tells_of g.K.Keeper.store g.W.Sink.given g.W.Sink.faults g.B.Worker.kind_of g.B.Worker.diary_of) a.keeper a.rows.items
+          a.instances a.commands a.sink;
+    }

@@ -1,0 +1,58 @@
+use Rattle.std.proofs.Common.{◌≤◌, length, Some, sym, ◌∙◌, subst, rules}
+use Rattle.wm_bench.specs.Places.{most_hands}
+use Rattle.wm_cli.proofs.Hands.{AreFresh-instances_from}
+use Rattle.wm_cli.proofs.RunEnds.{EarlyCause, EarlyCause-begin, IsRunEnd-begun, IsRunEnd-unbegun}
+use Rattle.wm_keeper.proofs.Stores.{IsAtMost-same}
+use Rattle.wm_keeper.specs.Store.{IsAtMost}
+use Rattle.wm_machine.specs.Opened.{AreFresh, Opened}
+use Rattle.wm_rows.specs.Sound.{AreSound}
+use Rattle.wm_session.specs.Tells.{tells_of}
+use Rattle.wm_cli.proofs.program.run_loaded.Goals as goal
+
+pub begin-requires-clause-instances : goal.begin-requires-clause-instances
+begin-requires-clause-instances g c =
+    let few : length c.args.hands.items ≤ most_hands = search rules in
+    subst AreFresh (sym c.requires.instances) (AreFresh-instances_from g.B.Worker.kind_of c.args.hands.items few)
+
+pub begin-requires-clause-given_name : goal.begin-requires-clause-given_name
+begin-requires-clause-given_name g c =
+    let name = (g.K.Keeper.store c.args.keeper).name in
+    subst (λ given. IsAtMost given name) c.requires.inputs.name (IsAtMost-same name)
+
+pub run_begun-requires-clause-begun : goal.run_begun-requires-clause-begun
+run_begun-requires-clause-begun g c =
+    let begun = c.in-Ok.ensures in
+    let given = c.requires.inputs in
+    let run = g.M.Mark.inputs in
+    let table = c.in-Ok.table in
+    record {
+      sound = subst AreSound given.rows_are begun.sound;
+      opened = subst (λ rows. Opened rows run.instances table.first) given.rows_are
+          (subst (λ instances. Opened c.args.rows.items instances table.first) given.instances_are begun.opened);
+      state = begun.state;
+      log = begun.log;
+      rows = begun.held;
+      name = subst (λ name. IsAtMost name (g.K.Keeper.store table.keeper).name) given.name begun.name;
+      no_fault = begun.cause ∙ given.faults;
+    }
+
+pub returns-in-Ok : goal.returns-in-Ok
+returns-in-Ok g c =
+    let tells = tells_of g.K.Keeper.store g.W.Sink.given g.W.Sink.faults g.B.Worker.kind_of g.B.Worker.diary_of in
+    let given = c.requires.inputs in
+    rw (given.rows_are)
+    (IsRunEnd-begun tells g.M.Mark.inputs c.args.commands c.args.hands.items c.args.keeper c.args.sink c.run_begun.result c.run_begun.ensures
+    (sym given.lines_are) (sym given.instances_are ∙ c.requires.instances) (sym given.written) (sym given.sink_faults) (sym given.faults) (sym given.name)
+    (subst AreSound given.rows_are c.in-Ok.ensures.sound))
+
+pub returns-in-Err : goal.returns-in-Err
+returns-in-Err g c =
+    let tells = tells_of g.K.Keeper.store g.W.Sink.given g.W.Sink.faults g.B.Worker.kind_of g.B.Worker.diary_of in
+    let refused = c.in-Err.refused in
+    let rows = c.args.rows.items in
+    let before = (tells.store c.args.keeper).faults in
+    let now = (tells.store refused.0).faults in
+    IsRunEnd-unbegun tells c.args.commands c.from.result c.args.hands (tells.store c.args.keeper).name (Some rows) c.args.keeper refused.0 c.args.sink
+    c.before_begin.result c.before_begin.ensures c.requires.askable c.in-Err.ensures.kept
+    (subst (λ why. EarlyCause why before now (Some rows)) (sym c.from.ensures)
+    (EarlyCause-begin tells.store c.args.keeper rows refused c.in-Err.ensures.bad c.in-Err.ensures.cause))

@@ -1,0 +1,41 @@
+-- What a keeper shows to contracts, and what its calls make of that. A keeper may stop telling in any call: what is told after it is nothing, or
+-- what the call says of what was told before.
+use Rattle.std.specs.Prelude.{◌≡◌, ◌⊎◌, ℕ, List, Option, Some, IfSome, option_map}
+use Rattle.wm_keeper.specs.Keeper.{changed}
+use Rattle.wm_keeper.specs.declared.row.Row.{Row}
+use Rattle.wm_keeper.specs.declared.row.Change.{Change}
+
+-- The rows that it holds, in ascending number, where it tells them; the lists of rows of which it tells that a crash now may leave them, none
+-- where it doesn't tell that; the name that it was last loaded with, where it tells it; and how many faults it has met.
+pub record Store : Type 1 where
+  pub rows : Option (List Row)
+  pub images : List Row → Type 0
+  pub name : Option (List ℕ)
+  pub faults : ℕ
+
+-- what is told now is this, where it is told at all
+abbrev pub IsAtMost : {T : Type 0} → Option T → Option T → Type 0
+IsAtMost this now = IfSome now (λ told. this ≡ Some told)
+
+-- the rows with these changes, where they were told
+abbrev pub changed_rows : List Change → Store → Option (List Row)
+changed_rows changes store = option_map (changed changes) store.rows
+
+-- the rows told are those of before, and a crash leaves nothing that it couldn't leave before
+pub record IsStoreKept (before now : Store) : Type 0 where
+  pub rows : IsAtMost before.rows now.rows
+  pub images : (image : List Row) → now.images image → before.images image
+
+-- a commit of these changes was made: the rows told are those with the changes, and a crash leaves just these
+pub record IsCommitted (changes : List Change) (before now : Store) : Type 0 where
+  pub rows : IsAtMost (changed_rows changes before) now.rows
+  pub images : (image : List Row) → now.images image → changed_rows changes before ≡ Some image
+
+-- it was refused: the rows told are those of before, and a crash leaves what it could leave before, or the rows with the changes
+pub record IsNotCommitted (changes : List Change) (before now : Store) : Type 0 where
+  pub rows : IsAtMost before.rows now.rows
+  pub images : (image : List Row) → now.images image → before.images image ⊎ (changed_rows changes before ≡ Some image)
+
+-- nothing is pending: a crash leaves just the rows held
+abbrev pub IsSettled : Store → Type 0
+IsSettled store = (image : List Row) → store.images image → store.rows ≡ Some image

@@ -1,0 +1,34 @@
+-- What rows open to, by their records.
+use Rattle.std.proofs.Common.{◌≡◌, List, map, Ok, refl, sym, ap, ◌∙◌}
+use Rattle.wm_keeper.specs.Keeper.{changed}
+use Rattle.wm_keeper.specs.declared.row.Change.{Change}
+use Rattle.wm_keeper.specs.declared.row.Row.{Row}
+use Rattle.wm_machine.proofs.Openings.{reached-opened}
+use Rattle.wm_machine.proofs.Runnings.{WorksAscend-in_order}
+use Rattle.wm_machine.specs.Narrow.{IsReached}
+use Rattle.wm_machine.specs.Opened.{AreFresh, opening_state, reopened}
+use Rattle.wm_machine.specs.declared.record.Record.{Record}
+use Rattle.wm_machine.specs.declared.state.Instance.{Instance}
+use Rattle.wm_opening.proofs.Reopened.{reopened-rows, reopenings-apart, reopenings-none}
+use Rattle.wm_opening.specs.Reopenings.{AreReopened, reopenings}
+use Rattle.wm_rows.proofs.StoreRead.{checked_rows, checked_works}
+use Rattle.wm_rows.specs.Sound.{checked}
+
+pub reopened-sound : (rows : List Row) (stored works : List Record) (changes : List Change) → checked rows ≡ Ok stored → works ≡ map reopened stored
+    → changes ≡ reopenings stored → AreReopened rows works changes
+reopened-sound rows stored works changes reading works_are changes_are =
+    let rows_are = checked_rows rows stored reading in
+    let sound = checked_works rows stored reading in
+    let ascend = WorksAscend-in_order stored sound.in_order in
+    rw (works_are, changes_are) (record {
+      opened = λ instances fresh. record { stored = stored; rows_are_theirs = sym rows_are; sound = sound; fresh = fresh; state = refl };
+      those_running = rw reading refl;
+      rows_changed = ap (changed (reopenings stored)) (sym rows_are) ∙ reopened-rows stored ascend;
+      apart = reopenings-apart stored ascend;
+      only_changed = λ same. reopenings-none stored (same ∙ sym rows_are);
+    })
+
+-- the state that rows open to is one that the machine reaches
+pub reached-reopened : (rows : List Row) (instances : List Instance) (works : List Record) (changes : List Change) → AreFresh instances
+    → AreReopened rows works changes → IsReached (opening_state works instances)
+reached-reopened rows instances works changes fresh are = reached-opened rows instances (opening_state works instances) (are.opened instances fresh)

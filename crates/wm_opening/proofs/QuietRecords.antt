@@ -1,0 +1,94 @@
+-- What a store keeps of records that have told something, and that it says what they open to.
+use Rattle.std.proofs.Common.{◌≡◌, ℕ, List, [], ◌∷◌, map, Option, Some, None, Ok, refl, sym, ap, ◌∙◌, subst}
+use Rattle.std.specs.List.{AllByRecursion}
+use Rattle.wm_collections.proofs.Lists.{All-weaker, map-twice}
+use Rattle.wm_keeper.specs.declared.row.Row.{Row}
+use Rattle.wm_machine.proofs.Changes.{AreWorks-changed, IsChange-still}
+use Rattle.wm_machine.proofs.Records.{IsData-empty, IsRecord-kept}
+use Rattle.wm_machine.specs.Opened.{AreFresh, next_number, Opened, opening_state, reopened}
+use Rattle.wm_machine.specs.Rows.{row_of, rows_of}
+use Rattle.wm_machine.specs.Valid.{AreWorks, IsOfKind, IsProgressIn, IsRecord, Valid}
+use Rattle.wm_machine.specs.declared.record.Phase.{Phase}
+use Rattle.wm_machine.specs.declared.record.Phase.TheVariants as phase
+use Rattle.wm_machine.specs.declared.record.Record.{Record}
+use Rattle.wm_machine.specs.declared.state.Instance.{Instance}
+use Rattle.wm_machine.specs.declared.state.State.{State}
+use Rattle.wm_rows.proofs.StoreRead.{checked_works}
+use Rattle.wm_rows.proofs.StoreWritten.{checked-written}
+use Rattle.wm_rows.specs.Sound.{AreSound, checked}
+use Rattle.wm_schedule.specs.declared.schedule.Period.{Period}
+
+-- ---- records that have told nothing
+
+-- what there is of a record once its progress is forgotten
+abbrev quiet : Record → Record
+quiet work = record work { progress = [] }
+
+none_told : (p : Phase) → IsProgressIn p []
+none_told phase.Waiting = refl
+none_told phase.Running = IsData-empty
+none_told (phase.Done how) = refl
+
+kind-quiet : (period : Option Period) (work : Record) → IsOfKind period work → IsOfKind period (quiet work)
+kind-quiet None work is = is
+kind-quiet (Some period) work is = record { phase_is = is.phase_is; no_output = is.no_output; no_prerequisite = is.no_prerequisite }
+
+IsRecord-quiet : (work : Record) → IsRecord work → IsRecord (quiet work)
+IsRecord-quiet work is =
+    IsRecord-kept work (quiet work) refl is is.name is.fits.enqueued_at is.attempt is.started is.backoff_n is.runs
+    (kind-quiet work.request.period work is.kind) is.output (none_told work.phase)
+
+AreWorks-quiet : (next : ℕ) (works : List Record) → AreWorks next works → AreWorks next (map quiet works)
+AreWorks-quiet next works are =
+    AreWorks-changed next works quiet are
+    (IsChange-still works quiet (λ work. record { seq = refl; name = λ text is. is; request = refl; prior = refl }) (λ work. refl)
+    (All-weaker works IsRecord-quiet are.records) are.sound)
+
+quiet-told : (works : List Record) → AllByRecursion (λ work. work.progress ≡ []) (map quiet works)
+quiet-told [] = tt
+quiet-told (work ∷ works) = (refl, quiet-told works)
+
+-- ---- their rows
+
+-- they are the same, and so is what the records open to
+rows-quiet : (works : List Record) → map row_of (map quiet works) ≡ map row_of works
+rows-quiet works = map-twice quiet row_of works
+
+reopened-quiet : (works : List Record) → map reopened (map quiet works) ≡ map reopened works
+reopened-quiet works = map-twice quiet reopened works
+
+-- they are read as the records
+checked-quiet : (next : ℕ) (works : List Record) → AreWorks next works → checked (map row_of works) ≡ Ok (map quiet works)
+checked-quiet next works are =
+    subst (λ (rows : List Row). checked rows ≡ Ok (map quiet works)) (rows-quiet works)
+    (checked-written next (map quiet works) (AreWorks-quiet next works are) (quiet-told works))
+
+-- ---- what they open to
+
+-- rows open to one state
+pub opened-once : (rows : List Row) (instances : List Instance) (first other : State) → Opened rows instances first → Opened rows instances other
+    → first ≡ other
+opened-once rows instances first other one two =
+    let works = one.stored in
+    let others = two.stored in
+    let here = checked-quiet (next_number works) works one.sound in
+    let there = checked-quiet (next_number others) others two.sound in
+    let reading : Ok (map quiet works) ≡ Ok (map quiet others) = sym here ∙ ap checked (sym one.rows_are_theirs ∙ two.rows_are_theirs) ∙ there in
+    let quiets : map quiet works ≡ map quiet others = cc in
+    let same : map reopened works ≡ map reopened others = sym (reopened-quiet works) ∙ ap (map reopened) quiets ∙ reopened-quiet others in
+    one.state ∙ ap (λ (list : List Record). opening_state list instances) same ∙ sym two.state
+
+-- the rows of a state are sound
+pub sound-kept : (s : State) → Valid s → AreSound (rows_of s)
+sound-kept s valid = (map quiet s.works, checked-quiet s.next s.works valid.works)
+
+-- and open to its records
+pub opened-kept : (s : State) (instances : List Instance) → Valid s → AreFresh instances
+    → Opened (rows_of s) instances (opening_state (map reopened s.works) instances)
+opened-kept s instances valid fresh = record {
+  stored = map quiet s.works;
+  rows_are_theirs = sym (rows-quiet s.works);
+  sound = checked_works (rows_of s) (map quiet s.works) (checked-quiet s.next s.works valid.works);
+  fresh = fresh;
+  state = ap (λ (works : List Record). opening_state works instances) (sym (reopened-quiet s.works));
+}

@@ -1,0 +1,27 @@
+-- The inputs of one run, by which whoever holds a part of the run knows what it is a part of.
+use Rattle.std.specs.Prelude.{ℕ, List, [], Option, None}
+use Rattle.wm_keeper.specs.Store.{Store}
+use Rattle.wm_keeper.specs.declared.row.Row.{Row}
+use Rattle.wm_machine.specs.declared.command.Command.{Command}
+use Rattle.wm_machine.specs.declared.state.Instance.{Instance}
+
+-- the rows that its store had, and what its keeper showed once they were loaded; the instances of its workers; its lines; and the bytes that its
+-- sink had been given, where they are told, and how many faults it had met
+pub record Inputs : Type 1 where
+  pub rows : List Row
+  pub store : Store
+  pub instances : List Instance
+  pub lines : List Command
+  pub written : Option (List ℕ)
+  pub sink_faults : ℕ
+
+-- a run without anything
+abbrev pub no_inputs : Inputs
+no_inputs = record {
+  rows = [];
+  store = record { rows = None; images = λ image. ⊥; name = None; faults = 0 };
+  instances = [];
+  lines = [];
+  written = None;
+  sink_faults = 0;
+}
