@@ -27,7 +27,7 @@ script() {
 run() {
   local wide=$1
   shift
-  "$@" --store bench < "$work/script.$wide" > "$work/replies"
+  "$@" --store "$store" < "$work/script.$wide" > "$work/replies"
   [ "$(grep -o '"state":"SUCCEEDED"' "$work/replies" | wc -l)" -eq $((layers * wide)) ]
 }
 

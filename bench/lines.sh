@@ -36,8 +36,8 @@ work=$(mktemp -d)
 trap 'rm -rf "$work"' EXIT
 script "$lines" > "$work/script"
 bytes=$(wc -c < "$work/script")
-"$root/bin/work" --store bench < /dev/null
-read -r ours peak < <(measure "$root/crates/work/out/work" --store bench)
+"$root/bin/work" --store "$work/store" < /dev/null
+read -r ours peak < <(measure "$root/crates/work/out/work" --store "$work/store")
 [ "$(grep -c '"error":"BadData","key":"z"' "$work/replies")" -eq "$lines" ]
 read -r plain _ < <(measure python3 -c 'import json, sys
 for line in sys.stdin.buffer: json.loads(line)')

@@ -1,16 +1,27 @@
 # What the measures of whole runs have in common. A script sources this, and defines `run NAME COMMAND..`,
-# which runs its script of that name by a command and sees that what came is right.
+# which runs its script of that name by a command on the store `$store`, which is a new one for each run,
+# and sees that what came is right. The store stands in memory where the system has files there, so that
+# no disk is measured: `store.sh` does that.
 root=$(cd "$(dirname "${BASH_SOURCE[0]}")/.." && pwd)
-work=$(mktemp -d)
+memory=/dev/shm
+if [ ! -w "$memory" ]; then memory=${TMPDIR:-/tmp}; fi
+work=$(mktemp -d "$memory/work.XXXXXX")
 trap 'rm -rf "$work"' EXIT
-"$root/bin/work" --store bench < /dev/null
+store=$work/store
+"$root/bin/work" --store "$work/build" < /dev/null
+
+# Runs a script of that name by a command on a new store.
+run_anew() {
+  rm -f "$store"*
+  run "$@"
+}
 
 # Prints how many milliseconds the best of five runs of a script takes.
 milliseconds() {
   local best=0 start now
   for _ in 1 2 3 4 5; do
     start=$(date +%s%N)
-    run "$1" "$root/crates/work/out/work"
+    run_anew "$1" "$root/crates/work/out/work"
     now=$((($(date +%s%N) - start) / 1000))
     if [ "$best" -eq 0 ] || [ "$now" -lt "$best" ]; then best=$now; fi
   done
@@ -21,7 +32,7 @@ milliseconds() {
 # change; nothing where valgrind isn't there.
 instructions() {
   command -v valgrind > /dev/null || return 0
-  run "$1" valgrind --quiet --tool=callgrind --callgrind-out-file="$work/callgrind" "$root/crates/work/out/work"
+  run_anew "$1" valgrind --quiet --tool=callgrind --callgrind-out-file="$work/callgrind" "$root/crates/work/out/work"
   awk '/^totals:/ { printf "%.1f", $2 / 1000000 }' "$work/callgrind"
 }
 

@@ -22,7 +22,7 @@ script() {
 run() {
   local number=$1
   shift
-  "$@" --store bench < "$work/script.$number" > "$work/replies"
+  "$@" --store "$store" < "$work/script.$number" > "$work/replies"
   [ "$(grep -c '"ok":"enqueued"' "$work/replies")" -eq "$works" ]
   [ "$(grep -c '"note":' "$work/replies" || true)" -eq $((3 * number)) ]
 }

@@ -18,7 +18,7 @@ script() {
 run() {
   local lines=$1
   shift
-  "$@" --store bench < "$work/script.$lines" > "$work/replies"
+  "$@" --store "$store" < "$work/script.$lines" > "$work/replies"
   [ "$(grep -c '"ok":"enqueued"' "$work/replies")" -eq "$lines" ]
 }
 

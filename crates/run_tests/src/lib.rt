@@ -6,4 +6,6 @@
 #[cfg(test)]
 mod runs;
 #[cfg(test)]
+mod stores;
+#[cfg(test)]
 mod table;

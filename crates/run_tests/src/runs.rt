@@ -112,7 +112,7 @@ fn a_status_has_a_code_and_a_text(rt: HostRuntime) -> Result<(), Fail> {
 }
 
 /// The words of an ordinary run.
-fn words(alloc: Global) -> Result<Vec<String>, AllocError> {
+pub fn words(alloc: Global) -> Result<Vec<String>, AllocError> {
     let mut words = Vec::new(alloc);
     words.push(String::from_str(alloc, "--store")?)?;
     words.push(String::from_str(alloc, "demo")?)?;
@@ -137,7 +137,7 @@ fn echo(alloc: Global) -> Result<Hand<Echo>, AllocError> {
 }
 
 /// Two workers of class Echo.
-fn echoes(alloc: Global) -> Result<Vec<Hand<Echo>>, AllocError>
+pub fn echoes(alloc: Global) -> Result<Vec<Hand<Echo>>, AllocError>
     ensures { IfOk result (λ hands. vec_len hands ≤ most_hands) }
 {
     let mut hands = Vec::new(alloc);

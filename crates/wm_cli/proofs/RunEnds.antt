@@ -6,13 +6,15 @@ use Rattle.wm_bench.specs.declared.hand.Hand.{Hand}
 use Rattle.wm_cli.proofs.RunsWithoutEvents.{HasCommands-nothing, IsTextWritten-nothing}
 use Rattle.wm_cli.proofs.Hands.{AreBoxesBack-opened, AreHandsBack-opened, idle_hands-places}
 use Rattle.wm_cli.proofs.Opening.{BeginsSerial-nothing, IsSerialRun-early, IsSerialRun-unopened}
+use Rattle.wm_cli.proofs.RunImages.{images_told, leaves-only, loaded-alone}
 use Rattle.wm_cli.specs.Benched.{HasJustBegun}
 use Rattle.wm_cli.specs.Causes.{IsBadStore, IsOpeningStatus, IsUnlessMemory, StoreCause}
 use Rattle.wm_cli.specs.Ended.{AreHandsOf, AreRowsKept, HasNotBegun, HasReplayed, IsBegunBy, IsEndedAtOnce, IsOpenedFrom, IsReplayed, IsRunEnd}
+use Rattle.wm_cli.specs.Images.{IsHeldAlone, RunImages, UnbegunImages}
 use Rattle.wm_faults.specs.Faults.{Failed}
 use Rattle.wm_keeper.proofs.Stores.{IsAtMost-then}
 use Rattle.wm_keeper.specs.Keeper.{KeepCause}
-use Rattle.wm_keeper.specs.Store.{Store, IsAtMost}
+use Rattle.wm_keeper.specs.Store.{Store, IsAtMost, IsStoreKept}
 use Rattle.wm_keeper.specs.declared.keeper.KeepFault.{KeepFault}
 use Rattle.wm_keeper.specs.declared.keeper.KeepFault.TheVariants as keep
 use Rattle.wm_keeper.specs.declared.row.Row.{Row}
@@ -28,6 +30,7 @@ use Rattle.wm_rows.specs.declared.fault.RowFault.{RowFault}
 use Rattle.wm_session.specs.Causes.{status_by_begin, status_by_keeper}
 use Rattle.wm_session.specs.Ended.{HasCommands, IsSerialEnd, IsSerialRun, IsSessionStatus, IsTextWritten, IsUnbegun}
 use Rattle.wm_session.specs.Hands.{instances_from}
+use Rattle.wm_session.specs.Images.{EndImages}
 use Rattle.wm_session.specs.Tells.{Tells}
 use Rattle.wm_session.specs.declared.ended.Ended.{Ended}
 use Rattle.wm_session.specs.declared.status.Status.{Status}
@@ -70,6 +73,8 @@ IsSerialEnd-at_once tells run hands table sink back ended at begun askable are w
         name = rw at.keeper_is begun.name;
         keeper_fault = λ is. absurd (other_status ended.status status.KeeperFault at.status_is (λ clash. absurd (cc)) is);
         sink_fault = λ is. absurd (other_status ended.status status.SinkFault at.status_is (λ clash. absurd (cc)) is);
+        images = λ settled.
+            rw (at.status_is, at.keeper_is, last, at.first) (λ image left. inl (begun.images settled image left));
       };
       quiet = λ done. absurd (early done);
       hands = AreHandsBack-opened tells.kind_of ended.last hands ended.hands.items instances back_are;
@@ -120,9 +125,9 @@ pub IsRunEnd-begun : {K W B : Type 0} (tells : Tells K W B) (run : Inputs) (comm
     (ended : Ended K W B)
     → IsSerialEnd tells run (idle_hands (map place_of hands)) ended → run.lines ≡ commands → run.instances ≡ instances_from tells.kind_of 0 hands
     → run.written ≡ tells.given sink → run.sink_faults ≡ tells.sink_faults sink → run.store.faults ≡ (tells.store keeper).faults
-    → run.store.name ≡ (tells.store keeper).name → AreSound run.rows
+    → run.store.name ≡ (tells.store keeper).name → ((image : List Row) → run.store.images image → (tells.store keeper).images image) → AreSound run.rows
     → IsRunEnd tells commands hands (tells.store keeper).name (Some run.rows) keeper sink ended
-IsRunEnd-begun tells run commands hands keeper sink ended by_places lines are written sink_faults faults name sound =
+IsRunEnd-begun tells run commands hands keeper sink ended by_places lines are written sink_faults faults name images sound =
     let over = rw (idle_hands-places hands) at by_places in
     let session = over.session in
     let instances = instances_from tells.kind_of 0 hands in
@@ -146,6 +151,10 @@ IsRunEnd-begun tells run commands hands keeper sink ended by_places lines are wr
       opened = session_opening ended.status session.status_is;
       keeper_fault = λ is. subst (λ n. Failed n (tells.store ended.keeper).faults) faults (session.keeper_fault is);
       sink_fault = λ is. subst (λ n. Failed n (tells.sink_faults ended.sink)) sink_faults (session.sink_fault is);
+      images = λ alone.
+          subst (λ began. RunImages began ended.status commands (Some run.rows) instances ended.last ended.log (tells.store ended.keeper)) (sym session.began)
+          (subst (λ all. EndImages ended.status all ended.last ended.log (tells.store ended.keeper)) lines
+          (session.images (λ image left. leaves-only run.rows (tells.store keeper) alone image (images image left))));
       bad_store = session_store ended.status (Some run.rows) session.status_is;
       unsound = λ rows seq bad_row stored refused no_fault.
           let same : run.rows ≡ rows = cc in
@@ -241,8 +250,9 @@ pub IsRunEnd-unbegun : {K W B : Type 0} (tells : Tells K W B) (commands : List C
     (name : Option (List ℕ)) (held : Option (List Row)) (keeper now : K) (sink : W) (ended : Ended K W B)
     → IsUnbegun why now sink hands ended → AllByRecursion IsAskable commands → IsAtMost (tells.store keeper).rows (tells.store now).rows
     → EarlyCause why (tells.store keeper).faults (tells.store now).faults held
+    → (IsHeldAlone held (tells.store keeper) → UnbegunImages why held (instances_from tells.kind_of 0 hands.items) (tells.store now))
     → IsRunEnd tells commands hands.items name held keeper sink ended
-IsRunEnd-unbegun tells commands why hands name held keeper now sink ended unbegun askable same cause =
+IsRunEnd-unbegun tells commands why hands name held keeper now sink ended unbegun askable same cause images =
     let before = (tells.store keeper).faults in
     let faults : (tells.store ended.keeper).faults ≡ (tells.store now).faults = ap (λ keeper. (tells.store keeper).faults) unbegun.keeper_is in
     let is =
@@ -268,6 +278,7 @@ IsRunEnd-unbegun tells commands why hands name held keeper now sink ended unbegu
       opened = is.opened;
       keeper_fault = is.keeper_fault;
       sink_fault = λ fault. absurd (is.no_sink_fault fault);
+      images = λ alone. rw (unbegun.began, unbegun.status_is, unbegun.keeper_is) (images alone);
       bad_store = is.bad_store;
       unsound = is.unsound;
     }
@@ -306,15 +317,15 @@ pub IsRunEnd-loaded : {K W B : Type 0} (tells : Tells K W B) (commands : List Co
     (keeper loaded : K) (sink : W) (ended : Ended K W B)
     → IsRunEnd tells commands hands (tells.store loaded).name (Some rows) loaded sink ended → IsAtMost (Some name) (tells.store loaded).name
     → IfSome (tells.store keeper).rows (λ held. rows ≡ held)
-    → IsAtMost (tells.store keeper).rows (tells.store loaded).rows → (tells.store loaded).faults ≡ (tells.store keeper).faults
+    → IsStoreKept (tells.store keeper) (tells.store loaded) → (tells.store loaded).faults ≡ (tells.store keeper).faults
     → IsRunEnd tells commands hands (Some name) (tells.store keeper).rows keeper sink ended
-IsRunEnd-loaded tells commands hands name rows keeper loaded sink ended is named told same faults =
+IsRunEnd-loaded tells commands hands name rows keeper loaded sink ended is named told kept faults =
     let held = (tells.store keeper).rows in
     record {
       replay = replayed_told ended.began held rows _ ended.first ended.log ended.last told is.replay;
       begun = is.begun;
       not_begun_keeps = is.not_begun_keeps;
-      rows = kept_loaded ended.began ended.last (tells.store keeper) (tells.store loaded) (tells.store ended.keeper) same is.rows;
+      rows = kept_loaded ended.began ended.last (tells.store keeper) (tells.store loaded) (tells.store ended.keeper) kept.rows is.rows;
       store_is = λ began. IsAtMost-then (Some name) (tells.store loaded).name (tells.store ended.keeper).name named (is.store_is began);
       has_commands = is.has_commands;
       bytes = is.bytes;
@@ -326,6 +337,9 @@ IsRunEnd-loaded tells commands hands name rows keeper loaded sink ended is named
       opened = is.opened;
       keeper_fault = λ fault. subst (λ n. Failed n (tells.store ended.keeper).faults) faults (is.keeper_fault fault);
       sink_fault = is.sink_fault;
+      images = λ alone.
+          images_told ended.began ended.status commands held rows (instances_from tells.kind_of 0 hands) ended.last ended.log (tells.store ended.keeper) told
+          (is.images (loaded-alone rows (tells.store keeper) (tells.store loaded) told kept alone));
       bad_store = store_told ended.status held rows told is.bad_store;
       unsound = λ all seq bad_row stored refused no_fault.
           let both : rows ≡ all = subst (λ held. IfSome held (λ kept. rows ≡ kept)) stored told in

@@ -5,10 +5,12 @@ use Rattle.wm_bench.specs.declared.hand.Hand.{Hand}
 use Rattle.wm_bench.specs.declared.place.Place.{Place}
 use Rattle.wm_keeper.specs.Store.{IsAtMost}
 use Rattle.wm_machine.specs.Opened.{Opened}
+use Rattle.wm_machine.specs.Rows.{rows_of}
 use Rattle.wm_machine.specs.declared.state.Instance.{Instance}
 use Rattle.wm_rows.specs.Sound.{AreSound}
 use Rattle.wm_session.specs.Hands.{instances_from}
 use Rattle.wm_session.specs.Tells.{Tells}
+use Rattle.wm_table.specs.Images.{LeavesOnly}
 use Rattle.wm_table.specs.Inputs.{Inputs}
 use Rattle.wm_table.specs.Table.{HoldsRowsOf}
 use Rattle.wm_table.specs.TableState.{TableState}
@@ -22,7 +24,7 @@ pub record AreBenched {B : Type 0} (kind_of : B → Kind) (places : List (Place 
   pub are : instances ≡ instances_from kind_of 0 hands
 
 -- a table that has just begun, of what its run was given: the rows are sound, its state is the one that they open to, nothing has happened, and its
--- keeper holds the state's rows, in the store that was loaded, and met no fault
+-- keeper holds the state's rows, in the store that was loaded, and met no fault; a crash leaves just these, where it left just the rows loaded
 pub record HasJustBegun {K W B : Type 0} (tells : Tells K W B) (run : Inputs) (table : TableState K) : Type 0 where
   pub sound : AreSound run.rows
   pub opened : Opened run.rows run.instances table.first
@@ -31,3 +33,4 @@ pub record HasJustBegun {K W B : Type 0} (tells : Tells K W B) (run : Inputs) (t
   pub rows : HoldsRowsOf table.first (tells.store table.keeper)
   pub name : IsAtMost run.store.name (tells.store table.keeper).name
   pub no_fault : (tells.store table.keeper).faults ≡ run.store.faults
+  pub images : LeavesOnly run.rows run.store → LeavesOnly (rows_of table.first) (tells.store table.keeper)

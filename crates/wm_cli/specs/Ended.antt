@@ -3,6 +3,7 @@ use Rattle.std.specs.Prelude.{◌≡◌, ℕ, ℤ, Bool, true, false, List, [], 
 use Rattle.std.specs.declared.alloc.Global.{Global}
 use Rattle.wm_bench.specs.declared.hand.Hand.{Hand}
 use Rattle.wm_cli.specs.Causes.{IsOpeningStatus, IsUnlessMemory, StoreCause}
+use Rattle.wm_cli.specs.Images.{IsHeldAlone, RunImages}
 use Rattle.wm_cli.specs.Words.{options_of}
 use Rattle.wm_faults.specs.Faults.{Failed}
 use Rattle.wm_keeper.specs.Store.{Store, IsAtMost}
@@ -83,6 +84,15 @@ HasCommandsOf left ended log = ForScript left (λ bytes. HasCommands (commands_i
 abbrev pub IsSerialOver : Option (List ℕ) → Status → State → List Event → State → Type 0
 IsSerialOver left ended first log last = ForScript left (λ bytes. IsSerialRun (commands_in bytes) ended first log last)
 
+-- ---- what a crash leaves
+
+-- over the script's commands, a crash leaves what it may leave of a run that is over
+abbrev pub IsCrashSafe : Option (List ℕ) → Bool → Status → Option (List Row) → List Instance → State → List Event → Store → Type 0
+IsCrashSafe left began ended held instances last log store =
+    ForScript left (λ bytes. RunImages began ended (commands_in bytes) held instances last log store)
+
+-- ---- the end
+
 -- on `Done` nothing is left to do
 abbrev pub IsQuietOnDone : Status → State → Type 0
 IsQuietOnDone ended last = ended ≡ status.Done → IsQuiet last
@@ -134,6 +144,8 @@ pub record IsRunEnd {K W B : Type 0} (tells : Tells K W B) (commands : List Comm
   pub opened : IsOpeningStatus ended.status
   pub keeper_fault : ended.status ≡ status.KeeperFault → Failed (tells.store keeper).faults (tells.store ended.keeper).faults
   pub sink_fault : ended.status ≡ status.SinkFault → Failed (tells.sink_faults sink) (tells.sink_faults ended.sink)
+  pub images : IsHeldAlone held (tells.store keeper)
+      → RunImages ended.began ended.status commands held (instances_from tells.kind_of 0 hands) ended.last ended.log (tells.store ended.keeper)
   pub bad_store : StoreCause ended.status held
   pub unsound : (rows : List Row) (seq : ℤ) (bad_row : Bool) → held ≡ Some rows → checked rows ≡ Err (row_fault seq bad_row)
       → ¬ Failed (tells.store keeper).faults (tells.store ended.keeper).faults → IsUnlessMemory ended.status (status.BadStore seq bad_row)

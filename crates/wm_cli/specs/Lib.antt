@@ -2,6 +2,7 @@
 pub mod Benched
 pub mod Causes
 pub mod Ended
+pub mod Images
 pub mod Reading
 pub mod Script
 pub mod Words

@@ -3,11 +3,12 @@ ghost use Rattle.std.specs.List.{AllByRecursion};
 ghost use Rattle.wm_bench.specs.Places.{idle_hands, most_hands, place_of};
 ghost use Rattle.wm_cli.specs.Benched.{AreBenched, HasJustBegun};
 ghost use Rattle.wm_cli.specs.Causes.{IsToldTooLong, IsToldWithin, IsUnlessMemory, LimitCause, StoreCause};
-ghost use Rattle.wm_cli.specs.Ended.{AreBoxesOf, AreHandsOf, AreRowsKept, HasCommandsOf, HaveToldOnDone, IsBegunBy, IsEndedAtOnce, IsQuietOnDone, IsReplayed, IsRunEnd, IsSerialOver, IsStoreOf};
+ghost use Rattle.wm_cli.specs.Ended.{AreBoxesOf, AreHandsOf, AreRowsKept, HasCommandsOf, HaveToldOnDone, IsBegunBy, IsCrashSafe, IsEndedAtOnce, IsQuietOnDone, IsReplayed, IsRunEnd, IsSerialOver, IsStoreOf};
 ghost use Rattle.wm_cli.specs.Reading.{AreCommandsOf, IsReadStatus};
 ghost use Rattle.wm_cli.specs.Script.{IsTakenWithin};
 ghost use Rattle.wm_cli.specs.Words.{options_of};
 ghost use Rattle.wm_faults.specs.Faults.{Failed};
+ghost use Rattle.wm_keeper.specs.Store.{IsSettled};
 ghost use Rattle.wm_keeper.specs.declared.row.Row.{Row};
 ghost use Rattle.wm_machine.specs.Outcome.{IsAskable};
 ghost use Rattle.wm_rows.specs.Sound.{checked, AreSound};
@@ -204,7 +205,7 @@ fn end_at_once<W: Sink, K: Keeper, B: Worker, M: Mark>(
 /// whoever calls, or of any one type; they are of any kinds, and at most 10,000. What comes back is
 /// how the run ended, with the log of its events between the first state and the last, the keeper,
 /// the sink and the workers. Each status has its cause: see [`Status`].
-pub fn run<S: Source, W: Sink + Send, K: Keeper + Send, B: Worker>(
+pub fn run<S: Source, W: Sink + Send, K: Keeper, B: Worker>(
     alloc: Global,
     words: &[String],
     hands: Vec<Hand<B>>,
@@ -222,6 +223,12 @@ pub fn run<S: Source, W: Sink + Send, K: Keeper + Send, B: Worker>(
     ensures not_begun_keeps { result.began ≡ false → result.sink ≡ sink }
     // The rows kept are the last state's, and those of before where no store was opened.
     ensures rows { AreRowsKept result.began result.last (K.store keeper) (K.store result.keeper) }
+    // Where nothing was pending in the store, a crash leaves the last state's rows, or those of the state
+    // after the event that was being committed; and where no store was opened the rows of before, or
+    // those of the opening that was being committed.
+    ensures crash { IsSettled (K.store keeper) → IsCrashSafe (S.left source.old) result.began
+        result.status (K.store keeper).rows (instances_from B.kind_of 0 hands.items)
+        result.last result.log (K.store result.keeper) }
     // They stand in the store that the words name.
     ensures store { result.began ≡ true → IsStoreOf (map string_bytes words.now) (K.store result.keeper).name }
     // The log has the script's commands, a front of them, and on `Done` all.

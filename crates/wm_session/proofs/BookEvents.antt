@@ -6,8 +6,7 @@ use Rattle.wm_data.specs.declared.data.DataEntry.{DataEntry}
 use Rattle.wm_machine.specs.declared.event.Event.{Event}
 use Rattle.wm_machine.specs.declared.state.Run.{Run}
 use Rattle.wm_machine.specs.declared.state.State.{State}
-use Rattle.wm_machine.proofs.Steps.{framed, kept as kept_by}
-use Rattle.wm_machine.specs.Frame.{frame_of, Frame, IsEndedIn, IsFramed}
+use Rattle.wm_machine.proofs.Steps.{kept as kept_by}
 use Rattle.wm_machine.specs.Role as role
 use Rattle.wm_machine.specs.Role.{Reported}
 use Rattle.wm_machine.specs.Serial.{IsInTurn, IsTurnOf}
@@ -32,14 +31,6 @@ AreNumberedFrom-silent line (event.Command number asked reply ∷ log) e is numb
 AreNumberedFrom-silent line (_ ∷ log) e is numbered = AreNumberedFrom-silent line log e is numbered
 
 -- ---- an event that ends a run
-
--- what it makes of all but the records
-pub framed_end : (s : State) (number : ℕ) (gave : Reported) (e : Event) → role_of e ≡ role.Ends number gave → Legal s e → IsEndedIn number gave s (frame_of s e)
-framed_end s number gave e ends legal = subst (λ r. IsFramed r s (frame_of s e)) ends (framed s e legal)
-
--- it is no line
-pub silent_end : (s : State) (number : ℕ) (gave : Reported) (e : Event) → role_of e ≡ role.Ends number gave → Legal s e → command_in e ≡ []
-silent_end s number gave e ends legal = ap (λ (f : Frame). f.commands) (framed_end s number gave e ends legal).frame_is
 
 -- it comes in its turn always
 pub end_in_turn : (s : State) (number : ℕ) (gave : Reported) (e : Event) → role_of e ≡ role.Ends number gave → IsInTurn s e

@@ -9,6 +9,7 @@ use Rattle.wm_machine.specs.Frame.{instances_after, Frame}
 use Rattle.wm_machine.specs.Log.{commands_of, AreNumberedFrom}
 use Rattle.wm_machine.specs.Narrow.{IsNarrow}
 use Rattle.wm_machine.specs.Replay.{Replay}
+use Rattle.wm_machine.specs.Rows.{rows_of}
 use Rattle.wm_machine.specs.Valid.{Valid}
 use Rattle.wm_machine.specs.declared.command.Command.{Command}
 use Rattle.wm_machine.specs.declared.reply.Reply.{Reply}
@@ -20,6 +21,7 @@ use Rattle.wm_session.proofs.BookParts.{AwayInvariant-from}
 use Rattle.wm_session.proofs.WrittenTexts.{TextsInvariant-unwritten}
 use Rattle.wm_session.specs.Bench.{instance_traits, place_traits, places_after, NoneAway}
 use Rattle.wm_session.specs.BookState.{BookState}
+use Rattle.wm_table.specs.Images.{LeavesOnly}
 use Rattle.wm_table.specs.Inputs.{Inputs}
 use Rattle.wm_session.specs.Invariant.{BookInvariant}
 use Rattle.wm_session.specs.Pending.{PendingState, nothing}
@@ -71,10 +73,11 @@ pub BookInvariant-new : {K W B : Type 0} (run : Inputs) (tells : Tells K W B) (t
     → 0 + length left < 2 ^ 32 → AllByRecursion IsAskable left
     → table.state ≡ table.first → tells.given sink ≡ run.written
     → run.store.faults ≤ (tells.store table.keeper).faults → run.sink_faults ≤ tells.sink_faults sink
+    → (LeavesOnly run.rows run.store → LeavesOnly (rows_of table.state) (tells.store table.keeper))
     → BookInvariant run tells
     (record { table = table; places = places; left = left; line = 0; pending = pending; sink = sink; status = None })
 BookInvariant-new run tells table places left pending sink empty lines none workers idle all_in valid narrow few askable begun written
-    keeper sink_later =
+    keeper sink_later images =
     record {
       replay = subst (λ log. Replay table.first log table.state) (sym empty) begun;
       valid = valid;
@@ -91,4 +94,5 @@ BookInvariant-new run tells table places left pending sink empty lines none work
       keeper_later = keeper;
       sink_later = sink_later;
       cause = tt;
+      images = images;
     }

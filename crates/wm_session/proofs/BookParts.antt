@@ -2,7 +2,6 @@
 use Rattle.std.proofs.Common.{◌≡◌, ◌⊎◌, ℕ, ◌+◌, ◌-◌, ◌^◌, ◌≤◌, min, List, [], ◌++◌, map, Option, Some, None, IsSome, IsSomeAnd, Err, refl, sym, ap, subst, inr, arith}
 use Rattle.std.proofs.Math.Nat.{le-min, le_trans, min-le_left, min-le_right}
 use Rattle.wm_faults.specs.Faults.{Failed}
-use Rattle.wm_keeper.proofs.Stores.{IsAtMost-same}
 use Rattle.wm_keeper.specs.Store.{Store}
 use Rattle.wm_machine.specs.declared.command.Command.{Command}
 use Rattle.wm_machine.specs.declared.event.Event.{Event}
@@ -18,7 +17,7 @@ use Rattle.wm_session.specs.BookState.{BookState}
 use Rattle.wm_session.specs.Causes.{stop_by_fault, stop_by_trouble, StopCause}
 use Rattle.wm_session.specs.Invariant.{AwayInvariant, LinesInvariant}
 use Rattle.wm_session.specs.Pending.{PendingState}
-use Rattle.wm_table.specs.Table.{IsClaimAnswer, IsOneStep, IsUntouched, TurnCause}
+use Rattle.wm_table.specs.Table.{IsClaimAnswer, IsOneStep, IsUntouched, TroubleCause, TurnCause}
 use Rattle.wm_table.specs.TableState.{TableState, TicketState, ticket_of}
 use Rattle.wm_session.specs.Writing.{WriteCause}
 use Rattle.wm_session.specs.declared.book.Stop.{Stop}
@@ -60,6 +59,12 @@ failed_since start before now failed later =
       rose = le_trans (le-min (le_trans (min-le_left (start + 1) (2 ^ 64 - 1)) (omega arith)) (min-le_right (start + 1) (2 ^ 64 - 1))) rose;
     }
 
+-- why a session stops whose table had trouble
+pub StopCause-trouble : (T : Type 0) (why : Trouble) (before now start sink sink_now : ℕ) → TroubleCause {T = T} (Err why) before now → start ≤ before
+    → (before ≤ now) × StopCause (Some (stop_by_trouble why)) start now sink sink_now
+StopCause-trouble T trouble.KeeperFault before now start sink sink_now failed later = (failed.later, failed_since start before now failed later)
+StopCause-trouble T trouble.Memory before now start sink sink_now same later = (omega arith, tt)
+
 -- why a session stops whose table had trouble at the end of a turn
 pub StopCause-turn : (M : Type 0) (ticket : TicketState) (told : Report) (why : Trouble) (before now start sink sink_now : ℕ)
     → TurnCause {M = M} (turn.Refused ticket told why) before now → start ≤ before
@@ -75,18 +80,14 @@ StopCause-write fault.Memory keeper keeper_now before now start same later = (om
 
 -- ---- the table
 
-pub IsUntouched-same : {K : Type 0} (store : K → Store) (old new : TableState K) → new ≡ old → IsUntouched store old new
-IsUntouched-same store old new same =
-    subst (IsUntouched store old) (sym same) (record { first = refl; state = refl; log = refl; rows = IsAtMost-same (store old.keeper).rows })
-
 -- the log replays with its new event
 pub Replay-step : {K : Type 0} (store : K → Store) (e : Event) (old new : TableState K) → Replay old.first old.log old.state
     → IsOneStep store e old new → Replay new.first new.log new.state
 Replay-step store e old new replays step =
     rw (step.first, step.appended, step.state) (Replay-push old.first old.log old.state e replays step.legal)
 
-pub Replay-same : {K : Type 0} (store : K → Store) (old new : TableState K) → Replay old.first old.log old.state → IsUntouched store old new
-    → Replay new.first new.log new.state
+pub Replay-same : {K : Type 0} (store : K → Store) {may : Event → Type 0} (old new : TableState K) → Replay old.first old.log old.state
+    → IsUntouched store may old new → Replay new.first new.log new.state
 Replay-same store old new replays same = rw (same.first, same.log, same.state) replays
 
 -- a claim's event, which is no line

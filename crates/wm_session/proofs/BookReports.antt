@@ -11,7 +11,8 @@ use Rattle.wm_machine.specs.Frame.{Frame}
 use Rattle.wm_machine.specs.Runs.{with_out}
 use Rattle.wm_machine.specs.declared.event.Event.TheVariants as event
 use Rattle.wm_session.proofs.PlacesAndInstances.{away-changed, here-back, traits-given, traits-with_out}
-use Rattle.wm_session.proofs.BookEvents.{framed_end, no_more_after_end, no_more_after_turn, silent_end}
+use Rattle.wm_session.proofs.BookEvents.{no_more_after_end, no_more_after_turn}
+use Rattle.wm_table.proofs.NoLines.{framed_end, silent_end}
 use Rattle.wm_session.proofs.BookParts.{AwayInvariant-from}
 use Rattle.wm_session.specs.Bench.{instance_traits, is_away, place_traits}
 use Rattle.wm_session.specs.Book as book

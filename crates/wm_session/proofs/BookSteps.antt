@@ -13,6 +13,7 @@ use Rattle.wm_texts.specs.Texts.{last_text, log_text}
 use Rattle.wm_machine.specs.declared.command.Command.{Command}
 use Rattle.wm_machine.specs.declared.event.Event.{Event}
 use Rattle.wm_session.proofs.BookEvents.{AreNumberedFrom-silent}
+use Rattle.wm_session.proofs.BookImages.{images-going, images-only}
 use Rattle.wm_session.proofs.BookParts.{LinesInvariant-from, StopCause-write, Replay-step}
 use Rattle.wm_session.proofs.WrittenTexts.{TextsInvariant-more}
 use Rattle.wm_session.specs.Bench.{instance_traits, is_away, place_traits}
@@ -99,6 +100,10 @@ module _ {K W B : Type 0} {run : Inputs} {tells : Tells K W B} where
         keeper_later = subst (λ n. run.store.faults ≤ n) (sym more.no_fault) keeper_before;
         sink_later = omega arith;
         cause = told.cause;
+        images = λ settled.
+            images-only run.lines new.table.state new.table.log new.status (tells.store new.table.keeper)
+            (step.images
+            (images-going run.lines old.table.state old.table.log old.status (tells.store old.table.keeper) more.going (kept.images settled)));
       }
 
   -- the text was told, and all that was pending written

@@ -20,7 +20,7 @@ use Rattle.wm_machine.specs.declared.command.Command.{Command}
 use Rattle.wm_machine.specs.declared.event.Event.{Event}
 use Rattle.wm_machine.specs.declared.event.Event.TheVariants as event
 use Rattle.wm_worker.specs.declared.kind.Kind.{Kind}
-use Rattle.wm_session.proofs.BookEvents.{framed_end}
+use Rattle.wm_table.proofs.NoLines.{framed_end}
 use Rattle.wm_session.proofs.DiaryLemmas.{lines_of, ticket-found, IsDiaryLater-further, IsDiaryLater-same, IsDiaryWith-nothing, IsDiaryWith-silent, IsDiaryWith-written}
 use Rattle.wm_session.proofs.HandLemmas.{idle_at-back, idle_at-given, idle_at-taken}
 use Rattle.wm_session.specs.BetweenRuns.{IsAtBegin, IsBetweenRuns, IsOfGiven, KeepBoxes}
@@ -80,7 +80,7 @@ boxes-given diary_of log hands number worker idle =
 
 module _ {K W B : Type 0} (diary_of : B → Option (List Entry)) (old new : BookState K W B) where
   -- the session has stopped early without an event
-  of_given-same : {store : K → Store} → IsUntouched store old.table new.table → IsSome new.status → (number : ℕ) (given now : B)
+  of_given-same : {store : K → Store} {may : Event → Type 0} → IsUntouched store may old.table new.table → IsSome new.status → (number : ℕ) (given now : B)
       → IsOfGiven diary_of old number given now → IsOfGiven diary_of new number given now
   of_given-same same stopped number given now is = record {
     box = rw same.log is.box;
@@ -136,7 +136,7 @@ IsFromGiven diary_of given book number worker = IsSomeAnd (slice_get given numbe
 
 module _ {K W B : Type 0} (diary_of : B → Option (List Entry)) (given : List (Hand B)) (old new : BookState K W B) where
   -- the session has stopped early without an event
-  pub KeepBoxes-same : {store : K → Store} → IsUntouched store old.table new.table → IsSome new.status → new.places ≡ old.places
+  pub KeepBoxes-same : {store : K → Store} {may : Event → Type 0} → IsUntouched store may old.table new.table → IsSome new.status → new.places ≡ old.places
       → KeepBoxes diary_of given old → KeepBoxes diary_of given new
   KeepBoxes-same same stopped places keep number worker idle =
       IsSomeAnd-weaker (slice_get given number) (λ hand. of_given-same diary_of old new same stopped number hand.worker worker)

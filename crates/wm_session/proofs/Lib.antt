@@ -1,6 +1,7 @@
 pub mod BookClaims
 pub mod BookEnds
 pub mod BookEvents
+pub mod BookImages
 pub mod BookLines
 pub mod BookParts
 pub mod BookReports

@@ -29,7 +29,8 @@ use Rattle.wm_machine.specs.Step.{Legal}
 use Rattle.wm_machine.specs.declared.event.Event.TheVariants as event
 use Rattle.wm_machine.proofs.Steps.{framed}
 use Rattle.wm_machine.proofs.Turns.{after_turn}
-use Rattle.wm_session.proofs.BookEvents.{end_in_turn, framed_end, length-turned, other_runs-turned, run_numbered-turned}
+use Rattle.wm_session.proofs.BookEvents.{end_in_turn, length-turned, other_runs-turned, run_numbered-turned}
+use Rattle.wm_table.proofs.NoLines.{framed_end}
 use Rattle.wm_session.proofs.BookParts.{claimed_step, Replay-same, Replay-step}
 use Rattle.wm_session.proofs.BoxLemmas.{no_longer, KeepBoxes-cut, KeepBoxes-given_up, KeepBoxes-last, KeepBoxes-same, KeepBoxes-silent, KeepBoxes-turned, KeepBoxesOut-later}
 use Rattle.wm_session.proofs.DiaryLemmas.{ticket-found, IsDiaryLater-same}
@@ -203,7 +204,8 @@ module _ {K W B : Type 0} (store : K → Store) (lines : List Command) (e : Even
       GoesInOrder-event goes.order.from_rest
       (AreInOrder-push lines old.table.first old.table.log old.table.state e goes.order.in_order replays (goes.may_go_on going) turn)
 
-module _ {K W B : Type 0} (store : K → Store) (lines : List Command) (old new : BookState K W B) (same : IsUntouched store old.table new.table) where
+module _ {K W B : Type 0} (store : K → Store) {may : Event → Type 0} (lines : List Command) (old new : BookState K W B)
+    (same : IsUntouched store may old.table new.table) where
   IsInOrder-same : IsInOrder lines old → IsInOrder lines new
   IsInOrder-same order = record {
     in_order = rw (same.first, same.log) order.in_order;

@@ -1,5 +1,5 @@
 -- What the calls of a book do.
-use Rattle.std.specs.Prelude.{◌≡◌, ◌⊎◌, ℕ, ◌+◌, ◌<◌, ◌≤◌, Bool, true, List, [], ◌∷◌, Option, Some, None, IsSome, Result, Ok, Err}
+use Rattle.std.specs.Prelude.{◌≡◌, ◌⊎◌, ℕ, ◌+◌, ◌<◌, ◌≤◌, Bool, true, List, [], ◌∷◌, Some, None, IsSome, Result, Ok, Err}
 use Rattle.std.specs.declared.alloc.AllocError.{AllocError}
 use Rattle.wm_bench.specs.Places.{changed_at, idle_at, made_away, made_back}
 use Rattle.wm_bench.specs.Seat.{Seat}
@@ -10,6 +10,7 @@ use Rattle.wm_machine.specs.Waiting.{left_to_drain}
 use Rattle.wm_machine.specs.declared.command.Command.{Command}
 use Rattle.wm_machine.specs.declared.command.Command.TheVariants as command
 use Rattle.wm_machine.specs.declared.event.Cause.{Cause}
+use Rattle.wm_machine.specs.declared.event.Event.{Event}
 use Rattle.wm_machine.specs.declared.event.Event.TheVariants as event
 use Rattle.wm_machine.specs.declared.reply.Reply.{Reply}
 use Rattle.wm_machine.specs.declared.state.State.{State}
@@ -17,6 +18,7 @@ use Rattle.wm_session.specs.Bench.{places_after}
 use Rattle.wm_session.specs.BookState.{BookState}
 use Rattle.wm_session.specs.Pending.{nothing}
 use Rattle.wm_runs.specs.Reports.{CountsIn}
+use Rattle.wm_table.specs.Images.{IsLine, IsNoLine}
 use Rattle.wm_table.specs.Table.{HasGoneOn, IsClaimAnswer, IsFinished, IsOneStep, IsUntouched, IsTicketIn, Stands}
 use Rattle.wm_table.specs.TableState.{TicketState}
 use Rattle.wm_table.specs.declared.table.Claim.{Claim}
@@ -58,6 +60,11 @@ pub record HasMoved {K W B : Type 0} (store : K → Store) (kind_of : B → Kind
   pub goes_on : GoesOn old new
   pub line : IsLineDone store kind_of old new
 
+-- an event of the next of these lines, of which so many were executed
+abbrev pub IsNextLine : ℕ → List Command → Event → Type 0
+IsNextLine line [] e = ⊥
+IsNextLine line (asked ∷ lines) e = IsLine (line + 1) asked e
+
 -- the first of these lines settles
 abbrev pub SettlesNext : List Command → Type 0
 SettlesNext [] = ⊥
@@ -85,9 +92,9 @@ pub record IsLineUntold {K W B : Type 0} (store : K → Store) (kind_of : B → 
   pub before : old.status ≡ None
   pub line : IsLineDone store kind_of old new
 
--- no line was executed
+-- no line was executed, though the next one may have been being committed
 pub record IsNoLineDone {K W B : Type 0} (store : K → Store) (old new : BookState K W B) : Type 0 where
-  pub table : IsUntouched store old.table new.table
+  pub table : IsUntouched store (IsNextLine old.line old.left) old.table new.table
   pub places : new.places ≡ old.places
 
 -- the session has stopped early, with or without the next line's event, or had before
@@ -134,7 +141,7 @@ pub record IsStartFailed {K W B : Type 0} (store : K → Store) (old new : BookS
 pub record HasStopped {K W B : Type 0} (store : K → Store) (old new : BookState K W B) : Type 0 where
   pub status : IsSome new.status
   pub stays : IsSome old.status → StaysStopped old new
-  pub table : IsUntouched store old.table new.table
+  pub table : IsUntouched store IsNoLine old.table new.table
   pub left : new.left ≡ old.left
 
 -- the ticket of a claim stands in the state, where it has one

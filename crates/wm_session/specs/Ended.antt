@@ -20,6 +20,8 @@ use Rattle.wm_session.specs.Bench.{hand_traits, instance_traits, place_traits}
 use Rattle.wm_session.specs.BookState.{BookState}
 use Rattle.wm_session.specs.Boxes.{EachBack, HasTold, IsBoxAfter}
 use Rattle.wm_session.specs.Causes.{EndsBy}
+use Rattle.wm_session.specs.Images.{EndImages}
+use Rattle.wm_table.specs.Images.{LeavesOnly}
 use Rattle.wm_table.specs.Inputs.{Inputs}
 use Rattle.wm_session.specs.Invariant.{TextsInvariant}
 use Rattle.wm_session.specs.Pending.{pending_text}
@@ -77,8 +79,9 @@ AreBoxesBack diary_of given log last hands = EachBack (IsBoxAfter diary_of log) 
 -- ---- what is handed back
 
 -- A session that is over, of what its run was given: its rows open to the first state, from which the log replays; that has a front of the lines
--- and on `Done` all; its text was written, a front of it and on `Done` all; the rows kept are the last state's, in the store that was loaded; and a
--- fault is answered where one was met.
+-- and on `Done` all; its text was written, a front of it and on `Done` all; the rows kept are the last state's, in the store that was loaded; a
+-- fault is answered where one was met; and where nothing was pending, a crash leaves the last state's rows, or those of the event that was being
+-- committed.
 pub record IsSessionEnd {K W B : Type 0} (tells : Tells K W B) (run : Inputs) (ended : Ended K W B) : Type 0 where
   pub status_is : IsSessionStatus ended.status
   pub began : ended.began ≡ true
@@ -90,6 +93,7 @@ pub record IsSessionEnd {K W B : Type 0} (tells : Tells K W B) (run : Inputs) (e
   pub name : IsAtMost run.store.name (tells.store ended.keeper).name
   pub keeper_fault : ended.status ≡ status.KeeperFault → Failed run.store.faults (tells.store ended.keeper).faults
   pub sink_fault : ended.status ≡ status.SinkFault → Failed run.sink_faults (tells.sink_faults ended.sink)
+  pub images : LeavesOnly run.rows run.store → EndImages ended.status run.lines ended.last ended.log (tells.store ended.keeper)
 
 -- what a book that is over hands back: its states, its log, and the workers of its bench, which are the instances
 pub record IsHandedBack {K W B : Type 0} (kind_of : B → Kind) (book : BookState K W B) (ended : Ended K W B) : Type 0 where

@@ -11,6 +11,8 @@ use Rattle.wm_machine.specs.declared.command.Command.{Command}
 use Rattle.wm_session.specs.Bench.{instance_traits, is_away, place_traits}
 use Rattle.wm_session.specs.BookState.{BookState}
 use Rattle.wm_session.specs.Causes.{StopCause}
+use Rattle.wm_session.specs.Images.{StopImages}
+use Rattle.wm_table.specs.Images.{LeavesOnly}
 use Rattle.wm_table.specs.Inputs.{Inputs}
 use Rattle.wm_session.specs.Pending.{pending_text}
 use Rattle.wm_session.specs.Tells.{Tells}
@@ -36,7 +38,8 @@ AwayInvariant (Some why) book = Unit {0}
 
 -- The facts of a book, of what its run was given, beside those that its table keeps: the log replays to the state now, which is valid, and narrow
 -- for now; its commands are the lines up to the one that is next; the bytes written and pending are its text, and while the session goes on each
--- text is made; the workers are the instances; and the counts of faults haven't fallen, and have risen where a fault stopped the session.
+-- text is made; the workers are the instances; the counts of faults haven't fallen, and have risen where a fault stopped the session; and where
+-- nothing was pending once the rows were loaded, a crash leaves the state's rows, or those of the event that was being committed.
 pub record BookInvariant {K W B : Type 0} (run : Inputs) (tells : Tells K W B) (book : BookState K W B) : Type 0 where
   pub replay : Replay book.table.first book.table.log book.table.state
   pub valid : Valid book.table.state
@@ -53,3 +56,4 @@ pub record BookInvariant {K W B : Type 0} (run : Inputs) (tells : Tells K W B) (
   pub keeper_later : run.store.faults ≤ (tells.store book.table.keeper).faults
   pub sink_later : run.sink_faults ≤ tells.sink_faults book.sink
   pub cause : StopCause book.status run.store.faults (tells.store book.table.keeper).faults run.sink_faults (tells.sink_faults book.sink)
+  pub images : LeavesOnly run.rows run.store → StopImages book.status run.lines book.table.state book.table.log (tells.store book.table.keeper)

@@ -8,6 +8,7 @@ pub mod Causes
 pub mod Drive
 pub mod Ended
 pub mod Hands
+pub mod Images
 pub mod Invariant
 pub mod Pending
 pub mod Status

@@ -1,5 +1,5 @@
 -- What the keeper, the sink and the workers of a run tell, and what a run is given by that.
-use Rattle.std.specs.Prelude.{◌≡◌, ℕ, List, Option}
+use Rattle.std.specs.Prelude.{◌≡◌, ◌↔◌, ℕ, List, Option}
 use Rattle.wm_keeper.specs.Store.{Store}
 use Rattle.wm_keeper.specs.declared.row.Row.{Row}
 use Rattle.wm_machine.specs.declared.command.Command.{Command}
@@ -46,6 +46,6 @@ pub record AreInputs {K W B : Type 0} (tells : Tells K W B) (run : Inputs) (keep
   pub lines_are : lines ≡ run.lines
   pub written : tells.given sink ≡ run.written
   pub sink_faults : tells.sink_faults sink ≡ run.sink_faults
-  pub images : (image : List Row) → (tells.store keeper).images image → run.store.images image
+  pub images : (image : List Row) → (tells.store keeper).images image ↔ run.store.images image
   pub name : (tells.store keeper).name ≡ run.store.name
   pub faults : (tells.store keeper).faults ≡ run.store.faults

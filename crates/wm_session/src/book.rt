@@ -6,12 +6,14 @@ ghost use Rattle.wm_bench.specs.Places.{IsAwayAt};
 ghost use Rattle.wm_machine.specs.Outcome.{IsAskable};
 ghost use Rattle.wm_machine.specs.Narrow.{IsNarrow};
 ghost use Rattle.wm_machine.specs.Quiet.{IsQuiet};
+ghost use Rattle.wm_machine.specs.Rows.{rows_of};
 ghost use Rattle.wm_machine.specs.Serial.{drains_first};
 ghost use Rattle.wm_machine.specs.Valid.{Valid};
 ghost use Rattle.wm_session.specs.Bench.{instance_traits, place_traits, NoneAway};
 ghost use Rattle.wm_session.specs.Book.{IsClaimed, IsFronted, IsReported, MustWait, SettlesNext};
 ghost use Rattle.wm_session.specs.Ended.{IsHandedBack, IsSessionEnd, IsWrittenOut};
 ghost use Rattle.wm_session.specs.Tells.{tells_of};
+ghost use Rattle.wm_table.specs.Images.{LeavesOnly};
 ghost use Rattle.wm_table.specs.Table.{Stands};
 
 use crate::ended::Ended;
@@ -162,6 +164,8 @@ impl<K: Keeper, W: Sink, B: Worker, M: Mark> Book<K, W, B, M> {
         requires written { W.given sink ≡ M.inputs.written }
         requires keeper_faults { M.inputs.store.faults ≤ (K.store table.keeper).faults }
         requires sink_faults { M.inputs.sink_faults ≤ W.faults sink }
+        requires images { LeavesOnly M.inputs.rows M.inputs.store
+            → LeavesOnly (rows_of table.state) (K.store table.keeper) }
 
         ensures table { IfOk result (λ book. book.table ≡ table) }
         ensures places { IfOk result (λ book. book.places ≡ bench) }

@@ -9,6 +9,7 @@ ghost use Rattle.wm_machine.specs.declared.reply.Reply.{Reply};
 ghost use Rattle.wm_session.specs.Bench.{places_after};
 ghost use Rattle.wm_session.specs.Book.{IsClaimIn};
 ghost use Rattle.wm_session.specs.Causes.{EndsBy};
+ghost use Rattle.wm_table.specs.Images.{IsLine};
 ghost use Rattle.wm_table.specs.Table.{IsOneStep, IsUntouched, Stands, TroubleCause};
 
 use crate::book::Stop;
@@ -31,7 +32,7 @@ pub fn execute<K: Keeper, B: Worker, M: Mark>(
     requires { IsLegalLine table.old.state command }
     ensures ok { OnOk result ((reply : Reply)
         × IsOneStep K.store (event.Command line command reply) table.old table.new) }
-    ensures err { OnErr result (IsUntouched K.store table.old table.new) }
+    ensures err { OnErr result (IsUntouched K.store (IsLine line command) table.old table.new) }
     ensures places { OnOk result (bench.new ≡ places_after B.kind_of command bench.old) }
     ensures places_err { OnErr result (bench.new ≡ bench.old) }
     ensures cause { TroubleCause result (K.store table.old.keeper).faults (K.store table.new.keeper).faults }

@@ -131,7 +131,7 @@ changed-append [] second rows = refl
 changed-append (change ∷ first) second rows = changed-append first second (changed_by change rows)
 
 -- the keeper's changes make the rows of the state after the change
-rows-changed : (s : State) (change : StepChange) → Valid s → Fits s change → changed (row_changes change) (rows_of s) ≡ rows_of (changed_state change s)
+pub rows-changed : (s : State) (change : StepChange) → Valid s → Fits s change → changed (row_changes change) (rows_of s) ≡ rows_of (changed_state change s)
 rows-changed s change valid fits =
     let puts = map put_replaced change.replaced in
     let removes = map remove_numbered change.removed in

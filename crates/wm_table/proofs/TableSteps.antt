@@ -1,9 +1,9 @@
 -- What the calls of the table make is one step, and what a table keeps is kept by one step.
-use Rattle.std.proofs.Common.{◌≡◌, ℕ, zero, suc, ◌+◌, ◌-◌, ◌<◌, ◌≤◌, Bool, true, false, not, List, [], ◌∷◌, ◌++◌, length, length-append, slice_get, Option, Some, None, refl, sym, ◌∙◌, ap, subst, arith}
+use Rattle.std.proofs.Common.{◌≡◌, ℕ, zero, suc, ◌+◌, ◌-◌, ◌<◌, ◌≤◌, Bool, true, false, not, List, [], ◌∷◌, ◌++◌, length, length-append, slice_get, Option, Some, None, refl, sym, ◌∙◌, ap, subst, arith, inl, inr}
 use Rattle.std.specs.Prelude.{◌↔◌, is_some, IsTrue, MatchOption}
 use Rattle.std.proofs.lemmas.Bool.{true≢false}
 use Rattle.std.proofs.lemmas.Option.{none-some}
-use Rattle.wm_keeper.proofs.Stores.{IfSome-still, IsAtMost-then}
+use Rattle.wm_keeper.proofs.Stores.{IfSome-still, IsAtMost-same, IsAtMost-then}
 use Rattle.wm_keeper.specs.Store.{Store, IsAtMost}
 use Rattle.wm_machine.specs.declared.event.Event.{Event}
 use Rattle.wm_machine.specs.declared.state.State.{State}
@@ -18,6 +18,8 @@ use Rattle.wm_observe.specs.Notes.{last_notes, notes_between}
 use Rattle.wm_observe.specs.declared.note.Note.{Note}
 use Rattle.wm_steps.specs.StepChanges.{changed_state, IsStepOf}
 use Rattle.wm_steps.specs.declared.change.StepChange.{StepChange}
+use Rattle.wm_table.proofs.Images.{would_leave, WouldLeave-as}
+use Rattle.wm_table.specs.Images.{LeavesBefore, LeavesOnly}
 use Rattle.wm_table.specs.Inputs.{Inputs}
 use Rattle.wm_table.specs.Table.{HoldsRowsOf, IsOneStep, TableInvariant, IsUntouched}
 use Rattle.wm_table.specs.TableState.{TableState}
@@ -46,10 +48,51 @@ kept-opening run first s log notes store opened s_is log_is notes_is held name =
 -- what is made by carrying out the change of a step is one step
 pub made-step : {K : Type 0} (store : K → Store) (old : TableState K) (change : StepChange) (state : State) (log : List Event) (keeper : K)
     → IsStepOf old.state change → state ≡ changed_state change old.state → log ≡ old.log ++ change.event ∷ []
-    → HoldsRowsOf state (store keeper)
+    → HoldsRowsOf state (store keeper) → (LeavesOnly (rows_of old.state) (store old.keeper) → LeavesOnly (rows_of state) (store keeper))
     → IsOneStep store change.event old (record { first = old.first; state = state; log = log; keeper = keeper })
-made-step store old change state log keeper is state_is log_is rows =
-    record { first = refl; legal = is.legal; state = state_is ∙ is.state; appended = log_is; rows = rows }
+made-step store old change state log keeper is state_is log_is rows images =
+    record { first = refl; legal = is.legal; state = state_is ∙ is.state; appended = log_is; rows = rows; images = images }
+
+-- and where it was refused, nothing has changed, and a crash may leave what its event would have left
+pub refused-step : {K : Type 0} (store : K → Store) (old : TableState K) (change : StepChange) (state : State) (log : List Event) (keeper : K)
+    → IsStepOf old.state change → state ≡ old.state → log ≡ old.log → IsAtMost (store old.keeper).rows (store keeper).rows
+    → LeavesBefore (rows_of (changed_state change old.state)) (store old.keeper) (store keeper)
+    → IsUntouched store (λ e. e ≡ change.event) old (record { first = old.first; state = state; log = log; keeper = keeper })
+refused-step store old change state log keeper is state_is log_is rows images = record {
+  first = refl;
+  state = state_is;
+  log = log_is;
+  rows = rows;
+  images = λ image left. elim (images image left) [
+    | inl before ↦ inl before
+    | inr made ↦ inr (would_leave old.state change image is made)
+  ];
+}
+
+-- nothing has changed
+pub IsUntouched-same : {K : Type 0} (store : K → Store) (may_be : Event → Type 0) (old new : TableState K) → new ≡ old → IsUntouched store may_be old new
+IsUntouched-same store may_be old new same =
+    subst (IsUntouched store may_be old) (sym same) (record {
+      first = refl;
+      state = refl;
+      log = refl;
+      rows = IsAtMost-same (store old.keeper).rows;
+      images = λ image left. inl left;
+    })
+
+-- an event of some is one of others
+pub IsUntouched-as : {K : Type 0} (store : K → Store) (may also : Event → Type 0) (old new : TableState K) → ((e : Event) → may e → also e)
+    → IsUntouched store may old new → IsUntouched store also old new
+IsUntouched-as store may also old new weaker same = record {
+  first = same.first;
+  state = same.state;
+  log = same.log;
+  rows = same.rows;
+  images = λ image left. elim (same.images image left) [
+    | inl before ↦ inl before
+    | inr would ↦ inr (WouldLeave-as may also old.state image weaker would)
+  ];
+}
 
 module _ {K : Type 0} (run : Inputs) (store : K → Store) (old new : TableState K) where
   -- a step that begins one run at most, with what is told of it
@@ -73,9 +116,10 @@ module _ {K : Type 0} (run : Inputs) (store : K → Store) (old new : TableState
         few_runs = few;
       }
 
-  pub kept-untouched : (notes : List Note) → TableInvariant run old.first old.state old.log notes (store old.keeper) → IsUntouched store old new
-      → IsAtMost (store old.keeper).name (store new.keeper).name → TableInvariant run new.first new.state new.log notes (store new.keeper)
-  kept-untouched notes kept same name =
+  pub kept-untouched : (may_be : Event → Type 0) (notes : List Note) → TableInvariant run old.first old.state old.log notes (store old.keeper)
+      → IsUntouched store may_be old new → IsAtMost (store old.keeper).name (store new.keeper).name
+      → TableInvariant run new.first new.state new.log notes (store new.keeper)
+  kept-untouched may_be notes kept same name =
       let rows : HoldsRowsOf old.state (store new.keeper) =
       IfSome-still (λ rows. rows ≡ rows_of old.state) (store old.keeper).rows (store new.keeper).rows kept.rows same.rows in
       rw (same.first, same.state, same.log)

@@ -1,5 +1,5 @@
 -- What the calls of the table do to the state, its log and the rows held.
-use Rattle.std.specs.Prelude.{◌≡◌, ℕ, ℤ, ◌+◌, ◌≤◌, Bool, true, false, if◌then◌else◌, List, [], ◌∷◌, ◌++◌, length, Option, Some, None, IsSomeAnd, IfSome, Result, Ok, Err}
+use Rattle.std.specs.Prelude.{◌≡◌, ◌⊎◌, ℕ, ℤ, ◌+◌, ◌≤◌, Bool, true, false, if◌then◌else◌, List, [], ◌∷◌, ◌++◌, length, Option, Some, None, IsSomeAnd, IfSome, Result, Ok, Err}
 use Rattle.wm_data.specs.declared.data.DataEntry.{DataEntry}
 use Rattle.wm_faults.specs.Faults as faults
 use Rattle.wm_keeper.specs.Store.{Store, IsAtMost}
@@ -14,6 +14,7 @@ use Rattle.wm_machine.specs.Runs.{run_numbered}
 use Rattle.wm_machine.specs.Step.{Legal, after, role_of}
 use Rattle.wm_machine.specs.declared.event.Event.{Event}
 use Rattle.wm_machine.specs.declared.event.Event.TheVariants as event
+use Rattle.wm_machine.specs.declared.state.Instance.{Instance}
 use Rattle.wm_machine.specs.declared.state.State.{State}
 use Rattle.wm_observe.specs.Notes.{last_notes}
 use Rattle.wm_observe.specs.declared.note.Note.{Note}
@@ -24,6 +25,7 @@ use Rattle.wm_rows.specs.Sound.{checked, AreSound}
 use Rattle.wm_rows.specs.declared.fault.RowFault.{RowFault}
 use Rattle.wm_rows.specs.declared.fault.RowFault.TheVariants as row
 use Rattle.wm_rows.specs.declared.fault.RowFault.TheVariants.{BadRow, Unsound}
+use Rattle.wm_table.specs.Images.{IsNoLine, LeavesOnly, WouldLeave, WouldOpen}
 use Rattle.wm_table.specs.Inputs.{Inputs}
 use Rattle.wm_table.specs.TableState.{TableState, TicketState, ticket_of}
 use Rattle.wm_table.specs.declared.table.BeginFault.{BeginFault}
@@ -45,20 +47,24 @@ use Rattle.wm_worker.specs.declared.answer.Given.TheVariants.{More}
 abbrev pub HoldsRowsOf : State → Store → Type 0
 HoldsRowsOf s store = IfSome store.rows (λ rows. rows ≡ rows_of s)
 
--- one step of the machine: its event is appended, the state is the one after it, and the rows held, where they are told, are the new state's
+-- one step of the machine: its event is appended, the state is the one after it, and the rows held, where they are told, are the new state's; a
+-- crash leaves just these, where it left just the old state's before
 pub record IsOneStep {K : Type 0} (store : K → Store) (e : Event) (old new : TableState K) : Type 0 where
   pub first : new.first ≡ old.first
   pub legal : Legal old.state e
   pub state : new.state ≡ after old.state e
   pub appended : new.log ≡ old.log ++ e ∷ []
   pub rows : HoldsRowsOf new.state (store new.keeper)
+  pub images : LeavesOnly (rows_of old.state) (store old.keeper) → LeavesOnly (rows_of new.state) (store new.keeper)
 
--- state, log and the rows held are as they were
-pub record IsUntouched {K : Type 0} (store : K → Store) (old new : TableState K) : Type 0 where
+-- state, log and the rows held are as they were; a crash leaves what it could leave before, or what an event of these would have left, which was
+-- being committed
+pub record IsUntouched {K : Type 0} (store : K → Store) (may_be : Event → Type 0) (old new : TableState K) : Type 0 where
   pub first : new.first ≡ old.first
   pub state : new.state ≡ old.state
   pub log : new.log ≡ old.log
   pub rows : IsAtMost (store old.keeper).rows (store new.keeper).rows
+  pub images : (image : List Row) → (store new.keeper).images image → (store old.keeper).images image ⊎ WouldLeave may_be old.state image
 
 abbrev pub is_keeper_fault : {T : Type 0} → Result T Trouble → Bool
 is_keeper_fault (Err trouble.KeeperFault) = true
@@ -102,6 +108,16 @@ keeper_after (Err refused) = refused.0
 -- `KeeperFault` comes only where the keeper's count rose, and any other answer leaves it
 abbrev pub BeginCause : {K : Type 0} → (K → Store) → K → Result (TableState K) (K × BeginFault) → Type 0
 BeginCause store keeper result = faults.HasCause (is_refused_by_keeper result) (store keeper).faults (store (keeper_after result)).faults
+
+-- where the table was begun, a crash leaves just the rows of its state, where it left just the rows loaded before
+abbrev pub LeavesOpened : {K : Type 0} → (K → Store) → List Row → K → TableState K → Type 0
+LeavesOpened store rows keeper table = LeavesOnly rows (store keeper) → LeavesOnly (rows_of table.first) (store table.keeper)
+
+-- where it wasn't, a crash leaves what it could leave before, or what the opening would have left, which was being committed
+abbrev pub LeavesUnopened : {K : Type 0} → (K → Store) → List Row → List Instance → K → K × BeginFault → Type 0
+LeavesUnopened store rows instances keeper (now, begin.Bad seq bad_row) = now ≡ keeper
+LeavesUnopened store rows instances keeper (now, _) =
+    (image : List Row) → (store now).images image → (store keeper).images image ⊎ WouldOpen rows instances image
 
 -- ---- claim
 
@@ -191,7 +207,7 @@ pub record IsTurnRefused {K : Type 0} (store : K → Store) (ticket : TicketStat
   pub counts : CountsIn old.state ticket.task.run told
   pub same_ticket : back ≡ ticket
   pub same_report : report ≡ told
-  pub untouched : IsUntouched store old new
+  pub untouched : IsUntouched store IsNoLine old new
 
 -- Go, Finished or TimedOut where the report counts, with its event; Again where it doesn't; Refused where it counts and there is trouble
 abbrev pub IsTurnAnswer : {K M : Type 0} → (K → Store) → TicketState → Report → TurnAnswer M → TableState K → TableState K → Type 0

@@ -3,6 +3,7 @@
 //! [`Table`] makes the events of the machine, one a call, and keeps their rows.
 #![tactic(auto)]
 
+pub mod laws;
 pub mod mark;
 pub mod opening;
 pub mod table;

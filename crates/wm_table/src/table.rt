@@ -16,7 +16,8 @@ ghost use Rattle.wm_rows.specs.Sound.{AreSound};
 ghost use Rattle.wm_steps.specs.StepChanges.{row_changes, IsStepOf};
 ghost use Rattle.wm_commands.specs.Builds.{ChangesNoRow, ChangesRows};
 ghost use Rattle.wm_runs.specs.Reports.{goes_on, CountsIn};
-ghost use Rattle.wm_table.specs.Table.{BeginCause, HasClaimed, HoldsRowsOf, IsClaim, IsBeginFault, IsClaimAnswer, IsFinished, IsOneStep, IsTurnAnswer, IsTurned, IsUntouched, Stands, TroubleCause, TurnCause};
+ghost use Rattle.wm_table.specs.Images.{IsLine, IsNoLine};
+ghost use Rattle.wm_table.specs.Table.{BeginCause, HasClaimed, HoldsRowsOf, IsClaim, IsBeginFault, IsClaimAnswer, IsFinished, IsOneStep, IsTurnAnswer, IsTurned, IsUntouched, LeavesOpened, LeavesUnopened, Stands, TroubleCause, TurnCause};
 
 mod carry;
 mod follow;
@@ -224,8 +225,10 @@ impl<K: Keeper, M: Mark> Table<K, M> {
         ensures held { IfOk result (λ table. HoldsRowsOf table.first (K.store table.keeper)) }
         ensures name { IfOk result (λ table. IsAtMost (K.store keeper).name (K.store table.keeper).name) }
         ensures only_changed { IfOk result (λ table. rows_of table.first ≡ rows.items → table.keeper ≡ keeper) }
+        ensures images { IfOk result (LeavesOpened K.store rows.items keeper) }
         ensures bad { IfErr result (λ refused. IsBeginFault rows.items refused.1) }
         ensures kept { IfErr result (λ refused. IsAtMost (K.store keeper).rows (K.store refused.0).rows) }
+        ensures images_err { IfErr result (LeavesUnopened K.store rows.items instances keeper) }
         ensures cause { BeginCause K.store keeper result }
     {
         let opening = match open(alloc, &rows, instances) {
@@ -258,7 +261,7 @@ impl<K: Keeper, M: Mark> Table<K, M> {
         requires legal { IsLegalLine self.old.state command }
         ensures ok { IfOk result (λ reply.
             IsOneStep K.store (event.Command line command reply) self.old self.new) }
-        ensures err { OnErr result (IsUntouched K.store self.old self.new) }
+        ensures err { OnErr result (IsUntouched K.store (IsLine line command) self.old self.new) }
         ensures cause { TroubleCause result (K.store self.old.keeper).faults (K.store self.new.keeper).faults }
         ensures untouched_keeper { ChangesNoRow self.old.state command
             → self.new.keeper ≡ self.old.keeper }
@@ -279,7 +282,7 @@ impl<K: Keeper, M: Mark> Table<K, M> {
     /// that can't start. None where nothing is startable.
     pub fn claim(&mut self) -> Result<Option<Claim<M>>, Trouble>
         ensures ok { IfOk result (λ claim. IsClaimAnswer K.store claim self.old self.new) }
-        ensures err { OnErr result (IsUntouched K.store self.old self.new) }
+        ensures err { OnErr result (IsUntouched K.store IsNoLine self.old self.new) }
         ensures cause { TroubleCause result (K.store self.old.keeper).faults (K.store self.new.keeper).faults }
     {
         let Some(claiming) = claim_first(self.alloc, &self.view)? else {
@@ -415,7 +418,7 @@ impl<K: Keeper, M: Mark> Table<K, M> {
         requires counts { CountsIn self.old.state number told.now }
         requires goes_on { goes_on told.now ≡ true }
         ensures ok { OnOk result (IsTurned K.store number told.now self.old self.new) }
-        ensures err { OnErr result (IsUntouched K.store self.old self.new) }
+        ensures err { OnErr result (IsUntouched K.store IsNoLine self.old self.new) }
         ensures cause { TroubleCause result (K.store self.old.keeper).faults (K.store self.new.keeper).faults }
     {
         let change = next_turn(self.alloc, &self.view, number, told)?;
@@ -449,7 +452,7 @@ impl<K: Keeper, M: Mark> Table<K, M> {
         requires over { goes_on told.now ≡ false }
         ensures ok { IfOk result (λ timed_out.
             IsFinished K.store number told.now timed_out self.old self.new) }
-        ensures err { OnErr result (IsUntouched K.store self.old self.new) }
+        ensures err { OnErr result (IsUntouched K.store IsNoLine self.old self.new) }
         ensures cause { TroubleCause result (K.store self.old.keeper).faults (K.store self.new.keeper).faults }
     {
         let ending = finish(self.alloc, &self.view, number, told)?;
@@ -463,7 +466,7 @@ impl<K: Keeper, M: Mark> Table<K, M> {
     fn make(&mut self, change: StepChange) -> Result<(), Trouble>
         requires { IsStepOf self.old.state change }
         ensures ok { OnOk result (IsOneStep K.store change.event self.old self.new) }
-        ensures err { OnErr result (IsUntouched K.store self.old self.new) }
+        ensures err { OnErr result (IsUntouched K.store (λ e. e ≡ change.event) self.old self.new) }
         ensures cause { TroubleCause result (K.store self.old.keeper).faults (K.store self.new.keeper).faults }
         ensures untouched_keeper { row_changes change ≡ [] → self.new.keeper ≡ self.old.keeper }
         ensures no_keeper_fault { row_changes change ≡ [] → result ≢ Err Trouble.KeeperFault }

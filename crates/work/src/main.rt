@@ -14,7 +14,8 @@ use wm_bench::Hand;
 use wm_cli::Status;
 use wm_collections::Text;
 use wm_io::{Sink, Source, StdSink, StdSource};
-use wm_keeper::SureKeeper;
+use wm_keeper::Keeper;
+use wm_sqlite::FileKeeper;
 use wm_stock::{AnyStock, STOCK_WORKERS};
 
 /// The words of the command line after the program's name. Where the system doesn't give them,
@@ -28,11 +29,12 @@ fn words(rt: &(impl Env + AllocGlobal)) -> Result<Vec<String>, AllocError> {
 
 /// Runs a script with these words and the stock workers, a few of each kind, whose classes are
 /// named as their kinds.
-fn run<S: Source, W: Sink + Send + Drop>(
+fn run<S: Source, W: Sink + Send + Drop, K: Keeper + Drop>(
     alloc: Global,
     words: &[String],
     source: &mut S,
     sink: W,
+    keeper: K,
 ) -> Result<Status, AllocError> {
     let mut hands: Vec<Hand> = Vec::new(alloc);
     for number in 0..STOCK_WORKERS {
@@ -41,7 +43,6 @@ fn run<S: Source, W: Sink + Send + Drop>(
         let worker = Box::new(alloc, worker)?;
         hands.push(Hand { class, worker })?;
     }
-    let keeper = SureKeeper::new(Vec::new(alloc));
     Ok(wm_cli::run(alloc, words, hands, source, sink, keeper).status)
 }
 
@@ -63,11 +64,13 @@ fn exit(rt: &impl Eprint, alloc: Global, ran: Result<Status, AllocError>) -> Exi
     ExitCode::from(status.code())
 }
 
-/// Runs the script on standard input with the words of the command line.
+/// Runs the script on standard input with the words of the command line, over the store that they
+/// name.
 fn run_streams(rt: &HostRuntime) -> Result<Status, AllocError> {
     let words = words(rt)?;
     let mut source = StdSource::new(rt.stdin());
-    run(rt.alloc(), &words, &mut source, StdSink::new(rt.stdout()))
+    let sink = StdSink::new(rt.stdout());
+    run(rt.alloc(), &words, &mut source, sink, FileKeeper::new(rt))
 }
 
 fn main(rt: HostRuntime) -> ExitCode {

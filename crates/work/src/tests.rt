@@ -8,6 +8,7 @@ use std::io;
 use std::process::ExitCode;
 use std::test::Fail;
 use wm_io::{StdSink, StdSource};
+use wm_keeper::SureKeeper;
 
 /// Standard error, in memory.
 struct Page {
@@ -40,7 +41,9 @@ fn ended(alloc: Global, words: &[&str], bytes: usize) -> Result<(ExitCode, Strin
     let script = vec![in alloc; b'x'; bytes]?;
     let mut replies = Vec::new(alloc);
     let mut source = StdSource::new(script.as_slice());
-    let ran = run(alloc, &copies, &mut source, StdSink::new(&mut replies));
+    let sink = StdSink::new(&mut replies);
+    let keeper = SureKeeper::new(Vec::new(alloc));
+    let ran = run(alloc, &copies, &mut source, sink, keeper);
     let page = Page {
         alloc,
         text: RefCell::new(String::new(alloc)),

@@ -6,10 +6,12 @@ ghost use Rattle.wm_keeper.specs.Keeper.{AreOfDifferentNumbers};
 ghost use Rattle.wm_keeper.specs.Store.{changed_rows, IsAtMost};
 ghost use Rattle.wm_machine.specs.Limits.{FitsRow};
 ghost use Rattle.wm_machine.specs.Retired.{with_retired};
+ghost use Rattle.wm_machine.specs.Rows.{rows_of};
 ghost use Rattle.wm_machine.specs.Runs.{other_runs, with_out};
 ghost use Rattle.wm_machine.specs.Turns.{with_turned};
 ghost use Rattle.wm_steps.specs.StepChanges.{changed_state, instances_by, new_observers, next_run_by, observers_by, other_works, row_changes, runs_by, set_by, with_replaced, without, IsStepOf};
 ghost use Rattle.wm_table.specs.Following.{placed_node, AreAddable};
+ghost use Rattle.wm_table.specs.Images.{KeepsImages, LeavesBefore, LeavesOnly, MakesImages};
 ghost use Rattle.wm_table.specs.Table.{HoldsRowsOf, TroubleCause};
 
 use crate::table::Trouble;
@@ -302,6 +304,8 @@ pub(crate) fn commit<K: Keeper>(keeper: &mut K, changes: &[Change]) -> Result<()
     requires { AreOfDifferentNumbers changes.now }
     ensures ok { OnOk result (IsAtMost (changed_rows changes.now (K.store keeper.old)) (K.store keeper.new).rows) }
     ensures err { OnErr result (IsAtMost (K.store keeper.old).rows (K.store keeper.new).rows) }
+    ensures images { OnOk result (MakesImages changes.now (K.store keeper.old) (K.store keeper.new)) }
+    ensures images_err { OnErr result (KeepsImages changes.now (K.store keeper.old) (K.store keeper.new)) }
     ensures cause { TroubleCause result (K.store keeper.old).faults (K.store keeper.new).faults }
     ensures name { IsAtMost (K.store keeper.old).name (K.store keeper.new).name }
     ensures untouched_keeper { changes.now ≡ [] → keeper.new ≡ keeper.old }
@@ -339,6 +343,8 @@ fn store<K: Keeper>(
     ensures first_nodes { take (length graph.old) graph.new ≡ graph.old }
     ensures ok { OnOk result (IsAtMost (changed_rows (row_changes change.now) (K.store keeper.old)) (K.store keeper.new).rows) }
     ensures err { OnErr result (IsAtMost (K.store keeper.old).rows (K.store keeper.new).rows) }
+    ensures images { OnOk result (MakesImages (row_changes change.now) (K.store keeper.old) (K.store keeper.new)) }
+    ensures images_err { OnErr result (KeepsImages (row_changes change.now) (K.store keeper.old) (K.store keeper.new)) }
     ensures cause { TroubleCause result (K.store keeper.old).faults (K.store keeper.new).faults }
     ensures name { IsAtMost (K.store keeper.old).name (K.store keeper.new).name }
     ensures untouched_keeper { row_changes change.now ≡ [] → keeper.new ≡ keeper.old }
@@ -368,6 +374,10 @@ pub fn carry_out<K: Keeper>(
     ensures view_err { OnErr result (view.new ≡ view.old) }
     ensures log_err { OnErr result (log.new ≡ log.old) }
     ensures rows_err { OnErr result (IsAtMost (K.store keeper.old).rows (K.store keeper.new).rows) }
+    ensures images { OnOk result (LeavesOnly (rows_of view.old) (K.store keeper.old)
+        → LeavesOnly (rows_of view.new) (K.store keeper.new)) }
+    ensures images_err { OnErr result (LeavesBefore (rows_of (changed_state change view.old)) (K.store keeper.old)
+        (K.store keeper.new)) }
     ensures cause { TroubleCause result (K.store keeper.old).faults (K.store keeper.new).faults }
     ensures name { IsAtMost (K.store keeper.old).name (K.store keeper.new).name }
     ensures untouched_keeper { row_changes change ≡ [] → keeper.new ≡ keeper.old }

@@ -1,7 +1,10 @@
-use Rattle.std.proofs.Common.{◌≡◌, sym, ◌∙◌, ap}
+use Rattle.std.proofs.Common.{◌≡◌, sym, ◌∙◌, ap, subst}
 use Rattle.wm_cli.proofs.RunsWithoutEvents.{IsTextWritten-nothing, HasCommands-nothing, ForScript-any, not_done}
 use Rattle.wm_cli.proofs.Opening.{IsSerialRun-unopened}
+use Rattle.wm_cli.proofs.RunImages.{crash-unopened}
+use Rattle.wm_cli.specs.Images.{RunImages}
 use Rattle.wm_session.specs.Ended.{HasCommands, IsSerialRun}
+use Rattle.wm_session.specs.Hands.{instances_from}
 use Rattle.wm_session.specs.declared.status.Status.TheVariants.{Done, Usage}
 use Rattle.wm_script.proofs.BuiltCommands.{IsAskable-commands_in}
 use Rattle.wm_script.specs.Lines.{commands_in}
@@ -51,3 +54,31 @@ returns-in-Err-clause-bytes g c =
     let ended = c.before_begin-in-Err.result in
     IsTextWritten-nothing (g.W.Sink.given c.args.sink) (g.W.Sink.given ended.sink) ended.status ended.first ended.log
     (ap g.W.Sink.given c.before_begin-in-Err.ensures.sink_is) c.before_begin-in-Err.ensures.log
+
+-- a run that ended before its store was opened leaves it as it was
+pub returns-in_default-clause-crash : goal.returns-in_default-clause-crash
+returns-in_default-clause-crash g c =
+    let tells = g.K.Keeper.store in
+    let ended = c.before_begin.result in
+    λ settled. crash-unopened (g.S.Source.left c.args.source.now) ended.began ended.status _ ended.last ended.log (tells c.args.keeper) (tells ended.keeper)
+    c.before_begin.ensures.began (ap tells c.before_begin.ensures.keeper_is) settled
+
+pub returns-in-Err-clause-crash : goal.returns-in-Err-clause-crash
+returns-in-Err-clause-crash g c =
+    let tells = g.K.Keeper.store in
+    let ended = c.before_begin-in-Err.result in
+    λ settled. crash-unopened (g.S.Source.left c.args.source.now) ended.began ended.status _ ended.last ended.log (tells c.args.keeper) (tells ended.keeper)
+    c.before_begin-in-Err.ensures.began (ap tells c.before_begin-in-Err.ensures.keeper_is) settled
+
+pub returns-in-Ok-clause-crash : goal.returns-in-Ok-clause-crash
+returns-in-Ok-clause-crash g c =
+    let ended = c.run_commands.result in
+    let held = (g.K.Keeper.store c.args.keeper).rows in
+    let instances = instances_from g.B.Worker.kind_of 0 c.args.hands.items in
+    let read = c.in-Ok.ensures.commands in
+    λ settled. record {
+      bytes = read.bytes;
+      told = read.told;
+      holds = subst (λ all. RunImages ended.began ended.status all held instances ended.last ended.log (g.K.Keeper.store ended.keeper)) read.holds.0
+          (c.run_commands.ensures.images settled);
+    }

@@ -51,6 +51,11 @@ new-requires-clause-all_in g c =
     subst (AllByRecursion (λ (instance : Instance). instance.out ≡ false))
     (sym (ap (λ (s : State). s.instances) (begun.state ∙ begun.opened.state) ∙ benched.are)) (all_in g.B.Worker.kind_of 0 benched.hands)
 
+pub new-requires-clause-images : goal.new-requires-clause-images
+new-requires-clause-images g c =
+    let begun = c.requires.begun in
+    λ only. rw begun.state (begun.images only)
+
 pub run_serial-requires-clause-begins : goal.run_serial-requires-clause-begins
 run_serial-requires-clause-begins g c =
     let benched = c.requires.benched in

@@ -1,5 +1,6 @@
 use Rattle.std.proofs.Common.{◌≡◌, Some, Vec, Global, sym, subst}
 use Rattle.wm_cli.proofs.RunEnds.{EarlyCause, EarlyCause-keeper, IsRunEnd-loaded, IsRunEnd-unbegun}
+use Rattle.wm_cli.proofs.RunImages.{unbegun-loaded}
 use Rattle.wm_keeper.proofs.Stores.{IfSome-still}
 use Rattle.wm_keeper.specs.declared.row.Row.{Row}
 use Rattle.wm_session.specs.Tells.{tells_of}
@@ -21,6 +22,7 @@ returns-in-Err g c =
     c.before_begin.result c.before_begin.ensures c.requires.askable c.load.ensures.kept.rows
     (subst (λ why. EarlyCause why before.faults now.faults before.rows) (sym c.from.ensures)
     (EarlyCause-keeper (Vec Row Global) c.in-Err.fault before.faults now.faults before.rows c.in-Err.ensures.cause))
+    (unbegun-loaded c.from.result _ before now c.load.ensures.kept)
 
 pub returns-in_default : goal.returns-in_default
 returns-in_default g c =
@@ -28,9 +30,10 @@ returns-in_default g c =
     let unbegun = c.before_begin-in_default in
     IsRunEnd-unbegun tells c.args.commands status.Memory c.args.hands (Some c.args.store.now) (tells.store c.args.keeper).rows c.args.keeper c.load.new.self
     c.args.sink unbegun.result unbegun.ensures c.requires.askable c.load.ensures.kept.rows tt
+    (unbegun-loaded status.Memory _ (tells.store c.args.keeper) (tells.store c.load.new.self) c.load.ensures.kept)
 
 pub returns : goal.returns
 returns g c =
     let tells = tells_of g.K.Keeper.store g.W.Sink.given g.W.Sink.faults g.B.Worker.kind_of g.B.Worker.diary_of in
     IsRunEnd-loaded tells c.args.commands c.args.hands.items c.args.store.now c.in-Ok.rows.items c.args.keeper c.load.new.self c.args.sink c.run_loaded.result
-    c.run_loaded.ensures c.in-Ok.ensures.name c.in-Ok.ensures.rows c.load.ensures.kept.rows c.in-Ok.ensures.cause
+    c.run_loaded.ensures c.in-Ok.ensures.name c.in-Ok.ensures.rows c.load.ensures.kept c.in-Ok.ensures.cause

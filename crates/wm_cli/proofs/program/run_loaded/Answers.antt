@@ -2,6 +2,7 @@ use Rattle.std.proofs.Common.{◌≤◌, length, Some, sym, ◌∙◌, subst, ru
 use Rattle.wm_bench.specs.Places.{most_hands}
 use Rattle.wm_cli.proofs.Hands.{AreFresh-instances_from}
 use Rattle.wm_cli.proofs.RunEnds.{EarlyCause, EarlyCause-begin, IsRunEnd-begun, IsRunEnd-unbegun}
+use Rattle.wm_cli.proofs.RunImages.{unbegun-opened}
 use Rattle.wm_keeper.proofs.Stores.{IsAtMost-same}
 use Rattle.wm_keeper.specs.Store.{IsAtMost}
 use Rattle.wm_machine.specs.Opened.{AreFresh, Opened}
@@ -34,6 +35,7 @@ run_begun-requires-clause-begun g c =
       rows = begun.held;
       name = subst (λ name. IsAtMost name (g.K.Keeper.store table.keeper).name) given.name begun.name;
       no_fault = begun.cause ∙ given.faults;
+      images = λ only. begun.images (λ image left. only image ((given.images image).0 left) ∙ sym given.rows_are);
     }
 
 pub returns-in-Ok : goal.returns-in-Ok
@@ -43,7 +45,7 @@ returns-in-Ok g c =
     rw (given.rows_are)
     (IsRunEnd-begun tells g.M.Mark.inputs c.args.commands c.args.hands.items c.args.keeper c.args.sink c.run_begun.result c.run_begun.ensures
     (sym given.lines_are) (sym given.instances_are ∙ c.requires.instances) (sym given.written) (sym given.sink_faults) (sym given.faults) (sym given.name)
-    (subst AreSound given.rows_are c.in-Ok.ensures.sound))
+    (λ image left. (given.images image).1 left) (subst AreSound given.rows_are c.in-Ok.ensures.sound))
 
 pub returns-in-Err : goal.returns-in-Err
 returns-in-Err g c =
@@ -56,3 +58,6 @@ returns-in-Err g c =
     c.before_begin.result c.before_begin.ensures c.requires.askable c.in-Err.ensures.kept
     (subst (λ why. EarlyCause why before now (Some rows)) (sym c.from.ensures)
     (EarlyCause-begin tells.store c.args.keeper rows refused c.in-Err.ensures.bad c.in-Err.ensures.cause))
+    (λ alone.
+    rw (c.from.ensures, ← c.requires.instances)
+    (unbegun-opened tells.store rows c.args.instances c.args.keeper refused c.in-Err.ensures.images_err alone))

@@ -1,7 +1,9 @@
-use Rattle.std.proofs.Common.{refl, rules}
+use Rattle.std.proofs.Common.{Option, refl, rules}
 use Rattle.wm_session.proofs.BookParts.{claimed_in, IsUntold-claimed}
 use Rattle.wm_session.proofs.BookSteps.{IsTold-all, IsTold-cut}
 use Rattle.wm_session.proofs.BookClaims.{claimed_idle, BookInvariant-begun, BookInvariant-start_failed, BookInvariant-untold, IsBegun-taken, IsStartFailed-kept}
+use Rattle.wm_session.proofs.BookStops.{BookInvariant-claim_refused}
+use Rattle.wm_table.specs.declared.table.Claim.{Claim}
 use Rattle.wm_session.proofs.book.Book.claim.Goals as goal
 
 pub give_up-requires : goal.give_up-requires
@@ -72,3 +74,9 @@ returns-in-Failed g c =
     let step = rw (c.in-Ok-Some.field-0-is, failed.is) at c.in-Ok-Some.ensures.ok in
     rw (← c.self.view_is)
     (IsStartFailed-kept c.claim.new.self told.self told.sink failed.seq failed.cause c.self.invariant (search rules) step c.in-Ok.ensures.all)
+
+pub invariant_of-self-in-Err : goal.invariant_of-self-in-Err
+invariant_of-self-in-Err g c =
+    let refused = c.in-Err.ensures in
+    BookInvariant-claim_refused (Option (Claim g.row.M.Denot)) c.claim.new.self c.in-Err.trouble c.from.result c.self.invariant (search rules) refused.err
+    refused.cause c.from.ensures

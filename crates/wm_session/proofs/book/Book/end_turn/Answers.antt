@@ -105,6 +105,7 @@ invariant_of-self-in-Refused g c =
     let refused = c.in-Refused in
     let away = subst (λ book. IsAwayAt seat.number (g.B.Worker.kind_of seat.worker) book.places) (sym c.self.view_is) c.requires.away in
     let back = c.give_back-in-Refused in
+    let going = subst (λ book. book.status ≡ None) (sym c.self.view_is) c.requires.going in
     BookInvariant-refused g.row.M.Denot c.turn.new.self back.new.table back.new.bench refused.ticket refused.told refused.trouble
-    c.from-in-Refused.result c.self.invariant refused.ensures.answer.untouched back.ensures.table refused.ensures.cause c.from-in-Refused.ensures
+    c.from-in-Refused.result c.self.invariant going refused.ensures.answer.untouched back.ensures.table refused.ensures.cause c.from-in-Refused.ensures
     (traits-back g.B.Worker.kind_of seat.worker seat.number c.self.inside.bench back.new.bench away back.ensures.places)

@@ -1,5 +1,6 @@
 use Rattle.std.proofs.Common.{◌≡◌, [], None, refl, sym, subst}
 use Rattle.wm_session.proofs.BookEnds.{HasCommands-kept, IsSessionStatus-ends, IsTextWritten-kept, keeper_fault-ends, sink_fault-ends}
+use Rattle.wm_session.proofs.BookImages.{images-ended}
 use Rattle.wm_session.specs.Causes.{StopCause}
 use Rattle.wm_session.specs.Pending.{pending_text}
 use Rattle.wm_session.proofs.book.Book.finish.Goals as goal
@@ -32,6 +33,10 @@ returns-clause-session g c =
       keeper_fault = keeper_fault-ends stop wrote.result ended run.store.faults keeper_now run.sink_faults before ends cause;
       sink_fault = sink_fault-ends stop wrote.result ended run.store.faults keeper_now run.sink_faults before (g.W.Sink.faults wrote.new.sink) ends
           cause wrote.ensures.cause kept.sink_later;
+      images = λ settled.
+          rw (last.ensures.last, last.ensures.log, last.ensures.keeper)
+          (images-ended run.lines c.self.inside.table.state c.self.inside.table.log stop wrote.result ended
+          (g.K.Keeper.store c.self.inside.table.keeper) ends (kept.images settled));
     }
 
 pub returns-clause-written : goal.returns-clause-written

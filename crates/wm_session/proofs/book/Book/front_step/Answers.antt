@@ -6,6 +6,7 @@ use Rattle.wm_machine.specs.Quiet.{IsQuiet}
 use Rattle.wm_session.specs.Book.{SettlesNext}
 use Rattle.wm_session.proofs.BookSteps.{IsTold-all, IsTold-cut}
 use Rattle.wm_session.proofs.BookLines.{BookInvariant-line}
+use Rattle.wm_session.proofs.BookStops.{BookInvariant-line_refused, IsFrontStopped-refused, IsFrontStopped-untold}
 use Rattle.wm_session.proofs.book.Book.front_step.Goals as goal
 
 -- the next line is legal: no run is unreturned, and where it settles nothing is startable
@@ -41,3 +42,32 @@ invariant_of-self-in-Err-tell_last g c =
     (search rules) done.1 c.in-Some.ensures.items c.in_default-execute.ensures.cause
     (IsTold-cut c.execute.new.table told.self told.sink refused.fault stop.result c.self.invariant refused.ensures.told refused.ensures.cause stop.ensures)
     c.in_default-execute.ensures.places
+
+-- ---- the table had trouble
+
+pub invariant_of-self-in-Err : goal.invariant_of-self-in-Err
+invariant_of-self-in-Err g c =
+    let refused = c.in-Err.ensures in
+    BookInvariant-line_refused (Unit {0}) c.execute.new.table c.execute.new.bench c.pop_front.new.self.items c.in-Some.command c.in-Err.trouble
+    c.from.result c.self.invariant (search rules) c.in-Some.ensures.items refused.err refused.places_err refused.cause c.from.ensures
+
+pub returns-in-Err : goal.returns-in-Err
+returns-in-Err g c =
+    let i = c.self.inside in
+    let refused = c.in-Err.ensures in
+    rw (← c.self.view_is)
+    (IsFrontStopped-refused g.K.Keeper.store g.B.Worker.kind_of
+    (record { table = i.table; places = i.bench; left = i.left.items; line = i.line; pending = i.pending; sink = i.sink; status = i.status })
+    c.execute.new.table c.execute.new.bench c.pop_front.new.self.items c.in-Some.command c.from.result (search rules) c.in-Some.ensures.items refused.err
+    refused.places_err)
+
+pub returns-in-Err-tell_last : goal.returns-in-Err-tell_last
+returns-in-Err-tell_last g c =
+    let i = c.self.inside in
+    let done = c.in_default-execute.ensures.ok in
+    let told = c.tell_last.new in
+    rw (← c.self.view_is)
+    (IsFrontStopped-untold g.K.Keeper.store g.B.Worker.kind_of
+    (record { table = i.table; places = i.bench; left = i.left.items; line = i.line; pending = i.pending; sink = i.sink; status = i.status })
+    c.execute.new.table c.execute.new.bench c.pop_front.new.self.items told.self told.sink c.in-Some.command done.0 c.from-in-Err-tell_last.result
+    (search rules) c.in-Some.ensures.items done.1 c.in_default-execute.ensures.places)

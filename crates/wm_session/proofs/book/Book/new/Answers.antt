@@ -14,4 +14,4 @@ invariant_of-result g c =
     (tells_of g.K.Keeper.store g.W.Sink.given g.W.Sink.faults g.B.Worker.kind_of g.B.Worker.diary_of) c.args.table c.args.bench
     c.from_vec.result.items c.in-Ok.pending c.args.sink asked.log
     (left ∙ asked.lines) c.in-Ok.ensures asked.workers asked.none_away asked.all_in asked.valid asked.narrow few
-    (subst (AllByRecursion IsAskable) (sym left) asked.askable) asked.begun asked.written asked.keeper_faults asked.sink_faults
+    (subst (AllByRecursion IsAskable) (sym left) asked.askable) asked.begun asked.written asked.keeper_faults asked.sink_faults asked.images

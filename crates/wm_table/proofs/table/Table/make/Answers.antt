@@ -1,10 +1,9 @@
 use Rattle.std.proofs.Common.{◌≡◌, ◌+◌, ◌≤◌, Result, Ok, Err, refl, sym, ◌∙◌, ap, subst}
 use Rattle.std.specs.Prelude.{OnErr}
-use Rattle.wm_keeper.proofs.Stores.{IsAtMost-same}
 use Rattle.wm_machine.specs.declared.state.State.{State}
 use Rattle.wm_observe.specs.Notes.{notes_between}
 use Rattle.wm_table.proofs.StepRows.{next_run-changed}
-use Rattle.wm_table.proofs.TableSteps.{kept-step, kept-untouched, made-step}
+use Rattle.wm_table.proofs.TableSteps.{kept-step, kept-untouched, made-step, refused-step, IsUntouched-same}
 use Rattle.wm_steps.specs.StepChanges.{IsStepOf}
 use Rattle.wm_table.specs.Table.{IsOneStep}
 use Rattle.wm_table.specs.TableState.{TableState}
@@ -23,15 +22,15 @@ carry_out-requires-clause-step g c =
 pub invariant_of-self : goal.invariant_of-self
 invariant_of-self g c =
     let i = c.self.inside in
-    kept-untouched g.M.Mark.inputs g.K.Keeper.store
-    (record { first = i.first; state = i.view; log = i.log; keeper = i.keeper })
-    (record { first = i.first; state = c.carry_out.new.view; log = c.carry_out.new.log; keeper = c.carry_out.new.keeper }) i.notes c.self.invariant
-    (record {
-      first = refl;
-      state = c.in_err-carry_out.ensures.view_err;
-      log = c.in_err-carry_out.ensures.log_err;
-      rows = c.in_err-carry_out.ensures.rows_err;
-    })
+    let old : TableState g.row.K.Denot = record { first = i.first; state = i.view; log = i.log; keeper = i.keeper } in
+    let state_is : c.args.self.now.state ≡ i.view = cc in
+    let is : IsStepOf i.view c.args.change = subst (λ (s : State). IsStepOf s c.args.change) state_is c.requires in
+    let refused = c.in_err-carry_out.ensures in
+    kept-untouched g.M.Mark.inputs g.K.Keeper.store old
+    (record { first = i.first; state = c.carry_out.new.view; log = c.carry_out.new.log; keeper = c.carry_out.new.keeper })
+    (λ e. e ≡ c.args.change.event) i.notes c.self.invariant
+    (refused-step g.K.Keeper.store old c.args.change c.carry_out.new.view c.carry_out.new.log c.carry_out.new.keeper is refused.view_err refused.log_err
+    refused.rows_err refused.images_err)
     c.carry_out.ensures.name
 
 pub invariant_of-self-2 : goal.invariant_of-self-2
@@ -44,7 +43,7 @@ invariant_of-self-2 g c =
     let is : IsStepOf i.view c.args.change = subst (λ (s : State). IsStepOf s c.args.change) state_is c.requires in
     let done = c.in_ok-carry_out.ensures in
     kept-step g.M.Mark.inputs g.K.Keeper.store old new c.args.change.event i.notes c.in_ok-notes.notes c.self.invariant
-    (made-step g.K.Keeper.store old c.args.change new.state new.log new.keeper is done.view done.log done.rows)
+    (made-step g.K.Keeper.store old c.args.change new.state new.log new.keeper is done.view done.log done.rows done.images)
     (c.in_ok-notes.ensures ∙ ap (notes_between i.view) (sym done.view))
     (subst (λ (s : State). s.next_run ≤ i.view.next_run + 1) (sym done.view) (next_run-changed i.view c.args.change)) c.carry_out.ensures.name
 
@@ -58,7 +57,7 @@ returns-clause-ok g c =
     let is : IsStepOf i.view c.args.change = subst (λ (s : State). IsStepOf s c.args.change) state_is c.requires in
     let done = c.in_ok-carry_out.ensures in
     subst (λ (t : TableState g.row.K.Denot). IsOneStep g.K.Keeper.store c.args.change.event t new) c.self.view_is
-    (made-step g.K.Keeper.store old c.args.change new.state new.log new.keeper is done.view done.log done.rows)
+    (made-step g.K.Keeper.store old c.args.change new.state new.log new.keeper is done.view done.log done.rows done.images)
 
 -- what holds holds on a refusal
 on_refusal : {T E P : Type 0} (answer : Result T E) → P → OnErr answer P
@@ -68,4 +67,4 @@ on_refusal (Err refusal) holds = holds
 pub returns-in_err-notes-clause-err : goal.returns-in_err-notes-clause-err
 returns-in_err-notes-clause-err g c =
     on_refusal c.from_residual.result
-    (record { first = refl; state = refl; log = refl; rows = IsAtMost-same (g.K.Keeper.store c.args.self.now.keeper).rows })
+    (IsUntouched-same g.K.Keeper.store (λ e. e ≡ c.args.change.event) c.args.self.now c.args.self.now refl)

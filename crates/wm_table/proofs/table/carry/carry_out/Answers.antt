@@ -3,6 +3,7 @@ use Rattle.std.specs.List.{AllByRecursion}
 use Rattle.wm_graph.specs.Nodes.{HasNode, NamesNodes, NodeFields}
 use Rattle.wm_machine.proofs.Steps.{IsNarrow-after, Valid-after}
 use Rattle.wm_machine.specs.Narrow.{IsNarrow}
+use Rattle.wm_machine.specs.Rows.{rows_of}
 use Rattle.wm_machine.specs.Step.{after}
 use Rattle.wm_machine.specs.Valid.{Valid}
 use Rattle.wm_machine.specs.declared.state.Run.{Run}
@@ -11,9 +12,11 @@ use Rattle.wm_steps.specs.Nodes.{nodes_of}
 use Rattle.wm_steps.specs.StepChanges.{changed_state, Fits, IsStepOf}
 use Rattle.wm_steps.specs.Views.{IsViewed}
 use Rattle.wm_steps.specs.declared.change.StepChange.{StepChange}
+use Rattle.wm_table.proofs.Images.{images-kept, images-made}
 use Rattle.wm_table.proofs.StepNodes.{step-addable, step-grown, step-nodes, step-removed, step-replaced}
 use Rattle.wm_table.proofs.StepRows.{removed_fit, replaced_within, rows-made, told_within, turns_left}
 use Rattle.wm_table.specs.Following.{nodes_by, placed_node, AreAddable}
+use Rattle.wm_table.specs.Images.{LeavesBefore, LeavesOnly}
 use Rattle.wm_table.specs.Table.{HoldsRowsOf}
 use Rattle.wm_table.proofs.table.carry.carry_out.Goals as goal
 
@@ -108,3 +111,25 @@ returns-in-Ok-clause-rows g c =
     let made_is : c.put_back.new.state ≡ changed_state change s = search rules in
     rows-made s c.put_back.new.state change (g.K.Keeper.store c.args.keeper.now) (g.K.Keeper.store c.store.new.keeper)
     c.view.invariant.valid is.fits holds made_is c.in-Ok.ensures.ok
+
+pub returns-in-Ok-clause-images : goal.returns-in-Ok-clause-images
+returns-in-Ok-clause-images g c =
+    let s = c.view.inside.state in
+    let change = c.args.change in
+    let is = step-inside s _ change c.view.view_is c.requires.step in
+    let before = g.K.Keeper.store c.args.keeper.now in
+    let holds = subst (λ (t : State). HoldsRowsOf t before) (sym c.view.view_is) c.requires.rows in
+    let made_is : c.put_back.new.state ≡ changed_state change s = search rules in
+    λ leaves. images-made s c.put_back.new.state change before (g.K.Keeper.store c.store.new.keeper)
+    c.view.invariant.valid is.fits holds made_is c.in-Ok.ensures.images (subst (λ (t : State). LeavesOnly (rows_of t) before) (sym c.view.view_is) leaves)
+
+pub returns-in-Err-clause-images_err : goal.returns-in-Err-clause-images_err
+returns-in-Err-clause-images_err g c =
+    let s = c.view.inside.state in
+    let change = c.args.change in
+    let is = step-inside s _ change c.view.view_is c.requires.step in
+    let before = g.K.Keeper.store c.args.keeper.now in
+    let after = g.K.Keeper.store c.store.new.keeper in
+    let holds = subst (λ (t : State). HoldsRowsOf t before) (sym c.view.view_is) c.requires.rows in
+    subst (λ (t : State). LeavesBefore (rows_of (changed_state change t)) before after) c.view.view_is
+    (images-kept s change before after c.view.invariant.valid is.fits holds c.in-Err.ensures.images_err)

@@ -1,0 +1,164 @@
+#!/usr/bin/env bash
+# Measures the store on a disk, in a new folder below the one that is named (/tmp where none is):
+#
+# - the time of 200 lines that each enqueue [a, b, c], then d, then e, all of class Echo, which is a commit
+#   for each line, each start and each end, and the time in which SQLite makes as many commits that each
+#   delete and insert one row (Python's sqlite3, WAL, synchronous=FULL), in turn, each the best of five,
+#   and the ratio;
+# - the time and the memory of opening a store of 100,000 rows, which SQLite wrote;
+# - the size of the store of 50,000 finished works, and of the same rows as SQLite's VACUUM writes them.
+set -euo pipefail
+root=$(cd "$(dirname "${BASH_SOURCE[0]}")/.." && pwd)
+work=$(mktemp -d "${1:-/tmp}/work.XXXXXX")
+trap 'rm -rf "$work"' EXIT
+"$root/bin/work" --store "$work/build" < /dev/null
+python3 - "$root/crates/work/out/work" "$work" <<'PYTHON'
+import resource, sqlite3, subprocess, sys, time
+from pathlib import Path
+
+PROGRAM, FOLDER = sys.argv[1], Path(sys.argv[2])
+GROUPS, RUNS = 200, 5
+ROWS, FINISHED = 100_000, 50_000
+WIDE = 1_000
+
+
+def work_of(number):
+    """A work of class Echo as a script has it."""
+    return f'{{"class":"Echo","id":"{number:032x}"}}'
+
+
+def chains():
+    """A script of groups of five works in three layers."""
+    lines = []
+    for group in range(GROUPS):
+        a, b, c, d, e = (work_of(5 * group + place + 1) for place in range(5))
+        lines.append(f'{{"cmd":"enqueue","layers":[[{a},{b},{c}],[{d}],[{e}]]}}\n')
+    return "".join(lines).encode()
+
+
+def batches(works):
+    """A script that enqueues so many works, as many in a line as may be."""
+    lines = []
+    for first in range(1, works + 1, WIDE):
+        batch = ",".join(work_of(number) for number in range(first, first + WIDE))
+        lines.append(f'{{"cmd":"enqueue","works":[{batch}]}}\n')
+    return "".join(lines).encode()
+
+
+def summary(store, script=b""):
+    """What the program's summary of a store tells after a script, which is run first."""
+    command = [PROGRAM, "--store", str(store)]
+    run = subprocess.run(command, input=script + b'{"cmd":"summary"}\n', capture_output=True, check=True)
+    return run.stdout.splitlines()[-1].decode()
+
+
+def remove(store):
+    """Removes a store and the files beside it."""
+    for file in store.parent.glob(f"{store.name}*"):
+        file.unlink()
+
+
+def seconds(act, store):
+    """How long an act on a new store takes."""
+    remove(store)
+    start = time.perf_counter()
+    act(store)
+    return time.perf_counter() - start
+
+
+def commit_by_program(store):
+    """The program's commits: one for each line, each start and each end."""
+    told = summary(store, chains())
+    assert f'"succeeded":{5 * GROUPS}' in told, told
+
+
+def commit_by_sqlite(store):
+    """As many commits by SQLite."""
+    connection = sqlite3.connect(store, isolation_level=None)
+    connection.execute("PRAGMA journal_mode=WAL")
+    connection.execute("PRAGMA synchronous=FULL")
+    connection.execute(SCHEMA)
+    for number in range(commits()):
+        connection.execute("BEGIN")
+        connection.execute("DELETE FROM work WHERE seq = ?", (number % WIDE + 1,))
+        connection.execute(INSERT, row(number % WIDE + 1))
+        connection.execute("COMMIT")
+    connection.close()
+
+
+def commits():
+    """How many commits the program makes."""
+    return GROUPS + 2 * 5 * GROUPS
+
+
+def table():
+    """The table of the rows, as the program made it in the store of its first call."""
+    with sqlite3.connect(FOLDER / "build") as connection:
+        (text,) = connection.execute("SELECT sql FROM sqlite_schema WHERE name = 'work'").fetchone()
+    connection.close()
+    return text
+
+
+SCHEMA = table()
+INSERT = f"INSERT INTO work VALUES ({','.join('?' * 24)})"
+
+
+def row(number):
+    """The row of a work of class Echo that waits for a minute."""
+    id = number.to_bytes(16, "big")
+    return (1, number, id, None, "Echo", 0, 0, 0, 60000, 1, 30000, *[0] * 9, "{}", "{}", b"", "[]")
+
+
+def write_rows(store):
+    """Has SQLite write a store of many rows."""
+    with sqlite3.connect(store) as connection:
+        connection.execute(SCHEMA)
+        connection.executemany(INSERT, (row(number) for number in range(1, ROWS + 1)))
+    connection.close()
+
+
+def open_rows(store):
+    """Has the program open them."""
+    told = summary(store)
+    assert f'"enqueued":{ROWS}' in told, told
+
+
+def finish_works(store):
+    """Has the program finish many works."""
+    told = summary(store, batches(FINISHED))
+    assert f'"succeeded":{FINISHED}' in told, told
+
+
+def sizes(store):
+    """How many bytes the log of a store has, its file with what is in the log, and the file as SQLite writes it anew."""
+    log, anew = store.with_name(f"{store.name}-wal").stat().st_size, store.with_name("anew")
+    connection = sqlite3.connect(store)
+    connection.execute("PRAGMA wal_checkpoint(TRUNCATE)")
+    connection.execute("VACUUM INTO ?", (str(anew),))
+    connection.close()
+    return log, store.stat().st_size, anew.stat().st_size
+
+
+ours, theirs = [], []
+for _ in range(RUNS):
+    ours.append(seconds(commit_by_program, FOLDER / "chains"))
+    theirs.append(seconds(commit_by_sqlite, FOLDER / "commits"))
+print(f"the program: {5 * GROUPS} works, {commits()} commits: {min(ours) * 1000:.0f} ms")
+print(f"SQLite: {commits()} commits: {min(theirs) * 1000:.0f} ms")
+print(f"ratio: {min(ours) / min(theirs):.2f}")
+
+many = FOLDER / "many"
+write_rows(many)
+before = resource.getrusage(resource.RUSAGE_CHILDREN).ru_maxrss
+start = time.perf_counter()
+open_rows(many)
+taken, peak = time.perf_counter() - start, resource.getrusage(resource.RUSAGE_CHILDREN).ru_maxrss
+assert peak > before
+print(f"opening {ROWS} rows: {taken:.2f} s, {peak / 1000:.0f} MB")
+
+taken = seconds(finish_works, FOLDER / "finished")
+log, ours, theirs = sizes(FOLDER / "finished")
+print(f"{FINISHED} finished works: {taken:.1f} s, {ours} bytes, and a log of {log} bytes")
+print(f"SQLite's VACUUM of them: {theirs} bytes")
+print(f"ratio: {ours / theirs:.2f}")
+PYTHON

@@ -1,0 +1,66 @@
+//! A program of a user's own, which `docs/LIBRARY.md` goes through: it runs a script that it has in
+//! memory, with a worker of its own beside a stock one, and places works that it requests by calls.
+#![tactic(auto)]
+
+mod photos;
+mod resizer;
+
+use crate::resizer::Resizer;
+use std::alloc::{AllocError, Global};
+use std::io;
+use std::process::ExitCode;
+use wm_bench::Hand;
+use wm_collections::Text;
+use wm_io::{MemorySink, MemorySource};
+use wm_keeper::SureKeeper;
+use wm_stock::Echo;
+
+/// A photo is resized, and what comes of that is echoed.
+const SCRIPT: &str =
+    r#"{"cmd":"enqueue","layers":[[{"id":"00000000-0000-0000-0000-000000000001","class":"Resize","input":{"width":{"int":800}}}],[{"id":"00000000-0000-0000-0000-000000000002","class":"Echo"}]]}
+{"cmd":"query"}
+"#;
+
+/// The words of a run over the store `photos`.
+fn words(alloc: Global) -> Result<Vec<String>, AllocError> {
+    let mut words = Vec::new(alloc);
+    words.push(String::from_str(alloc, "--store")?)?;
+    words.push(String::from_str(alloc, "photos")?)?;
+    Ok(words)
+}
+
+/// Runs the script with one worker of its own and one Echo, over streams and a store in memory, and
+/// gives the exit status that the run would have, and what it wrote.
+fn run(alloc: Global) -> Result<(u8, Vec<u8>), AllocError> {
+    let words = words(alloc)?;
+    let mut hands: Vec<Hand> = Vec::new(alloc);
+    let class = Text::from_str(alloc, "Resize")?;
+    let worker = Box::new(alloc, Resizer)?;
+    hands.push(Hand { class, worker })?;
+    let class = Text::from_str(alloc, "Echo")?;
+    let worker = Box::new(alloc, Echo::new())?;
+    hands.push(Hand { class, worker })?;
+    let script = Vec::from_slice(alloc, SCRIPT.as_bytes())?;
+    let mut source = MemorySource::new(script, 4096, Vec::new(alloc));
+    let sink = MemorySink::new(4096, Vec::new(alloc));
+    let keeper = SureKeeper::new(Vec::new(alloc));
+    let ended = wm_cli::run(alloc, &words, hands, &mut source, sink, keeper);
+    let code = ended.status.code();
+    let written = Vec::from_slice(alloc, ended.sink.bytes());
+    drop(ended);
+    Ok((code, written?))
+}
+
+/// How many works that are requested by calls are placed, as text; none where memory is refused.
+fn placed(alloc: Global) -> Option<String> {
+    let count = photos::place(alloc, photos::photos(alloc)?)?;
+    format!(in alloc; "{count} works are placed").ok()
+}
+
+fn main(rt: HostRuntime) -> io::Result<ExitCode> {
+    let alloc = rt.alloc();
+    let (code, written) = run(alloc)?;
+    rt.print(String::from_utf8_lossy(alloc, &written)?)?;
+    rt.println(placed(alloc).as_deref().unwrap_or("out of memory"))?;
+    Ok(ExitCode::from(code))
+}

@@ -1,0 +1,111 @@
+//! Works that are requested by calls, and placed in a table without a script.
+ghost use Rattle.std.specs.Prelude.{◌≡◌, [], IfSome};
+ghost use Rattle.wm_machine.specs.Built.{AreAsked};
+ghost use Rattle.wm_machine.specs.Outcome.{IsLegalLine};
+ghost use Rattle.wm_request.specs.Requests.{IsRequest};
+
+use crate::resizer::number;
+use std::alloc::Global;
+use std::marker::Brand;
+use uuid::Uuid;
+use wm_chain::Continuation;
+use wm_collections::Items;
+use wm_conditions::{Constraints, Network};
+use wm_data::Merger;
+use wm_keeper::SureKeeper;
+use wm_machine::{Command, Reply};
+use wm_request::{Batch, Builder, Request};
+use wm_schedule::BackoffPolicy;
+use wm_table::Table;
+
+/// A photo 800 wide is to be resized, and tried again after a minute, two minutes and so on.
+fn resize(alloc: Global, id: u128) -> Option<Request> {
+    let class = String::from_str(alloc, "Resize").ok()?;
+    let mut builder = Builder::one_time(alloc, Uuid::from_u128(id), class);
+    builder.input(number(alloc, "width", 800).ok()?);
+    builder.backoff(BackoffPolicy::Linear, 60_000);
+    builder.tag(String::from_str(alloc, "photo").ok()?).ok()?;
+    builder.build().ok()
+}
+
+/// What came before is to be published, as lists, over a network that isn't metered.
+fn publish(alloc: Global, id: u128) -> Option<Request> {
+    let class = String::from_str(alloc, "Echo").ok()?;
+    let mut builder = Builder::one_time(alloc, Uuid::from_u128(id), class);
+    builder.merger(Merger::ArrayCreating);
+    builder.constraints(Constraints {
+        network: Network::Unmetered,
+        ..Constraints::NONE
+    });
+    builder.build().ok()
+}
+
+/// Two photos are resized, each by itself, and then published together. None where memory is
+/// refused; nothing else of it can be.
+pub fn photos(alloc: Global) -> Option<Batch> {
+    let first = vec![in alloc; resize(alloc, 1)?, resize(alloc, 2)?].ok()?;
+    let then = vec![in alloc; publish(alloc, 3)?].ok()?;
+    let chain = Continuation::begin_with(alloc, first).ok()?;
+    chain.then(then).ok()?.batch().ok()
+}
+
+/// Reads a request, whose types keep it within its limits.
+fn look_at(request: &Request)
+    ensures { IsRequest request.now }
+{
+    let id = request.id();
+    let _bytes = id.as_bytes();
+    let _size = request.input().size();
+    let _class = request.class();
+    let _tags = request.tags();
+    let _backoff = request.backoff();
+    let _delay = request.initial_delay();
+    let _period = request.period();
+}
+
+/// Reads the requests of a batch.
+fn look_at_each(batch: &Batch)
+    ensures { AreAsked batch.now.works }
+{
+    for work in batch.works().as_slice() {
+        look_at(&work.request);
+    }
+}
+
+/// A table on an empty store in memory, without workers. None where memory is refused.
+fn begin(alloc: Global) -> Option<Table<SureKeeper, Brand>>
+    ensures { IfSome result (λ table. table.state.runs ≡ []) }
+{
+    let keeper = SureKeeper::new(Vec::new(alloc));
+    Table::begin(alloc, keeper, Vec::new(alloc), Items::new(alloc)).ok()
+}
+
+/// The command that enqueues a batch, which a table takes as long as no run is out.
+fn enqueue(table: &Table<SureKeeper, Brand>, batch: Batch) -> Command
+    requires { table.now.state.runs ≡ [] }
+    ensures { IsLegalLine table.now.state result }
+{
+    look_at_each(&batch);
+    Command::Enqueue { named: None, batch }
+}
+
+/// How many works a reply says were placed.
+fn count(reply: &Reply) -> usize {
+    match reply {
+        Reply::Enqueued(numbers) => numbers.len(),
+        _ => 0,
+    }
+}
+
+/// Places works in a table on an empty store, and gives how many they are. None where memory is
+/// refused.
+pub fn place(alloc: Global, batch: Batch) -> Option<usize> {
+    let mut table = begin(alloc)?;
+    let command = enqueue(&table, batch);
+    let reply = table.command(1, command);
+    drop(table.end());
+    let reply = reply.ok()?;
+    let placed = count(&reply);
+    drop(reply);
+    Some(placed)
+}

@@ -1,0 +1,248 @@
+//! Whole runs over SQLite stores in memory, in which rows stand that were committed before.
+ghost use Rattle.std.specs.Prelude.{◌≡◌, IfOk};
+ghost use Rattle.wm_keeper.specs.Keeper.{AreOfDifferentNumbers};
+
+use crate::runs::{echoes, words};
+use sqlite::{Connection, MemStore};
+use std::alloc::{AllocError, Global};
+use std::test::Fail;
+use wm_cli::{Ended, Status, run};
+use wm_collections::{Items, Text};
+use wm_io::{StdSink, StdSource};
+use wm_keeper::{Change, KeepFault, Keeper, Row};
+use wm_sqlite::SqliteKeeper;
+use wm_stock::Echo;
+
+/// The id of the work that is stored.
+const ID: [u8; 16] = [0, 0, 0, 0, 0, 0, 0, 0, 0, 0, 0, 0, 0, 0, 0, 1];
+
+/// What stored rows differ in.
+#[derive(Clone, Copy)]
+struct Stored<'a> {
+    seq: i64,
+    phase: i64,
+    attempt: i64,
+    output: &'a str,
+    prior: &'a [i64],
+}
+
+/// The row of one-time work of class Echo with an input, as a request with the defaults stores it.
+fn row_of(alloc: Global, stored: &Stored<'_>) -> Result<Row, AllocError> {
+    Ok(Row {
+        version: 1,
+        seq: stored.seq,
+        id: Items::from_vec(Vec::from_slice(alloc, &ID)?),
+        name: None,
+        class: Text::from_str(alloc, "Echo")?,
+        kind: 0,
+        period: 0,
+        flex: 0,
+        delay: 0,
+        policy: 1,
+        wait: 30_000,
+        merger: 0,
+        network: 0,
+        flags: 0,
+        phase: stored.phase,
+        attempt: stored.attempt,
+        backoff_n: 0,
+        runs: 0,
+        generation: 0,
+        enqueued_at: 0,
+        input: Text::from_str(alloc, "{\"a\":{\"int\":7}}")?,
+        output: Text::from_str(alloc, stored.output)?,
+        prior: Items::from_vec(Vec::from_slice(alloc, stored.prior)?),
+        tags: Items::new(alloc),
+    })
+}
+
+/// A put of this row alone.
+fn put(alloc: Global, row: Row) -> Result<Vec<Change>, AllocError>
+    ensures { IfOk result (λ changes. AreOfDifferentNumbers changes.items) }
+{
+    Ok(vec![in alloc; Change::Put(row)]?)
+}
+
+/// A store in memory to which a keeper committed this row.
+fn store_of(alloc: Global, row: Row) -> Result<Connection<MemStore>, KeepFault> {
+    let mut keeper = SqliteKeeper::adopt(Connection::open_in_memory(alloc)?);
+    let changes = put(alloc, row)?;
+    keeper.commit(changes.as_slice())?;
+    Ok(keeper.into_connection())
+}
+
+/// The keeper that comes back from a run.
+fn keeper_of(
+    ended: Ended<SqliteKeeper<MemStore>, StdSink<&mut Vec<u8>>, Echo>,
+) -> SqliteKeeper<MemStore> {
+    ended.keeper
+}
+
+/// How a run of this script over a store ends, what it writes, and the store.
+fn run_over(
+    alloc: Global,
+    store: Connection<MemStore>,
+    script: &str,
+) -> Result<(Status, Vec<u8>, Connection<MemStore>), AllocError> {
+    let words = words(alloc)?;
+    let hands = echoes(alloc)?;
+    let mut written = Vec::new(alloc);
+    let mut source = StdSource::new(script.as_bytes());
+    let sink = StdSink::new(&mut written);
+    let keeper = SqliteKeeper::adopt(store);
+    let ended = run(alloc, &words, hands, &mut source, sink, keeper);
+    let status = ended.status;
+    let store = keeper_of(ended).into_connection();
+    Ok((status, written, store))
+}
+
+/// The number, the phase and the attempt of each row.
+fn standings(alloc: Global, rows: &[Row]) -> Result<Vec<(i64, i64, i64)>, AllocError> {
+    let mut standings = Vec::new(alloc);
+    for row in rows {
+        standings.push((row.seq, row.phase, row.attempt))?;
+    }
+    Ok(standings)
+}
+
+/// Those of the rows of a store.
+fn rows_in(alloc: Global, store: Connection<MemStore>) -> Result<Vec<(i64, i64, i64)>, KeepFault> {
+    let mut keeper = SqliteKeeper::adopt(store);
+    let rows = keeper.load("any name")?;
+    Ok(standings(alloc, rows.as_slice())?)
+}
+
+const QUERY: &str = "{\"cmd\":\"query\"}";
+
+const ENQUEUE: &str =
+    "{\"cmd\":\"enqueue\",\"works\":[{\"class\":\"Echo\",\"id\":\"00000000-0000-0000-0000-000000000007\"}]}";
+
+const NUMBERS_SPENT: &str = "{\"error\":\"NumbersSpent\",\"line\":1,\"next\":9007199254740992}\n";
+
+const OPENED_AGAIN: &str =
+    "{\"line\":1,\"ok\":\"query\",\"works\":[{\"attempt\":1,\"due\":0,\"generation\":0,\"id\":\"00000000-0000-0000-0000-000000000001\",\"output\":{},\"progress\":{},\"seq\":1,\"state\":\"ENQUEUED\",\"tags\":[]}]}\n";
+
+/// Stored rows that are opened or refused, each with a script, how the run ends, what it writes, and
+/// the number, the phase and the attempt that the row has then.
+fn cases() -> [(
+    Stored<'static>,
+    &'static str,
+    Status,
+    &'static str,
+    (i64, i64, i64),
+); 3] {
+    let unsound = Stored {
+        seq: 5,
+        phase: 0,
+        attempt: 0,
+        output: "{}",
+        prior: &[9],
+    };
+    let last = Stored {
+        seq: 9_007_199_254_740_991,
+        phase: 3,
+        attempt: 0,
+        output: "{}",
+        prior: &[],
+    };
+    let running = Stored {
+        seq: 1,
+        phase: 1,
+        attempt: 1,
+        output: "{}",
+        prior: &[],
+    };
+    let refused = Status::BadStore {
+        seq: 5,
+        bad_row: false,
+    };
+    [
+        (unsound, QUERY, refused, "", (5, 0, 0)),
+        (
+            last,
+            ENQUEUE,
+            Status::Done,
+            NUMBERS_SPENT,
+            (9_007_199_254_740_991, 3, 0),
+        ),
+        (running, QUERY, Status::Done, OPENED_AGAIN, (1, 2, 2)),
+    ]
+}
+
+#[test]
+fn a_stored_row_is_opened_or_refused(rt: HostRuntime) -> Result<(), Fail> {
+    let alloc = rt.alloc();
+    for (stored, script, status, replies, row) in cases() {
+        let store = store_of(alloc, row_of(alloc, &stored)?)?;
+        let (ended, written, store) = run_over(alloc, store, script)?;
+        assert_eq!(rt; ended, status);
+        assert_eq!(rt; written.as_slice(), replies.as_bytes());
+        let rows = rows_in(alloc, store)?;
+        assert_eq!(rt; rows.as_slice(), [row].as_slice());
+    }
+    Ok(())
+}
+
+/// A finished Echo's row, of number 7.
+fn finished() -> Stored<'static> {
+    Stored {
+        seq: 7,
+        phase: 2,
+        attempt: 1,
+        output: "{\"a\":{\"int\":7}}",
+        prior: &[],
+    }
+}
+
+#[test]
+fn a_row_with_seven_bytes_of_prerequisites_is_refused(rt: HostRuntime) -> Result<(), Fail> {
+    let alloc = rt.alloc();
+    let store = store_of(alloc, row_of(alloc, &finished())?)?;
+    let (ended, written, mut store) = run_over(alloc, store, "")?;
+    assert_eq!(rt; ended, Status::Done);
+    assert!(rt; written.is_empty());
+    store.execute_batch("UPDATE work SET prior = x'01020304050607'")?;
+    let (ended, written, store) = run_over(alloc, store, QUERY)?;
+    let refused = Status::BadStore {
+        seq: 7,
+        bad_row: true,
+    };
+    assert_eq!(rt; ended, refused);
+    assert!(rt; written.is_empty());
+    drop(store);
+    Ok(())
+}
+
+/// A line that enqueues so many works, which wait for moment 1.
+fn enqueue_of(alloc: Global, count: u32) -> Result<String, AllocError> {
+    let mut line = String::from_str(alloc, "{\"cmd\":\"enqueue\",\"works\":[")?;
+    for number in 0..count {
+        let comma = if number == 0 { "" } else { "," };
+        let work = format!(in alloc;
+            "{comma}{{\"class\":\"Echo\",\"delay\":1,\"id\":\"{number:032x}\"}}"
+        )?;
+        line.push_str(work.as_str())?;
+    }
+    line.push_str("]}")?;
+    Ok(line)
+}
+
+const SUMMARY: &str = "{\"cmd\":\"summary\"}";
+
+const THOUSAND_ENQUEUED: &str =
+    "{\"attempts\":0,\"blocked\":0,\"cancelled\":0,\"enqueued\":1000,\"failed\":0,\"line\":1,\"ok\":\"summary\",\"running\":0,\"succeeded\":0}\n";
+
+#[test]
+fn a_thousand_works_of_one_line_are_there_in_the_next_run(rt: HostRuntime) -> Result<(), Fail> {
+    let alloc = rt.alloc();
+    let store = Connection::open_in_memory(alloc)?;
+    let line = enqueue_of(alloc, 1_000)?;
+    let (ended, written, store) = run_over(alloc, store, line.as_str())?;
+    assert_eq!(rt; ended, Status::Done);
+    drop(written);
+    let (ended, written, store) = run_over(alloc, store, SUMMARY)?;
+    assert_eq!(rt; ended, Status::Done);
+    assert_eq!(rt; written.as_slice(), THOUSAND_ENQUEUED.as_bytes());
+    drop(store);
+    Ok(())
+}

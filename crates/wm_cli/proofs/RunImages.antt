@@ -1,0 +1,125 @@
+-- What a crash leaves of a run, from what it leaves of the calls below.
+use Rattle.std.proofs.Common.{◌≡◌, ℕ, Bool, true, false, List, Option, Some, refl, sym, ap, subst, inl, inr}
+use Rattle.std.proofs.lemmas.Option.{same_Some}
+use Rattle.std.specs.Prelude.{◌⊎◌, IfSome}
+use Rattle.wm_cli.proofs.RunsWithoutEvents.{ForScript-any}
+use Rattle.wm_cli.specs.Ended.{IsCrashSafe}
+use Rattle.wm_cli.specs.Images.{IsHeldAlone, LeavesHeld, LeavesOpening, RunImages, UnbegunImages}
+use Rattle.wm_keeper.specs.Store.{Store, IsStoreKept}
+use Rattle.wm_keeper.specs.declared.row.Row.{Row}
+use Rattle.wm_machine.specs.declared.command.Command.{Command}
+use Rattle.wm_machine.specs.declared.event.Event.{Event}
+use Rattle.wm_machine.specs.declared.state.Instance.{Instance}
+use Rattle.wm_machine.specs.declared.state.State.{State}
+use Rattle.wm_script.specs.Lines.{commands_in}
+use Rattle.wm_session.specs.Causes.{status_by_begin}
+use Rattle.wm_session.specs.declared.status.Status.{Status}
+use Rattle.wm_session.specs.declared.status.Status.TheVariants as status
+use Rattle.wm_table.specs.Images.{LeavesOnly, WouldOpen}
+use Rattle.wm_table.specs.Table.{LeavesUnopened}
+use Rattle.wm_table.specs.declared.table.BeginFault.{BeginFault}
+use Rattle.wm_table.specs.declared.table.BeginFault.TheVariants as begin
+
+-- ---- the rows held
+
+-- rows that are those held are told as these
+pub held_rows : (held : Option (List Row)) (image : List Row) → held ≡ Some image → IfSome held (λ rows. image ≡ rows)
+held_rows held image is = subst (λ told. IfSome told (λ rows. image ≡ rows)) (sym is) refl
+
+pub leaves-held : (held : Option (List Row)) (store : Store) → IsHeldAlone held store → LeavesHeld held store
+leaves-held held store alone image left = held_rows held image (alone image left)
+
+-- nothing pending in a store is nothing pending beside its rows
+pub leaves-only : (rows : List Row) (store : Store) → IsHeldAlone (Some rows) store → LeavesOnly rows store
+leaves-only rows store alone image left = sym (same_Some rows image (alone image left))
+
+-- rows that were loaded are those held, and a load leaves nothing pending
+pub loaded-alone : (rows : List Row) (before loaded : Store) → IfSome before.rows (λ held. rows ≡ held) → IsStoreKept before loaded
+    → IsHeldAlone before.rows before → IsHeldAlone (Some rows) loaded
+loaded-alone rows before loaded told kept alone image left =
+    let is : before.rows ≡ Some image = alone image (kept.images image left) in
+    ap Some (subst (λ held. IfSome held (λ held. rows ≡ held)) is told)
+
+-- ---- a run whose table wasn't begun
+
+-- what leaves the rows held does so however the run ended
+pub unbegun-held : (ended : Status) (held : Option (List Row)) (instances : List Instance) (store : Store) → LeavesHeld held store
+    → UnbegunImages ended held instances store
+unbegun-held status.KeeperFault held instances store leaves = λ image left. inl (leaves image left)
+unbegun-held status.Memory held instances store leaves = λ image left. inl (leaves image left)
+unbegun-held status.Done held instances store leaves = leaves
+unbegun-held status.SinkFault held instances store leaves = leaves
+unbegun-held status.Usage held instances store leaves = leaves
+unbegun-held status.SourceFault held instances store leaves = leaves
+unbegun-held (status.ScriptTooLong limit) held instances store leaves = leaves
+unbegun-held (status.BadStore seq bad_row) held instances store leaves = leaves
+
+-- a load that failed leaves the rows held
+pub unbegun-loaded : (ended : Status) (instances : List Instance) (before loaded : Store) → IsStoreKept before loaded → IsHeldAlone before.rows before
+    → UnbegunImages ended before.rows instances loaded
+unbegun-loaded ended instances before loaded kept alone =
+    unbegun-held ended before.rows instances loaded (λ image left. leaves-held before.rows before alone image (kept.images image left))
+
+opening_left : {K : Type 0} (store : K → Store) (rows : List Row) (instances : List Instance) (keeper now : K)
+    → ((image : List Row) → (store now).images image → (store keeper).images image ⊎ WouldOpen rows instances image)
+    → IsHeldAlone (Some rows) (store keeper) → LeavesOpening (Some rows) instances (store now)
+opening_left store rows instances keeper now leaves alone image left = elim (leaves image left) [
+  | inl old ↦ inl (sym (same_Some rows image (alone image old)))
+  | inr would ↦ inr (record { rows = rows; told = refl; opening = would })
+]
+
+-- a table that wasn't begun leaves the rows that were loaded, or those of their opening
+pub unbegun-opened : {K : Type 0} (store : K → Store) (rows : List Row) (instances : List Instance) (keeper : K) (refused : K × BeginFault)
+    → LeavesUnopened store rows instances keeper refused → IsHeldAlone (Some rows) (store keeper)
+    → UnbegunImages (status_by_begin refused.1) (Some rows) instances (store refused.0)
+unbegun-opened store rows instances keeper (now, begin.Bad seq bad_row) same alone =
+    subst (λ k. LeavesHeld (Some rows) (store k)) (sym same) (leaves-held (Some rows) (store keeper) alone)
+unbegun-opened store rows instances keeper (now, begin.KeeperFault) leaves alone = opening_left store rows instances keeper now leaves alone
+unbegun-opened store rows instances keeper (now, begin.Memory) leaves alone = opening_left store rows instances keeper now leaves alone
+
+-- ---- a run over rows that were loaded
+
+opening_told : (held : Option (List Row)) (rows : List Row) (instances : List Instance) (store : Store) → IfSome held (λ kept. rows ≡ kept)
+    → LeavesOpening (Some rows) instances store → LeavesOpening held instances store
+opening_told held rows instances store told leaves image left = elim (leaves image left) [
+  | inl same ↦ inl (subst (λ all. IfSome held (λ kept. all ≡ kept)) (sym same) told)
+  | inr would ↦ inr (record {
+    rows = would.rows;
+    told = subst (λ all. IfSome held (λ kept. all ≡ kept)) (sym would.told) told;
+    opening = would.opening;
+  })
+]
+
+held_told : (held : Option (List Row)) (rows : List Row) (store : Store) → IfSome held (λ kept. rows ≡ kept) → LeavesHeld (Some rows) store
+    → LeavesHeld held store
+held_told held rows store told leaves image left = subst (λ all. IfSome held (λ kept. all ≡ kept)) (sym (leaves image left)) told
+
+unbegun_told : (ended : Status) (held : Option (List Row)) (rows : List Row) (instances : List Instance) (store : Store)
+    → IfSome held (λ kept. rows ≡ kept) → UnbegunImages ended (Some rows) instances store → UnbegunImages ended held instances store
+unbegun_told status.KeeperFault held rows instances store told leaves = opening_told held rows instances store told leaves
+unbegun_told status.Memory held rows instances store told leaves = opening_told held rows instances store told leaves
+unbegun_told status.Done held rows instances store told leaves = held_told held rows store told leaves
+unbegun_told status.SinkFault held rows instances store told leaves = held_told held rows store told leaves
+unbegun_told status.Usage held rows instances store told leaves = held_told held rows store told leaves
+unbegun_told status.SourceFault held rows instances store told leaves = held_told held rows store told leaves
+unbegun_told (status.ScriptTooLong limit) held rows instances store told leaves = held_told held rows store told leaves
+unbegun_told (status.BadStore seq bad_row) held rows instances store told leaves = held_told held rows store told leaves
+
+-- what a crash leaves beside the rows loaded it leaves beside those held, where they were told
+pub images_told : (began : Bool) (ended : Status) (lines : List Command) (held : Option (List Row)) (rows : List Row) (instances : List Instance)
+    (last : State) (log : List Event) (store : Store)
+    → IfSome held (λ kept. rows ≡ kept) → RunImages began ended lines (Some rows) instances last log store
+    → RunImages began ended lines held instances last log store
+images_told true ended lines held rows instances last log store told leaves = leaves
+images_told false ended lines held rows instances last log store told leaves = unbegun_told ended held rows instances store told leaves
+
+-- ---- a run whose store wasn't opened
+
+-- it leaves the store as it was
+pub crash-unopened : (left : Option (List ℕ)) (began : Bool) (ended : Status) (instances : List Instance) (last : State) (log : List Event)
+    (before now : Store)
+    → began ≡ false → now ≡ before → IsHeldAlone before.rows before → IsCrashSafe left began ended before.rows instances last log now
+crash-unopened left began ended instances last log before now unbegun same alone =
+    rw (unbegun, same)
+    (ForScript-any left (λ bytes. RunImages false ended (commands_in bytes) before.rows instances last log before)
+    (λ bytes. unbegun-held ended before.rows instances before (leaves-held before.rows before alone)))

@@ -1,0 +1,43 @@
+-- What a crash may leave in the store of a run.
+use Rattle.std.specs.Prelude.{◌≡◌, ◌⊎◌, Bool, List, Option, Some, IfSome, MatchBool}
+use Rattle.wm_keeper.specs.Store.{Store}
+use Rattle.wm_keeper.specs.declared.row.Row.{Row}
+use Rattle.wm_machine.specs.declared.command.Command.{Command}
+use Rattle.wm_machine.specs.declared.event.Event.{Event}
+use Rattle.wm_machine.specs.declared.state.Instance.{Instance}
+use Rattle.wm_machine.specs.declared.state.State.{State}
+use Rattle.wm_session.specs.Images.{EndImages}
+use Rattle.wm_session.specs.declared.status.Status.{Status}
+use Rattle.wm_session.specs.declared.status.Status.TheVariants as status
+use Rattle.wm_table.specs.Images.{WouldOpen}
+
+-- nothing is pending: a crash leaves just the rows held
+abbrev pub IsHeldAlone : Option (List Row) → Store → Type 0
+IsHeldAlone held store = (image : List Row) → store.images image → held ≡ Some image
+
+-- a crash leaves the rows held, where they were told
+abbrev pub LeavesHeld : Option (List Row) → Store → Type 0
+LeavesHeld held store = (image : List Row) → store.images image → IfSome held (λ rows. image ≡ rows)
+
+-- the rows that the opening of the rows held, which was being committed, would have left; both open to the same state
+pub record WouldOpenHeld (held : Option (List Row)) (instances : List Instance) (image : List Row) : Type 0 where
+  pub rows : List Row
+  pub told : IfSome held (λ kept. rows ≡ kept)
+  pub opening : WouldOpen rows instances image
+
+-- a crash leaves the rows held, or those that their opening would have left
+abbrev pub LeavesOpening : Option (List Row) → List Instance → Store → Type 0
+LeavesOpening held instances store =
+    (image : List Row) → store.images image → IfSome held (λ rows. image ≡ rows) ⊎ WouldOpenHeld held instances image
+
+-- what a crash leaves of a run whose table wasn't begun: the opening was being committed only where the keeper failed or memory was refused
+abbrev pub UnbegunImages : Status → Option (List Row) → List Instance → Store → Type 0
+UnbegunImages status.KeeperFault held instances store = LeavesOpening held instances store
+UnbegunImages status.Memory held instances store = LeavesOpening held instances store
+UnbegunImages _ held instances store = LeavesHeld held store
+
+-- What a crash leaves of a run over these lines that is over: the rows of its last state, or those of the state after the event that was being
+-- committed; and where its table wasn't begun the rows held, or those of the opening that was being committed.
+abbrev pub RunImages : Bool → Status → List Command → Option (List Row) → List Instance → State → List Event → Store → Type 0
+RunImages began ended lines held instances last log store =
+    MatchBool began (EndImages ended lines last log store) (UnbegunImages ended held instances store)

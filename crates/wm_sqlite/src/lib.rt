@@ -1,0 +1,17 @@
+//! A keeper of rows in a SQLite store.
+//!
+//! [`SqliteKeeper`] keeps its rows in the table `work` of a connection that it was given, and
+//! [`FileKeeper`] in that of the file that it is told to load.
+#![tactic(auto)]
+
+mod changes;
+mod columns;
+mod file;
+mod form;
+mod keeper;
+mod reading;
+mod refusal;
+mod statements;
+
+pub use file::FileKeeper;
+pub use keeper::SqliteKeeper;

@@ -1,0 +1,16 @@
+use Rattle.std.proofs.Common.{sym, subst}
+use Rattle.wm_table.proofs.Images.{unopened-left}
+use Rattle.wm_table.specs.Table.{LeavesUnopened}
+use Rattle.wm_table.proofs.table.Table.begin.Goals as goal
+
+pub returns-clause-images_err : goal.returns-clause-images_err
+returns-clause-images_err g c =
+    let store = g.K.Keeper.store in
+    let opening = c.in-Ok.opening in
+    let rows = c.args.rows.items in
+    let instances = c.args.instances in
+    let now = c.commit.new.keeper in
+    subst (λ fault. LeavesUnopened store rows instances c.args.keeper (now, fault)) (sym c.from-in-Err-commit.ensures)
+    (unopened-left store rows instances opening.changes.items opening.first c.args.keeper now c.in-Err-commit.trouble c.requires.rows
+    (rw c.deref.ensures.value at c.in-Ok.ensures.changes) (rw c.deref.ensures.value at c.in-Ok.ensures.opened)
+    (rw c.deref-2.ensures.value at c.in-Err-commit.ensures.images_err))
