@@ -1,5 +1,5 @@
 //! Works that are requested by calls, and placed in a table without a script.
-ghost use Rattle.std.specs.Prelude.{◌≡◌, [], IfSome};
+ghost use Rattle.std.specs.Prelude.{◌≡◌, [], IfSome, IsSome};
 ghost use Rattle.wm_machine.specs.Built.{AreAsked};
 ghost use Rattle.wm_machine.specs.Outcome.{IsLegalLine};
 ghost use Rattle.wm_request.specs.Requests.{IsRequest};
@@ -16,7 +16,7 @@ use wm_keeper::SureKeeper;
 use wm_machine::{Command, Reply};
 use wm_request::{Batch, Builder, Request};
 use wm_schedule::BackoffPolicy;
-use wm_table::Table;
+use wm_table::{Mark, Table};
 
 /// A photo 800 wide is to be resized, and tried again after a minute, two minutes and so on.
 fn resize(alloc: Global, id: u128) -> Option<Request> {
@@ -73,7 +73,10 @@ fn look_at_each(batch: &Batch)
 }
 
 /// A table on an empty store in memory, without workers. None where memory is refused.
-fn begin(alloc: Global) -> Option<Table<SureKeeper, Brand>>
+fn begin<M: Mark>(alloc: Global) -> Option<Table<SureKeeper, M>>
+    requires rows { M.inputs.rows ≡ [] }
+    requires instances { M.inputs.instances ≡ [] }
+    requires store { IsSome M.inputs.store.rows }
     ensures { IfSome result (λ table. table.state.runs ≡ []) }
 {
     let keeper = SureKeeper::new(Vec::new(alloc));
@@ -81,7 +84,7 @@ fn begin(alloc: Global) -> Option<Table<SureKeeper, Brand>>
 }
 
 /// The command that enqueues a batch, which a table takes as long as no run is out.
-fn enqueue(table: &Table<SureKeeper, Brand>, batch: Batch) -> Command
+fn enqueue<M: Mark>(table: &Table<SureKeeper, M>, batch: Batch) -> Command
     requires { table.now.state.runs ≡ [] }
     ensures { IsLegalLine table.now.state result }
 {
@@ -100,7 +103,16 @@ fn count(reply: &Reply) -> usize {
 /// Places works in a table on an empty store, and gives how many they are. None where memory is
 /// refused.
 pub fn place(alloc: Global, batch: Batch) -> Option<usize> {
-    let mut table = begin(alloc)?;
+    place_in::<Brand>(alloc, batch)
+}
+
+/// The same, in a table of this mark, which says that the store is empty and tells its rows.
+fn place_in<M: Mark>(alloc: Global, batch: Batch) -> Option<usize>
+    requires rows { M.inputs.rows ≡ [] }
+    requires instances { M.inputs.instances ≡ [] }
+    requires store { IsSome M.inputs.store.rows }
+{
+    let mut table = begin::<M>(alloc)?;
     let command = enqueue(&table, batch);
     let reply = table.command(1, command);
     drop(table.end());

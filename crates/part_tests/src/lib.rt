@@ -1,6 +1,6 @@
 //! Tests of single calls of the crates that the table stands on, as far as no table of plain values
 //! has them, a module a subject: lists and copies, the graph, keepers, streams, workers and the
-//! bench; and what the tests of the crates above have too: workers that tell diaries, their
+//! bench, and the roll; and what the tests of the crates above have too: workers that tell diaries, their
 //! hands, and requests within their limits.
 #![tactic(auto)]
 
@@ -13,6 +13,8 @@ pub mod hands;
 #[cfg(test)]
 mod keepers;
 pub mod requests;
+#[cfg(test)]
+mod roll;
 #[cfg(test)]
 mod streams;
 pub mod uploader;

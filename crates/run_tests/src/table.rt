@@ -1,5 +1,5 @@
 //! The table of `wm_table`, over a keeper that fails at the commits that it is told to.
-ghost use Rattle.std.specs.Prelude.{◌≡◌, [], Ok, IfOk, None};
+ghost use Rattle.std.specs.Prelude.{◌≡◌, [], Ok, IfOk, IsSome, None};
 ghost use Rattle.wm_machine.specs.Opened.{AreFresh};
 ghost use Rattle.wm_machine.specs.Outcome.{IsLegalLine};
 ghost use Rattle.wm_machine.specs.declared.state.State.{State};
@@ -295,6 +295,7 @@ fn one_table<M: Mark>(
     instances: Items<Instance>,
 ) -> Result<Table<MemoryKeeper, M>, AllocError>
     requires rows { M.inputs.rows ≡ [] }
+    requires store { IsSome M.inputs.store.rows }
     requires instances { M.inputs.instances ≡ instances }
     requires fresh { AreFresh instances }
     ensures { IfOk result (λ table. table.state.runs ≡ []) }
@@ -313,6 +314,7 @@ fn outcome_on<M: Mark>(
     subject: Subject,
 ) -> Result<(Outcome, usize, usize, bool), AllocError>
     requires rows { M.inputs.rows ≡ [] }
+    requires store { IsSome M.inputs.store.rows }
     requires instances { M.inputs.instances ≡ instances }
     requires fresh { AreFresh instances }
     requires legal { (s : State) → s.runs ≡ [] → IsLegalLine s command }
@@ -425,6 +427,7 @@ fn started_on<M: Mark>(
     instances: Items<Instance>,
 ) -> Result<String, AllocError>
     requires rows { M.inputs.rows ≡ [] }
+    requires store { IsSome M.inputs.store.rows }
     requires instances { M.inputs.instances ≡ instances }
     requires fresh { AreFresh instances }
     requires legal { (s : State) → s.runs ≡ [] → IsLegalLine s command }

@@ -186,12 +186,17 @@ fn one(alloc: Global, change: Change) -> Result<Vec<Change>, AllocError>
     Ok(vec![in alloc; change]?)
 }
 
-/// Puts row 7 with attempt 2 and removes row 5, in one commit.
-fn put_and_remove<K: Keeper>(alloc: Global, keeper: &mut K) -> Result<(), Fail> {
+/// A put of row 7 with attempt 2, and a removal of row 5.
+fn put_and_removal(alloc: Global) -> Result<Vec<Change>, AllocError>
+    ensures { IfOk result (λ changes. AreOfDifferentNumbers changes.items) }
+{
     let put = change(alloc, 7, Some(2));
-    let changes = vec![in alloc; put, change(alloc, 5, None)]?;
-    commit(keeper, changes)?;
-    Ok(())
+    Ok(vec![in alloc; put, change(alloc, 5, None)]?)
+}
+
+/// Makes both in one commit.
+pub(crate) fn put_and_remove<K: Keeper>(alloc: Global, keeper: &mut K) -> Result<(), KeepFault> {
+    commit(keeper, put_and_removal(alloc)?)
 }
 
 /// The numbers and the attempts of rows.

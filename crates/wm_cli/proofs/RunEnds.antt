@@ -1,5 +1,5 @@
 -- What a run hands back, from what the calls below it handed back.
-use Rattle.std.proofs.Common.{◌≡◌, ℕ, ℤ, Bool, true, false, List, [], Option, map, Some, None, IfSome, Vec, Global, Ok, Err, refl, sym, ◌∙◌, ap, subst, inl, inr}
+use Rattle.std.proofs.Common.{◌≡◌, ◌⊎◌, ℕ, ℤ, Bool, true, false, List, [], Option, map, Some, None, IfSome, IsSome, Vec, Global, Ok, Err, refl, sym, ◌∙◌, ap, subst, inl, inr}
 use Rattle.std.specs.List.{AllByRecursion}
 use Rattle.wm_bench.specs.Places.{idle_hands, place_of}
 use Rattle.wm_bench.specs.declared.hand.Hand.{Hand}
@@ -12,9 +12,9 @@ use Rattle.wm_cli.specs.Causes.{IsBadStore, IsOpeningStatus, IsUnlessMemory, Sto
 use Rattle.wm_cli.specs.Ended.{AreHandsOf, AreRowsKept, HasNotBegun, HasReplayed, IsBegunBy, IsEndedAtOnce, IsOpenedFrom, IsReplayed, IsRunEnd}
 use Rattle.wm_cli.specs.Images.{IsHeldAlone, RunImages, UnbegunImages}
 use Rattle.wm_faults.specs.Faults.{Failed}
-use Rattle.wm_keeper.proofs.Stores.{IsAtMost-then}
+use Rattle.wm_keeper.proofs.Stores.{IsAtMost-then, IsSome-at_most}
 use Rattle.wm_keeper.specs.Keeper.{KeepCause}
-use Rattle.wm_keeper.specs.Store.{Store, IsAtMost, IsStoreKept}
+use Rattle.wm_keeper.specs.Store.{Store, told_before, IsAtMost, IsLoaded, IsStoreKept}
 use Rattle.wm_keeper.specs.declared.keeper.KeepFault.{KeepFault}
 use Rattle.wm_keeper.specs.declared.keeper.KeepFault.TheVariants as keep
 use Rattle.wm_keeper.specs.declared.row.Row.{Row}
@@ -70,7 +70,7 @@ IsSerialEnd-at_once tells run hands table sink back ended at begun askable are w
         bytes = IsTextWritten-nothing run.written (tells.given ended.sink) ended.status ended.first ended.log
             (ap tells.given at.sink_is ∙ written) none;
         rows = rw (at.keeper_is, last, at.first) begun.rows;
-        name = rw at.keeper_is begun.name;
+        tells_on = rw at.keeper_is begun.tells_on;
         keeper_fault = λ is. absurd (other_status ended.status status.KeeperFault at.status_is (λ clash. absurd (cc)) is);
         sink_fault = λ is. absurd (other_status ended.status status.SinkFault at.status_is (λ clash. absurd (cc)) is);
         images = λ settled.
@@ -125,9 +125,10 @@ pub IsRunEnd-begun : {K W B : Type 0} (tells : Tells K W B) (run : Inputs) (comm
     (ended : Ended K W B)
     → IsSerialEnd tells run (idle_hands (map place_of hands)) ended → run.lines ≡ commands → run.instances ≡ instances_from tells.kind_of 0 hands
     → run.written ≡ tells.given sink → run.sink_faults ≡ tells.sink_faults sink → run.store.faults ≡ (tells.store keeper).faults
-    → run.store.name ≡ (tells.store keeper).name → ((image : List Row) → run.store.images image → (tells.store keeper).images image) → AreSound run.rows
-    → IsRunEnd tells commands hands (tells.store keeper).name (Some run.rows) keeper sink ended
-IsRunEnd-begun tells run commands hands keeper sink ended by_places lines are written sink_faults faults name images sound =
+    → run.store.rows ≡ (tells.store keeper).rows → run.store.name ≡ (tells.store keeper).name
+    → ((image : List Row) → run.store.images image → (tells.store keeper).images image) → AreSound run.rows
+    → IsRunEnd tells commands hands (tells.store keeper).name (Some run.rows) (Some run.rows) keeper sink ended
+IsRunEnd-begun tells run commands hands keeper sink ended by_places lines are written sink_faults faults told name images sound =
     let over = rw (idle_hands-places hands) at by_places in
     let session = over.session in
     let instances = instances_from tells.kind_of 0 hands in
@@ -140,7 +141,7 @@ IsRunEnd-begun tells run commands hands keeper sink ended by_places lines are wr
       begun = session_begun ended.status ended.began session.status_is session.began;
       not_begun_keeps = λ unbegun. let clash : true ≡ false = sym session.began ∙ unbegun in absurd (cc);
       rows = subst (λ began. AreRowsKept began ended.last (tells.store keeper) (tells.store ended.keeper)) (sym session.began) session.rows;
-      store_is = λ began. subst (λ n. IsAtMost n (tells.store ended.keeper).name) name session.name;
+      store_is = λ began. subst (λ n. IsAtMost n (tells.store ended.keeper).name) name session.tells_on.name;
       has_commands = subst (λ all. HasCommands all ended.status ended.log) lines session.commands;
       bytes = subst (λ before. IsTextWritten before (tells.given ended.sink) ended.status ended.first ended.log) written session.bytes;
       end = over.quiet;
@@ -159,6 +160,8 @@ IsRunEnd-begun tells run commands hands keeper sink ended by_places lines are wr
       unsound = λ rows seq bad_row stored refused no_fault.
           let same : run.rows ≡ rows = cc in
           absurd (none_refused rows (row_fault seq bad_row) (subst AreSound same sound) refused);
+      tells_on = subst (λ rows. IfSome (tells.store ended.keeper).rows (λ last. IsSome rows)) told session.tells_on.rows;
+      leaves = λ unbegun. let clash : true ≡ false = sym session.began ∙ unbegun in absurd (cc);
     }
 
 -- ---- a run whose table wasn't begun
@@ -247,18 +250,19 @@ is_early (status.ScriptTooLong limit) before now held cause = absurd cause
 
 -- a run that ended before its table was begun, with its keeper as it was told before
 pub IsRunEnd-unbegun : {K W B : Type 0} (tells : Tells K W B) (commands : List Command) (why : Status) (hands : Vec (Hand B) Global)
-    (name : Option (List ℕ)) (held : Option (List Row)) (keeper now : K) (sink : W) (ended : Ended K W B)
+    (name : Option (List ℕ)) (held before : Option (List Row)) (keeper now : K) (sink : W) (ended : Ended K W B)
     → IsUnbegun why now sink hands ended → AllByRecursion IsAskable commands → IsAtMost (tells.store keeper).rows (tells.store now).rows
     → EarlyCause why (tells.store keeper).faults (tells.store now).faults held
-    → (IsHeldAlone held (tells.store keeper) → UnbegunImages why held (instances_from tells.kind_of 0 hands.items) (tells.store now))
-    → IsRunEnd tells commands hands.items name held keeper sink ended
-IsRunEnd-unbegun tells commands why hands name held keeper now sink ended unbegun askable same cause images =
-    let before = (tells.store keeper).faults in
+    → (IsHeldAlone before (tells.store keeper) → UnbegunImages why before (instances_from tells.kind_of 0 hands.items) (tells.store now))
+    → ((image : List Row) → (tells.store now).images image → (tells.store keeper).images image ⊎ IsSome (tells.store keeper).rows)
+    → IsRunEnd tells commands hands.items name held before keeper sink ended
+IsRunEnd-unbegun tells commands why hands name held before keeper now sink ended unbegun askable same cause images leaves =
+    let earlier = (tells.store keeper).faults in
     let faults : (tells.store ended.keeper).faults ≡ (tells.store now).faults = ap (λ keeper. (tells.store keeper).faults) unbegun.keeper_is in
     let is =
-    is_early ended.status before (tells.store ended.keeper).faults held
-    (subst (λ n. EarlyCause ended.status before n held) (sym faults)
-    (subst (λ s. EarlyCause s before (tells.store now).faults held) (sym unbegun.status_is) cause)) in
+    is_early ended.status earlier (tells.store ended.keeper).faults held
+    (subst (λ n. EarlyCause ended.status earlier n held) (sym faults)
+    (subst (λ s. EarlyCause s earlier (tells.store now).faults held) (sym unbegun.status_is) cause)) in
     let nothing : HasNotBegun ended.first ended.log ended.last = record { first_is = unbegun.first; last_is = unbegun.last; no_event = unbegun.log } in
     record {
       replay = subst (λ began. IsReplayed held (instances_from tells.kind_of 0 hands.items) began ended.first ended.log ended.last) (sym unbegun.began) nothing;
@@ -281,6 +285,8 @@ IsRunEnd-unbegun tells commands why hands name held keeper now sink ended unbegu
       images = λ alone. rw (unbegun.began, unbegun.status_is, unbegun.keeper_is) (images alone);
       bad_store = is.bad_store;
       unsound = is.unsound;
+      tells_on = rw unbegun.keeper_is (IsSome-at_most (tells.store keeper).rows (tells.store now).rows same);
+      leaves = λ same image. rw unbegun.keeper_is (leaves image);
     }
 
 -- ---- a run whose rows were loaded
@@ -312,15 +318,41 @@ store_told status.Usage held rows told bad = tt
 store_told status.SourceFault held rows told bad = tt
 store_told (status.ScriptTooLong limit) held rows told bad = tt
 
+-- rows that were loaded are those told before, where rows are told to the end
+loaded_told : (before loaded now : Option (List Row)) (rows : List Row) → IfSome loaded (λ held. rows ≡ held) → IsAtMost before loaded
+    → IfSome now (λ told. IsSome loaded) → IfSome (told_before before now) (λ kept. rows ≡ kept)
+loaded_told before loaded None rows is same goes_on = tt
+loaded_told None loaded (Some told) rows is same goes_on = tt
+loaded_told (Some kept) (Some held) (Some told) rows is same goes_on = let both : kept ≡ held = cc in is ∙ sym both
+loaded_told (Some kept) None (Some told) rows is same goes_on = absurd cc
+
+-- and where a crash may leave any, before the table was begun
+loaded_left : (before loaded now : Store) (rows image : List Row) → IsLoaded rows before loaded → IsAtMost before.rows loaded.rows
+    → loaded.images image ⊎ IsSome loaded.rows → IfSome before.rows (λ kept. rows ≡ kept)
+loaded_left before loaded now rows image is same left = elim left [
+  | inl old ↦ is.left image old
+  | inr told ↦ told_then before.rows loaded.rows is.told same told
+]
+  where
+    told_then : (before loaded : Option (List Row)) → IfSome loaded (λ held. rows ≡ held) → IsAtMost before loaded → IsSome loaded
+        → IfSome before (λ kept. rows ≡ kept)
+    told_then None loaded is same told = tt
+    told_then (Some kept) (Some held) is same told = let both : kept ≡ held = cc in is ∙ sym both
+    told_then (Some kept) None is same told = absurd cc
+
 -- the end of a run over the rows that were loaded is one over the keeper as it was before
 pub IsRunEnd-loaded : {K W B : Type 0} (tells : Tells K W B) (commands : List Command) (hands : List (Hand B)) (name : List ℕ) (rows : List Row)
     (keeper loaded : K) (sink : W) (ended : Ended K W B)
-    → IsRunEnd tells commands hands (tells.store loaded).name (Some rows) loaded sink ended → IsAtMost (Some name) (tells.store loaded).name
-    → IfSome (tells.store keeper).rows (λ held. rows ≡ held)
+    → IsRunEnd tells commands hands (tells.store loaded).name (Some rows) (Some rows) loaded sink ended
+    → IsAtMost (Some name) (tells.store loaded).name → IsLoaded rows (tells.store keeper) (tells.store loaded)
     → IsStoreKept (tells.store keeper) (tells.store loaded) → (tells.store loaded).faults ≡ (tells.store keeper).faults
-    → IsRunEnd tells commands hands (Some name) (tells.store keeper).rows keeper sink ended
-IsRunEnd-loaded tells commands hands name rows keeper loaded sink ended is named told kept faults =
-    let held = (tells.store keeper).rows in
+    → IsRunEnd tells commands hands (Some name) (told_before (tells.store keeper).rows (tells.store ended.keeper).rows) (tells.store keeper).rows
+    keeper sink ended
+IsRunEnd-loaded tells commands hands name rows keeper loaded sink ended is named are kept faults =
+    let before = (tells.store keeper).rows in
+    let last = (tells.store ended.keeper).rows in
+    let held = told_before before last in
+    let told : IfSome held (λ kept. rows ≡ kept) = loaded_told before (tells.store loaded).rows last rows are.told kept.rows is.tells_on in
     record {
       replay = replayed_told ended.began held rows _ ended.first ended.log ended.last told is.replay;
       begun = is.begun;
@@ -338,10 +370,26 @@ IsRunEnd-loaded tells commands hands name rows keeper loaded sink ended is named
       keeper_fault = λ fault. subst (λ n. Failed n (tells.store ended.keeper).faults) faults (is.keeper_fault fault);
       sink_fault = is.sink_fault;
       images = λ alone.
-          images_told ended.began ended.status commands held rows (instances_from tells.kind_of 0 hands) ended.last ended.log (tells.store ended.keeper) told
-          (is.images (loaded-alone rows (tells.store keeper) (tells.store loaded) told kept alone));
+          images_told ended.began ended.status commands before rows (instances_from tells.kind_of 0 hands) ended.last ended.log (tells.store ended.keeper)
+          (λ unbegun image left.
+          loaded_left (tells.store keeper) (tells.store loaded) (tells.store ended.keeper) rows image are kept.rows (is.leaves unbegun image left))
+          (is.images (loaded-alone rows (tells.store keeper) (tells.store loaded) are kept alone));
       bad_store = store_told ended.status held rows told is.bad_store;
       unsound = λ all seq bad_row stored refused no_fault.
           let both : rows ≡ all = subst (λ held. IfSome held (λ kept. rows ≡ kept)) stored told in
           is.unsound all seq bad_row (ap Some both) refused (subst (λ n. ¬ Failed n (tells.store ended.keeper).faults) (sym faults) no_fault);
+      tells_on = told_first before (tells.store loaded).rows last (IsSome-at_most before (tells.store loaded).rows kept.rows) is.tells_on;
+      leaves = λ unbegun image left. elim (is.leaves unbegun image left) [
+        | inl old ↦ inl (kept.images image old)
+        | inr some ↦ inr (some_before before (tells.store loaded).rows (IsSome-at_most before (tells.store loaded).rows kept.rows) some)
+      ];
     }
+  where
+    some_before : (before loaded : Option (List Row)) → IfSome loaded (λ told. IsSome before) → IsSome loaded → IsSome before
+    some_before before (Some told) goes_on some = goes_on
+    some_before before None goes_on some = absurd cc
+
+    told_first : (before loaded last : Option (List Row)) → IfSome loaded (λ told. IsSome before) → IfSome last (λ told. IsSome loaded)
+        → IfSome last (λ told. IsSome before)
+    told_first before loaded None goes_on some = tt
+    told_first before loaded (Some told) goes_on some = some_before before loaded goes_on some

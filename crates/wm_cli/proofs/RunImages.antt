@@ -1,11 +1,11 @@
 -- What a crash leaves of a run, from what it leaves of the calls below.
 use Rattle.std.proofs.Common.{◌≡◌, ℕ, Bool, true, false, List, Option, Some, refl, sym, ap, subst, inl, inr}
 use Rattle.std.proofs.lemmas.Option.{same_Some}
-use Rattle.std.specs.Prelude.{◌⊎◌, IfSome}
+use Rattle.std.specs.Prelude.{◌⊎◌, IfSome, IsSome}
 use Rattle.wm_cli.proofs.RunsWithoutEvents.{ForScript-any}
 use Rattle.wm_cli.specs.Ended.{IsCrashSafe}
 use Rattle.wm_cli.specs.Images.{IsHeldAlone, LeavesHeld, LeavesOpening, RunImages, UnbegunImages}
-use Rattle.wm_keeper.specs.Store.{Store, IsStoreKept}
+use Rattle.wm_keeper.specs.Store.{Store, IsLoaded, IsStoreKept}
 use Rattle.wm_keeper.specs.declared.row.Row.{Row}
 use Rattle.wm_machine.specs.declared.command.Command.{Command}
 use Rattle.wm_machine.specs.declared.event.Event.{Event}
@@ -34,11 +34,11 @@ pub leaves-only : (rows : List Row) (store : Store) → IsHeldAlone (Some rows) 
 leaves-only rows store alone image left = sym (same_Some rows image (alone image left))
 
 -- rows that were loaded are those held, and a load leaves nothing pending
-pub loaded-alone : (rows : List Row) (before loaded : Store) → IfSome before.rows (λ held. rows ≡ held) → IsStoreKept before loaded
+pub loaded-alone : (rows : List Row) (before loaded : Store) → IsLoaded rows before loaded → IsStoreKept before loaded
     → IsHeldAlone before.rows before → IsHeldAlone (Some rows) loaded
-loaded-alone rows before loaded told kept alone image left =
+loaded-alone rows before loaded are kept alone image left =
     let is : before.rows ≡ Some image = alone image (kept.images image left) in
-    ap Some (subst (λ held. IfSome held (λ held. rows ≡ held)) is told)
+    ap Some (subst (λ held. IfSome held (λ held. rows ≡ held)) is (are.left image left))
 
 -- ---- a run whose table wasn't begun
 
@@ -61,11 +61,11 @@ unbegun-loaded ended instances before loaded kept alone =
     unbegun-held ended before.rows instances loaded (λ image left. leaves-held before.rows before alone image (kept.images image left))
 
 opening_left : {K : Type 0} (store : K → Store) (rows : List Row) (instances : List Instance) (keeper now : K)
-    → ((image : List Row) → (store now).images image → (store keeper).images image ⊎ WouldOpen rows instances image)
+    → ((image : List Row) → (store now).images image → (store keeper).images image ⊎ (IsSome (store keeper).rows × WouldOpen rows instances image))
     → IsHeldAlone (Some rows) (store keeper) → LeavesOpening (Some rows) instances (store now)
 opening_left store rows instances keeper now leaves alone image left = elim (leaves image left) [
   | inl old ↦ inl (sym (same_Some rows image (alone image old)))
-  | inr would ↦ inr (record { rows = rows; told = refl; opening = would })
+  | inr would ↦ inr (record { rows = rows; told = refl; opening = would.1 })
 ]
 
 -- a table that wasn't begun leaves the rows that were loaded, or those of their opening
@@ -77,25 +77,37 @@ unbegun-opened store rows instances keeper (now, begin.Bad seq bad_row) same alo
 unbegun-opened store rows instances keeper (now, begin.KeeperFault) leaves alone = opening_left store rows instances keeper now leaves alone
 unbegun-opened store rows instances keeper (now, begin.Memory) leaves alone = opening_left store rows instances keeper now leaves alone
 
+-- such a table leaves only what was left before, unless rows were told
+pub unopened-leaves : {K : Type 0} (store : K → Store) (rows : List Row) (instances : List Instance) (keeper : K) (refused : K × BeginFault)
+    → LeavesUnopened store rows instances keeper refused
+    → (image : List Row) → (store refused.0).images image → (store keeper).images image ⊎ IsSome (store keeper).rows
+unopened-leaves store rows instances keeper (now, begin.Bad seq bad_row) same image left = inl (subst (λ k. (store k).images image) same left)
+unopened-leaves store rows instances keeper (now, begin.KeeperFault) leaves image left = elim (leaves image left) [ inl old ↦ inl old | inr would ↦ inr would.0 ]
+unopened-leaves store rows instances keeper (now, begin.Memory) leaves image left = elim (leaves image left) [ inl old ↦ inl old | inr would ↦ inr would.0 ]
+
 -- ---- a run over rows that were loaded
 
-opening_told : (held : Option (List Row)) (rows : List Row) (instances : List Instance) (store : Store) → IfSome held (λ kept. rows ≡ kept)
+-- where a crash may leave any rows, these are those held, where they were told
+abbrev AreTold : Option (List Row) → List Row → Store → Type 0
+AreTold held rows store = (image : List Row) → store.images image → IfSome held (λ kept. rows ≡ kept)
+
+opening_told : (held : Option (List Row)) (rows : List Row) (instances : List Instance) (store : Store) → AreTold held rows store
     → LeavesOpening (Some rows) instances store → LeavesOpening held instances store
 opening_told held rows instances store told leaves image left = elim (leaves image left) [
-  | inl same ↦ inl (subst (λ all. IfSome held (λ kept. all ≡ kept)) (sym same) told)
+  | inl same ↦ inl (subst (λ all. IfSome held (λ kept. all ≡ kept)) (sym same) (told image left))
   | inr would ↦ inr (record {
     rows = would.rows;
-    told = subst (λ all. IfSome held (λ kept. all ≡ kept)) (sym would.told) told;
+    told = subst (λ all. IfSome held (λ kept. all ≡ kept)) (sym would.told) (told image left);
     opening = would.opening;
   })
 ]
 
-held_told : (held : Option (List Row)) (rows : List Row) (store : Store) → IfSome held (λ kept. rows ≡ kept) → LeavesHeld (Some rows) store
+held_told : (held : Option (List Row)) (rows : List Row) (store : Store) → AreTold held rows store → LeavesHeld (Some rows) store
     → LeavesHeld held store
-held_told held rows store told leaves image left = subst (λ all. IfSome held (λ kept. all ≡ kept)) (sym (leaves image left)) told
+held_told held rows store told leaves image left = subst (λ all. IfSome held (λ kept. all ≡ kept)) (sym (leaves image left)) (told image left)
 
 unbegun_told : (ended : Status) (held : Option (List Row)) (rows : List Row) (instances : List Instance) (store : Store)
-    → IfSome held (λ kept. rows ≡ kept) → UnbegunImages ended (Some rows) instances store → UnbegunImages ended held instances store
+    → AreTold held rows store → UnbegunImages ended (Some rows) instances store → UnbegunImages ended held instances store
 unbegun_told status.KeeperFault held rows instances store told leaves = opening_told held rows instances store told leaves
 unbegun_told status.Memory held rows instances store told leaves = opening_told held rows instances store told leaves
 unbegun_told status.Done held rows instances store told leaves = held_told held rows store told leaves
@@ -108,10 +120,10 @@ unbegun_told (status.BadStore seq bad_row) held rows instances store told leaves
 -- what a crash leaves beside the rows loaded it leaves beside those held, where they were told
 pub images_told : (began : Bool) (ended : Status) (lines : List Command) (held : Option (List Row)) (rows : List Row) (instances : List Instance)
     (last : State) (log : List Event) (store : Store)
-    → IfSome held (λ kept. rows ≡ kept) → RunImages began ended lines (Some rows) instances last log store
+    → (began ≡ false → AreTold held rows store) → RunImages began ended lines (Some rows) instances last log store
     → RunImages began ended lines held instances last log store
 images_told true ended lines held rows instances last log store told leaves = leaves
-images_told false ended lines held rows instances last log store told leaves = unbegun_told ended held rows instances store told leaves
+images_told false ended lines held rows instances last log store told leaves = unbegun_told ended held rows instances store (told refl) leaves
 
 -- ---- a run whose store wasn't opened
 

@@ -3,7 +3,7 @@ use Rattle.std.specs.Prelude.{◌≡◌, ◌≤◌, List, [], length, map}
 use Rattle.wm_bench.specs.Places.{most_hands, place_of}
 use Rattle.wm_bench.specs.declared.hand.Hand.{Hand}
 use Rattle.wm_bench.specs.declared.place.Place.{Place}
-use Rattle.wm_keeper.specs.Store.{IsAtMost}
+use Rattle.wm_keeper.specs.Store.{TellsOn}
 use Rattle.wm_machine.specs.Opened.{Opened}
 use Rattle.wm_machine.specs.Rows.{rows_of}
 use Rattle.wm_machine.specs.declared.state.Instance.{Instance}
@@ -31,6 +31,6 @@ pub record HasJustBegun {K W B : Type 0} (tells : Tells K W B) (run : Inputs) (t
   pub state : table.state ≡ table.first
   pub log : table.log ≡ []
   pub rows : HoldsRowsOf table.first (tells.store table.keeper)
-  pub name : IsAtMost run.store.name (tells.store table.keeper).name
+  pub tells_on : TellsOn run.store (tells.store table.keeper)
   pub no_fault : (tells.store table.keeper).faults ≡ run.store.faults
   pub images : LeavesOnly run.rows run.store → LeavesOnly (rows_of table.first) (tells.store table.keeper)

@@ -1,5 +1,5 @@
 -- How a run ends: what its log, its last state, the rows kept, the bytes given and the workers handed back are.
-use Rattle.std.specs.Prelude.{◌≡◌, ℕ, ℤ, Bool, true, false, List, [], Option, Some, IfSome, MatchBool, option_map, Err, Vec}
+use Rattle.std.specs.Prelude.{◌≡◌, ◌⊎◌, ℕ, ℤ, Bool, true, false, List, [], Option, Some, IfSome, IsSome, MatchBool, option_map, Err, Vec}
 use Rattle.std.specs.declared.alloc.Global.{Global}
 use Rattle.wm_bench.specs.declared.hand.Hand.{Hand}
 use Rattle.wm_cli.specs.Causes.{IsOpeningStatus, IsUnlessMemory, StoreCause}
@@ -30,7 +30,7 @@ use Rattle.wm_worker.specs.declared.kind.Kind.{Kind}
 
 -- ---- the log replays
 
--- the first state is the one that some rows open to with these instances, and where the keeper tells its rows, they are these
+-- the first state is the one that some rows open to with these instances, and where the rows held are told, they are these
 pub record IsOpenedFrom (held : Option (List Row)) (instances : List Instance) (first : State) : Type 0 where
   pub rows : List Row
   pub told : IfSome held (λ kept. rows ≡ kept)
@@ -125,10 +125,11 @@ pub record IsEndedAtOnce {K W B : Type 0} (table : TableState K) (sink : W) (han
   pub sink_is : ended.sink ≡ sink
   pub hands_are : ended.hands ≡ hands
 
--- A run that is over whose commands, these, were read, and that was given these workers, this keeper, which held these rows in the store of this
--- name, where it tells them, and this sink. Each fact is the promise of `run` of that name.
+-- A run that is over whose commands, these, were read, and that was given these workers, this keeper, of a store of this name, where it tells it,
+-- and this sink. The keeper told these rows before, and they are held where it tells rows to the end. Each fact is the promise of `run` of that
+-- name, but for the last two, which say where rows are told.
 pub record IsRunEnd {K W B : Type 0} (tells : Tells K W B) (commands : List Command) (hands : List (Hand B)) (name : Option (List ℕ))
-    (held : Option (List Row)) (keeper : K) (sink : W) (ended : Ended K W B) : Type 0 where
+    (held before : Option (List Row)) (keeper : K) (sink : W) (ended : Ended K W B) : Type 0 where
   pub replay : IsReplayed held (instances_from tells.kind_of 0 hands) ended.began ended.first ended.log ended.last
   pub begun : IsBegunBy ended.status ended.began
   pub not_begun_keeps : ended.began ≡ false → ended.sink ≡ sink
@@ -144,8 +145,11 @@ pub record IsRunEnd {K W B : Type 0} (tells : Tells K W B) (commands : List Comm
   pub opened : IsOpeningStatus ended.status
   pub keeper_fault : ended.status ≡ status.KeeperFault → Failed (tells.store keeper).faults (tells.store ended.keeper).faults
   pub sink_fault : ended.status ≡ status.SinkFault → Failed (tells.sink_faults sink) (tells.sink_faults ended.sink)
-  pub images : IsHeldAlone held (tells.store keeper)
-      → RunImages ended.began ended.status commands held (instances_from tells.kind_of 0 hands) ended.last ended.log (tells.store ended.keeper)
+  pub images : IsHeldAlone before (tells.store keeper)
+      → RunImages ended.began ended.status commands before (instances_from tells.kind_of 0 hands) ended.last ended.log (tells.store ended.keeper)
   pub bad_store : StoreCause ended.status held
   pub unsound : (rows : List Row) (seq : ℤ) (bad_row : Bool) → held ≡ Some rows → checked rows ≡ Err (row_fault seq bad_row)
       → ¬ Failed (tells.store keeper).faults (tells.store ended.keeper).faults → IsUnlessMemory ended.status (status.BadStore seq bad_row)
+  pub tells_on : IfSome (tells.store ended.keeper).rows (λ told. IsSome (tells.store keeper).rows)
+  pub leaves : ended.began ≡ false → (image : List Row) → (tells.store ended.keeper).images image
+      → (tells.store keeper).images image ⊎ IsSome (tells.store keeper).rows

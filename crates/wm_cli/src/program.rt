@@ -8,7 +8,7 @@ ghost use Rattle.wm_cli.specs.Reading.{AreCommandsOf, IsReadStatus};
 ghost use Rattle.wm_cli.specs.Script.{IsTakenWithin};
 ghost use Rattle.wm_cli.specs.Words.{options_of};
 ghost use Rattle.wm_faults.specs.Faults.{Failed};
-ghost use Rattle.wm_keeper.specs.Store.{IsSettled};
+ghost use Rattle.wm_keeper.specs.Store.{told_before, IsSettled};
 ghost use Rattle.wm_keeper.specs.declared.row.Row.{Row};
 ghost use Rattle.wm_machine.specs.Outcome.{IsAskable};
 ghost use Rattle.wm_rows.specs.Sound.{checked, AreSound};
@@ -70,7 +70,9 @@ fn run_commands<W: Sink, K: Keeper, B: Worker>(
     requires askable { AllByRecursion IsAskable commands }
     requires few { length commands < 2 ^ 32 }
     ensures { IsRunEnd (tells_of K.store W.given W.faults B.kind_of B.diary_of)
-        commands hands.items (Some store.now) (K.store keeper).rows keeper sink result }
+        commands hands.items (Some store.now)
+        (told_before (K.store keeper).rows (K.store result.keeper).rows)
+        (K.store keeper).rows keeper sink result }
 {
     let rows = match keeper.load(store) {
         Ok(rows) => rows,
@@ -103,7 +105,8 @@ fn run_loaded<W: Sink, K: Keeper, B: Worker, M: Mark>(
     requires askable { AllByRecursion IsAskable commands }
     requires few { length commands < 2 ^ 32 }
     ensures { IsRunEnd (tells_of K.store W.given W.faults B.kind_of B.diary_of)
-        commands hands.items (K.store keeper).name (Some rows.items) keeper sink result }
+        commands hands.items (K.store keeper).name (Some rows.items) (Some rows.items)
+        keeper sink result }
 {
     match Table::begin(alloc, keeper, rows, instances) {
         Ok(table) => run_begun::<W, K, B, M>(alloc, table, commands, hands, sink),
@@ -205,7 +208,7 @@ fn end_at_once<W: Sink, K: Keeper, B: Worker, M: Mark>(
 /// whoever calls, or of any one type; they are of any kinds, and at most 10,000. What comes back is
 /// how the run ended, with the log of its events between the first state and the last, the keeper,
 /// the sink and the workers. Each status has its cause: see [`Status`].
-pub fn run<S: Source, W: Sink + Send, K: Keeper, B: Worker>(
+pub fn run<S: Source, W: Sink + Send, K: Keeper + Send, B: Worker>(
     alloc: Global,
     words: &[String],
     hands: Vec<Hand<B>>,
@@ -215,8 +218,10 @@ pub fn run<S: Source, W: Sink + Send, K: Keeper, B: Worker>(
 ) -> Ended<K, W, B>
     requires few_hands { vec_len hands ≤ most_hands }
 
-    // The log replays, from the state that the rows held opened to, as the state machine.
-    ensures replay { IsReplayed (K.store keeper).rows (instances_from B.kind_of 0 hands.items)
+    // The log replays, from the state that the rows held opened to, as the state machine. The rows
+    // held are those that the keeper told, where it tells rows to the end.
+    ensures replay { IsReplayed (told_before (K.store keeper).rows (K.store result.keeper).rows)
+        (instances_from B.kind_of 0 hands.items)
         result.began result.first result.log result.last }
     ensures begun { IsBegunBy result.status result.began }
     // Where no store was opened, the sink is as it was.
@@ -275,11 +280,13 @@ pub fn run<S: Source, W: Sink + Send, K: Keeper, B: Worker>(
         → Failed (K.store keeper).faults (K.store result.keeper).faults }
     ensures sink_fault { result.status ≡ Status.SinkFault
         → Failed (W.faults sink) (W.faults result.sink) }
-    ensures bad_store { StoreCause result.status (K.store keeper).rows }
+    ensures bad_store { StoreCause result.status
+        (told_before (K.store keeper).rows (K.store result.keeper).rows) }
     ensures unsound_store { (rows : List Row) (seq : ℤ) (bad_row : Bool)
         → IsSome (options_of (map string_bytes words.now))
         → IsToldWithin (S.left source.old) → ¬ Failed (S.faults source.old) (S.faults source.new)
-        → (K.store keeper).rows ≡ Some rows → checked rows ≡ Err (row_fault seq bad_row)
+        → told_before (K.store keeper).rows (K.store result.keeper).rows ≡ Some rows
+        → checked rows ≡ Err (row_fault seq bad_row)
         → ¬ Failed (K.store keeper).faults (K.store result.keeper).faults
         → IsUnlessMemory result.status (Status.BadStore seq bad_row) }
 
@@ -287,7 +294,8 @@ pub fn run<S: Source, W: Sink + Send, K: Keeper, B: Worker>(
     ensures completes { (rows : List Row)
         → IsSome (options_of (map string_bytes words.now))
         → IsToldWithin (S.left source.old) → ¬ Failed (S.faults source.old) (S.faults source.new)
-        → (K.store keeper).rows ≡ Some rows → AreSound rows
+        → told_before (K.store keeper).rows (K.store result.keeper).rows ≡ Some rows
+        → AreSound rows
         → ¬ Failed (K.store keeper).faults (K.store result.keeper).faults
         → ¬ Failed (W.faults sink) (W.faults result.sink)
         → IsUnlessMemory result.status Status.Done }

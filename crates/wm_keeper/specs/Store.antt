@@ -1,6 +1,6 @@
 -- What a keeper shows to contracts, and what its calls make of that. A keeper may stop telling in any call: what is told after it is nothing, or
 -- what the call says of what was told before.
-use Rattle.std.specs.Prelude.{◌≡◌, ◌⊎◌, ℕ, List, Option, Some, IfSome, option_map}
+use Rattle.std.specs.Prelude.{◌≡◌, ◌⊎◌, ℕ, List, Option, None, Some, IfSome, IsSome, option_map}
 use Rattle.wm_keeper.specs.Keeper.{changed}
 use Rattle.wm_keeper.specs.declared.row.Row.{Row}
 use Rattle.wm_keeper.specs.declared.row.Change.{Change}
@@ -20,6 +20,21 @@ IsAtMost this now = IfSome now (λ told. this ≡ Some told)
 -- the rows with these changes, where they were told
 abbrev pub changed_rows : List Change → Store → Option (List Row)
 changed_rows changes store = option_map (changed changes) store.rows
+
+-- what is told now goes on from what was told before: rows only where rows were told, and no other name
+pub record TellsOn (before now : Store) : Type 0 where
+  pub rows : IfSome now.rows (λ told. IsSome before.rows)
+  pub name : IsAtMost before.name now.name
+
+-- the rows told before, where rows are told now too
+abbrev pub told_before : Option (List Row) → Option (List Row) → Option (List Row)
+told_before before (Some told) = before
+told_before before None = None
+
+-- these rows were loaded: they are those held, where rows are told after it, and where it is told that a crash may leave any
+pub record IsLoaded (rows : List Row) (before now : Store) : Type 0 where
+  pub told : IfSome now.rows (λ held. rows ≡ held)
+  pub left : (image : List Row) → now.images image → IfSome before.rows (λ held. rows ≡ held)
 
 -- the rows told are those of before, and a crash leaves nothing that it couldn't leave before
 pub record IsStoreKept (before now : Store) : Type 0 where

@@ -27,15 +27,16 @@ impl From<AllocError> for KeepFault {
 /// `specs/Store.antt`.
 pub trait Keeper {
     ghost use Rattle.wm_keeper.specs.Keeper.{Ascends, AreOfDifferentNumbers, KeepCause};
-    ghost use Rattle.wm_keeper.specs.Store.{Store, IsAtMost, IsCommitted, IsNotCommitted, IsStoreKept};
+    ghost use Rattle.wm_keeper.specs.Store.{Store, IsAtMost, IsCommitted, IsLoaded, IsNotCommitted, IsStoreKept};
 
     /// What it shows: the rows that it holds, what a crash now may leave, the name that it was last
     /// loaded with, and its count of faults.
     ghost store: { Self → Store };
 
     /// The rows held, in ascending number: those of the store of this name, none where it is new.
+    /// A keeper may stop telling in this very call, and then nothing is said of what it answers.
     fn load(&mut self, name: &str) -> Result<Vec<Row>, KeepFault>
-        ensures rows { IfOk result (λ rows. IfSome (store self.old).rows (λ held. rows.items ≡ held)) }
+        ensures rows { IfOk result (λ rows. IsLoaded rows.items (store self.old) (store self.new)) }
         ensures ascending { IfSome (store self.old).rows Ascends }
         ensures kept { IsStoreKept (store self.old) (store self.new) }
         ensures name { OnOk result (IsAtMost (Some name.now) (store self.new).name) }

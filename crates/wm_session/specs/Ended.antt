@@ -4,7 +4,7 @@ use Rattle.std.specs.declared.alloc.Global.{Global}
 use Rattle.wm_bench.specs.Places.{idle_hands}
 use Rattle.wm_bench.specs.declared.hand.Hand.{Hand}
 use Rattle.wm_faults.specs.Faults.{Failed}
-use Rattle.wm_keeper.specs.Store.{IsAtMost}
+use Rattle.wm_keeper.specs.Store.{TellsOn}
 use Rattle.wm_machine.specs.Log.{commands_of, AreNumberedFrom, HasPrefix}
 use Rattle.wm_machine.specs.Narrow.{IsNarrow}
 use Rattle.wm_machine.specs.Opened.{opening_state, Opened}
@@ -90,7 +90,7 @@ pub record IsSessionEnd {K W B : Type 0} (tells : Tells K W B) (run : Inputs) (e
   pub commands : HasCommands run.lines ended.status ended.log
   pub bytes : IsTextWritten run.written (tells.given ended.sink) ended.status ended.first ended.log
   pub rows : HoldsRowsOf ended.last (tells.store ended.keeper)
-  pub name : IsAtMost run.store.name (tells.store ended.keeper).name
+  pub tells_on : TellsOn run.store (tells.store ended.keeper)
   pub keeper_fault : ended.status ≡ status.KeeperFault → Failed run.store.faults (tells.store ended.keeper).faults
   pub sink_fault : ended.status ≡ status.SinkFault → Failed run.sink_faults (tells.sink_faults ended.sink)
   pub images : LeavesOnly run.rows run.store → EndImages ended.status run.lines ended.last ended.log (tells.store ended.keeper)

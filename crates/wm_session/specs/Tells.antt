@@ -47,5 +47,6 @@ pub record AreInputs {K W B : Type 0} (tells : Tells K W B) (run : Inputs) (keep
   pub written : tells.given sink ≡ run.written
   pub sink_faults : tells.sink_faults sink ≡ run.sink_faults
   pub images : (image : List Row) → (tells.store keeper).images image ↔ run.store.images image
+  pub told : (tells.store keeper).rows ≡ run.store.rows
   pub name : (tells.store keeper).name ≡ run.store.name
   pub faults : (tells.store keeper).faults ≡ run.store.faults

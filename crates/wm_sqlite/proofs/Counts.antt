@@ -1,5 +1,5 @@
 -- What a keeper answers, and its cause where two counts are added up.
-use Rattle.std.proofs.Common.{◌≡◌, ℕ, ◌+◌, Bool, true, false, Result, Ok, Err, IfOk, ap, arith}
+use Rattle.std.proofs.Common.{ℕ, ◌+◌, Bool, true, false, Result, Ok, Err, IfOk, ap, arith}
 use Rattle.wm_faults.specs.Faults as faults
 use Rattle.wm_sqlite.specs.Refusals.{answer_of}
 use Rattle.wm_sqlite.specs.declared.refusal.Refusal.{Refusal}

@@ -1,1 +1,16 @@
+mod ChangedRows
+mod ColumnBytes
+mod ColumnTexts
+mod Commits
 mod Counts
+mod HeldRows
+mod HeldTables
+mod OpenBefore
+mod Reordered
+mod Rests
+mod Tellings
+mod TextAnswers
+mod TextReadings
+mod TextRemovals
+mod TextSteps
+mod TextTurns

@@ -3,16 +3,20 @@ use Rattle.sqlite.specs.Held.{Held, held_code}
 use Rattle.std.specs.Coded.{Coded, code_by, coded×, coded_ℕ}
 use Rattle.std.specs.Prelude.{ℕ, Bool, Option, None, Some, refl}
 use Rattle.wm_keeper.specs.Store.{Store}
+use Rattle.wm_sqlite.specs.contracts.standing.Standing as standing
+use Rattle.wm_sqlite.specs.declared.standing.Standing.{Standing}
 
--- a keeper over a connection, and how many faults it has met
+-- a keeper over a connection, with what it knows of the table there, and how many faults it has met
 pub record SqliteState (A : Type 0) : Type 0 where
   pub connection : Held A
+  pub standing : Standing
   pub faults : ℕ
 
 -- how a proof tells its values apart
 abbrev pub sqlite_state_code : {A : Type 0} → Coded A → Coded (SqliteState A)
 sqlite_state_code {A} store =
-    code_by (Held A × ℕ) (coded× (held_code store) coded_ℕ) (λ k. (k.connection, k.faults)) (λ p. record { connection = p.0; faults = p.1 }) (λ _. refl)
+    code_by (Held A × (Standing × ℕ)) (coded× (held_code store) (coded× standing.the_row.coded coded_ℕ))
+    (λ k. (k.connection, (k.standing, k.faults))) (λ p. record { connection = p.0; standing = p.1.0; faults = p.1.1 }) (λ _. refl)
 
 -- a keeper over a file: whether one is open, and how many faults it has met
 pub record FileState : Type 0 where

@@ -1,8 +1,15 @@
 //! Changes of the table, all or none.
-ghost use Rattle.std.specs.Prelude.{◌≡◌, false};
+ghost use Rattle.sqlite.specs.Held.{state};
+ghost use Rattle.sqlite.specs.State.{HasCleanDisk, Survives};
+ghost use Rattle.sqlite_trees.specs.Tree.{Trees};
+ghost use Rattle.std.specs.Prelude.{◌≡◌, ◌⊎◌, [], ◌∷◌, false, List, IsTrue, OnOk, OnErr};
+ghost use Rattle.wm_keeper.specs.Keeper.{put_row, remove_row};
+ghost use Rattle.wm_keeper.specs.declared.row.Row.{Row};
+ghost use Rattle.wm_sqlite.specs.Held.{added, held_in, removed};
+ghost use Rattle.wm_sqlite.specs.Resting.{with_changes, Leaves, Makes, RestsWith, WasOpen};
 
 use crate::columns::{prior_bytes, tags_text};
-use crate::statements::{delete_row, insert_row};
+use crate::statements::{check_open, delete_row, insert_row};
 use sqlite::{Alter, Connection, Error, Transaction};
 use std::alloc::Global;
 use wm_keeper::{Change, Row};
@@ -15,23 +22,87 @@ pub(crate) fn change_rows<A: Alter>(
     changes: &[Change],
 ) -> Result<(), Error>
     requires { connection.old.in_transaction ≡ false }
+    ensures mode { connection.new.in_transaction ≡ false }
+    ensures clean { HasCleanDisk (state A.Store connection.new)
+        → HasCleanDisk (state A.Store connection.old) }
+    ensures was_open { WasOpen A.Store connection.old connection.new }
+    ensures opened { HasCleanDisk (state A.Store connection.new)
+        → OnOk result (IsTrue (state A.Store connection.old).is_open) }
+    ensures ok { HasCleanDisk (state A.Store connection.new) → OnOk result ((rows : List Row)
+        → RestsWith A.Store rows connection.old → RestsWith A.Store (with_changes changes.now rows) connection.new) }
+    ensures err { HasCleanDisk (state A.Store connection.new)
+        → IsTrue (state A.Store connection.new).is_open
+        → OnErr result ((rows : List Row) → RestsWith A.Store rows connection.old → RestsWith A.Store rows connection.new) }
+    ensures crash { HasCleanDisk (state A.Store connection.new) → (left : Trees)
+        → (state A.Store connection.new).may_leave left
+        → (state A.Store connection.old).may_leave left
+        ⊎ (IsTrue (state A.Store connection.old).is_open × ((rows : List Row)
+        → RestsWith A.Store rows connection.old → held_in (left 0) ≡ with_changes changes.now rows)) }
 {
     let mut transaction = connection.transaction();
-    remove_rows(&mut transaction, changes)?;
-    put_rows(&mut transaction, alloc, changes)?;
+    make_changes(&mut transaction, alloc, changes)?;
     transaction.commit()
+}
+
+/// Makes the changes in a transaction.
+fn make_changes<A: Alter>(
+    transaction: &mut Transaction<'_, A>,
+    alloc: Global,
+    changes: &[Change],
+) -> Result<(), Error>
+    ensures same_reference { transaction.new.conn.ghost_name ≡ transaction.old.conn.ghost_name }
+    ensures ok { OnOk result (Makes A.Store (with_changes changes.now) transaction.old.conn.now transaction.new.conn.now) }
+    ensures err { OnErr result (Leaves A.Store transaction.old.conn.now transaction.new.conn.now) }
+    ensures survives { Survives (state A.Store transaction.old.conn.now) (state A.Store transaction.new.conn.now) (λ _. ⊥) }
+    ensures was_open { WasOpen A.Store transaction.old.conn.now transaction.new.conn.now }
+    ensures opened { OnOk result (HasCleanDisk (state A.Store transaction.new.conn.now)
+        → IsTrue (state A.Store transaction.old.conn.now).is_open) }
+{
+    check_open(transaction)?;
+    remove_rows(transaction, changes)?;
+    put_rows(transaction, alloc, changes)
 }
 
 /// Deletes the rows whose numbers are removed.
 fn remove_rows<A: Alter>(
     transaction: &mut Transaction<'_, A>,
     changes: &[Change],
-) -> Result<(), Error> {
+) -> Result<(), Error>
+    ensures same_reference { transaction.new.conn.ghost_name ≡ transaction.old.conn.ghost_name }
+    ensures ok { OnOk result (Makes A.Store (removed changes.now) transaction.old.conn.now transaction.new.conn.now) }
+    ensures err { OnErr result (Leaves A.Store transaction.old.conn.now transaction.new.conn.now) }
+    ensures survives { Survives (state A.Store transaction.old.conn.now) (state A.Store transaction.new.conn.now) (λ _. ⊥) }
+    ensures was_open { WasOpen A.Store transaction.old.conn.now transaction.new.conn.now }
+{
     for change in changes {
-        if let Change::Remove(seq) = change {
-            delete_row(transaction, seq)?;
-        }
+        remove_row(transaction, change)?;
     }
+    Ok(())
+}
+
+/// Deletes the row whose number is removed, if there is one.
+fn remove_row<A: Alter>(transaction: &mut Transaction<'_, A>, change: &Change) -> Result<(), Error>
+    ensures same_reference { transaction.new.conn.ghost_name ≡ transaction.old.conn.ghost_name }
+    ensures ok { OnOk result (Makes A.Store (removed (change.now ∷ [])) transaction.old.conn.now transaction.new.conn.now) }
+    ensures err { OnErr result (Leaves A.Store transaction.old.conn.now transaction.new.conn.now) }
+    ensures survives { Survives (state A.Store transaction.old.conn.now) (state A.Store transaction.new.conn.now) (λ _. ⊥) }
+    ensures was_open { WasOpen A.Store transaction.old.conn.now transaction.new.conn.now }
+{
+    if let Change::Remove(seq) = change {
+        remove_number(transaction, seq)?;
+    }
+    Ok(())
+}
+
+/// Deletes the row of this number, if there is one.
+fn remove_number<A: Alter>(transaction: &mut Transaction<'_, A>, seq: &i64) -> Result<(), Error>
+    ensures same_reference { transaction.new.conn.ghost_name ≡ transaction.old.conn.ghost_name }
+    ensures ok { OnOk result (Makes A.Store (remove_row seq.now) transaction.old.conn.now transaction.new.conn.now) }
+    ensures err { OnErr result (Leaves A.Store transaction.old.conn.now transaction.new.conn.now) }
+    ensures survives { Survives (state A.Store transaction.old.conn.now) (state A.Store transaction.new.conn.now) (λ _. ⊥) }
+    ensures was_open { WasOpen A.Store transaction.old.conn.now transaction.new.conn.now }
+{
+    delete_row(transaction, seq)?;
     Ok(())
 }
 
@@ -40,21 +111,49 @@ fn put_rows<A: Alter>(
     transaction: &mut Transaction<'_, A>,
     alloc: Global,
     changes: &[Change],
-) -> Result<(), Error> {
+) -> Result<(), Error>
+    ensures same_reference { transaction.new.conn.ghost_name ≡ transaction.old.conn.ghost_name }
+    ensures ok { OnOk result (Makes A.Store (added changes.now) transaction.old.conn.now transaction.new.conn.now) }
+    ensures err { OnErr result (Leaves A.Store transaction.old.conn.now transaction.new.conn.now) }
+    ensures survives { Survives (state A.Store transaction.old.conn.now) (state A.Store transaction.new.conn.now) (λ _. ⊥) }
+    ensures was_open { WasOpen A.Store transaction.old.conn.now transaction.new.conn.now }
+{
     for change in changes {
-        if let Change::Put(row) = change {
-            put_row(transaction, alloc, row)?;
-        }
+        put_row(transaction, alloc, change)?;
+    }
+    Ok(())
+}
+
+/// Puts the row that is put.
+fn put_row<A: Alter>(
+    transaction: &mut Transaction<'_, A>,
+    alloc: Global,
+    change: &Change,
+) -> Result<(), Error>
+    ensures same_reference { transaction.new.conn.ghost_name ≡ transaction.old.conn.ghost_name }
+    ensures ok { OnOk result (Makes A.Store (added (change.now ∷ [])) transaction.old.conn.now transaction.new.conn.now) }
+    ensures err { OnErr result (Leaves A.Store transaction.old.conn.now transaction.new.conn.now) }
+    ensures survives { Survives (state A.Store transaction.old.conn.now) (state A.Store transaction.new.conn.now) (λ _. ⊥) }
+    ensures was_open { WasOpen A.Store transaction.old.conn.now transaction.new.conn.now }
+{
+    if let Change::Put(row) = change {
+        replace_row(transaction, alloc, row)?;
     }
     Ok(())
 }
 
 /// Puts a row in place of any under its number.
-fn put_row<A: Alter>(
+fn replace_row<A: Alter>(
     transaction: &mut Transaction<'_, A>,
     alloc: Global,
     row: &Row,
-) -> Result<(), Error> {
+) -> Result<(), Error>
+    ensures same_reference { transaction.new.conn.ghost_name ≡ transaction.old.conn.ghost_name }
+    ensures ok { OnOk result (Makes A.Store (put_row row.now) transaction.old.conn.now transaction.new.conn.now) }
+    ensures err { OnErr result (Leaves A.Store transaction.old.conn.now transaction.new.conn.now) }
+    ensures survives { Survives (state A.Store transaction.old.conn.now) (state A.Store transaction.new.conn.now) (λ _. ⊥) }
+    ensures was_open { WasOpen A.Store transaction.old.conn.now transaction.new.conn.now }
+{
     let prior = prior_bytes(alloc, row.prior.as_slice())?;
     let tags = tags_text(alloc, row.tags.as_slice())?;
     delete_row(transaction, &row.seq)?;

@@ -2,7 +2,7 @@ ghost use Rattle.std.specs.Prelude.{◌≡◌, false, is_some, IfOk};
 
 use crate::keeper::SqliteKeeper;
 use crate::refusal::{Refusal, counted};
-use sqlite::{Connection, File, FileStore};
+use sqlite::{Alter, Connection, File, FileStore};
 use std::marker::Model;
 use std::rt::HostRuntime;
 use wm_faults::FaultCount;
@@ -14,14 +14,16 @@ use wm_keeper::{Change, KeepFault, Keeper, Row};
 ///
 /// Besides those of a [`SqliteKeeper`], an opening that is refused for another cause than memory is
 /// a fault, and so is a commit while no file is open.
+///
+/// Its parameter is the type of the store that it opens, which is always a file's.
 #[derive(Drop)]
-pub struct FileKeeper {
+pub struct FileKeeper<A: Alter = FileStore<File>> {
     rt: HostRuntime,
-    keeper: Option<SqliteKeeper<FileStore<File>>>,
+    keeper: Option<SqliteKeeper<A>>,
     faults: FaultCount,
 }
 
-impl Model for FileKeeper {
+impl<A: Alter> Model for FileKeeper<A> {
     ghost use Rattle.std.specs.Prelude.{◌+◌, is_some};
     ghost use Rattle.wm_sqlite.specs.States.{FileState, faults_of};
 

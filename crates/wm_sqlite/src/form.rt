@@ -1,4 +1,7 @@
 //! The form that the table of the rows has to have.
+ghost use Rattle.std.specs.Prelude.{◌≡◌, ◌↔◌, [], ◌∷◌, IsTrue, string_bytes, map};
+ghost use Rattle.wm_sqlite.specs.Table.{column_of, forms, no_schema, work, work_schema, HasForm, IsPlain};
+
 use sqlite_schema::schema::{Column, Kind, Schema, Table};
 use sqlite_value::keys::Collation;
 use sqlite_value::value::Value;
@@ -31,6 +34,46 @@ const COLUMNS: [(&str, Kind, bool); 24] = [
     ("tags", Kind::Text, true),
 ];
 
+/// Whether a database has nothing.
+pub(crate) fn is_blank(schema: &Schema) -> bool
+    ensures { IsTrue result ↔ schema.now ≡ no_schema }
+{
+    schema.tables.is_empty() && schema.indexes.is_empty() && schema.views.is_empty()
+}
+
+/// Whether a database has the table of the rows, in the form that this crate gives it, and nothing
+/// else.
+pub(crate) fn is_of_work_alone(schema: &Schema) -> bool
+    ensures { IsTrue result ↔ schema.now ≡ work_schema }
+{
+    let tables = schema.tables.as_slice();
+    tables.len() == 1
+        && is_first_table(&tables[0])
+        && schema.indexes.is_empty()
+        && schema.views.is_empty()
+}
+
+/// Whether a table is that of the rows, made before any other.
+fn is_first_table(table: &Table) -> bool
+    ensures { IsTrue result ↔ table.now ≡ work }
+{
+    table.tree == 0 && is_work_table(table) && has_key_alone(table) && has_no_stamp(table)
+}
+
+/// Whether a table has no other key than the number of its rows, and no rule on one.
+fn has_key_alone(table: &Table) -> bool
+    ensures { IsTrue result ↔ (table.now.primary ≡ 0 ∷ []) × (table.now.orders ≡ []) }
+{
+    table.primary.as_slice() == [0].as_slice() && table.orders.is_empty()
+}
+
+/// Whether no column of a table has the time for its default.
+fn has_no_stamp(table: &Table) -> bool
+    ensures { IsTrue result ↔ (table.now.stamps.terms ≡ []) × (table.now.stamps.formats ≡ []) }
+{
+    table.stamps.terms.roots.is_empty() && table.stamps.formats.is_empty()
+}
+
 /// Whether a database has the table of the rows, in the form that this crate gives it.
 pub(crate) fn has_work_table(schema: &Schema) -> bool {
     schema
@@ -41,7 +84,9 @@ pub(crate) fn has_work_table(schema: &Schema) -> bool {
 }
 
 /// Whether a table is that of the rows.
-fn is_work_table(table: &Table) -> bool {
+fn is_work_table(table: &Table) -> bool
+    ensures { IsTrue result ↔ HasForm table.now }
+{
     table.name.as_slice() == b"work".as_slice()
         && table.key == Some(1)
         && has_work_columns(table)
@@ -49,18 +94,33 @@ fn is_work_table(table: &Table) -> bool {
 }
 
 /// Whether a table has just the columns of a row.
-fn has_work_columns(table: &Table) -> bool {
-    let columns = table.columns.as_slice();
-    columns.len() == COLUMNS.len()
-        && columns
-            .iter()
-            .zip(COLUMNS.iter())
-            .all(|(column, form)| is_column(column, form))
+fn has_work_columns(table: &Table) -> bool
+    ensures { IsTrue result ↔ table.now.columns ≡ map column_of forms }
+{
+    are_columns(table.columns.as_slice(), COLUMNS.as_slice())
+}
+
+/// Whether columns are of these forms, one after another.
+fn are_columns(columns: &[Column], forms: &[(&str, Kind, bool)]) -> bool
+    ensures { IsTrue result
+        ↔ columns.now ≡ map (λ form. column_of (form.0.now, form.1, form.2)) forms.now }
+{
+    if columns.len() != forms.len() {
+        return false;
+    }
+    for at in 0..forms.len() {
+        if !is_column(&columns[at], &forms[at]) {
+            return false;
+        }
+    }
+    true
 }
 
 /// Whether a column is of this name and type, takes values of that type alone, and refuses NULL or
 /// doesn't.
-fn is_column(column: &Column, form: &(&str, Kind, bool)) -> bool {
+fn is_column(column: &Column, form: &(&str, Kind, bool)) -> bool
+    ensures { IsTrue result ↔ column.now ≡ column_of (form.now.0.now, form.now.1, form.now.2) }
+{
     let (name, kind, not_null) = *form;
     column.name.as_slice() == name.as_bytes()
         && column.kind == kind
@@ -71,7 +131,9 @@ fn is_column(column: &Column, form: &(&str, Kind, bool)) -> bool {
 }
 
 /// Whether a table has no rule besides its columns and its key.
-fn is_plain(table: &Table) -> bool {
+fn is_plain(table: &Table) -> bool
+    ensures { IsTrue result ↔ IsPlain table.now }
+{
     table.uniques.is_empty()
         && table.checks.roots.is_empty()
         && table.references.is_empty()

@@ -1,24 +1,30 @@
-ghost use Rattle.std.specs.Prelude.{◌≡◌};
+ghost use Rattle.std.specs.Prelude.{◌≡◌, IfOk};
+ghost use Rattle.wm_sqlite.specs.Told.{store_of};
 
 use crate::changes::change_rows;
-use crate::form::has_work_table;
-use crate::reading::rows_of;
+use crate::look::{read_rows, standing_of};
 use crate::refusal::{Refusal, counted};
-use crate::statements::{make_table, select_rows};
-use sqlite::{Alter, Connection, Row as ShownRow};
+use crate::standing::Standing;
+use sqlite::{Alter, Connection};
 use std::alloc::Global;
 use std::marker::Model;
 use wm_faults::FaultCount;
 use wm_keeper::{Change, KeepFault, Keeper, Row};
 
 /// A keeper that holds its rows in the table `work` of a SQLite store, which is made where it is
-/// missing. A contract sees the connection and its count of faults; it tells the count alone.
+/// missing. A contract sees the connection, what the keeper knows of the table and its count of
+/// faults.
 ///
-/// A fault is a statement or a column that is refused for another cause than memory, or a table
-/// `work` of another form. It is counted once a call, and answered as `Failed`.
+/// It tells its rows, and what a crash now may leave, while the disk returned what was written and
+/// the database has nothing besides the table. Otherwise it works, and tells its count alone.
+///
+/// A fault is a statement or a column that is refused for another cause than memory, a table `work`
+/// of another form, or one whose numbers don't rise when it is read by number. It is counted once a
+/// call, and answered as `Failed`.
 #[derive(Drop)]
 pub struct SqliteKeeper<A: Alter> {
     connection: Connection<A>,
+    standing: Standing,
     /// That of the rows that the table showed; none where it hasn't been read yet.
     alloc: Option<Global>,
     faults: FaultCount,
@@ -26,21 +32,40 @@ pub struct SqliteKeeper<A: Alter> {
 
 impl<A: Alter> Model for SqliteKeeper<A> {
     ghost use Rattle.wm_sqlite.specs.States.{SqliteState, sqlite_state_code};
+    ghost use Rattle.wm_sqlite.specs.Told.{Knows};
 
     ghost Value = { SqliteState A };
 
     ghost coded = { sqlite_state_code A.code };
 
-    ghost view = { λ keeper. record { connection = keeper.connection; faults = keeper.faults } };
+    ghost view = { λ keeper. record {
+      connection = keeper.connection;
+      standing = keeper.standing;
+      faults = keeper.faults;
+    } };
+
+    ghost invariant = { λ keeper. Knows A.Store keeper.standing keeper.connection };
 }
 
 impl<A: Alter> SqliteKeeper<A> {
-    /// A keeper of the rows in the store of this connection.
+    ghost use Rattle.std.specs.Prelude.{IsTrue, OnOk, OnErr};
+    ghost use Rattle.wm_keeper.specs.Keeper.{AreOfDifferentNumbers};
+    ghost use Rattle.wm_keeper.specs.Store.{IsCommitted, IsLoaded, IsNotCommitted, IsSettled, IsStoreKept};
+    ghost use Rattle.wm_sqlite.specs.Told.{store_of, IsLookedAt, IsSeenAs};
+    ghost use Rattle.sqlite.specs.Held.{state};
+
+    /// A keeper of the rows in the store of this connection. Where that is open, nothing is pending:
+    /// a crash leaves just the rows that the keeper tells.
     pub fn adopt(connection: Connection<A>) -> SqliteKeeper<A>
-        ensures { result ≡ record { connection = connection; faults = 0 } }
+        ensures connection { result.connection ≡ connection }
+        ensures faults { result.faults ≡ 0 }
+        ensures seen { IsSeenAs result.standing (state A.Store connection) }
+        ensures settled { IsTrue (state A.Store connection).is_open → IsSettled (store_of A.Store result) }
     {
+        let standing = standing_of(&connection);
         SqliteKeeper {
             connection,
+            standing,
             alloc: None,
             faults: FaultCount::new(),
         }
@@ -52,50 +77,49 @@ impl<A: Alter> SqliteKeeper<A> {
     {
         let SqliteKeeper {
             connection,
+            standing: _,
             alloc: _,
             faults: _,
         } = self;
         connection
     }
 
-    /// The rows as the table shows them. It is made where it is missing.
-    fn show_rows(&mut self) -> Result<Vec<ShownRow>, Refusal>
-        ensures faults { self.new.faults ≡ self.old.faults }
-    {
-        make_table(&mut self.connection)?;
-        if !has_work_table(self.connection.schema()) {
-            return Err(Refusal::Store);
-        }
-        let shown = select_rows(&mut self.connection)?;
-        self.alloc = Some(*shown.allocator());
-        Ok(shown)
-    }
-
-    /// The rows.
+    /// The rows, which are read from the table. Whatever is answered, they stay.
     fn load_rows(&mut self) -> Result<Vec<Row>, Refusal>
         ensures faults { self.new.faults ≡ self.old.faults }
+        ensures kept { IsStoreKept (store_of A.Store self.old) (store_of A.Store self.new) }
+        ensures rows { IfOk result (λ rows. IsLoaded rows.items (store_of A.Store self.old) (store_of A.Store self.new)) }
+        ensures looked { OnOk result (IsLookedAt self.new.standing) }
     {
-        let shown = self.show_rows()?;
-        let rows = rows_of(*shown.allocator(), shown.as_slice())?;
+        let rows = read_rows(&mut self.connection, &mut self.standing)?;
+        self.alloc = Some(*rows.allocator());
         Ok(rows)
     }
 
-    /// The allocator of the rows that the table shows, which is read first where it wasn't.
-    fn allocator(&mut self) -> Result<Global, Refusal>
+    /// The allocator of the rows, which are read where they weren't, or where nothing else is asked
+    /// of the store.
+    fn allocator(&mut self, changes: &[Change]) -> Result<Global, Refusal>
         ensures faults { self.new.faults ≡ self.old.faults }
+        ensures kept { IsStoreKept (store_of A.Store self.old) (store_of A.Store self.new) }
+        ensures looked { OnOk result (IsLookedAt self.new.standing) }
     {
-        if let Some(alloc) = self.alloc {
-            return Ok(alloc);
+        match self.alloc {
+            Some(alloc) if self.standing.is_looked_at() && !changes.is_empty() => Ok(alloc),
+            _ => {
+                let rows = self.load_rows()?;
+                Ok(*rows.allocator())
+            }
         }
-        let shown = self.show_rows()?;
-        Ok(*shown.allocator())
     }
 
     /// Makes the changes of the table.
     fn change_table(&mut self, changes: &[Change]) -> Result<(), Refusal>
+        requires { AreOfDifferentNumbers changes.now }
         ensures faults { self.new.faults ≡ self.old.faults }
+        ensures ok { OnOk result (IsCommitted changes.now (store_of A.Store self.old) (store_of A.Store self.new)) }
+        ensures err { OnErr result (IsNotCommitted changes.now (store_of A.Store self.old) (store_of A.Store self.new)) }
     {
-        let alloc = self.allocator()?;
+        let alloc = self.allocator(changes)?;
         if !self.connection.is_autocommit() {
             return Err(Refusal::Store);
         }
@@ -105,9 +129,9 @@ impl<A: Alter> SqliteKeeper<A> {
 }
 
 impl<A: Alter> Keeper for SqliteKeeper<A> {
-    ghost use Rattle.wm_sqlite.specs.States.{silent_store};
+    ghost use Rattle.wm_sqlite.specs.Told.{store_of};
 
-    ghost store = { λ keeper. silent_store keeper.faults };
+    ghost store = { store_of A.Store };
 
     /// The rows, whatever the name.
     fn load(&mut self, _name: &str) -> Result<Vec<Row>, KeepFault> {

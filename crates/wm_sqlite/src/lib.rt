@@ -9,9 +9,14 @@ mod columns;
 mod file;
 mod form;
 mod keeper;
+mod look;
+mod numbers;
 mod reading;
 mod refusal;
+mod standing;
 mod statements;
+mod table;
 
 pub use file::FileKeeper;
 pub use keeper::SqliteKeeper;
+pub use standing::Standing;

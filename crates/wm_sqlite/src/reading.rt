@@ -1,4 +1,13 @@
 //! Rows as the table shows them, read.
+ghost use Rattle.sqlite_rules.specs.Edit.{id_in};
+ghost use Rattle.sqlite_trees.specs.View.{is_int};
+ghost use Rattle.sqlite_value.specs.Order.{bytes, column};
+ghost use Rattle.std.specs.List.{AllByRecursion};
+ghost use Rattle.std.specs.Prelude.{◌≡◌, [], IfOk, IsTrue, OnOk, map, pos};
+ghost use Rattle.wm_sqlite.specs.Columns.{prior_in, tags_in};
+ghost use Rattle.wm_sqlite.specs.Held.{lists_of, row_of};
+ghost use Rattle.wm_sqlite.specs.Table.{read_row, text_in};
+
 use crate::columns::{prior_in, tags_in};
 use sqlite::{Error, Row as ShownRow};
 use std::alloc::Global;
@@ -48,7 +57,10 @@ struct Lists {
 }
 
 /// The rows that the table shows.
-pub(crate) fn rows_of(alloc: Global, shown: &[ShownRow]) -> Result<Vec<Row>, Error> {
+pub(crate) fn rows_of(alloc: Global, shown: &[ShownRow]) -> Result<Vec<Row>, Error>
+    ensures rows { IfOk result (λ rows. rows.items ≡ map (λ r. row_of (read_row r)) shown.now) }
+    ensures numbered { OnOk result (AllByRecursion (λ r. IsTrue (is_int (column r 1))) shown.now) }
+{
     let mut rows = Vec::with_capacity(alloc, shown.len())?;
     for row in shown {
         rows.push(row_of(alloc, row)?)?;
@@ -57,7 +69,10 @@ pub(crate) fn rows_of(alloc: Global, shown: &[ShownRow]) -> Result<Vec<Row>, Err
 }
 
 /// The row that the table shows.
-fn row_of(alloc: Global, shown: &ShownRow) -> Result<Row, Error> {
+fn row_of(alloc: Global, shown: &ShownRow) -> Result<Row, Error>
+    ensures row { IfOk result (λ row. row ≡ row_of (read_row shown.now)) }
+    ensures numbered { OnOk result (IsTrue (is_int (column shown.now 1))) }
+{
     let asked = asked_of(shown)?;
     let standing = standing_of(shown)?;
     let seq = shown.get(1)?;
@@ -93,7 +108,19 @@ fn row_of(alloc: Global, shown: &ShownRow) -> Result<Row, Error> {
 }
 
 /// What was asked for.
-fn asked_of(shown: &ShownRow) -> Result<Asked, Error> {
+fn asked_of(shown: &ShownRow) -> Result<Asked, Error>
+    ensures { IfOk result (λ asked. asked ≡ record {
+      kind = id_in (column shown.now 5);
+      period = id_in (column shown.now 6);
+      flex = id_in (column shown.now 7);
+      delay = id_in (column shown.now 8);
+      policy = id_in (column shown.now 9);
+      wait = id_in (column shown.now 10);
+      merger = id_in (column shown.now 11);
+      network = id_in (column shown.now 12);
+      flags = id_in (column shown.now 13);
+    }) }
+{
     Ok(Asked {
         kind: shown.get(5)?,
         period: shown.get(6)?,
@@ -108,7 +135,16 @@ fn asked_of(shown: &ShownRow) -> Result<Asked, Error> {
 }
 
 /// How far the work has come.
-fn standing_of(shown: &ShownRow) -> Result<Standing, Error> {
+fn standing_of(shown: &ShownRow) -> Result<Standing, Error>
+    ensures { IfOk result (λ standing. standing ≡ record {
+      phase = id_in (column shown.now 14);
+      attempt = id_in (column shown.now 15);
+      backoff_n = id_in (column shown.now 16);
+      runs = id_in (column shown.now 17);
+      generation = id_in (column shown.now 18);
+      enqueued_at = id_in (column shown.now 19);
+    }) }
+{
     Ok(Standing {
         phase: shown.get(14)?,
         attempt: shown.get(15)?,
@@ -120,7 +156,14 @@ fn standing_of(shown: &ShownRow) -> Result<Standing, Error> {
 }
 
 /// The texts.
-fn texts_of(shown: &ShownRow) -> Result<Texts, Error> {
+fn texts_of(shown: &ShownRow) -> Result<Texts, Error>
+    ensures { IfOk result (λ texts. texts ≡ record {
+      name = text_in (column shown.now 3);
+      class = bytes (column shown.now 4);
+      input = bytes (column shown.now 20);
+      output = bytes (column shown.now 21);
+    }) }
+{
     Ok(Texts {
         name: name_of(shown)?,
         class: text_at(shown, 4)?,
@@ -130,18 +173,25 @@ fn texts_of(shown: &ShownRow) -> Result<Texts, Error> {
 }
 
 /// The name, if there is one.
-fn name_of(shown: &ShownRow) -> Result<Option<Text>, Error> {
+fn name_of(shown: &ShownRow) -> Result<Option<Text>, Error>
+    ensures { IfOk result (λ name. name ≡ text_in (column shown.now 3)) }
+{
     let name: Option<String> = shown.get(3)?;
     Ok(name.map(Text::from_string))
 }
 
 /// The text in a column.
-fn text_at(shown: &ShownRow, column: usize) -> Result<Text, Error> {
-    Ok(Text::from_string(shown.get(column)?))
+fn text_at(shown: &ShownRow, at: usize) -> Result<Text, Error>
+    ensures { IfOk result (λ text. text ≡ bytes (column shown.now at)) }
+{
+    Ok(Text::from_string(shown.get(at)?))
 }
 
 /// The version and the lists.
-fn lists_of(alloc: Global, shown: &ShownRow) -> Result<Lists, Error> {
+fn lists_of(alloc: Global, shown: &ShownRow) -> Result<Lists, Error>
+    ensures { IfOk result (λ lists. (lists.version, lists.prior, lists.tags)
+        ≡ lists_of (id_in (column shown.now 0)) (prior_in (bytes (column shown.now 22))) (tags_in (bytes (column shown.now 23)))) }
+{
     let version = shown.get(0)?;
     let prior: Vec<u8> = shown.get(22)?;
     let tags: String = shown.get(23)?;
@@ -159,7 +209,9 @@ fn lists_of(alloc: Global, shown: &ShownRow) -> Result<Lists, Error> {
 }
 
 /// What stands for lists that can't be read.
-fn unread_lists(alloc: Global) -> Lists {
+fn unread_lists(alloc: Global) -> Lists
+    ensures { result ≡ record { version = pos 0; prior = []; tags = [] } }
+{
     Lists {
         version: 0,
         prior: Items::new(alloc),

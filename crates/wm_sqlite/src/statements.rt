@@ -1,21 +1,88 @@
-//! The four statements, each in a function of its own with one call of the database.
-use sqlite::{Alter, Connection, Error, Row as ShownRow, Transaction, params};
+//! The four statements, each in a function of its own with one call of the database, inside a
+//! transaction.
+ghost use Rattle.sqlite.specs.Held.{state};
+ghost use Rattle.sqlite.specs.State.{ExecutesInside, HasCleanDisk, Survives};
+ghost use Rattle.sqlite.specs.Values.{bound_value, or_null};
+ghost use Rattle.sqlite_trees.specs.Tree.{put_row, without_rowid};
+ghost use Rattle.sqlite_value.specs.declared.value.Value.TheVariants.{Int, Text as Words};
+ghost use Rattle.std.specs.Prelude.{◌≡◌, [], ◌∷◌, string_bytes, IsTrue, IfOk, OnOk, OnErr};
+ghost use Rattle.wm_sqlite.specs.Held.{IsListed, stored};
+ghost use Rattle.wm_sqlite.specs.Resting.{WasOpen};
+ghost use Rattle.wm_sqlite.specs.Standing.{ShowsTable, Stands, StandsEmpty};
+ghost use Rattle.wm_sqlite.specs.Table.{bound_values, cells};
+ghost use Rattle.wm_sqlite.specs.Texts.{delete_text, insert_text};
+
+use sqlite::{Alter, Error, Row as ShownRow, Transaction, params};
 use wm_collections::Text;
 use wm_keeper::Row;
 
 /// Makes the table where there is none of its name.
-pub(crate) fn make_table<A: Alter>(connection: &mut Connection<A>) -> Result<usize, Error> {
-    connection.execute(
+pub(crate) fn make_table<A: Alter>(transaction: &mut Transaction<'_, A>) -> Result<usize, Error>
+    ensures same_reference { transaction.new.conn.ghost_name ≡ transaction.old.conn.ghost_name }
+    ensures made { HasCleanDisk (state A.Store transaction.new.conn.now) → OnOk result ((base : _)
+        → StandsEmpty A.Store base transaction.old.conn.now
+        → Stands A.Store base [] transaction.new.conn.now) }
+    ensures kept { HasCleanDisk (state A.Store transaction.new.conn.now)
+        → OnOk result ((base : _) (table : _) → Stands A.Store base table transaction.old.conn.now
+        → Stands A.Store base table transaction.new.conn.now) }
+    ensures unmade { HasCleanDisk (state A.Store transaction.new.conn.now)
+        → IsTrue (state A.Store transaction.new.conn.now).is_open → OnErr result ((base : _)
+        → StandsEmpty A.Store base transaction.old.conn.now
+        → (state A.Store transaction.new.conn.now).committed ≡ base) }
+    ensures err { HasCleanDisk (state A.Store transaction.new.conn.now)
+        → IsTrue (state A.Store transaction.new.conn.now).is_open
+        → OnErr result ((base : _) (table : _)
+        → Stands A.Store base table transaction.old.conn.now
+        → (state A.Store transaction.new.conn.now).committed ≡ base) }
+    ensures survives { Survives (state A.Store transaction.old.conn.now) (state A.Store transaction.new.conn.now) (λ _. ⊥) }
+    ensures was_open { WasOpen A.Store transaction.old.conn.now transaction.new.conn.now }
+{
+    transaction.execute(
         "CREATE TABLE IF NOT EXISTS work(version INTEGER NOT NULL, seq INTEGER PRIMARY KEY, id BLOB NOT NULL, name TEXT, class TEXT NOT NULL, kind INTEGER NOT NULL, period INTEGER NOT NULL, flex INTEGER NOT NULL, delay INTEGER NOT NULL, policy INTEGER NOT NULL, wait INTEGER NOT NULL, merger INTEGER NOT NULL, network INTEGER NOT NULL, flags INTEGER NOT NULL, phase INTEGER NOT NULL, attempt INTEGER NOT NULL, backoff_n INTEGER NOT NULL, runs INTEGER NOT NULL, generation INTEGER NOT NULL, enqueued_at INTEGER NOT NULL, input TEXT NOT NULL, output TEXT NOT NULL, prior BLOB NOT NULL, tags TEXT NOT NULL) STRICT",
         &[],
     )
 }
 
+/// Refuses where the store is shut, since a statement is prepared.
+pub(crate) fn check_open<A: Alter>(transaction: &mut Transaction<'_, A>) -> Result<(), Error>
+    ensures same_reference { transaction.new.conn.ghost_name ≡ transaction.old.conn.ghost_name }
+    ensures opened { HasCleanDisk (state A.Store transaction.new.conn.now)
+        → OnOk result (IsTrue (state A.Store transaction.old.conn.now).is_open) }
+    ensures ok { HasCleanDisk (state A.Store transaction.new.conn.now)
+        → OnOk result ((base : _) (table : _) → Stands A.Store base table transaction.old.conn.now
+        → Stands A.Store base table transaction.new.conn.now) }
+    ensures err { HasCleanDisk (state A.Store transaction.new.conn.now)
+        → IsTrue (state A.Store transaction.new.conn.now).is_open
+        → OnErr result ((base : _) (table : _)
+        → Stands A.Store base table transaction.old.conn.now
+        → (state A.Store transaction.new.conn.now).committed ≡ base) }
+    ensures survives { Survives (state A.Store transaction.old.conn.now) (state A.Store transaction.new.conn.now) (λ _. ⊥) }
+    ensures was_open { WasOpen A.Store transaction.old.conn.now transaction.new.conn.now }
+{
+    transaction.prepare("DELETE FROM work WHERE seq = ?1")?;
+    Ok(())
+}
+
 /// All rows of the table, in ascending number.
 pub(crate) fn select_rows<A: Alter>(
-    connection: &mut Connection<A>,
-) -> Result<Vec<ShownRow>, Error> {
-    connection.query_all(
+    transaction: &mut Transaction<'_, A>,
+) -> Result<Vec<ShownRow>, Error>
+    ensures same_reference { transaction.new.conn.ghost_name ≡ transaction.old.conn.ghost_name }
+    ensures ok { HasCleanDisk (state A.Store transaction.new.conn.now)
+        → OnOk result ((base : _) (table : _) → Stands A.Store base table transaction.old.conn.now
+        → Stands A.Store base table transaction.new.conn.now) }
+    ensures rows { HasCleanDisk (state A.Store transaction.new.conn.now)
+        → IfOk result (λ rows. (base : _) (table : _)
+        → Stands A.Store base table transaction.old.conn.now → ShowsTable table rows.items) }
+    ensures err { HasCleanDisk (state A.Store transaction.new.conn.now)
+        → IsTrue (state A.Store transaction.new.conn.now).is_open
+        → OnErr result ((base : _) (table : _)
+        → Stands A.Store base table transaction.old.conn.now
+        → (state A.Store transaction.new.conn.now).committed ≡ base) }
+    ensures survives { Survives (state A.Store transaction.old.conn.now) (state A.Store transaction.new.conn.now) (λ _. ⊥) }
+    ensures was_open { WasOpen A.Store transaction.old.conn.now transaction.new.conn.now }
+{
+    transaction.query_all(
         "SELECT version, seq, id, name, class, kind, period, flex, delay, policy, wait, merger, network, flags, phase, attempt, backoff_n, runs, generation, enqueued_at, input, output, prior, tags FROM work ORDER BY seq",
         &[],
     )
@@ -25,24 +92,86 @@ pub(crate) fn select_rows<A: Alter>(
 pub(crate) fn delete_row<A: Alter>(
     transaction: &mut Transaction<'_, A>,
     seq: &i64,
-) -> Result<usize, Error> {
-    transaction.execute("DELETE FROM work WHERE seq = ?1", params![seq])
+) -> Result<usize, Error>
+    ensures same_reference { transaction.new.conn.ghost_name ≡ transaction.old.conn.ghost_name }
+    ensures ok { HasCleanDisk (state A.Store transaction.new.conn.now)
+        → OnOk result ((base : _) (table : _) → Stands A.Store base table transaction.old.conn.now
+        → IsListed table
+        → Stands A.Store base (without_rowid seq.now table) transaction.new.conn.now) }
+    ensures err { HasCleanDisk (state A.Store transaction.new.conn.now)
+        → IsTrue (state A.Store transaction.new.conn.now).is_open
+        → OnErr result ((base : _) (table : _)
+        → Stands A.Store base table transaction.old.conn.now
+        → (state A.Store transaction.new.conn.now).committed ≡ base) }
+    ensures survives { Survives (state A.Store transaction.old.conn.now) (state A.Store transaction.new.conn.now) (λ _. ⊥) }
+    ensures was_open { WasOpen A.Store transaction.old.conn.now transaction.new.conn.now }
+{
+    run_delete(transaction, seq)
 }
 
-/// Inserts a row, whose lists are written as these.
+/// Inserts a row, whose lists are written as these. It takes the place of none: a number that is
+/// taken is refused.
 pub(crate) fn insert_row<A: Alter>(
     transaction: &mut Transaction<'_, A>,
     row: &Row,
     prior: &Vec<u8>,
     tags: &String,
-) -> Result<usize, Error> {
+) -> Result<usize, Error>
+    ensures same_reference { transaction.new.conn.ghost_name ≡ transaction.old.conn.ghost_name }
+    ensures ok { HasCleanDisk (state A.Store transaction.new.conn.now)
+        → OnOk result ((base : _) (table : _) → Stands A.Store base table transaction.old.conn.now
+        → Stands A.Store base (put_row (cells (stored row.now prior.now.items (string_bytes tags.now))) table) transaction.new.conn.now) }
+    ensures err { HasCleanDisk (state A.Store transaction.new.conn.now)
+        → IsTrue (state A.Store transaction.new.conn.now).is_open
+        → OnErr result ((base : _) (table : _)
+        → Stands A.Store base table transaction.old.conn.now
+        → (state A.Store transaction.new.conn.now).committed ≡ base) }
+    ensures survives { Survives (state A.Store transaction.old.conn.now) (state A.Store transaction.new.conn.now) (λ _. ⊥) }
+    ensures was_open { WasOpen A.Store transaction.old.conn.now transaction.new.conn.now }
+{
+    run_insert(transaction, row, prior, tags)
+}
+
+/// The statement that deletes a number.
+fn run_delete<A: Alter>(transaction: &mut Transaction<'_, A>, seq: &i64) -> Result<usize, Error>
+    ensures same_reference { transaction.new.conn.ghost_name ≡ transaction.old.conn.ghost_name }
+    ensures runs { HasCleanDisk (state A.Store transaction.new.conn.now)
+        → IsTrue (state A.Store transaction.old.conn.now).in_transaction
+        → ExecutesInside 0 delete_text (Int seq.now ∷ []) (state A.Store transaction.old.conn.now) (state A.Store transaction.new.conn.now) result }
+    ensures survives { Survives (state A.Store transaction.old.conn.now) (state A.Store transaction.new.conn.now) (λ _. ⊥) }
+    ensures was_open { WasOpen A.Store transaction.old.conn.now transaction.new.conn.now }
+{
+    transaction.execute("DELETE FROM work WHERE seq = ?1", params![seq])
+}
+
+/// The name of a row, if it has one.
+fn name_of(row: &Row) -> Option<&str>
+    ensures { bound_value (or_null (λ name. Words name.now) result) ≡ or_null Words row.now.name }
+{
+    row.name.as_ref().map(Text::as_str)
+}
+
+/// The statement that inserts a row.
+fn run_insert<A: Alter>(
+    transaction: &mut Transaction<'_, A>,
+    row: &Row,
+    prior: &Vec<u8>,
+    tags: &String,
+) -> Result<usize, Error>
+    ensures same_reference { transaction.new.conn.ghost_name ≡ transaction.old.conn.ghost_name }
+    ensures runs { HasCleanDisk (state A.Store transaction.new.conn.now)
+        → IsTrue (state A.Store transaction.old.conn.now).in_transaction
+        → ExecutesInside 0 insert_text (bound_values (stored row.now prior.now.items (string_bytes tags.now))) (state A.Store transaction.old.conn.now) (state A.Store transaction.new.conn.now) result }
+    ensures survives { Survives (state A.Store transaction.old.conn.now) (state A.Store transaction.new.conn.now) (λ _. ⊥) }
+    ensures was_open { WasOpen A.Store transaction.old.conn.now transaction.new.conn.now }
+{
     transaction.execute(
         "INSERT INTO work (version, seq, id, name, class, kind, period, flex, delay, policy, wait, merger, network, flags, phase, attempt, backoff_n, runs, generation, enqueued_at, input, output, prior, tags) VALUES (?1, ?2, ?3, ?4, ?5, ?6, ?7, ?8, ?9, ?10, ?11, ?12, ?13, ?14, ?15, ?16, ?17, ?18, ?19, ?20, ?21, ?22, ?23, ?24)",
         params![
             &row.version,
             &row.seq,
             row.id.as_slice(),
-            row.name.as_ref().map(Text::as_str),
+            name_of(row),
             row.class.as_str(),
             &row.kind,
             &row.period,

@@ -1,6 +1,6 @@
 -- What a commit of a step's rows makes of what a crash may leave.
 use Rattle.std.proofs.Common.{◌≡◌, List, Option, Some, None, refl, sym, ◌∙◌, ap, subst, inl, inr}
-use Rattle.std.specs.Prelude.{◌⊎◌, IfSome}
+use Rattle.std.specs.Prelude.{◌⊎◌, IfSome, IsSome}
 use Rattle.wm_keeper.specs.Keeper.{changed}
 use Rattle.wm_keeper.specs.Store.{Store}
 use Rattle.wm_keeper.specs.declared.row.Change.{Change}
@@ -37,7 +37,7 @@ pub images-kept : (s : State) (change : StepChange) (before after : Store) → V
     → KeepsImages (row_changes change) before after → LeavesBefore (rows_of (changed_state change s)) before after
 images-kept s change before after valid fits holds keeps image is = elim (keeps (rows_of s) holds image is) [
   | inl old ↦ inl old
-  | inr made ↦ inr (made ∙ rows-changed s change valid fits)
+  | inr made ↦ inr (made.0, made.1 ∙ rows-changed s change valid fits)
 ]
 
 -- these are the rows that the step's event would have left
@@ -70,15 +70,18 @@ pub unopened-left : {K : Type 0} (store : K → Store) (rows : List Row) (instan
     → IfSome (store keeper).rows (λ held. rows ≡ held) → changed changes rows ≡ rows_of first → Opened rows instances first
     → KeepsImages changes (store keeper) (store now) → LeavesUnopened store rows instances keeper (now, begin_trouble_of why)
 unopened-left store rows instances changes first keeper now why holds is opened keeps =
-    let left : (image : List Row) → (store now).images image → (store keeper).images image ⊎ WouldOpen rows instances image =
+    let left : (image : List Row) → (store now).images image → (store keeper).images image ⊎ (IsSome (store keeper).rows × WouldOpen rows instances image) =
     λ image left. elim (keeps rows (told_rows rows (store keeper).rows holds) image left) [
       | inl old ↦ inl old
-      | inr made ↦ inr (record {
-        first = first;
-        opened = opened;
-        left = made ∙ is;
-        again = subst (λ (rows : List Row). Opened rows instances first) (sym (made ∙ is)) (opened-again rows instances first opened);
-      })
+      | inr made ↦ inr (
+        made.0,
+        record {
+          first = first;
+          opened = opened;
+          left = made.1 ∙ is;
+          again = subst (λ (rows : List Row). Opened rows instances first) (sym (made.1 ∙ is)) (opened-again rows instances first opened);
+        },
+      )
     ] in
     elim why as (λ why. LeavesUnopened store rows instances keeper (now, begin_trouble_of why)) [
       | trouble.KeeperFault ↦ left

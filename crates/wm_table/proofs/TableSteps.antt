@@ -3,8 +3,8 @@ use Rattle.std.proofs.Common.{◌≡◌, ℕ, zero, suc, ◌+◌, ◌-◌, ◌<�
 use Rattle.std.specs.Prelude.{◌↔◌, is_some, IsTrue, MatchOption}
 use Rattle.std.proofs.lemmas.Bool.{true≢false}
 use Rattle.std.proofs.lemmas.Option.{none-some}
-use Rattle.wm_keeper.proofs.Stores.{IfSome-still, IsAtMost-same, IsAtMost-then}
-use Rattle.wm_keeper.specs.Store.{Store, IsAtMost}
+use Rattle.wm_keeper.proofs.Stores.{IfSome-still, IsAtMost-same, TellsOn-then}
+use Rattle.wm_keeper.specs.Store.{Store, IsAtMost, TellsOn}
 use Rattle.wm_machine.specs.declared.event.Event.{Event}
 use Rattle.wm_machine.specs.declared.state.State.{State}
 use Rattle.wm_collections.specs.Lists.{last_of}
@@ -39,11 +39,11 @@ slice_get-last (x ∷ y ∷ xs) =
 -- what a table keeps when it begins
 pub kept-opening : (run : Inputs) (first s : State) (log : List Event) (notes : List Note) (store : Store)
     → Opened run.rows run.instances first → s ≡ first → log ≡ [] → notes ≡ [] → HoldsRowsOf first store
-    → IsAtMost run.store.name store.name → TableInvariant run first s log notes store
-kept-opening run first s log notes store opened s_is log_is notes_is held name =
+    → TellsOn run.store store → TableInvariant run first s log notes store
+kept-opening run first s log notes store opened s_is log_is notes_is held tells_on =
     let next_run : first.next_run ≡ 1 = ap (λ (t : State). t.next_run) opened.state in
     rw (s_is, log_is, notes_is)
-    (record { opened = opened; replay = refl; notes_are = refl; rows = held; name = name; few_runs = omega (arith, next_run) })
+    (record { opened = opened; replay = refl; notes_are = refl; rows = held; tells_on = tells_on; few_runs = omega (arith, next_run) })
 
 -- what is made by carrying out the change of a step is one step
 pub made-step : {K : Type 0} (store : K → Store) (old : TableState K) (change : StepChange) (state : State) (log : List Event) (keeper : K)
@@ -65,7 +65,7 @@ refused-step store old change state log keeper is state_is log_is rows images = 
   rows = rows;
   images = λ image left. elim (images image left) [
     | inl before ↦ inl before
-    | inr made ↦ inr (would_leave old.state change image is made)
+    | inr made ↦ inr (would_leave old.state change image is made.1)
   ];
 }
 
@@ -98,9 +98,9 @@ module _ {K : Type 0} (run : Inputs) (store : K → Store) (old new : TableState
   -- a step that begins one run at most, with what is told of it
   pub kept-step : (e : Event) (before told : List Note) → TableInvariant run old.first old.state old.log before (store old.keeper)
       → IsOneStep store e old new → told ≡ notes_between old.state new.state → new.state.next_run ≤ old.state.next_run + 1
-      → IsAtMost (store old.keeper).name (store new.keeper).name
+      → TellsOn (store old.keeper) (store new.keeper)
       → TableInvariant run new.first new.state new.log told (store new.keeper)
-  kept-step e before told kept step told_is more name =
+  kept-step e before told kept step told_is more tells_on =
       let longer : length new.log ≡ length old.log + 1 = ap length step.appended ∙ length-append old.log (e ∷ []) in
       let few : new.state.next_run ≤ length new.log + 1 = omega (arith, kept.few_runs) in
       record {
@@ -112,14 +112,14 @@ module _ {K : Type 0} (run : Inputs) (store : K → Store) (old new : TableState
             ∙ ap (last_notes old.first) (sym step.appended)
             ∙ ap (λ s. last_notes s new.log) (sym step.first);
         rows = step.rows;
-        name = IsAtMost-then run.store.name (store old.keeper).name (store new.keeper).name kept.name name;
+        tells_on = TellsOn-then run.store (store old.keeper) (store new.keeper) kept.tells_on tells_on;
         few_runs = few;
       }
 
   pub kept-untouched : (may_be : Event → Type 0) (notes : List Note) → TableInvariant run old.first old.state old.log notes (store old.keeper)
-      → IsUntouched store may_be old new → IsAtMost (store old.keeper).name (store new.keeper).name
+      → IsUntouched store may_be old new → TellsOn (store old.keeper) (store new.keeper)
       → TableInvariant run new.first new.state new.log notes (store new.keeper)
-  kept-untouched may_be notes kept same name =
+  kept-untouched may_be notes kept same tells_on =
       let rows : HoldsRowsOf old.state (store new.keeper) =
       IfSome-still (λ rows. rows ≡ rows_of old.state) (store old.keeper).rows (store new.keeper).rows kept.rows same.rows in
       rw (same.first, same.state, same.log)
@@ -128,7 +128,7 @@ module _ {K : Type 0} (run : Inputs) (store : K → Store) (old new : TableState
         replay = kept.replay;
         notes_are = kept.notes_are;
         rows = rows;
-        name = IsAtMost-then run.store.name (store old.keeper).name (store new.keeper).name kept.name name;
+        tells_on = TellsOn-then run.store (store old.keeper) (store new.keeper) kept.tells_on tells_on;
         few_runs = kept.few_runs;
       })
 

@@ -1,5 +1,5 @@
 -- What a crash may leave in the store of a table.
-use Rattle.std.specs.Prelude.{◌≡◌, ◌⊎◌, ℕ, List, [], IfSome}
+use Rattle.std.specs.Prelude.{◌≡◌, ◌⊎◌, ℕ, List, [], IfSome, IsSome}
 use Rattle.wm_keeper.specs.Keeper.{changed}
 use Rattle.wm_keeper.specs.Store.{Store}
 use Rattle.wm_keeper.specs.declared.row.Change.{Change}
@@ -23,9 +23,9 @@ LeavesOnly rows store = (image : List Row) → store.images image → image ≡ 
 abbrev pub HoldsOnly : List Row → Store → Type 0
 HoldsOnly rows store = IfSome store.rows (λ told. told ≡ rows)
 
--- a crash now leaves what it could leave before, or these rows
+-- a crash now leaves what it could leave before, or, where rows were told, these
 abbrev pub LeavesBefore : List Row → Store → Store → Type 0
-LeavesBefore rows before now = (image : List Row) → now.images image → before.images image ⊎ (image ≡ rows)
+LeavesBefore rows before now = (image : List Row) → now.images image → before.images image ⊎ (IsSome before.rows × (image ≡ rows))
 
 -- a commit of these changes was made: where a crash left just the rows held, it leaves just those with the changes
 abbrev pub MakesImages : List Change → Store → Store → Type 0

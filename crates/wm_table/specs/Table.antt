@@ -1,8 +1,8 @@
 -- What the calls of the table do to the state, its log and the rows held.
-use Rattle.std.specs.Prelude.{◌≡◌, ◌⊎◌, ℕ, ℤ, ◌+◌, ◌≤◌, Bool, true, false, if◌then◌else◌, List, [], ◌∷◌, ◌++◌, length, Option, Some, None, IsSomeAnd, IfSome, Result, Ok, Err}
+use Rattle.std.specs.Prelude.{◌≡◌, ◌⊎◌, ℕ, ℤ, ◌+◌, ◌≤◌, Bool, true, false, if◌then◌else◌, List, [], ◌∷◌, ◌++◌, length, Option, Some, None, IsSomeAnd, IfSome, IsSome, Result, Ok, Err}
 use Rattle.wm_data.specs.declared.data.DataEntry.{DataEntry}
 use Rattle.wm_faults.specs.Faults as faults
-use Rattle.wm_keeper.specs.Store.{Store, IsAtMost}
+use Rattle.wm_keeper.specs.Store.{Store, IsAtMost, TellsOn}
 use Rattle.wm_keeper.specs.declared.row.Row.{Row}
 use Rattle.wm_machine.specs.First.{first_of}
 use Rattle.wm_machine.specs.Opened.{Opened}
@@ -113,11 +113,11 @@ BeginCause store keeper result = faults.HasCause (is_refused_by_keeper result) (
 abbrev pub LeavesOpened : {K : Type 0} → (K → Store) → List Row → K → TableState K → Type 0
 LeavesOpened store rows keeper table = LeavesOnly rows (store keeper) → LeavesOnly (rows_of table.first) (store table.keeper)
 
--- where it wasn't, a crash leaves what it could leave before, or what the opening would have left, which was being committed
+-- where it wasn't, a crash leaves what it could leave before, or, where rows were told, what the opening would have left, which was being committed
 abbrev pub LeavesUnopened : {K : Type 0} → (K → Store) → List Row → List Instance → K → K × BeginFault → Type 0
 LeavesUnopened store rows instances keeper (now, begin.Bad seq bad_row) = now ≡ keeper
 LeavesUnopened store rows instances keeper (now, _) =
-    (image : List Row) → (store now).images image → (store keeper).images image ⊎ WouldOpen rows instances image
+    (image : List Row) → (store now).images image → (store keeper).images image ⊎ (IsSome (store keeper).rows × WouldOpen rows instances image)
 
 -- ---- claim
 
@@ -234,5 +234,5 @@ pub record TableInvariant (run : Inputs) (first state : State) (log : List Event
   pub replay : Replay first log state
   pub notes_are : notes ≡ last_notes first log
   pub rows : HoldsRowsOf state store
-  pub name : IsAtMost run.store.name store.name
+  pub tells_on : TellsOn run.store store
   pub few_runs : state.next_run ≤ length log + 1

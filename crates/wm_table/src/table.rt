@@ -4,7 +4,7 @@ ghost use Rattle.std.specs.Option.{option_copied};
 ghost use Rattle.wm_collections.specs.Lists.{last_of};
 ghost use Rattle.wm_machine.specs.Outcome.{IsLegalLine};
 ghost use Rattle.wm_machine.specs.Narrow.{IsNarrow};
-ghost use Rattle.wm_keeper.specs.Store.{IsAtMost};
+ghost use Rattle.wm_keeper.specs.Store.{IsAtMost, TellsOn};
 ghost use Rattle.wm_machine.specs.Opened.{AreFresh, Opened};
 ghost use Rattle.wm_machine.specs.Quiet.{IsQuiet};
 ghost use Rattle.wm_machine.specs.Replay.{Replay};
@@ -217,13 +217,13 @@ impl<K: Keeper, M: Mark> Table<K, M> {
         requires instances { AreFresh instances }
         requires given_rows { rows.items ≡ M.inputs.rows }
         requires given_instances { instances ≡ M.inputs.instances }
-        requires given_name { IsAtMost M.inputs.store.name (K.store keeper).name }
+        requires given_store { TellsOn M.inputs.store (K.store keeper) }
         ensures opened { IfOk result (λ table. Opened rows.items instances table.first) }
         ensures sound { OnOk result (AreSound rows.items) }
         ensures state { IfOk result (λ table. table.state ≡ table.first) }
         ensures log { IfOk result (λ table. table.log ≡ []) }
         ensures held { IfOk result (λ table. HoldsRowsOf table.first (K.store table.keeper)) }
-        ensures name { IfOk result (λ table. IsAtMost (K.store keeper).name (K.store table.keeper).name) }
+        ensures tells_on { IfOk result (λ table. TellsOn (K.store keeper) (K.store table.keeper)) }
         ensures only_changed { IfOk result (λ table. rows_of table.first ≡ rows.items → table.keeper ≡ keeper) }
         ensures images { IfOk result (LeavesOpened K.store rows.items keeper) }
         ensures bad { IfErr result (λ refused. IsBeginFault rows.items refused.1) }
@@ -374,7 +374,7 @@ impl<K: Keeper, M: Mark> Table<K, M> {
         ensures narrow { IsNarrow result.last }
         ensures opened { Opened M.inputs.rows M.inputs.instances result.first }
         ensures rows { HoldsRowsOf result.last (K.store result.keeper) }
-        ensures name { IsAtMost M.inputs.store.name (K.store result.keeper).name }
+        ensures tells_on { TellsOn M.inputs.store (K.store result.keeper) }
     {
         let Table {
             alloc: _,

@@ -29,7 +29,7 @@ fn words(rt: &(impl Env + AllocGlobal)) -> Result<Vec<String>, AllocError> {
 
 /// Runs a script with these words and the stock workers, a few of each kind, whose classes are
 /// named as their kinds.
-fn run<S: Source, W: Sink + Send + Drop, K: Keeper + Drop>(
+fn run<S: Source, W: Sink + Send + Drop, K: Keeper + Send + Drop>(
     alloc: Global,
     words: &[String],
     source: &mut S,

@@ -3,7 +3,7 @@
 ghost use Rattle.std.specs.Prelude.{◌≡◌, ◌≢◌, ◌+◌, ◌^◌, ◌<◌, ◌≤◌, ◌∷◌, ◌++◌, [], length, map, take, vec_len, vec_capacity, Err, OnOk, OnErr};
 ghost use Rattle.std.specs.List.{AllByRecursion};
 ghost use Rattle.wm_keeper.specs.Keeper.{AreOfDifferentNumbers};
-ghost use Rattle.wm_keeper.specs.Store.{changed_rows, IsAtMost};
+ghost use Rattle.wm_keeper.specs.Store.{changed_rows, IsAtMost, TellsOn};
 ghost use Rattle.wm_machine.specs.Limits.{FitsRow};
 ghost use Rattle.wm_machine.specs.Retired.{with_retired};
 ghost use Rattle.wm_machine.specs.Rows.{rows_of};
@@ -307,7 +307,7 @@ pub(crate) fn commit<K: Keeper>(keeper: &mut K, changes: &[Change]) -> Result<()
     ensures images { OnOk result (MakesImages changes.now (K.store keeper.old) (K.store keeper.new)) }
     ensures images_err { OnErr result (KeepsImages changes.now (K.store keeper.old) (K.store keeper.new)) }
     ensures cause { TroubleCause result (K.store keeper.old).faults (K.store keeper.new).faults }
-    ensures name { IsAtMost (K.store keeper.old).name (K.store keeper.new).name }
+    ensures tells_on { TellsOn (K.store keeper.old) (K.store keeper.new) }
     ensures untouched_keeper { changes.now ≡ [] → keeper.new ≡ keeper.old }
     ensures no_keeper_fault { changes.now ≡ [] → result ≢ Err Trouble.KeeperFault }
 {
@@ -346,7 +346,7 @@ fn store<K: Keeper>(
     ensures images { OnOk result (MakesImages (row_changes change.now) (K.store keeper.old) (K.store keeper.new)) }
     ensures images_err { OnErr result (KeepsImages (row_changes change.now) (K.store keeper.old) (K.store keeper.new)) }
     ensures cause { TroubleCause result (K.store keeper.old).faults (K.store keeper.new).faults }
-    ensures name { IsAtMost (K.store keeper.old).name (K.store keeper.new).name }
+    ensures tells_on { TellsOn (K.store keeper.old) (K.store keeper.new) }
     ensures untouched_keeper { row_changes change.now ≡ [] → keeper.new ≡ keeper.old }
     ensures no_keeper_fault { row_changes change.now ≡ [] → result ≢ Err Trouble.KeeperFault }
 {
@@ -379,7 +379,7 @@ pub fn carry_out<K: Keeper>(
     ensures images_err { OnErr result (LeavesBefore (rows_of (changed_state change view.old)) (K.store keeper.old)
         (K.store keeper.new)) }
     ensures cause { TroubleCause result (K.store keeper.old).faults (K.store keeper.new).faults }
-    ensures name { IsAtMost (K.store keeper.old).name (K.store keeper.new).name }
+    ensures tells_on { TellsOn (K.store keeper.old) (K.store keeper.new) }
     ensures untouched_keeper { row_changes change ≡ [] → keeper.new ≡ keeper.old }
     ensures no_keeper_fault { row_changes change ≡ [] → result ≢ Err Trouble.KeeperFault }
 {

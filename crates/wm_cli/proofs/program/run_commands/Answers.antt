@@ -1,36 +1,32 @@
-use Rattle.std.proofs.Common.{◌≡◌, Some, Vec, Global, sym, subst}
+use Rattle.std.proofs.Common.{Some, Vec, Global, sym, subst, inl}
 use Rattle.wm_cli.proofs.RunEnds.{EarlyCause, EarlyCause-keeper, IsRunEnd-loaded, IsRunEnd-unbegun}
 use Rattle.wm_cli.proofs.RunImages.{unbegun-loaded}
-use Rattle.wm_keeper.proofs.Stores.{IfSome-still}
+use Rattle.wm_keeper.specs.Store.{told_before}
 use Rattle.wm_keeper.specs.declared.row.Row.{Row}
 use Rattle.wm_session.specs.Tells.{tells_of}
 use Rattle.wm_session.specs.declared.status.Status.TheVariants as status
 use Rattle.wm_cli.proofs.program.run_commands.Goals as goal
-
-pub run_loaded-requires-clause-rows : goal.run_loaded-requires-clause-rows
-run_loaded-requires-clause-rows g c =
-    let rows = c.in-Ok.rows.items in
-    IfSome-still (λ held. rows ≡ held) (g.K.Keeper.store c.args.keeper).rows (g.K.Keeper.store c.load.new.self).rows c.in-Ok.ensures.rows
-    c.load.ensures.kept.rows
 
 pub returns-in-Err : goal.returns-in-Err
 returns-in-Err g c =
     let tells = tells_of g.K.Keeper.store g.W.Sink.given g.W.Sink.faults g.B.Worker.kind_of g.B.Worker.diary_of in
     let before = tells.store c.args.keeper in
     let now = tells.store c.load.new.self in
-    IsRunEnd-unbegun tells c.args.commands c.from.result c.args.hands (Some c.args.store.now) before.rows c.args.keeper c.load.new.self c.args.sink
+    let held = told_before before.rows (tells.store c.before_begin.result.keeper).rows in
+    IsRunEnd-unbegun tells c.args.commands c.from.result c.args.hands (Some c.args.store.now) held before.rows c.args.keeper c.load.new.self c.args.sink
     c.before_begin.result c.before_begin.ensures c.requires.askable c.load.ensures.kept.rows
-    (subst (λ why. EarlyCause why before.faults now.faults before.rows) (sym c.from.ensures)
-    (EarlyCause-keeper (Vec Row Global) c.in-Err.fault before.faults now.faults before.rows c.in-Err.ensures.cause))
-    (unbegun-loaded c.from.result _ before now c.load.ensures.kept)
+    (subst (λ why. EarlyCause why before.faults now.faults held) (sym c.from.ensures)
+    (EarlyCause-keeper (Vec Row Global) c.in-Err.fault before.faults now.faults held c.in-Err.ensures.cause))
+    (unbegun-loaded c.from.result _ before now c.load.ensures.kept) (λ image left. inl (c.load.ensures.kept.images image left))
 
 pub returns-in_default : goal.returns-in_default
 returns-in_default g c =
     let tells = tells_of g.K.Keeper.store g.W.Sink.given g.W.Sink.faults g.B.Worker.kind_of g.B.Worker.diary_of in
     let unbegun = c.before_begin-in_default in
-    IsRunEnd-unbegun tells c.args.commands status.Memory c.args.hands (Some c.args.store.now) (tells.store c.args.keeper).rows c.args.keeper c.load.new.self
-    c.args.sink unbegun.result unbegun.ensures c.requires.askable c.load.ensures.kept.rows tt
-    (unbegun-loaded status.Memory _ (tells.store c.args.keeper) (tells.store c.load.new.self) c.load.ensures.kept)
+    let before = tells.store c.args.keeper in
+    IsRunEnd-unbegun tells c.args.commands status.Memory c.args.hands (Some c.args.store.now)
+    (told_before before.rows (tells.store unbegun.result.keeper).rows) before.rows c.args.keeper c.load.new.self c.args.sink unbegun.result unbegun.ensures c.requires.askable c.load.ensures.kept.rows tt
+    (unbegun-loaded status.Memory _ before (tells.store c.load.new.self) c.load.ensures.kept) (λ image left. inl (c.load.ensures.kept.images image left))
 
 pub returns : goal.returns
 returns g c =

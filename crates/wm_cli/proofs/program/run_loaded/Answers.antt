@@ -2,9 +2,8 @@ use Rattle.std.proofs.Common.{◌≤◌, length, Some, sym, ◌∙◌, subst, ru
 use Rattle.wm_bench.specs.Places.{most_hands}
 use Rattle.wm_cli.proofs.Hands.{AreFresh-instances_from}
 use Rattle.wm_cli.proofs.RunEnds.{EarlyCause, EarlyCause-begin, IsRunEnd-begun, IsRunEnd-unbegun}
-use Rattle.wm_cli.proofs.RunImages.{unbegun-opened}
-use Rattle.wm_keeper.proofs.Stores.{IsAtMost-same}
-use Rattle.wm_keeper.specs.Store.{IsAtMost}
+use Rattle.wm_cli.proofs.RunImages.{unbegun-opened, unopened-leaves}
+use Rattle.wm_keeper.proofs.Stores.{TellsOn-same, TellsOn-then}
 use Rattle.wm_machine.specs.Opened.{AreFresh, Opened}
 use Rattle.wm_rows.specs.Sound.{AreSound}
 use Rattle.wm_session.specs.Tells.{tells_of}
@@ -15,10 +14,8 @@ begin-requires-clause-instances g c =
     let few : length c.args.hands.items ≤ most_hands = search rules in
     subst AreFresh (sym c.requires.instances) (AreFresh-instances_from g.B.Worker.kind_of c.args.hands.items few)
 
-pub begin-requires-clause-given_name : goal.begin-requires-clause-given_name
-begin-requires-clause-given_name g c =
-    let name = (g.K.Keeper.store c.args.keeper).name in
-    subst (λ given. IsAtMost given name) c.requires.inputs.name (IsAtMost-same name)
+pub begin-requires-clause-given_store : goal.begin-requires-clause-given_store
+begin-requires-clause-given_store g c = TellsOn-same g.M.Mark.inputs.store (g.K.Keeper.store c.args.keeper) c.requires.inputs.told c.requires.inputs.name
 
 pub run_begun-requires-clause-begun : goal.run_begun-requires-clause-begun
 run_begun-requires-clause-begun g c =
@@ -33,7 +30,8 @@ run_begun-requires-clause-begun g c =
       state = begun.state;
       log = begun.log;
       rows = begun.held;
-      name = subst (λ name. IsAtMost name (g.K.Keeper.store table.keeper).name) given.name begun.name;
+      tells_on = TellsOn-then run.store (g.K.Keeper.store c.args.keeper) (g.K.Keeper.store table.keeper)
+          (TellsOn-same run.store (g.K.Keeper.store c.args.keeper) given.told given.name) begun.tells_on;
       no_fault = begun.cause ∙ given.faults;
       images = λ only. begun.images (λ image left. only image ((given.images image).0 left) ∙ sym given.rows_are);
     }
@@ -44,7 +42,8 @@ returns-in-Ok g c =
     let given = c.requires.inputs in
     rw (given.rows_are)
     (IsRunEnd-begun tells g.M.Mark.inputs c.args.commands c.args.hands.items c.args.keeper c.args.sink c.run_begun.result c.run_begun.ensures
-    (sym given.lines_are) (sym given.instances_are ∙ c.requires.instances) (sym given.written) (sym given.sink_faults) (sym given.faults) (sym given.name)
+    (sym given.lines_are) (sym given.instances_are ∙ c.requires.instances) (sym given.written) (sym given.sink_faults) (sym given.faults)
+    (sym given.told) (sym given.name)
     (λ image left. (given.images image).1 left) (subst AreSound given.rows_are c.in-Ok.ensures.sound))
 
 pub returns-in-Err : goal.returns-in-Err
@@ -54,10 +53,12 @@ returns-in-Err g c =
     let rows = c.args.rows.items in
     let before = (tells.store c.args.keeper).faults in
     let now = (tells.store refused.0).faults in
-    IsRunEnd-unbegun tells c.args.commands c.from.result c.args.hands (tells.store c.args.keeper).name (Some rows) c.args.keeper refused.0 c.args.sink
+    IsRunEnd-unbegun tells c.args.commands c.from.result c.args.hands (tells.store c.args.keeper).name (Some rows) (Some rows) c.args.keeper refused.0
+    c.args.sink
     c.before_begin.result c.before_begin.ensures c.requires.askable c.in-Err.ensures.kept
     (subst (λ why. EarlyCause why before now (Some rows)) (sym c.from.ensures)
     (EarlyCause-begin tells.store c.args.keeper rows refused c.in-Err.ensures.bad c.in-Err.ensures.cause))
     (λ alone.
     rw (c.from.ensures, ← c.requires.instances)
     (unbegun-opened tells.store rows c.args.instances c.args.keeper refused c.in-Err.ensures.images_err alone))
+    (unopened-leaves tells.store rows c.args.instances c.args.keeper refused c.in-Err.ensures.images_err)

@@ -29,7 +29,7 @@ returns-clause-session g c =
           wrote.result kept
           last.ensures.first last.ensures.log wrote.ensures.told wrote.ensures.all ends;
       rows = last.ensures.rows;
-      name = last.ensures.name;
+      tells_on = last.ensures.tells_on;
       keeper_fault = keeper_fault-ends stop wrote.result ended run.store.faults keeper_now run.sink_faults before ends cause;
       sink_fault = sink_fault-ends stop wrote.result ended run.store.faults keeper_now run.sink_faults before (g.W.Sink.faults wrote.new.sink) ends
           cause wrote.ensures.cause kept.sink_later;

@@ -31,7 +31,7 @@ invariant_of-self g c =
     (λ e. e ≡ c.args.change.event) i.notes c.self.invariant
     (refused-step g.K.Keeper.store old c.args.change c.carry_out.new.view c.carry_out.new.log c.carry_out.new.keeper is refused.view_err refused.log_err
     refused.rows_err refused.images_err)
-    c.carry_out.ensures.name
+    c.carry_out.ensures.tells_on
 
 pub invariant_of-self-2 : goal.invariant_of-self-2
 invariant_of-self-2 g c =
@@ -45,7 +45,7 @@ invariant_of-self-2 g c =
     kept-step g.M.Mark.inputs g.K.Keeper.store old new c.args.change.event i.notes c.in_ok-notes.notes c.self.invariant
     (made-step g.K.Keeper.store old c.args.change new.state new.log new.keeper is done.view done.log done.rows done.images)
     (c.in_ok-notes.ensures ∙ ap (notes_between i.view) (sym done.view))
-    (subst (λ (s : State). s.next_run ≤ i.view.next_run + 1) (sym done.view) (next_run-changed i.view c.args.change)) c.carry_out.ensures.name
+    (subst (λ (s : State). s.next_run ≤ i.view.next_run + 1) (sym done.view) (next_run-changed i.view c.args.change)) c.carry_out.ensures.tells_on
 
 pub returns-clause-ok : goal.returns-clause-ok
 returns-clause-ok g c =

@@ -1,0 +1,118 @@
+-- Where a connection rests once a transaction is over.
+use Rattle.sqlite.specs.Effect.{Database}
+use Rattle.sqlite.specs.Held.{Held, state}
+use Rattle.sqlite.specs.State.{IsRolledBack, Shows}
+use Rattle.sqlite.specs.Steps.{FailsToCommit}
+use Rattle.sqlite.specs.declared.error.Error.{Error}
+use Rattle.sqlite_trees.specs.View.{doubt}
+use Rattle.sqlite_trees.specs.declared.store.Store.{Ghosts}
+use Rattle.std.proofs.Common.{◌≡◌, Bool, true, false, List, Result, Ok, Err, IsTrue, IfOk, IfErr, OnOk, OnErr, refl, sym, ap, ◌∙◌, inl, inr, true≢false}
+use Rattle.wm_keeper.specs.declared.row.Row.{Row}
+use Rattle.wm_sqlite.specs.Resting.{Holds, Rests, RestsEmpty, RestsWith}
+use Rattle.wm_sqlite.specs.Standing.{Stands, StandsEmpty}
+
+-- ---- answers
+
+pub on_err : {T E P : Type 0} (r : Result T E) → P → OnErr r P
+on_err (Ok x) p = tt
+on_err (Err e) p = p
+
+pub on_err_map : {T E P Q : Type 0} (r : Result T E) → OnErr r P → (P → Q) → OnErr r Q
+on_err_map (Ok x) p f = tt
+on_err_map (Err e) p f = f p
+
+pub on_ok_then : {T E P Q : Type 0} (r : Result T E) → OnOk r P → (P → Q) → OnOk r Q
+on_ok_then (Ok x) p f = f p
+on_ok_then (Err e) p f = tt
+
+pub if_ok_then : {T E : Type 0} (P Q : T → Type 0) (r : Result T E) → IfOk r P → ((x : T) → P x → Q x) → IfOk r Q
+if_ok_then P Q (Ok x) p f = f x p
+if_ok_then P Q (Err e) p f = tt
+
+pub on_err_then : {T E Q : Type 0} (P : E → Type 0) (r : Result T E) → IfErr r P → ((e : E) → P e → Q) → OnErr r Q
+on_err_then P (Ok x) p f = tt
+on_err_then P (Err e) p f = f e p
+
+-- ---- a disk
+
+-- a store is shut as soon as its disk returned something else than was written
+pub open-clean : (clean open_now : Bool) → (clean ≡ false → open_now ≡ false) → IsTrue open_now → doubt clean ≡ 0
+unfolding doubt
+open-clean true open_now shut up = refl
+open-clean false open_now shut up = absurd (true≢false (sym up ∙ shut refl))
+
+-- ---- transactions
+
+module _ {A : Type 0} (g : Ghosts A) where
+  -- a transaction begins where the connection rests
+  pub begins-empty : (old : Held A) → RestsEmpty g old → StandsEmpty g (state g old).committed (record old { in_transaction = true })
+  begins-empty old rests = record { is_open = rests.is_open; mode = refl; schema = rests.schema; origin = refl }
+
+  pub begins : (old : Held A) → Rests g old → Stands g (state g old).committed ((state g old).now.trees 0) (record old { in_transaction = true })
+  begins old rests = record { is_open = rests.is_open; mode = refl; schema = rests.schema; table_is = refl; origin = refl }
+
+  pub begins-with : (rows : List Row) (old : Held A) → RestsWith g rows old → Holds g (state g old).committed rows (record old { in_transaction = true })
+  begins-with rows old with = record {
+    table = (state g old).now.trees 0;
+    stands = begins old with.rests;
+    listed = with.listed;
+    held = with.held;
+  }
+
+  -- and where it is undone it rests there again
+  pub undoes-empty : (first old new : Held A) → RestsEmpty g first → (state g old).committed ≡ (state g first).committed → IsTrue (state g new).is_open
+      → IsRolledBack (state g old) (state g new) → RestsEmpty g new
+  undoes-empty first old new rests same up back =
+      let now : (state g new).now ≡ (state g first).committed = (back.undone up).0 ∙ same in
+      let committed : (state g new).committed ≡ (state g first).committed = (back.undone up).1 ∙ same in
+      record {
+        is_open = up;
+        mode = back.autocommit;
+        schema = ap (λ (d : Database). d.schema) (now ∙ sym rests.settled) ∙ rests.schema;
+        settled = now ∙ sym committed;
+      }
+
+  pub undoes : (first old new : Held A) → Rests g first → (state g old).committed ≡ (state g first).committed → IsTrue (state g new).is_open
+      → IsRolledBack (state g old) (state g new) → Rests g new × ((state g new).now.trees 0 ≡ (state g first).now.trees 0)
+  undoes first old new rests same up back =
+      let now : (state g new).now ≡ (state g first).committed = (back.undone up).0 ∙ same in
+      let committed : (state g new).committed ≡ (state g first).committed = (back.undone up).1 ∙ same in
+      let again : (state g new).now ≡ (state g first).now = now ∙ sym rests.settled in (
+        record {
+          is_open = up;
+          mode = back.autocommit;
+          schema = ap (λ (d : Database). d.schema) again ∙ rests.schema;
+          settled = now ∙ sym committed;
+        },
+        ap (λ (d : Database). d.trees 0) again,
+      )
+
+  pub undoes-with : (rows : List Row) (first old new : Held A) → RestsWith g rows first → (state g old).committed ≡ (state g first).committed
+      → IsTrue (state g new).is_open → IsRolledBack (state g old) (state g new) → RestsWith g rows new
+  undoes-with rows first old new with same up back =
+      let again = undoes first old new with.rests same up back in
+      record { rests = again.0; listed = rw again.1 with.listed; held = rw again.1 with.held }
+
+  -- a commit that fails undoes its transaction
+  pub fails-back : (old new : Held A) (e : Error) → (state g old).in_transaction ≡ true → FailsToCommit (state g old) (state g new) e
+      → IsRolledBack (state g old) (state g new)
+  fails-back old new e mode why = elim why [
+    | inl failed ↦ failed.3
+    | inr outside ↦ absurd (true≢false (sym mode ∙ outside.1))
+  ]
+
+  -- one that is made rests at what the transaction saw
+  pub commits-with : (base : Database) (rows : List Row) (old new : Held A) → Holds g base rows old
+      → Shows (state g old) (state g new) (state g old).now (state g old).now false → RestsWith g rows new
+  commits-with base rows old new holds shown =
+      let trees : (state g new).now.trees 0 ≡ holds.table = ap (λ (d : Database). d.trees 0) shown.now_is ∙ holds.stands.table_is in
+      record {
+        rests = record {
+          is_open = shown.is_open;
+          mode = shown.mode;
+          schema = ap (λ (d : Database). d.schema) shown.now_is ∙ holds.stands.schema;
+          settled = shown.now_is ∙ sym shown.committed_is;
+        };
+        listed = rw trees holds.listed;
+        held = rw trees holds.held;
+      }

@@ -1,0 +1,35 @@
+use Rattle.wm_sqlite.proofs.statements.run_insert.Goals as goal
+
+pub returns-clause-runs : goal.returns-clause-runs
+returns-clause-runs g c clean mode =
+    rw (
+      c.params-to_sql.ensures,
+      c.params-to_sql-2.ensures,
+      c.params-to_sql-3.ensures,
+      c.params-to_sql-4.ensures,
+      c.params-to_sql-5.ensures,
+      c.params-to_sql-6.ensures,
+      c.params-to_sql-7.ensures,
+      c.params-to_sql-8.ensures,
+      c.params-to_sql-9.ensures,
+      c.params-to_sql-10.ensures,
+      c.params-to_sql-11.ensures,
+      c.params-to_sql-12.ensures,
+      c.params-to_sql-13.ensures,
+      c.params-to_sql-14.ensures,
+      c.params-to_sql-15.ensures,
+      c.params-to_sql-16.ensures,
+      c.params-to_sql-17.ensures,
+      c.params-to_sql-18.ensures,
+      c.params-to_sql-19.ensures,
+      c.params-to_sql-20.ensures,
+      c.params-to_sql-21.ensures,
+      c.params-to_sql-22.ensures,
+      c.params-to_sql-23.ensures,
+      c.params-to_sql-24.ensures,
+      c.as_slice.ensures,
+      c.name_of.ensures,
+      c.as_str.ensures,
+      c.as_str-2.ensures,
+      c.as_str-3.ensures,
+    ) at (c.execute.ensures.runs clean mode)
