@@ -6,9 +6,9 @@ use Rattle.sqlite_resolve.specs.declared.compiled.Compiled.{Compiled}
 use Rattle.sqlite_schema.specs.declared.command.Returning.{Returning}
 use Rattle.sqlite_trees.specs.declared.store.Store.{Ghosts}
 use Rattle.sqlite_value.specs.Order.{Row}
-use Rattle.std.proofs.Common.{◌≡◌, ◌⊎◌, ℕ, Bool, true, false, List, Option, Some, None, Result, Ok, Err, Vec, IsTrue, IfOk, IfErr, refl, subst, inl, inr}
+use Rattle.std.proofs.Common.{◌≡◌, ◌⊎◌, ℕ, Bool, true, false, List, Option, Some, None, Result, Ok, Err, Vec, IsTrue, IfOk, IfErr, refl, subst}
 use Rattle.std.specs.declared.alloc.Global.{Global}
-use Rattle.wm_sqlite.proofs.TextTurns.{left-open, unread}
+use Rattle.wm_sqlite.proofs.TextTurns.{left-open, refused, unread}
 
 module _ (old new : State) (sql : List ℕ) (params : Row) where
   shown : (c : Compiled) (given : Row) (rows : List Row) (returning : Option Returning) → ShowsRows old new sql c given rows returning → IsTrue old.is_open
@@ -27,10 +27,7 @@ module _ (old new : State) (sql : List ℕ) (params : Row) where
 
   inside-open : (r : Result ℕ Error) → ExecutesInside 0 sql params old new r → IsTrue new.is_open → IsTrue old.is_open
   inside-open (Ok count) ran up = ran.1.was_open
-  inside-open (Err e) ran up = elim ran [
-    | inl run ↦ left-open old new run.1 up
-    | inr ended ↦ ended.2.0.was_open
-  ]
+  inside-open (Err e) ran up = left-open old new (refused old new sql params e ran) up
 
 -- a statement that ran, or came too late
 pub ran-open : {A : Type 0} (g : Ghosts A) (old new : Held A) (sql : List ℕ) (params : Row) (r : Result ℕ Error)

@@ -6,7 +6,8 @@ use Rattle.sqlite.specs.Steps.{FailsToCommit}
 use Rattle.sqlite.specs.declared.error.Error.{Error}
 use Rattle.sqlite_trees.specs.View.{doubt}
 use Rattle.sqlite_trees.specs.declared.store.Store.{Ghosts}
-use Rattle.std.proofs.Common.{◌≡◌, Bool, true, false, List, Result, Ok, Err, IsTrue, IfOk, IfErr, OnOk, OnErr, refl, sym, ap, ◌∙◌, inl, inr, true≢false}
+use Rattle.sqlite_value.specs.Order.{Row as Cells}
+use Rattle.std.proofs.Common.{◌≡◌, ◌≤◌, ℕ, Bool, true, false, List, Result, Ok, Err, IsTrue, IfOk, IfErr, OnOk, OnErr, refl, sym, ap, ◌∙◌, inl, inr, true≢false, arith}
 use Rattle.wm_keeper.specs.declared.row.Row.{Row}
 use Rattle.wm_sqlite.specs.Resting.{Holds, Rests, RestsEmpty, RestsWith}
 use Rattle.wm_sqlite.specs.Standing.{Stands, StandsEmpty}
@@ -20,6 +21,20 @@ on_err (Err e) p = p
 pub on_err_map : {T E P Q : Type 0} (r : Result T E) → OnErr r P → (P → Q) → OnErr r Q
 on_err_map (Ok x) p f = tt
 on_err_map (Err e) p f = f p
+
+-- what holds whatever is answered
+pub by_answer : {T E P Q R : Type 0} (r : Result T E) → OnOk r P → OnErr r Q → (P → R) → (Q → R) → R
+by_answer (Ok x) p q f g = f p
+by_answer (Err e) p q f g = g q
+
+-- what is known of an answer as long as C holds
+pub on_ok_given : {T E C P Q : Type 0} (r : Result T E) → (C → OnOk r P) → ((C → P) → Q) → OnOk r Q
+on_ok_given (Ok x) p f = f p
+on_ok_given (Err e) p f = tt
+
+pub on_err_given : {T E C D P Q : Type 0} (r : Result T E) → (C → D → OnErr r P) → ((C → D → P) → Q) → OnErr r Q
+on_err_given (Ok x) p f = tt
+on_err_given (Err e) p f = f p
 
 pub on_ok_then : {T E P Q : Type 0} (r : Result T E) → OnOk r P → (P → Q) → OnOk r Q
 on_ok_then (Ok x) p f = f p
@@ -40,6 +55,10 @@ pub open-clean : (clean open_now : Bool) → (clean ≡ false → open_now ≡ f
 unfolding doubt
 open-clean true open_now shut up = refl
 open-clean false open_now shut up = absurd (true≢false (sym up ∙ shut refl))
+
+-- so what it returns is what was written as long as that is so later
+pub was-clean : {n m : ℕ} → n ≤ m → m ≡ 0 → n ≡ 0
+was-clean below is = omega (arith, below, is)
 
 -- ---- transactions
 
@@ -102,17 +121,20 @@ module _ {A : Type 0} (g : Ghosts A) where
   ]
 
   -- one that is made rests at what the transaction saw
+  pub commits : (base : Database) (table : List Cells) (old new : Held A) → Stands g base table old
+      → Shows (state g old) (state g new) (state g old).now (state g old).now false → Rests g new × ((state g new).now.trees 0 ≡ table)
+  commits base table old new stands shown = (
+    record {
+      is_open = shown.is_open;
+      mode = shown.mode;
+      schema = ap (λ (d : Database). d.schema) shown.now_is ∙ stands.schema;
+      settled = shown.now_is ∙ sym shown.committed_is;
+    },
+    ap (λ (d : Database). d.trees 0) shown.now_is ∙ stands.table_is,
+  )
+
   pub commits-with : (base : Database) (rows : List Row) (old new : Held A) → Holds g base rows old
       → Shows (state g old) (state g new) (state g old).now (state g old).now false → RestsWith g rows new
   commits-with base rows old new holds shown =
-      let trees : (state g new).now.trees 0 ≡ holds.table = ap (λ (d : Database). d.trees 0) shown.now_is ∙ holds.stands.table_is in
-      record {
-        rests = record {
-          is_open = shown.is_open;
-          mode = shown.mode;
-          schema = ap (λ (d : Database). d.schema) shown.now_is ∙ holds.stands.schema;
-          settled = shown.now_is ∙ sym shown.committed_is;
-        };
-        listed = rw trees holds.listed;
-        held = rw trees holds.held;
-      }
+      let made = commits base holds.table old new holds.stands shown in
+      record { rests = made.0; listed = rw made.1 holds.listed; held = rw made.1 holds.held }

@@ -35,6 +35,11 @@ module _ (old new : State) where
   left-committed (inr back) up = (back.undone up).1
 
   module _ (sql : List ℕ) (params : Row) (e : Error) where
+    -- a statement that is refused
+    pub refused : ExecutesInside 0 sql params old new (Err e) → IsLeft
+    refused (inl ran) = ran.1
+    refused (inr ended) = inl ended.2
+
     -- a text that isn't run
     pub unrun : IsNotRun old new sql params e → IsLeft
     unfolding IsNotRun
@@ -72,6 +77,18 @@ module _ {A : Type 0} (g : Ghosts A) (old new : Held A) where
       → ((state g new).now.schema ≡ work_schema) × ((state g new).now.trees 0 ≡ table) → Stands g base table new
   written base table origin shown did =
       record { is_open = shown.is_open; mode = shown.mode; schema = did.0; table_is = did.1; origin = shown.committed_is ∙ origin }
+
+  module _ (sql : List ℕ) (params : Row) where
+    -- one that is refused commits nothing
+    pub refuses : (r : Result ℕ Error) → (IsTrue (state g old).in_transaction → ExecutesInside 0 sql params (state g old) (state g new) r)
+        → IsTrue (state g new).is_open → OnErr r ((base : Database) (table : List Row) → Stands g base table old → (state g new).committed ≡ base)
+    refuses (Ok count) runs up = tt
+    refuses (Err e) runs up = λ base table s. left-committed (state g old) (state g new) (refused (state g old) (state g new) sql params e (runs s.mode)) up ∙ s.origin
+
+    pub refuses-empty : (r : Result ℕ Error) → (IsTrue (state g old).in_transaction → ExecutesInside 0 sql params (state g old) (state g new) r)
+        → IsTrue (state g new).is_open → OnErr r ((base : Database) → StandsEmpty g base old → (state g new).committed ≡ base)
+    refuses-empty (Ok count) runs up = tt
+    refuses-empty (Err e) runs up = λ base s. left-committed (state g old) (state g new) (refused (state g old) (state g new) sql params e (runs s.mode)) up ∙ s.origin
 
   -- CREATE makes the table, with no row
   pub makes_table : (r : Result ℕ Error) → (IsTrue (state g old).in_transaction → ExecutesInside 0 create_text [] (state g old) (state g new) r)

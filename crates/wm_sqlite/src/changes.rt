@@ -2,13 +2,13 @@
 ghost use Rattle.sqlite.specs.Held.{state};
 ghost use Rattle.sqlite.specs.State.{HasCleanDisk, Survives};
 ghost use Rattle.sqlite_trees.specs.Tree.{Trees};
-ghost use Rattle.std.specs.Prelude.{◌≡◌, ◌⊎◌, [], ◌∷◌, false, List, IsTrue, OnOk, OnErr};
-ghost use Rattle.wm_keeper.specs.Keeper.{put_row, remove_row};
+ghost use Rattle.std.specs.Prelude.{◌≡◌, ◌⊎◌, [], ◌∷◌, false, string_bytes, List, IsTrue, OnOk, OnErr};
+ghost use Rattle.wm_keeper.specs.Keeper.{put_row};
 ghost use Rattle.wm_keeper.specs.declared.row.Row.{Row};
-ghost use Rattle.wm_sqlite.specs.Held.{added, held_in, removed};
+ghost use Rattle.wm_sqlite.specs.Held.{added, held_in, removed, stored, IsStored};
 ghost use Rattle.wm_sqlite.specs.Resting.{with_changes, Leaves, Makes, RestsWith, WasOpen};
 
-use crate::columns::{prior_bytes, tags_text};
+use crate::columns::list_columns;
 use crate::statements::{check_open, delete_row, insert_row};
 use sqlite::{Alter, Connection, Error, Transaction};
 use std::alloc::Global;
@@ -80,30 +80,21 @@ fn remove_rows<A: Alter>(
     Ok(())
 }
 
-/// Deletes the row whose number is removed, if there is one.
-fn remove_row<A: Alter>(transaction: &mut Transaction<'_, A>, change: &Change) -> Result<(), Error>
+/// Deletes the row whose number is removed, if there is one, and answers how many it deleted.
+fn remove_row<A: Alter>(
+    transaction: &mut Transaction<'_, A>,
+    change: &Change,
+) -> Result<usize, Error>
     ensures same_reference { transaction.new.conn.ghost_name ≡ transaction.old.conn.ghost_name }
     ensures ok { OnOk result (Makes A.Store (removed (change.now ∷ [])) transaction.old.conn.now transaction.new.conn.now) }
     ensures err { OnErr result (Leaves A.Store transaction.old.conn.now transaction.new.conn.now) }
     ensures survives { Survives (state A.Store transaction.old.conn.now) (state A.Store transaction.new.conn.now) (λ _. ⊥) }
     ensures was_open { WasOpen A.Store transaction.old.conn.now transaction.new.conn.now }
 {
-    if let Change::Remove(seq) = change {
-        remove_number(transaction, seq)?;
+    match change {
+        Change::Remove(seq) => delete_row(transaction, seq),
+        Change::Put(_) => Ok(0),
     }
-    Ok(())
-}
-
-/// Deletes the row of this number, if there is one.
-fn remove_number<A: Alter>(transaction: &mut Transaction<'_, A>, seq: &i64) -> Result<(), Error>
-    ensures same_reference { transaction.new.conn.ghost_name ≡ transaction.old.conn.ghost_name }
-    ensures ok { OnOk result (Makes A.Store (remove_row seq.now) transaction.old.conn.now transaction.new.conn.now) }
-    ensures err { OnErr result (Leaves A.Store transaction.old.conn.now transaction.new.conn.now) }
-    ensures survives { Survives (state A.Store transaction.old.conn.now) (state A.Store transaction.new.conn.now) (λ _. ⊥) }
-    ensures was_open { WasOpen A.Store transaction.old.conn.now transaction.new.conn.now }
-{
-    delete_row(transaction, seq)?;
-    Ok(())
 }
 
 /// Puts the rows that are put.
@@ -124,22 +115,22 @@ fn put_rows<A: Alter>(
     Ok(())
 }
 
-/// Puts the row that is put.
+/// Puts the row that is put, and answers how many it inserted.
 fn put_row<A: Alter>(
     transaction: &mut Transaction<'_, A>,
     alloc: Global,
     change: &Change,
-) -> Result<(), Error>
+) -> Result<usize, Error>
     ensures same_reference { transaction.new.conn.ghost_name ≡ transaction.old.conn.ghost_name }
     ensures ok { OnOk result (Makes A.Store (added (change.now ∷ [])) transaction.old.conn.now transaction.new.conn.now) }
     ensures err { OnErr result (Leaves A.Store transaction.old.conn.now transaction.new.conn.now) }
     ensures survives { Survives (state A.Store transaction.old.conn.now) (state A.Store transaction.new.conn.now) (λ _. ⊥) }
     ensures was_open { WasOpen A.Store transaction.old.conn.now transaction.new.conn.now }
 {
-    if let Change::Put(row) = change {
-        replace_row(transaction, alloc, row)?;
+    match change {
+        Change::Put(row) => replace_row(transaction, alloc, row),
+        Change::Remove(_) => Ok(0),
     }
-    Ok(())
 }
 
 /// Puts a row in place of any under its number.
@@ -147,16 +138,31 @@ fn replace_row<A: Alter>(
     transaction: &mut Transaction<'_, A>,
     alloc: Global,
     row: &Row,
-) -> Result<(), Error>
+) -> Result<usize, Error>
     ensures same_reference { transaction.new.conn.ghost_name ≡ transaction.old.conn.ghost_name }
     ensures ok { OnOk result (Makes A.Store (put_row row.now) transaction.old.conn.now transaction.new.conn.now) }
     ensures err { OnErr result (Leaves A.Store transaction.old.conn.now transaction.new.conn.now) }
     ensures survives { Survives (state A.Store transaction.old.conn.now) (state A.Store transaction.new.conn.now) (λ _. ⊥) }
     ensures was_open { WasOpen A.Store transaction.old.conn.now transaction.new.conn.now }
 {
-    let prior = prior_bytes(alloc, row.prior.as_slice())?;
-    let tags = tags_text(alloc, row.tags.as_slice())?;
+    let lists = list_columns(alloc, row)?;
+    replace_stored(transaction, row, &lists.prior, &lists.tags)
+}
+
+/// Puts a row, whose lists are written as these, in place of any under its number.
+fn replace_stored<A: Alter>(
+    transaction: &mut Transaction<'_, A>,
+    row: &Row,
+    prior: &Vec<u8>,
+    tags: &String,
+) -> Result<usize, Error>
+    requires { IsStored row.now (stored row.now prior.now.items (string_bytes tags.now)) }
+    ensures same_reference { transaction.new.conn.ghost_name ≡ transaction.old.conn.ghost_name }
+    ensures ok { OnOk result (Makes A.Store (put_row row.now) transaction.old.conn.now transaction.new.conn.now) }
+    ensures err { OnErr result (Leaves A.Store transaction.old.conn.now transaction.new.conn.now) }
+    ensures survives { Survives (state A.Store transaction.old.conn.now) (state A.Store transaction.new.conn.now) (λ _. ⊥) }
+    ensures was_open { WasOpen A.Store transaction.old.conn.now transaction.new.conn.now }
+{
     delete_row(transaction, &row.seq)?;
-    insert_row(transaction, row, &prior, &tags)?;
-    Ok(())
+    insert_row(transaction, row, prior, tags)
 }

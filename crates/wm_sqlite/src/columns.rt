@@ -3,14 +3,32 @@ ghost use Rattle.serde_json.specs.Data.{array, string};
 ghost use Rattle.serde_json.specs.View.{items_of, items_view, view};
 ghost use Rattle.std.specs.Prelude.{◌≡◌, ℤ, List, [], ◌∷◌, ◌++◌, Some, IfOk, OnOk, map, string_bytes};
 ghost use Rattle.wm_sqlite.specs.Columns.{prior_in, tags_in, texts_in, texts_of};
+ghost use Rattle.wm_sqlite.specs.Held.{stored, IsStored};
 
 use serde_json::{Value, push};
 use std::alloc::{AllocError, Global};
 use wm_collections::{Items, Text};
+use wm_keeper::Row;
+
+/// The lists of a row as their columns hold them.
+#[derive(Drop)]
+pub(crate) struct ListColumns {
+    pub(crate) prior: Vec<u8>,
+    pub(crate) tags: String,
+}
+
+/// The columns of the lists of a row.
+pub(crate) fn list_columns(alloc: Global, row: &Row) -> Result<ListColumns, AllocError>
+    ensures { IfOk result (λ lists. IsStored row.now (stored row.now lists.prior.items (string_bytes lists.tags))) }
+{
+    let prior = prior_bytes(alloc, row.prior.as_slice())?;
+    let tags = tags_text(alloc, row.tags.as_slice())?;
+    Ok(ListColumns { prior, tags })
+}
 
 /// The bytes of a column `prior`: of each number eight, in two's complement, the most significant
 /// first.
-pub(crate) fn prior_bytes(alloc: Global, numbers: &[i64]) -> Result<Vec<u8>, AllocError>
+fn prior_bytes(alloc: Global, numbers: &[i64]) -> Result<Vec<u8>, AllocError>
     ensures { IfOk result (λ bytes. prior_in bytes.items ≡ Some numbers.now) }
 {
     let mut bytes = Vec::new(alloc);
@@ -44,7 +62,7 @@ pub(crate) fn prior_in(alloc: Global, bytes: &[u8]) -> Result<Option<Items<i64>>
 }
 
 /// The text of a column `tags`: a JSON list of them, in its compact spelling.
-pub(crate) fn tags_text(alloc: Global, tags: &[Text]) -> Result<String, AllocError>
+fn tags_text(alloc: Global, tags: &[Text]) -> Result<String, AllocError>
     ensures { IfOk result (λ text. tags_in (string_bytes text) ≡ Some tags.now) }
 {
     tags_json(alloc, tags)?.to_string(alloc)
@@ -95,7 +113,15 @@ fn each_text(alloc: Global, values: &[Value]) -> Result<Option<Items<Text>>, All
         let Some(text) = value.as_str() else {
             return Ok(None);
         };
-        texts.push(Text::from_str(alloc, text)?)?;
+        push_text(alloc, &mut texts, text)?;
     }
     Ok(Some(texts))
+}
+
+/// Adds a copy of a text at the end.
+fn push_text(alloc: Global, texts: &mut Items<Text>, text: &str) -> Result<(), AllocError>
+    ensures { OnOk result (texts.new ≡ texts.old ++ text.now ∷ []) }
+{
+    texts.push(Text::from_str(alloc, text)?)?;
+    Ok(())
 }

@@ -1,8 +1,9 @@
-ghost use Rattle.std.specs.Prelude.{◌≡◌, false, is_some, IfOk};
+ghost use Rattle.std.specs.Prelude.{◌≡◌, false, is_some, Err, IfSome, IsSome};
+ghost use Rattle.wm_keeper.specs.Keeper.{AreOfDifferentNumbers, KeepCause};
 
 use crate::keeper::SqliteKeeper;
-use crate::refusal::{Refusal, counted};
-use sqlite::{Alter, Connection, File, FileStore};
+use crate::refusal::{Refusal, counted, refused};
+use sqlite::{Alter, Connection, Error, File, FileStore};
 use std::marker::Model;
 use std::rt::HostRuntime;
 use wm_faults::FaultCount;
@@ -45,12 +46,101 @@ impl FileKeeper {
     }
 }
 
-/// A keeper over the file of this name, which is made where it is missing.
-fn open_file(rt: &HostRuntime, name: &str) -> Result<SqliteKeeper<FileStore<File>>, Refusal>
-    ensures { IfOk result (λ keeper. keeper.faults ≡ 0) }
-{
-    let connection = Connection::open(rt, name)?;
-    Ok(SqliteKeeper::adopt(connection))
+impl<A: Alter + Drop> FileKeeper<A> {
+    /// Takes over what was opened. No file is open yet.
+    fn take_over(&mut self, opened: Result<Connection<A>, Error>) -> Result<(), KeepFault>
+        requires { self.old.is_open ≡ false }
+        ensures { KeepCause result self.old.faults self.new.faults }
+    {
+        let connection = counted(&mut self.faults, refused(opened))?;
+        self.keeper = Some(SqliteKeeper::adopt(connection));
+        Ok(())
+    }
+
+    /// Makes the changes where there are some to make, and else answers the rows: in the file that
+    /// is open, or in what was opened, which stays open.
+    fn answer(
+        &mut self,
+        opened: Option<Result<Connection<A>, Error>>,
+        name: &str,
+        changes: Option<&[Change]>,
+    ) -> Result<Vec<Row>, KeepFault>
+        requires different { IfSome changes (λ asked. AreOfDifferentNumbers asked.now) }
+        requires closed { IsSome opened → self.old.is_open ≡ false }
+        ensures closed { is_some opened ≡ false → self.old.is_open ≡ false → result ≡ Err KeepFault.Failed }
+        ensures cause { KeepCause result self.old.faults self.new.faults }
+    {
+        if let Some(opened) = opened {
+            self.take_over(opened)?;
+        }
+        self.answer_open(name, changes)
+    }
+}
+
+impl<A: Alter> FileKeeper<A> {
+    /// The same in the file that is open.
+    fn answer_open(&mut self, name: &str, changes: Option<&[Change]>) -> Result<Vec<Row>, KeepFault>
+        requires { IfSome changes (λ asked. AreOfDifferentNumbers asked.now) }
+        ensures closed { self.old.is_open ≡ false → result ≡ Err KeepFault.Failed }
+        ensures cause { KeepCause result self.old.faults self.new.faults }
+    {
+        let Some(changes) = changes else {
+            return self.load_open(name);
+        };
+        self.commit_open(changes)?;
+        Ok(Vec::new(self.rt.alloc()))
+    }
+
+    /// The rows of the file that is open.
+    fn load_open(&mut self, name: &str) -> Result<Vec<Row>, KeepFault>
+        ensures closed { self.old.is_open ≡ false → result ≡ Err KeepFault.Failed }
+        ensures cause { KeepCause result self.old.faults self.new.faults }
+    {
+        let Some(keeper) = &mut self.keeper else {
+            return counted(&mut self.faults, Err(Refusal::Store));
+        };
+        keeper.load(name)
+    }
+
+    /// Makes the changes in the file that is open.
+    fn commit_open(&mut self, changes: &[Change]) -> Result<(), KeepFault>
+        requires { AreOfDifferentNumbers changes.now }
+        ensures closed { self.old.is_open ≡ false → result ≡ Err KeepFault.Failed }
+        ensures cause { KeepCause result self.old.faults self.new.faults }
+    {
+        match &mut self.keeper {
+            Some(keeper) => keeper.commit(changes),
+            None => counted(&mut self.faults, Err(Refusal::Store)),
+        }
+    }
+}
+
+impl FileKeeper {
+    /// The file of this name, which is made where it is missing; none where one is open.
+    fn opened(&self, name: &str) -> Option<Result<Connection<FileStore<File>>, Error>>
+        ensures { IsSome result → self.now.is_open ≡ false }
+    {
+        match self.keeper {
+            Some(_) => None,
+            None => Some(Connection::open(&self.rt, name)),
+        }
+    }
+
+    /// Makes the changes where there are some to make, and else answers the rows. Each call of a
+    /// generic function at this type takes long to prove, so this is the only one.
+    fn serve(
+        &mut self,
+        opened: Option<Result<Connection<FileStore<File>>, Error>>,
+        name: &str,
+        changes: Option<&[Change]>,
+    ) -> Result<Vec<Row>, KeepFault>
+        requires different { IfSome changes (λ asked. AreOfDifferentNumbers asked.now) }
+        requires closed { IsSome opened → self.old.is_open ≡ false }
+        ensures closed { is_some opened ≡ false → self.old.is_open ≡ false → result ≡ Err KeepFault.Failed }
+        ensures cause { KeepCause result self.old.faults self.new.faults }
+    {
+        self.answer(opened, name, changes)
+    }
 }
 
 impl Keeper for FileKeeper {
@@ -62,14 +152,8 @@ impl Keeper for FileKeeper {
 
     /// The rows of the file that is open; where none is, of the one of this name, which stays open.
     fn load(&mut self, name: &str) -> Result<Vec<Row>, KeepFault> {
-        if let Some(keeper) = &mut self.keeper {
-            return keeper.load(name);
-        }
-        let opened = open_file(&self.rt, name);
-        let mut keeper = counted(&mut self.faults, opened)?;
-        let loaded = keeper.load(name);
-        self.keeper = Some(keeper);
-        loaded
+        let opened = self.opened(name);
+        self.serve(opened, name, None)
     }
 
     /// Makes the changes in the file that is open.
@@ -78,9 +162,15 @@ impl Keeper for FileKeeper {
         ensures closed { self.old.is_open ≡ false → result ≡ Err KeepFault.Failed }
         ensures cause { KeepCause result self.old.faults self.new.faults }
     {
-        match &mut self.keeper {
-            Some(keeper) => keeper.commit(changes),
-            None => counted(&mut self.faults, Err(Refusal::Store)),
-        }
+        done(self.serve(None, "", Some(changes)))
     }
+}
+
+/// An answer without what it holds.
+fn done<T: Drop>(answer: Result<T, KeepFault>) -> Result<(), KeepFault>
+    ensures failed { answer ≡ Err KeepFault.Failed → result ≡ Err KeepFault.Failed }
+    ensures cause { (before : _) (now : _) → KeepCause answer before now → KeepCause result before now }
+{
+    answer?;
+    Ok(())
 }

@@ -75,13 +75,7 @@ impl<A: Alter> SqliteKeeper<A> {
     pub fn into_connection(self) -> Connection<A>
         ensures { result ≡ self.connection }
     {
-        let SqliteKeeper {
-            connection,
-            standing: _,
-            alloc: _,
-            faults: _,
-        } = self;
-        connection
+        self.connection
     }
 
     /// The rows, which are read from the table. Whatever is answered, they stay.

@@ -2,6 +2,7 @@
 ghost use Rattle.sqlite_rules.specs.Edit.{id_in};
 ghost use Rattle.sqlite_trees.specs.View.{is_int};
 ghost use Rattle.sqlite_value.specs.Order.{bytes, column};
+ghost use Rattle.sqlite_value.specs.declared.value.Value.TheVariants.{Int};
 ghost use Rattle.std.specs.List.{AllByRecursion};
 ghost use Rattle.std.specs.Prelude.{◌≡◌, [], IfOk, IsTrue, OnOk, map, pos};
 ghost use Rattle.wm_sqlite.specs.Columns.{prior_in, tags_in};
@@ -75,7 +76,7 @@ fn row_of(alloc: Global, shown: &ShownRow) -> Result<Row, Error>
 {
     let asked = asked_of(shown)?;
     let standing = standing_of(shown)?;
-    let seq = shown.get(1)?;
+    let seq = number_at(shown, 1)?;
     let id = Items::from_vec(shown.get(2)?);
     let texts = texts_of(shown)?;
     let lists = lists_of(alloc, shown)?;
@@ -122,15 +123,15 @@ fn asked_of(shown: &ShownRow) -> Result<Asked, Error>
     }) }
 {
     Ok(Asked {
-        kind: shown.get(5)?,
-        period: shown.get(6)?,
-        flex: shown.get(7)?,
-        delay: shown.get(8)?,
-        policy: shown.get(9)?,
-        wait: shown.get(10)?,
-        merger: shown.get(11)?,
-        network: shown.get(12)?,
-        flags: shown.get(13)?,
+        kind: number_at(shown, 5)?,
+        period: number_at(shown, 6)?,
+        flex: number_at(shown, 7)?,
+        delay: number_at(shown, 8)?,
+        policy: number_at(shown, 9)?,
+        wait: number_at(shown, 10)?,
+        merger: number_at(shown, 11)?,
+        network: number_at(shown, 12)?,
+        flags: number_at(shown, 13)?,
     })
 }
 
@@ -146,12 +147,12 @@ fn standing_of(shown: &ShownRow) -> Result<Standing, Error>
     }) }
 {
     Ok(Standing {
-        phase: shown.get(14)?,
-        attempt: shown.get(15)?,
-        backoff_n: shown.get(16)?,
-        runs: shown.get(17)?,
-        generation: shown.get(18)?,
-        enqueued_at: shown.get(19)?,
+        phase: number_at(shown, 14)?,
+        attempt: number_at(shown, 15)?,
+        backoff_n: number_at(shown, 16)?,
+        runs: number_at(shown, 17)?,
+        generation: number_at(shown, 18)?,
+        enqueued_at: number_at(shown, 19)?,
     })
 }
 
@@ -180,6 +181,13 @@ fn name_of(shown: &ShownRow) -> Result<Option<Text>, Error>
     Ok(name.map(Text::from_string))
 }
 
+/// The number in a column.
+fn number_at(shown: &ShownRow, at: usize) -> Result<i64, Error>
+    ensures { IfOk result (λ number. column shown.now at ≡ Int number) }
+{
+    shown.get(at)
+}
+
 /// The text in a column.
 fn text_at(shown: &ShownRow, at: usize) -> Result<Text, Error>
     ensures { IfOk result (λ text. text ≡ bytes (column shown.now at)) }
@@ -192,7 +200,7 @@ fn lists_of(alloc: Global, shown: &ShownRow) -> Result<Lists, Error>
     ensures { IfOk result (λ lists. (lists.version, lists.prior, lists.tags)
         ≡ lists_of (id_in (column shown.now 0)) (prior_in (bytes (column shown.now 22))) (tags_in (bytes (column shown.now 23)))) }
 {
-    let version = shown.get(0)?;
+    let version = number_at(shown, 0)?;
     let prior: Vec<u8> = shown.get(22)?;
     let tags: String = shown.get(23)?;
     let Some(prior) = prior_in(alloc, prior.as_slice())? else {

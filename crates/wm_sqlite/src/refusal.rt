@@ -7,7 +7,7 @@ use wm_faults::FaultCount;
 use wm_keeper::KeepFault;
 
 /// Why a call of a keeper ended early.
-#[derive(Clone, Copy, Debug, PartialEq, Eq)]
+#[derive(Clone, Copy)]
 pub(crate) enum Refusal {
     /// The store refused a statement or a column, or its table has another form.
     Store,
@@ -27,6 +27,11 @@ impl From<Error> for Refusal {
             _ => Refusal::Store,
         }
     }
+}
+
+/// The same outcome, with the cause that a keeper tells apart.
+pub(crate) fn refused<T>(outcome: Result<T, Error>) -> Result<T, Refusal> {
+    Ok(outcome?)
 }
 
 /// What a keeper answers. A refusal by the store is a fault, and is counted.

@@ -1,18 +1,19 @@
-//! The four statements, each in a function of its own with one call of the database, inside a
+//! The statements, each in a function of its own with one call of the database, inside a
 //! transaction.
 ghost use Rattle.sqlite.specs.Held.{state};
-ghost use Rattle.sqlite.specs.State.{ExecutesInside, HasCleanDisk, Survives};
-ghost use Rattle.sqlite.specs.Values.{bound_value, or_null};
+ghost use Rattle.sqlite.specs.State.{HasCleanDisk, Survives};
+ghost use Rattle.sqlite.specs.Values.{bound, bound_value, or_null};
+ghost use Rattle.sqlite_value.specs.Value.{owned};
 ghost use Rattle.sqlite_trees.specs.Tree.{put_row, without_rowid};
 ghost use Rattle.sqlite_value.specs.declared.value.Value.TheVariants.{Int, Text as Words};
-ghost use Rattle.std.specs.Prelude.{◌≡◌, [], ◌∷◌, string_bytes, IsTrue, IfOk, OnOk, OnErr};
+ghost use Rattle.std.specs.Prelude.{◌≡◌, [], string_bytes, IsTrue, IfOk, OnOk, OnErr};
 ghost use Rattle.wm_sqlite.specs.Held.{IsListed, stored};
 ghost use Rattle.wm_sqlite.specs.Resting.{WasOpen};
 ghost use Rattle.wm_sqlite.specs.Standing.{ShowsTable, Stands, StandsEmpty};
 ghost use Rattle.wm_sqlite.specs.Table.{bound_values, cells};
-ghost use Rattle.wm_sqlite.specs.Texts.{delete_text, insert_text};
 
-use sqlite::{Alter, Error, Row as ShownRow, Transaction, params};
+use sqlite::types::ValueRef;
+use sqlite::{Alter, Error, Row as ShownRow, Transaction};
 use wm_collections::Text;
 use wm_keeper::Row;
 
@@ -106,7 +107,8 @@ pub(crate) fn delete_row<A: Alter>(
     ensures survives { Survives (state A.Store transaction.old.conn.now) (state A.Store transaction.new.conn.now) (λ _. ⊥) }
     ensures was_open { WasOpen A.Store transaction.old.conn.now transaction.new.conn.now }
 {
-    run_delete(transaction, seq)
+    let number = number_of(seq);
+    transaction.execute("DELETE FROM work WHERE seq = ?1", &[number])
 }
 
 /// Inserts a row, whose lists are written as these. It takes the place of none: a number that is
@@ -129,69 +131,65 @@ pub(crate) fn insert_row<A: Alter>(
     ensures survives { Survives (state A.Store transaction.old.conn.now) (state A.Store transaction.new.conn.now) (λ _. ⊥) }
     ensures was_open { WasOpen A.Store transaction.old.conn.now transaction.new.conn.now }
 {
-    run_insert(transaction, row, prior, tags)
-}
-
-/// The statement that deletes a number.
-fn run_delete<A: Alter>(transaction: &mut Transaction<'_, A>, seq: &i64) -> Result<usize, Error>
-    ensures same_reference { transaction.new.conn.ghost_name ≡ transaction.old.conn.ghost_name }
-    ensures runs { HasCleanDisk (state A.Store transaction.new.conn.now)
-        → IsTrue (state A.Store transaction.old.conn.now).in_transaction
-        → ExecutesInside 0 delete_text (Int seq.now ∷ []) (state A.Store transaction.old.conn.now) (state A.Store transaction.new.conn.now) result }
-    ensures survives { Survives (state A.Store transaction.old.conn.now) (state A.Store transaction.new.conn.now) (λ _. ⊥) }
-    ensures was_open { WasOpen A.Store transaction.old.conn.now transaction.new.conn.now }
-{
-    transaction.execute("DELETE FROM work WHERE seq = ?1", params![seq])
-}
-
-/// The name of a row, if it has one.
-fn name_of(row: &Row) -> Option<&str>
-    ensures { bound_value (or_null (λ name. Words name.now) result) ≡ or_null Words row.now.name }
-{
-    row.name.as_ref().map(Text::as_str)
-}
-
-/// The statement that inserts a row.
-fn run_insert<A: Alter>(
-    transaction: &mut Transaction<'_, A>,
-    row: &Row,
-    prior: &Vec<u8>,
-    tags: &String,
-) -> Result<usize, Error>
-    ensures same_reference { transaction.new.conn.ghost_name ≡ transaction.old.conn.ghost_name }
-    ensures runs { HasCleanDisk (state A.Store transaction.new.conn.now)
-        → IsTrue (state A.Store transaction.old.conn.now).in_transaction
-        → ExecutesInside 0 insert_text (bound_values (stored row.now prior.now.items (string_bytes tags.now))) (state A.Store transaction.old.conn.now) (state A.Store transaction.new.conn.now) result }
-    ensures survives { Survives (state A.Store transaction.old.conn.now) (state A.Store transaction.new.conn.now) (λ _. ⊥) }
-    ensures was_open { WasOpen A.Store transaction.old.conn.now transaction.new.conn.now }
-{
+    let values = values_of(row, prior.as_slice(), tags.as_str());
     transaction.execute(
         "INSERT INTO work (version, seq, id, name, class, kind, period, flex, delay, policy, wait, merger, network, flags, phase, attempt, backoff_n, runs, generation, enqueued_at, input, output, prior, tags) VALUES (?1, ?2, ?3, ?4, ?5, ?6, ?7, ?8, ?9, ?10, ?11, ?12, ?13, ?14, ?15, ?16, ?17, ?18, ?19, ?20, ?21, ?22, ?23, ?24)",
-        params![
-            &row.version,
-            &row.seq,
-            row.id.as_slice(),
-            name_of(row),
-            row.class.as_str(),
-            &row.kind,
-            &row.period,
-            &row.flex,
-            &row.delay,
-            &row.policy,
-            &row.wait,
-            &row.merger,
-            &row.network,
-            &row.flags,
-            &row.phase,
-            &row.attempt,
-            &row.backoff_n,
-            &row.runs,
-            &row.generation,
-            &row.enqueued_at,
-            row.input.as_str(),
-            row.output.as_str(),
-            prior,
-            tags,
-        ],
+        &values,
     )
+}
+
+/// What is bound to the statement that inserts a row, whose lists are written as these.
+fn values_of<'a>(row: &'a Row, prior: &'a [u8], tags: &'a str) -> [ValueRef<'a>; 24]
+    ensures { bound result ≡ bound_values (stored row.now prior.now tags.now) }
+{
+    [
+        ValueRef::Int(row.version),
+        ValueRef::Int(row.seq),
+        ValueRef::Blob(row.id.as_slice()),
+        name_of(row),
+        words_of(&row.class),
+        ValueRef::Int(row.kind),
+        ValueRef::Int(row.period),
+        ValueRef::Int(row.flex),
+        ValueRef::Int(row.delay),
+        ValueRef::Int(row.policy),
+        ValueRef::Int(row.wait),
+        ValueRef::Int(row.merger),
+        ValueRef::Int(row.network),
+        ValueRef::Int(row.flags),
+        ValueRef::Int(row.phase),
+        ValueRef::Int(row.attempt),
+        ValueRef::Int(row.backoff_n),
+        ValueRef::Int(row.runs),
+        ValueRef::Int(row.generation),
+        ValueRef::Int(row.enqueued_at),
+        words_of(&row.input),
+        words_of(&row.output),
+        ValueRef::Blob(prior),
+        ValueRef::Text(tags.as_bytes()),
+    ]
+}
+
+/// A number as a value that is bound.
+fn number_of(number: &i64) -> ValueRef<'_>
+    ensures { owned result ≡ Int number.now }
+{
+    ValueRef::Int(*number)
+}
+
+/// The name of a row as a value that is bound, NULL where it has none.
+fn name_of(row: &Row) -> ValueRef<'_>
+    ensures { bound_value (owned result) ≡ or_null Words row.now.name }
+{
+    match &row.name {
+        Some(name) => words_of(name),
+        None => ValueRef::Null,
+    }
+}
+
+/// A text as a value that is bound.
+fn words_of(text: &Text) -> ValueRef<'_>
+    ensures { owned result ≡ Words text.now }
+{
+    ValueRef::Text(text.as_str().as_bytes())
 }

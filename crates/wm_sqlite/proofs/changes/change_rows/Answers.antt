@@ -2,9 +2,9 @@ use Rattle.sqlite.specs.Held.{state}
 use Rattle.sqlite.specs.State.{HasCleanDisk}
 use Rattle.sqlite.specs.Steps.{FailsToCommit}
 use Rattle.sqlite_trees.specs.Tree.{Trees}
-use Rattle.std.proofs.Common.{◌≡◌, List, IsTrue, sym, ap, ◌∙◌, subst, arith, rules, inl, inr}
+use Rattle.std.proofs.Common.{◌≡◌, List, IsTrue, sym, ap, ◌∙◌, subst, rules, inl, inr}
 use Rattle.wm_keeper.specs.declared.row.Row.{Row}
-use Rattle.wm_sqlite.proofs.Rests.{begins-with, commits-with, fails-back, on_err, on_err_then, on_ok_then, undoes-with}
+use Rattle.wm_sqlite.proofs.Rests.{begins-with, commits-with, fails-back, on_err, on_err_then, on_ok_then, undoes-with, was-clean}
 use Rattle.wm_sqlite.specs.Held.{held_in}
 use Rattle.wm_sqlite.specs.Resting.{with_changes, Holds, RestsWith}
 use Rattle.wm_sqlite.proofs.changes.change_rows.Goals as goal
@@ -19,7 +19,7 @@ returns-in_err-make_changes-clause-err g c clean up =
     let late : HasCleanDisk (state g.A.Store last) = subst (λ h. HasCleanDisk (state g.A.Store h)) (sym same) clean in
     let high : IsTrue (state g.A.Store last).is_open = subst (λ h. IsTrue (state g.A.Store h).is_open) (sym same) up in
     let back = c.drop-transaction.ensures.undone late in
-    let early : HasCleanDisk (state g.A.Store mid) = omega (arith, c.drop-transaction.ensures.survives.clean, late) in
+    let early : HasCleanDisk (state g.A.Store mid) = was-clean c.drop-transaction.ensures.survives.clean late in
     let still : (rows : List Row) → RestsWith g.A.Store rows old → RestsWith g.A.Store rows c.connection-1.given.0 = λ rows rests.
     let holds = subst (Holds g.A.Store base rows) (sym c.transaction-transaction.ensures.begun) (begins-with g.A.Store rows old rests) in
     let origin = c.in_err-make_changes.ensures.err early (back.was_open high) base rows holds in
@@ -34,7 +34,7 @@ returns-clause-ok g c clean =
     let end = c.commit.new.self.0 in
     let same : end ≡ c.connection-2-1.given.0 = search rules in
     let late : HasCleanDisk (state g.A.Store end) = subst (λ h. HasCleanDisk (state g.A.Store h)) (sym same) clean in
-    let early : HasCleanDisk (state g.A.Store mid) = omega (arith, c.commit.ensures.survives.clean, late) in
+    let early : HasCleanDisk (state g.A.Store mid) = was-clean c.commit.ensures.survives.clean late in
     on_ok_then c.commit.result (c.commit.ensures.ok late) (λ done rows rests.
     let holds = subst (Holds g.A.Store base rows) (sym c.transaction-transaction.ensures.begun) (begins-with g.A.Store rows old rests) in
     let made = c.in_ok-make_changes.ensures.ok early base rows holds in
@@ -49,7 +49,7 @@ returns-clause-err g c clean up =
     let same : end ≡ c.connection-2-1.given.0 = search rules in
     let late : HasCleanDisk (state g.A.Store end) = subst (λ h. HasCleanDisk (state g.A.Store h)) (sym same) clean in
     let high : IsTrue (state g.A.Store end).is_open = subst (λ h. IsTrue (state g.A.Store h).is_open) (sym same) up in
-    let early : HasCleanDisk (state g.A.Store mid) = omega (arith, c.commit.ensures.survives.clean, late) in
+    let early : HasCleanDisk (state g.A.Store mid) = was-clean c.commit.ensures.survives.clean late in
     on_err_then (FailsToCommit (state g.A.Store mid) (state g.A.Store end)) c.commit.result (c.commit.ensures.err late) (λ e why rows rests.
     let holds = subst (Holds g.A.Store base rows) (sym c.transaction-transaction.ensures.begun) (begins-with g.A.Store rows old rests) in
     let made = c.in_ok-make_changes.ensures.ok early base rows holds in
@@ -65,7 +65,7 @@ returns-clause-crash g c clean left may =
     let end = c.commit.new.self.0 in
     let same : end ≡ c.connection-2-1.given.0 = search rules in
     let late : HasCleanDisk (state g.A.Store end) = subst (λ h. HasCleanDisk (state g.A.Store h)) (sym same) clean in
-    let early : HasCleanDisk (state g.A.Store mid) = omega (arith, c.commit.ensures.survives.clean, late) in
+    let early : HasCleanDisk (state g.A.Store mid) = was-clean c.commit.ensures.survives.clean late in
     let was_left = subst (λ h. (state g.A.Store h).may_leave left) (sym same) may in
     elim (c.commit.ensures.survives.crash late left was_left) [
       | inl before ↦ elim (c.make_changes.ensures.survives.crash early left before) [

@@ -2,9 +2,9 @@ use Rattle.sqlite.specs.Effect.{Database}
 use Rattle.sqlite.specs.Held.{Held, state}
 use Rattle.sqlite.specs.State.{HasCleanDisk}
 use Rattle.sqlite_trees.specs.declared.store.Store.{Ghosts}
-use Rattle.std.proofs.Common.{List, arith}
+use Rattle.std.proofs.Common.{List}
 use Rattle.wm_keeper.specs.declared.row.Row.{Row}
-use Rattle.wm_sqlite.proofs.Rests.{on_err, on_err_map, on_ok_then}
+use Rattle.wm_sqlite.proofs.Rests.{on_err, on_err_map, on_ok_then, was-clean}
 use Rattle.wm_sqlite.specs.Resting.{Holds, Leaves}
 use Rattle.wm_sqlite.specs.Standing.{Stands}
 use Rattle.wm_sqlite.proofs.changes.make_changes.Goals as goal
@@ -26,7 +26,7 @@ returns-in_err-remove_rows-clause-err g c =
     let checked = c.check_open.new.transaction.conn.now in
     let leaves : Leaves g.A.Store old c.remove_rows.new.transaction.conn.now =
     λ clean up base rows holds.
-    let early : HasCleanDisk (state g.A.Store checked) = omega (arith, c.remove_rows.ensures.survives.clean, clean) in
+    let early : HasCleanDisk (state g.A.Store checked) = was-clean c.remove_rows.ensures.survives.clean clean in
     c.in_err-remove_rows.ensures.err clean up base rows
     (holds-still g.A.Store base rows old checked holds (c.in_ok-check_open.ensures.ok early base holds.table holds.stands)) in
     on_err _ leaves
@@ -37,8 +37,8 @@ returns-clause-ok g c =
     let checked = c.check_open.new.transaction.conn.now in
     let removed = c.remove_rows.new.transaction.conn.now in
     on_ok_then c.put_rows.result c.put_rows.ensures.ok (λ made clean base rows holds.
-    let later : HasCleanDisk (state g.A.Store removed) = omega (arith, c.put_rows.ensures.survives.clean, clean) in
-    let early : HasCleanDisk (state g.A.Store checked) = omega (arith, c.remove_rows.ensures.survives.clean, later) in
+    let later : HasCleanDisk (state g.A.Store removed) = was-clean c.put_rows.ensures.survives.clean clean in
+    let early : HasCleanDisk (state g.A.Store checked) = was-clean c.remove_rows.ensures.survives.clean later in
     made clean base _ (c.in_ok-remove_rows.ensures.ok later base rows
     (holds-still g.A.Store base rows old checked holds (c.in_ok-check_open.ensures.ok early base holds.table holds.stands))))
 
@@ -48,7 +48,7 @@ returns-clause-err g c =
     let checked = c.check_open.new.transaction.conn.now in
     let removed = c.remove_rows.new.transaction.conn.now in
     on_err_map c.put_rows.result c.put_rows.ensures.err (λ leaves clean up base rows holds.
-    let later : HasCleanDisk (state g.A.Store removed) = omega (arith, c.put_rows.ensures.survives.clean, clean) in
-    let early : HasCleanDisk (state g.A.Store checked) = omega (arith, c.remove_rows.ensures.survives.clean, later) in
+    let later : HasCleanDisk (state g.A.Store removed) = was-clean c.put_rows.ensures.survives.clean clean in
+    let early : HasCleanDisk (state g.A.Store checked) = was-clean c.remove_rows.ensures.survives.clean later in
     leaves clean up base _ (c.in_ok-remove_rows.ensures.ok later base rows
     (holds-still g.A.Store base rows old checked holds (c.in_ok-check_open.ensures.ok early base holds.table holds.stands))))

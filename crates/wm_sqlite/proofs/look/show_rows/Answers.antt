@@ -1,7 +1,6 @@
 use Rattle.sqlite.specs.Held.{state}
 use Rattle.sqlite.specs.State.{HasCleanDisk}
-use Rattle.std.proofs.Common.{arith}
-use Rattle.wm_sqlite.proofs.Rests.{open-clean}
+use Rattle.wm_sqlite.proofs.Rests.{open-clean, was-clean}
 use Rattle.wm_sqlite.proofs.Tellings.{found-shown, read-kept, read-known, IsStoreKept-then}
 use Rattle.wm_sqlite.specs.Told.{told_of}
 use Rattle.wm_sqlite.proofs.look.show_rows.Goals as goal
@@ -17,7 +16,7 @@ returns-in_err-shown-clause-kept g c =
     let mid = c.make_table.new.connection in
     let new = c.read_work_table.new.connection in
     let read = c.read_work_table.ensures in
-    let clean : HasCleanDisk (state g.A.Store new) → HasCleanDisk (state g.A.Store mid) = λ now. omega (arith, read.survives.clean, now) in
+    let clean : HasCleanDisk (state g.A.Store new) → HasCleanDisk (state g.A.Store mid) = λ now. was-clean read.survives.clean now in
     IsStoreKept-then (told_of c.args.standing.now (state g.A.Store c.args.connection.now) 0) (told_of c.make_table.new.standing (state g.A.Store mid) 0)
     (told_of c.make_table.new.standing (state g.A.Store new) 0) c.make_table.ensures.kept
     (read-kept g.A.Store mid new (open-clean _ _ (g.met.A.Store.shut_if_dirty new.store)) read.was_open c.make_table.new.standing c.make_table.ensures.knows
@@ -34,7 +33,7 @@ returns-clause-kept g c =
     let mid = c.make_table.new.connection in
     let new = c.read_work_table.new.connection in
     let read = c.read_work_table.ensures in
-    let clean : HasCleanDisk (state g.A.Store new) → HasCleanDisk (state g.A.Store mid) = λ now. omega (arith, read.survives.clean, now) in
+    let clean : HasCleanDisk (state g.A.Store new) → HasCleanDisk (state g.A.Store mid) = λ now. was-clean read.survives.clean now in
     IsStoreKept-then (told_of c.args.standing.now (state g.A.Store c.args.connection.now) 0) (told_of c.make_table.new.standing (state g.A.Store mid) 0)
     (told_of c.make_table.new.standing (state g.A.Store new) 0) c.make_table.ensures.kept
     (read-kept g.A.Store mid new (open-clean _ _ (g.met.A.Store.shut_if_dirty new.store)) read.was_open c.make_table.new.standing c.make_table.ensures.knows

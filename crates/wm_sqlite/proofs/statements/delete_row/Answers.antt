@@ -1,8 +1,22 @@
-use Rattle.wm_sqlite.proofs.TextTurns.{deletes}
+use Rattle.wm_sqlite.proofs.OpenBefore.{ran-open}
+use Rattle.wm_sqlite.proofs.TextTurns.{deletes, refuses}
 use Rattle.wm_sqlite.proofs.statements.delete_row.Goals as goal
 
 pub returns-clause-ok : goal.returns-clause-ok
 returns-clause-ok g c clean =
     let old = c.args.transaction.now.conn.now in
-    let new = c.run_delete.new.transaction.conn.now in
-    deletes g.A.Store old new c.args.seq.now c.run_delete.result (c.run_delete.ensures.runs clean)
+    let new = c.execute.new.self.conn.now in
+    deletes g.A.Store old new c.args.seq.now c.execute.result
+    (λ mode. rw c.number_of-number.ensures at (c.execute.ensures.runs clean mode))
+
+pub returns-clause-err : goal.returns-clause-err
+returns-clause-err g c clean =
+    let old = c.args.transaction.now.conn.now in
+    let new = c.execute.new.self.conn.now in
+    refuses g.A.Store old new _ _ c.execute.result (c.execute.ensures.runs clean)
+
+pub returns-clause-was_open : goal.returns-clause-was_open
+returns-clause-was_open g c clean =
+    let old = c.args.transaction.now.conn.now in
+    let new = c.execute.new.self.conn.now in
+    ran-open g.A.Store old new _ _ c.execute.result (λ outside. (c.execute.ensures.ended outside).1) (c.execute.ensures.runs clean)
