@@ -19,20 +19,31 @@ use part_calls::files::{TextFile, text_files};
 use std::alloc::{AllocError, Global};
 use std::io;
 use std::process::ExitCode;
+use std::rt::Runtime;
+use std::sync::Wait;
+use std::thread::Threads;
 
 /// What comes of the cases of a file, or why the file is refused; and whether it is in form.
-fn told(alloc: Global, file: &TextFile) -> Result<(String, bool), AllocError> {
+fn told<R: Threads + Wait + Sync>(
+    rt: &R,
+    alloc: Global,
+    file: &TextFile,
+) -> Result<(String, bool), AllocError> {
     match read_parts(alloc, file.text.as_str()) {
-        Ok(parts) => Ok((tell_cases(alloc, &parts)?, true)),
+        Ok(parts) => Ok((tell_cases(rt, alloc, &parts)?, true)),
         Err(fault) => Ok((format!(in alloc; "{}:{fault}\n", file.name)?, false)),
     }
 }
 
 /// Prints what comes of the files of a folder, and answers whether each is in form, or is not.
-fn print_folder(rt: &HostRuntime, folder: &str, in_form: bool) -> io::Result<bool> {
+fn print_folder<R: Runtime + AllocGlobal + Threads + Wait + Sync>(
+    rt: &R,
+    folder: &str,
+    in_form: bool,
+) -> io::Result<bool> {
     let mut as_wanted = true;
     for file in text_files(rt, folder, ".cases")? {
-        let (text, is_in_form) = told(rt.alloc(), &file)?;
+        let (text, is_in_form) = told(rt, rt.alloc(), &file)?;
         rt.print(text)?;
         as_wanted = as_wanted && is_in_form == in_form;
     }

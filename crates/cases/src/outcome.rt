@@ -6,17 +6,24 @@ use crate::event::event_words;
 use crate::part::{Failing, Part};
 use crate::row::row_text;
 use std::alloc::{AllocError, Global};
+use std::sync::Wait;
+use std::thread::Threads;
 use wm_bench::Hand;
 use wm_cli::{Ended, Status};
 use wm_collections::{Replica, Text};
 use wm_io::{MemorySink, MemorySource};
 use wm_keeper::{Change, Keeper, MemoryKeeper, Row, SureKeeper};
 use wm_machine::Event;
+use wm_pool::OpenGate;
 use wm_stock::{AnyStock, STOCK_WORKERS};
 use wm_worker::Worker;
 
 /// What comes of the parts of a case file, one after another.
-pub fn tell_cases(alloc: Global, parts: &[Part]) -> Result<String, AllocError> {
+pub fn tell_cases<R: Threads + Wait + Sync>(
+    rt: &R,
+    alloc: Global,
+    parts: &[Part],
+) -> Result<String, AllocError> {
     let mut told = String::new(alloc);
     let mut store = SureKeeper::new(Vec::new(alloc));
     for part in parts {
@@ -24,7 +31,7 @@ pub fn tell_cases(alloc: Global, parts: &[Part]) -> Result<String, AllocError> {
             store = SureKeeper::new(Vec::new(alloc));
         }
         put_rows(alloc, &mut store, &part.rows)?;
-        store = tell_part(alloc, &mut told, part, &mut store)?;
+        store = tell_part(rt, alloc, &mut told, part, &mut store)?;
     }
     Ok(told)
 }
@@ -40,24 +47,26 @@ fn put_rows(alloc: Global, store: &mut SureKeeper, rows: &[Row]) -> Result<(), A
 
 /// Runs a part on these rows, once for each choice of failing calls, and answers the rows that the
 /// last run kept.
-fn tell_part(
+fn tell_part<R: Threads + Wait + Sync>(
+    rt: &R,
     alloc: Global,
     told: &mut String,
     part: &Part,
     store: &mut SureKeeper,
 ) -> Result<SureKeeper, AllocError> {
     if part.failing.is_empty() {
-        return tell_run(alloc, told, part, &Failing::none(alloc), store);
+        return tell_run(rt, alloc, told, part, &Failing::none(alloc), store);
     }
     let mut kept = SureKeeper::new(Vec::new(alloc));
     for failing in &part.failing {
-        kept = tell_run(alloc, told, part, failing, store)?;
+        kept = tell_run(rt, alloc, told, part, failing, store)?;
     }
     Ok(kept)
 }
 
 /// Runs a part with these calls failing and the workers of the program: see [`tell_run_of`].
-fn tell_run(
+fn tell_run<R: Threads + Wait + Sync>(
+    rt: &R,
     alloc: Global,
     told: &mut String,
     part: &Part,
@@ -70,12 +79,13 @@ fn tell_run(
         let class = Text::from_str(alloc, worker.name())?;
         hands.push(Hand { class, worker })?;
     }
-    tell_run_of(alloc, told, part, failing, store, hands)
+    tell_run_of(rt, alloc, told, part, failing, store, hands)
 }
 
 /// Runs a part on these rows with these calls failing and these workers, tells what came of it, and
 /// answers the rows that it kept.
-fn tell_run_of<B: Worker>(
+fn tell_run_of<R: Threads + Wait + Sync, B: Worker + Send>(
+    rt: &R,
     alloc: Global,
     told: &mut String,
     part: &Part,
@@ -89,7 +99,16 @@ fn tell_run_of<B: Worker>(
     let mut source = source_of(alloc, part, failing)?;
     let sink = MemorySink::new(part.moves, Vec::from_slice(alloc, &failing.sink)?);
     let keeper = keeper_of(alloc, store, failing)?;
-    let ended = wm_cli::run(alloc, &part.words, hands, &mut source, sink, keeper);
+    let ended = wm_cli::run(
+        rt,
+        alloc,
+        &part.words,
+        hands,
+        &mut source,
+        sink,
+        keeper,
+        &OpenGate,
+    );
     tell_ended(alloc, told, &ended)?;
     Ok(SureKeeper::new(ended.keeper.into_rows()))
 }

@@ -9,10 +9,13 @@ use crate::resizer::Resizer;
 use std::alloc::{AllocError, Global};
 use std::io;
 use std::process::ExitCode;
+use std::sync::Wait;
+use std::thread::Threads;
 use wm_bench::Hand;
 use wm_collections::Text;
 use wm_io::{MemorySink, MemorySource};
 use wm_keeper::SureKeeper;
+use wm_pool::OpenGate;
 use wm_stock::Echo;
 
 /// A photo is resized, and what comes of that is echoed.
@@ -31,7 +34,7 @@ fn words(alloc: Global) -> Result<Vec<String>, AllocError> {
 
 /// Runs the script with one worker of its own and one Echo, over streams and a store in memory, and
 /// gives the exit status that the run would have, and what it wrote.
-fn run(alloc: Global) -> Result<(u8, Vec<u8>), AllocError> {
+fn run<R: Threads + Wait + Sync>(rt: &R, alloc: Global) -> Result<(u8, Vec<u8>), AllocError> {
     let words = words(alloc)?;
     let mut hands: Vec<Hand> = Vec::new(alloc);
     let class = Text::from_str(alloc, "Resize")?;
@@ -44,7 +47,16 @@ fn run(alloc: Global) -> Result<(u8, Vec<u8>), AllocError> {
     let mut source = MemorySource::new(script, 4096, Vec::new(alloc));
     let sink = MemorySink::new(4096, Vec::new(alloc));
     let keeper = SureKeeper::new(Vec::new(alloc));
-    let ended = wm_cli::run(alloc, &words, hands, &mut source, sink, keeper);
+    let ended = wm_cli::run(
+        rt,
+        alloc,
+        &words,
+        hands,
+        &mut source,
+        sink,
+        keeper,
+        &OpenGate,
+    );
     let code = ended.status.code();
     let written = Vec::from_slice(alloc, ended.sink.bytes());
     drop(ended);
@@ -59,7 +71,7 @@ fn placed(alloc: Global) -> Option<String> {
 
 fn main(rt: HostRuntime) -> io::Result<ExitCode> {
     let alloc = rt.alloc();
-    let (code, written) = run(alloc)?;
+    let (code, written) = run(&rt, alloc)?;
     rt.print(String::from_utf8_lossy(alloc, &written)?)?;
     rt.println(placed(alloc).as_deref().unwrap_or("out of memory"))?;
     Ok(ExitCode::from(code))

@@ -15,6 +15,7 @@ use wm_data::Merger;
 use wm_keeper::SureKeeper;
 use wm_machine::{Command, Reply};
 use wm_request::{Batch, Builder, Request};
+use wm_roll::Roll;
 use wm_schedule::BackoffPolicy;
 use wm_table::{Mark, Table};
 
@@ -73,14 +74,17 @@ fn look_at_each(batch: &Batch)
 }
 
 /// A table on an empty store in memory, without workers. None where memory is refused.
-fn begin<M: Mark>(alloc: Global) -> Option<Table<SureKeeper, M>>
+fn begin<M: Mark>(alloc: Global, roll: Roll) -> Option<Table<SureKeeper, M>>
     requires rows { M.inputs.rows ≡ [] }
     requires instances { M.inputs.instances ≡ [] }
     requires store { IsSome M.inputs.store.rows }
-    ensures { IfSome result (λ table. table.state.runs ≡ []) }
+    requires roll { roll.table_id ≡ M.inputs.roll }
+    requires empty { roll.parts ≡ [] }
+    ensures no_run { IfSome result (λ table. table.state.runs ≡ []) }
+    ensures none_out { IfSome result (λ table. table.roll ≡ []) }
 {
     let keeper = SureKeeper::new(Vec::new(alloc));
-    Table::begin(alloc, keeper, Vec::new(alloc), Items::new(alloc)).ok()
+    Table::begin(alloc, keeper, Vec::new(alloc), Items::new(alloc), roll).ok()
 }
 
 /// The command that enqueues a batch, which a table takes as long as no run is out.
@@ -103,16 +107,20 @@ fn count(reply: &Reply) -> usize {
 /// Places works in a table on an empty store, and gives how many they are. None where memory is
 /// refused.
 pub fn place(alloc: Global, batch: Batch) -> Option<usize> {
-    place_in::<Brand>(alloc, batch)
+    let roll = Roll::new(alloc).ok()?;
+    place_in::<Brand>(alloc, batch, roll)
 }
 
-/// The same, in a table of this mark, which says that the store is empty and tells its rows.
-fn place_in<M: Mark>(alloc: Global, batch: Batch) -> Option<usize>
+/// The same, in a table of this mark, which says that the store is empty and tells its rows, and that
+/// the roll is this one.
+fn place_in<M: Mark>(alloc: Global, batch: Batch, roll: Roll) -> Option<usize>
     requires rows { M.inputs.rows ≡ [] }
     requires instances { M.inputs.instances ≡ [] }
     requires store { IsSome M.inputs.store.rows }
+    requires roll { roll.table_id ≡ M.inputs.roll }
+    requires empty { roll.parts ≡ [] }
 {
-    let mut table = begin::<M>(alloc)?;
+    let mut table = begin::<M>(alloc, roll)?;
     let command = enqueue(&table, batch);
     let reply = table.command(1, command);
     drop(table.end());

@@ -9,3 +9,5 @@ mod runs;
 mod stores;
 #[cfg(test)]
 mod table;
+#[cfg(test)]
+mod threads;

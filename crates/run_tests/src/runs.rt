@@ -7,13 +7,16 @@ use part_tests::hands::add_hand;
 use part_tests::uploader::Uploader;
 use std::alloc::{AllocError, Global};
 use std::process::Abort;
+use std::sync::Wait;
 use std::test::Fail;
+use std::thread::Threads;
 use wm_bench::Hand;
 use wm_cli::{Ended, Status, run};
 use wm_collections::Text;
 use wm_data::{Data, DataBuilder, DataFault, Value};
 use wm_io::{MemorySink, MemorySource, StdSink, StdSource};
 use wm_keeper::SureKeeper;
+use wm_pool::OpenGate;
 use wm_script::Limit;
 use wm_steps::both;
 use wm_stock::Echo;
@@ -148,14 +151,28 @@ pub fn echoes(alloc: Global) -> Result<Vec<Hand<Echo>>, AllocError>
 
 /// How a run of the script ends with these words and workers, over std's reader and writer and a
 /// keeper that never fails, and what it writes.
-fn run_of_echoes(alloc: Global, words: &[String], hands: Vec<Hand<Echo>>) -> (Status, Vec<u8>)
+fn run_of_echoes<R: Threads + Wait + Sync>(
+    rt: &R,
+    alloc: Global,
+    words: &[String],
+    hands: Vec<Hand<Echo>>,
+) -> (Status, Vec<u8>)
     requires { vec_len hands ≤ most_hands }
 {
     let mut written = Vec::new(alloc);
     let mut source = StdSource::new(SCRIPT.as_bytes());
     let sink = StdSink::new(&mut written);
     let keeper = SureKeeper::new(Vec::new(alloc));
-    let ended = run(alloc, words, hands, &mut source, sink, keeper);
+    let ended = run(
+        rt,
+        alloc,
+        words,
+        hands,
+        &mut source,
+        sink,
+        keeper,
+        &OpenGate,
+    );
     let status = ended.status;
     drop(ended);
     (status, written)
@@ -167,7 +184,7 @@ fn a_run_takes_any_source_sink_and_keeper(rt: HostRuntime) -> Result<(), Fail> {
     let alloc = rt.alloc();
     let words = words(alloc)?;
     let hands = echoes(alloc)?;
-    let (status, written) = run_of_echoes(alloc, &words, hands);
+    let (status, written) = run_of_echoes(&rt, alloc, &words, hands);
     assert_eq!(rt; status, Status::Done);
     assert_eq!(rt; written.as_slice(), REPLIES.as_bytes());
     Ok(())
@@ -216,7 +233,8 @@ fn hands_of(ended: Ended<SureKeeper, MemorySink>) -> Vec<Hand> {
 }
 
 /// Runs a script with these words and workers, over sources and sinks in memory.
-fn run_in_memory(
+fn run_in_memory<R: Threads + Wait + Sync>(
+    rt: &R,
     alloc: Global,
     words: &[String],
     script: Vec<u8>,
@@ -227,17 +245,31 @@ fn run_in_memory(
     let mut source = MemorySource::new(script, 100, Vec::new(alloc));
     let sink = MemorySink::new(100, Vec::new(alloc));
     let keeper = SureKeeper::new(Vec::new(alloc));
-    let ended = run(alloc, words, hands, &mut source, sink, keeper);
+    let ended = run(
+        rt,
+        alloc,
+        words,
+        hands,
+        &mut source,
+        sink,
+        keeper,
+        &OpenGate,
+    );
     left_of(alloc, ended)
 }
 
 /// Runs a script with these workers.
-fn run_with(alloc: Global, hands: Vec<Hand>, script: &str) -> Result<Left, AllocError>
+fn run_with<R: Threads + Wait + Sync>(
+    rt: &R,
+    alloc: Global,
+    hands: Vec<Hand>,
+    script: &str,
+) -> Result<Left, AllocError>
     requires { vec_len hands ≤ most_hands }
 {
     let (hands, words) = both(hands, words(alloc))?;
     let (hands, script) = both(hands, Vec::from_slice(alloc, script.as_bytes()))?;
-    run_in_memory(alloc, &words, script, hands)
+    run_in_memory(rt, alloc, &words, script, hands)
 }
 
 /// A run is done, had so many events, wrote this, and its one worker, of this class, comes back with
@@ -271,6 +303,7 @@ fn boxed_diarist(alloc: Global) -> Result<Box<dyn Worker + Send>, AllocError> {
 fn a_boxed_worker_comes_back_with_its_diary(rt: HostRuntime) -> Result<(), Fail> {
     let alloc = rt.alloc();
     let left = run_with(
+        &rt,
         alloc,
         one_hand(alloc, "Echo", boxed_diarist(alloc)?)?,
         SCRIPT,
@@ -322,7 +355,7 @@ fn uploader(alloc: Global) -> Result<Uploader, AllocError> {
 fn a_custom_worker_takes_turns_and_fails(rt: HostRuntime) -> Result<(), Fail> {
     let alloc = rt.alloc();
     let worker: Box<dyn Worker + Send> = Box::new(alloc, Diarist::new(alloc, uploader(alloc)?))?;
-    let left = run_with(alloc, one_hand(alloc, "Upload", worker)?, UPLOAD)?;
+    let left = run_with(&rt, alloc, one_hand(alloc, "Upload", worker)?, UPLOAD)?;
     let expected = (6, UPLOAD_REPLIES, UPLOAD_DIARY);
     expect_left(&rt, alloc, &left, "Upload", expected)
 }
@@ -360,7 +393,7 @@ fn two_hands(alloc: Global) -> Result<Vec<Hand>, AllocError>
 #[test]
 fn a_retire_takes_the_workers_of_its_class_alone(rt: HostRuntime) -> Result<(), Fail> {
     let alloc = rt.alloc();
-    let left = run_with(alloc, two_hands(alloc)?, TWO_CLASSES)?;
+    let left = run_with(&rt, alloc, two_hands(alloc)?, TWO_CLASSES)?;
     let expected = (11, TWO_CLASSES_REPLIES, RIGHT_DIARY);
     expect_left(&rt, alloc, &left, "Right", expected)
 }

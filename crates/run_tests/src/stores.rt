@@ -5,11 +5,14 @@ ghost use Rattle.wm_keeper.specs.Keeper.{AreOfDifferentNumbers};
 use crate::runs::{echoes, words};
 use sqlite::{Connection, MemStore};
 use std::alloc::{AllocError, Global};
+use std::sync::Wait;
 use std::test::Fail;
+use std::thread::Threads;
 use wm_cli::{Ended, Status, run};
 use wm_collections::{Items, Text};
 use wm_io::{StdSink, StdSource};
 use wm_keeper::{Change, KeepFault, Keeper, Row};
+use wm_pool::OpenGate;
 use wm_sqlite::SqliteKeeper;
 use wm_stock::Echo;
 
@@ -79,7 +82,8 @@ fn keeper_of(
 }
 
 /// How a run of this script over a store ends, what it writes, and the store.
-fn run_over(
+fn run_over<R: Threads + Wait + Sync>(
+    rt: &R,
     alloc: Global,
     store: Connection<MemStore>,
     script: &str,
@@ -90,7 +94,16 @@ fn run_over(
     let mut source = StdSource::new(script.as_bytes());
     let sink = StdSink::new(&mut written);
     let keeper = SqliteKeeper::adopt(store);
-    let ended = run(alloc, &words, hands, &mut source, sink, keeper);
+    let ended = run(
+        rt,
+        alloc,
+        &words,
+        hands,
+        &mut source,
+        sink,
+        keeper,
+        &OpenGate,
+    );
     let status = ended.status;
     let store = keeper_of(ended).into_connection();
     Ok((status, written, store))
@@ -174,7 +187,7 @@ fn a_stored_row_is_opened_or_refused(rt: HostRuntime) -> Result<(), Fail> {
     let alloc = rt.alloc();
     for (stored, script, status, replies, row) in cases() {
         let store = store_of(alloc, row_of(alloc, &stored)?)?;
-        let (ended, written, store) = run_over(alloc, store, script)?;
+        let (ended, written, store) = run_over(&rt, alloc, store, script)?;
         assert_eq!(rt; ended, status);
         assert_eq!(rt; written.as_slice(), replies.as_bytes());
         let rows = rows_in(alloc, store)?;
@@ -198,11 +211,11 @@ fn finished() -> Stored<'static> {
 fn a_row_with_seven_bytes_of_prerequisites_is_refused(rt: HostRuntime) -> Result<(), Fail> {
     let alloc = rt.alloc();
     let store = store_of(alloc, row_of(alloc, &finished())?)?;
-    let (ended, written, mut store) = run_over(alloc, store, "")?;
+    let (ended, written, mut store) = run_over(&rt, alloc, store, "")?;
     assert_eq!(rt; ended, Status::Done);
     assert!(rt; written.is_empty());
     store.execute_batch("UPDATE work SET prior = x'01020304050607'")?;
-    let (ended, written, store) = run_over(alloc, store, QUERY)?;
+    let (ended, written, store) = run_over(&rt, alloc, store, QUERY)?;
     let refused = Status::BadStore {
         seq: 7,
         bad_row: true,
@@ -237,10 +250,10 @@ fn a_thousand_works_of_one_line_are_there_in_the_next_run(rt: HostRuntime) -> Re
     let alloc = rt.alloc();
     let store = Connection::open_in_memory(alloc)?;
     let line = enqueue_of(alloc, 1_000)?;
-    let (ended, written, store) = run_over(alloc, store, line.as_str())?;
+    let (ended, written, store) = run_over(&rt, alloc, store, line.as_str())?;
     assert_eq!(rt; ended, Status::Done);
     drop(written);
-    let (ended, written, store) = run_over(alloc, store, SUMMARY)?;
+    let (ended, written, store) = run_over(&rt, alloc, store, SUMMARY)?;
     assert_eq!(rt; ended, Status::Done);
     assert_eq!(rt; written.as_slice(), THOUSAND_ENQUEUED.as_bytes());
     drop(store);

@@ -4,7 +4,7 @@ ghost use Rattle.wm_machine.specs.Opened.{AreFresh};
 ghost use Rattle.wm_machine.specs.Outcome.{IsLegalLine};
 ghost use Rattle.wm_machine.specs.declared.state.State.{State};
 ghost use Rattle.wm_request.specs.Requests.{IsRequest};
-ghost use Rattle.wm_table.specs.Table.{Stands};
+ghost use Rattle.wm_roll.specs.Parts.{without};
 
 use crate::runs::data_of;
 use part_tests::requests::within;
@@ -17,6 +17,7 @@ use wm_data::{Data, Merger, Value};
 use wm_keeper::MemoryKeeper;
 use wm_machine::{Cause, Command, How, Instance, Kind, Phase, Record, Reply};
 use wm_request::{Batch, Builder, Node, Request};
+use wm_roll::Roll;
 use wm_steps::{both, one};
 use wm_table::{Claim, Mark, Table, TableEnd, Ticket, Trouble, TurnAnswer};
 use wm_worker::{Answer, Task, Told};
@@ -137,7 +138,8 @@ fn echoed(alloc: Global, task: &Task, subject: Subject) -> Result<Told, AllocErr
 
 /// Whether the second try of a report finishes its run.
 fn finishes<M: Mark>(table: &mut Table<MemoryKeeper, M>, ticket: Ticket<M>, told: Told) -> bool
-    requires { Stands table.old.state ticket }
+    requires alone { without ticket.task.run table.old.roll ≡ [] }
+    ensures none_out { table.new.roll ≡ [] }
 {
     match table.turn(ticket, told) {
         TurnAnswer::Finished => true,
@@ -182,7 +184,8 @@ fn report<M: Mark>(
     ticket: Ticket<M>,
     told: Result<Told, AllocError>,
 ) -> Outcome
-    requires { Stands table.old.state ticket }
+    requires alone { without ticket.task.run table.old.roll ≡ [] }
+    ensures none_out { table.new.roll ≡ [] }
 {
     let Ok(told) = told else {
         table.take_back(ticket);
@@ -223,7 +226,8 @@ fn run<M: Mark>(
     ticket: Ticket<M>,
     subject: Subject,
 ) -> Outcome
-    requires { Stands table.old.state ticket }
+    requires alone { without ticket.task.run table.old.roll ≡ [] }
+    ensures none_out { table.new.roll ≡ [] }
 {
     let first = ticket.task().run == 1 && ticket.task().attempt == 1;
     let told = echoed(alloc, ticket.task(), subject);
@@ -236,7 +240,10 @@ fn start_and_report<M: Mark>(
     alloc: Global,
     table: &mut Table<MemoryKeeper, M>,
     subject: Subject,
-) -> Outcome {
+) -> Outcome
+    requires { table.old.roll ≡ [] }
+    ensures { table.new.roll ≡ [] }
+{
     match table.claim() {
         Ok(Some(claim)) => match claim {
             Claim::Run(ticket) => run(alloc, table, ticket, subject),
@@ -263,7 +270,9 @@ fn enqueue_and_run<M: Mark>(
     command: Command,
     subject: Subject,
 ) -> Outcome
-    requires { IsLegalLine table.old.state command }
+    requires legal { IsLegalLine table.old.state command }
+    requires none_out { table.old.roll ≡ [] }
+    ensures { table.new.roll ≡ [] }
 {
     match table.command(1, command) {
         Ok(reply) => {
@@ -293,15 +302,19 @@ fn one_table<M: Mark>(
     alloc: Global,
     failing: Vec<u32>,
     instances: Items<Instance>,
+    roll: Roll,
 ) -> Result<Table<MemoryKeeper, M>, AllocError>
     requires rows { M.inputs.rows ≡ [] }
     requires store { IsSome M.inputs.store.rows }
     requires instances { M.inputs.instances ≡ instances }
     requires fresh { AreFresh instances }
-    ensures { IfOk result (λ table. table.state.runs ≡ []) }
+    requires roll { M.inputs.roll ≡ roll.table_id }
+    requires empty { roll.parts ≡ [] }
+    ensures no_run { IfOk result (λ table. table.state.runs ≡ []) }
+    ensures none_out { IfOk result (λ table. table.roll ≡ []) }
 {
     let keeper = MemoryKeeper::new(Vec::new(alloc), failing);
-    Table::begin(alloc, keeper, Vec::new(alloc), instances).map_err(|_| AllocError)
+    Table::begin(alloc, keeper, Vec::new(alloc), instances, roll).map_err(|_| AllocError)
 }
 
 /// What becomes of one work over a keeper that fails at these calls, how many works and events
@@ -311,15 +324,18 @@ fn outcome_on<M: Mark>(
     command: Command,
     failing: Vec<u32>,
     instances: Items<Instance>,
+    roll: Roll,
     subject: Subject,
 ) -> Result<(Outcome, usize, usize, bool), AllocError>
     requires rows { M.inputs.rows ≡ [] }
     requires store { IsSome M.inputs.store.rows }
     requires instances { M.inputs.instances ≡ instances }
     requires fresh { AreFresh instances }
+    requires roll { M.inputs.roll ≡ roll.table_id }
+    requires empty { roll.parts ≡ [] }
     requires legal { (s : State) → s.runs ≡ [] → IsLegalLine s command }
 {
-    let (command, mut table) = beside(command, one_table::<M>(alloc, failing, instances))?;
+    let (command, mut table) = beside(command, one_table::<M>(alloc, failing, instances, roll))?;
     let outcome = enqueue_and_run(&mut table, alloc, command, subject);
     let quiet = table.quiet();
     let end = table.end();
@@ -342,7 +358,8 @@ fn outcome_at(
     let command = enqueue(alloc, Merger::Overwriting, 1)?;
     let (command, failing) = beside(command, alone(alloc, failing))?;
     let (command, instances) = beside(command, one_echo(alloc))?;
-    outcome_on::<Brand>(alloc, command, failing, instances, subject)
+    let (command, roll) = beside(command, Roll::new(alloc))?;
+    outcome_on::<Brand>(alloc, command, failing, instances, roll, subject)
 }
 
 #[test]
@@ -372,7 +389,10 @@ fn cause_text(alloc: Global, cause: &Cause) -> Result<Text, AllocError> {
 }
 
 /// What becomes of the start of a work: the input of its run, or why it can't start.
-fn start<M: Mark>(alloc: Global, table: &mut Table<MemoryKeeper, M>) -> Result<Text, AllocError> {
+fn start<M: Mark>(alloc: Global, table: &mut Table<MemoryKeeper, M>) -> Result<Text, AllocError>
+    requires { table.old.roll ≡ [] }
+    ensures { table.new.roll ≡ [] }
+{
     match table.claim() {
         Ok(Some(claim)) => match claim {
             Claim::Run(ticket) => {
@@ -413,7 +433,9 @@ fn only_text(alloc: Global, end: &TableEnd<MemoryKeeper>) -> Result<String, Allo
 }
 
 /// The only work of a table in the end.
-fn end_text<M: Mark>(alloc: Global, table: Table<MemoryKeeper, M>) -> Result<String, AllocError> {
+fn end_text<M: Mark>(alloc: Global, table: Table<MemoryKeeper, M>) -> Result<String, AllocError>
+    requires { table.roll ≡ [] }
+{
     let end = table.end();
     let text = only_text(alloc, &end);
     drop(end);
@@ -425,14 +447,17 @@ fn started_on<M: Mark>(
     alloc: Global,
     command: Command,
     instances: Items<Instance>,
+    roll: Roll,
 ) -> Result<String, AllocError>
     requires rows { M.inputs.rows ≡ [] }
     requires store { IsSome M.inputs.store.rows }
     requires instances { M.inputs.instances ≡ instances }
     requires fresh { AreFresh instances }
+    requires roll { M.inputs.roll ≡ roll.table_id }
+    requires empty { roll.parts ≡ [] }
     requires legal { (s : State) → s.runs ≡ [] → IsLegalLine s command }
 {
-    let table = one_table::<M>(alloc, Vec::new(alloc), instances);
+    let table = one_table::<M>(alloc, Vec::new(alloc), instances, roll);
     let (command, mut table) = beside(command, table)?;
     drop(table.command(1, command));
     let outcome = start(alloc, &mut table);
@@ -445,7 +470,8 @@ fn started_on<M: Mark>(
 fn started(alloc: Global, merger: Merger, count: usize) -> Result<String, AllocError> {
     let command = enqueue(alloc, merger, count)?;
     let (command, instances) = beside(command, one_echo(alloc))?;
-    started_on::<Brand>(alloc, command, instances)
+    let (command, roll) = beside(command, Roll::new(alloc))?;
+    started_on::<Brand>(alloc, command, instances, roll)
 }
 
 #[test]

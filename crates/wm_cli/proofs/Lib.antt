@@ -1,5 +1,7 @@
+pub mod Desks
 pub mod Hands
 pub mod Opening
+pub mod ReportedRuns
 pub mod RunEnds
 pub mod RunImages
 pub mod RunsWithoutEvents

@@ -28,7 +28,7 @@ use Rattle.wm_machine.specs.Replay.{Replay}
 use Rattle.wm_rows.specs.Sound.{checked, AreSound}
 use Rattle.wm_rows.specs.declared.fault.RowFault.{RowFault}
 use Rattle.wm_session.specs.Causes.{status_by_begin, status_by_keeper}
-use Rattle.wm_session.specs.Ended.{HasCommands, IsSerialEnd, IsSerialRun, IsSessionStatus, IsTextWritten, IsUnbegun}
+use Rattle.wm_session.specs.Ended.{HasCommands, IsBookEnd, IsSerialEnd, IsSerialRun, IsSessionStatus, IsTextWritten, IsUnbegun}
 use Rattle.wm_session.specs.Hands.{instances_from}
 use Rattle.wm_session.specs.Images.{EndImages}
 use Rattle.wm_session.specs.Tells.{Tells}
@@ -46,43 +46,46 @@ use Rattle.wm_table.specs.declared.table.BeginFault.TheVariants as begin
 other_status : (ended other : Status) → ended ≡ status.Memory → (status.Memory ≡ other → ⊥) → ended ≡ other → ⊥
 other_status ended other is differs same = differs (sym is ∙ same)
 
--- where a table has just begun with these workers, a run that ended for want of memory is a serial session that is over
-pub IsSerialEnd-at_once : {K W B : Type 0} (tells : Tells K W B) (run : Inputs) (hands : List (Hand B)) (table : TableState K) (sink : W)
+-- where a table has just begun with these workers, a run that ended for want of memory is a session that is over, and a serial one
+pub IsEnd-at_once : {K W B : Type 0} (tells : Tells K W B) (run : Inputs) (hands : List (Hand B)) (table : TableState K) (sink : W)
     (back : Vec (Hand B) Global) (ended : Ended K W B)
     → IsEndedAtOnce table sink back ended → HasJustBegun tells run table → AllByRecursion IsAskable run.lines
     → run.instances ≡ instances_from tells.kind_of 0 hands → tells.given sink ≡ run.written → back.items ≡ hands
-    → IsSerialEnd tells run hands ended
-IsSerialEnd-at_once tells run hands table sink back ended at begun askable are written same =
+    → IsBookEnd tells run ended × IsSerialEnd tells run hands ended
+IsEnd-at_once tells run hands table sink back ended at begun askable are written same =
     let opened : Opened run.rows run.instances ended.first = subst (Opened run.rows run.instances) (sym at.first) begun.opened in
     let none : ended.log ≡ [] = at.log ∙ begun.log in
     let last : ended.last ≡ ended.first = at.last ∙ begun.state ∙ sym at.first in
     let instances : ended.last.instances ≡ instances_from tells.kind_of 0 hands =
     ap (λ (s : State). s.instances) (last ∙ opened.state) ∙ are in
     let back_are : ended.hands.items ≡ hands = ap (λ v. v.items) at.hands_are ∙ same in
-    let early : ended.status ≡ status.Done → ⊥ = other_status ended.status status.Done at.status_is (λ clash. absurd (cc)) in
-    record {
-      session = record {
-        status_is = subst IsSessionStatus (sym at.status_is) tt;
-        began = at.began;
-        opened = opened;
-        replay = subst (λ log. Replay ended.first log ended.last) (sym none) last;
-        commands = HasCommands-nothing run.lines ended.status ended.log none (λ done. absurd (early done));
-        bytes = IsTextWritten-nothing run.written (tells.given ended.sink) ended.status ended.first ended.log
-            (ap tells.given at.sink_is ∙ written) none;
-        rows = rw (at.keeper_is, last, at.first) begun.rows;
-        tells_on = rw at.keeper_is begun.tells_on;
-        keeper_fault = λ is. absurd (other_status ended.status status.KeeperFault at.status_is (λ clash. absurd (cc)) is);
-        sink_fault = λ is. absurd (other_status ended.status status.SinkFault at.status_is (λ clash. absurd (cc)) is);
-        images = λ settled.
-            rw (at.status_is, at.keeper_is, last, at.first) (λ image left. inl (begun.images settled image left));
-      };
-      quiet = λ done. absurd (early done);
-      hands = AreHandsBack-opened tells.kind_of ended.last hands ended.hands.items instances back_are;
-      boxes = AreBoxesBack-opened tells.kind_of tells.diary_of ended.log ended.last hands ended.hands.items instances back_are;
-      diaries = λ done. absurd (early done);
-      serial = IsSerialRun-early run.lines ended.status ended.first ended.log ended.last early
-          (BeginsSerial-nothing run.lines ended.first ended.log askable opened none);
-    }
+    let early : ended.status ≡ status.Done → ⊥ = other_status ended.status status.Done at.status_is (λ clash. absurd (cc)) in (
+      record {
+        session = record {
+          status_is = subst IsSessionStatus (sym at.status_is) tt;
+          began = at.began;
+          opened = opened;
+          replay = subst (λ log. Replay ended.first log ended.last) (sym none) last;
+          commands = HasCommands-nothing run.lines ended.status ended.log none (λ done. absurd (early done));
+          bytes = IsTextWritten-nothing run.written (tells.given ended.sink) ended.status ended.first ended.log
+              (ap tells.given at.sink_is ∙ written) none;
+          rows = rw (at.keeper_is, last, at.first) begun.rows;
+          tells_on = rw at.keeper_is begun.tells_on;
+          keeper_fault = λ is. absurd (other_status ended.status status.KeeperFault at.status_is (λ clash. absurd (cc)) is);
+          sink_fault = λ is. absurd (other_status ended.status status.SinkFault at.status_is (λ clash. absurd (cc)) is);
+          images = λ settled.
+              rw (at.status_is, at.keeper_is, last, at.first) (λ image left. inl (begun.images settled image left));
+        };
+        quiet = λ done. absurd (early done);
+        hands = AreHandsBack-opened tells.kind_of ended.last hands ended.hands.items instances back_are;
+      },
+      record {
+        boxes = AreBoxesBack-opened tells.kind_of tells.diary_of ended.log ended.last hands ended.hands.items instances back_are;
+        diaries = λ done. absurd (early done);
+        serial = IsSerialRun-early run.lines ended.status ended.first ended.log ended.last early
+            (BeginsSerial-nothing run.lines ended.first ended.log askable opened none);
+      },
+    )
 
 -- ---- a run whose table was begun
 
@@ -120,16 +123,17 @@ session_store (status.BadStore seq bad_row) held session = absurd session
 none_refused : (rows : List Row) (fault : RowFault) → AreSound rows → checked rows ≡ Err fault → ⊥
 none_refused rows fault sound refused = let clash : Ok sound.0 ≡ Err fault = sym sound.1 ∙ refused in absurd (cc)
 
--- a serial session that is over ends its run
-pub IsRunEnd-begun : {K W B : Type 0} (tells : Tells K W B) (run : Inputs) (commands : List Command) (hands : List (Hand B)) (keeper : K) (sink : W)
-    (ended : Ended K W B)
-    → IsSerialEnd tells run (idle_hands (map place_of hands)) ended → run.lines ≡ commands → run.instances ≡ instances_from tells.kind_of 0 hands
+-- a session that is over ends its run
+pub IsRunEnd-begun : {K W B : Type 0} (tells : Tells K W B) (run : Inputs) (workers : ℕ) (commands : List Command) (hands : List (Hand B)) (keeper : K)
+    (sink : W) (ended : Ended K W B)
+    → IsBookEnd tells run ended → (workers ≡ 0 → IsSerialEnd tells run (idle_hands (map place_of hands)) ended) → run.lines ≡ commands → run.instances ≡ instances_from tells.kind_of 0 hands
     → run.written ≡ tells.given sink → run.sink_faults ≡ tells.sink_faults sink → run.store.faults ≡ (tells.store keeper).faults
     → run.store.rows ≡ (tells.store keeper).rows → run.store.name ≡ (tells.store keeper).name
     → ((image : List Row) → run.store.images image → (tells.store keeper).images image) → AreSound run.rows
-    → IsRunEnd tells commands hands (tells.store keeper).name (Some run.rows) (Some run.rows) keeper sink ended
-IsRunEnd-begun tells run commands hands keeper sink ended by_places lines are written sink_faults faults told name images sound =
-    let over = rw (idle_hands-places hands) at by_places in
+    → IsRunEnd tells workers commands hands (tells.store keeper).name (Some run.rows) (Some run.rows) keeper sink ended
+IsRunEnd-begun tells run workers commands hands keeper sink ended over by_places lines are written sink_faults faults told name images sound =
+    let serial : workers ≡ 0 → IsSerialEnd tells run hands ended =
+    λ alone. subst (λ given. IsSerialEnd tells run given ended) (idle_hands-places hands) (by_places alone) in
     let session = over.session in
     let instances = instances_from tells.kind_of 0 hands in
     let replayed : HasReplayed (Some run.rows) instances ended.first ended.log ended.last = record {
@@ -146,9 +150,9 @@ IsRunEnd-begun tells run commands hands keeper sink ended by_places lines are wr
       bytes = subst (λ before. IsTextWritten before (tells.given ended.sink) ended.status ended.first ended.log) written session.bytes;
       end = over.quiet;
       hands_back = subst (λ began. AreHandsOf tells.kind_of began ended.last hands ended.hands.items) (sym session.began) over.hands;
-      boxes = λ began. over.boxes;
-      diaries = over.diaries;
-      serial = subst (λ all. IsSerialRun all ended.status ended.first ended.log ended.last) lines over.serial;
+      boxes = λ alone began. (serial alone).boxes;
+      diaries = λ alone. (serial alone).diaries;
+      serial = λ alone. subst (λ all. IsSerialRun all ended.status ended.first ended.log ended.last) lines (serial alone).serial;
       opened = session_opening ended.status session.status_is;
       keeper_fault = λ is. subst (λ n. Failed n (tells.store ended.keeper).faults) faults (session.keeper_fault is);
       sink_fault = λ is. subst (λ n. Failed n (tells.sink_faults ended.sink)) sink_faults (session.sink_fault is);
@@ -249,14 +253,14 @@ is_early status.SourceFault before now held cause = absurd cause
 is_early (status.ScriptTooLong limit) before now held cause = absurd cause
 
 -- a run that ended before its table was begun, with its keeper as it was told before
-pub IsRunEnd-unbegun : {K W B : Type 0} (tells : Tells K W B) (commands : List Command) (why : Status) (hands : Vec (Hand B) Global)
+pub IsRunEnd-unbegun : {K W B : Type 0} (tells : Tells K W B) (workers : ℕ) (commands : List Command) (why : Status) (hands : Vec (Hand B) Global)
     (name : Option (List ℕ)) (held before : Option (List Row)) (keeper now : K) (sink : W) (ended : Ended K W B)
     → IsUnbegun why now sink hands ended → AllByRecursion IsAskable commands → IsAtMost (tells.store keeper).rows (tells.store now).rows
     → EarlyCause why (tells.store keeper).faults (tells.store now).faults held
     → (IsHeldAlone before (tells.store keeper) → UnbegunImages why before (instances_from tells.kind_of 0 hands.items) (tells.store now))
     → ((image : List Row) → (tells.store now).images image → (tells.store keeper).images image ⊎ IsSome (tells.store keeper).rows)
-    → IsRunEnd tells commands hands.items name held before keeper sink ended
-IsRunEnd-unbegun tells commands why hands name held before keeper now sink ended unbegun askable same cause images leaves =
+    → IsRunEnd tells workers commands hands.items name held before keeper sink ended
+IsRunEnd-unbegun tells workers commands why hands name held before keeper now sink ended unbegun askable same cause images leaves =
     let earlier = (tells.store keeper).faults in
     let faults : (tells.store ended.keeper).faults ≡ (tells.store now).faults = ap (λ keeper. (tells.store keeper).faults) unbegun.keeper_is in
     let is =
@@ -276,9 +280,9 @@ IsRunEnd-unbegun tells commands why hands name held before keeper now sink ended
       end = λ done. absurd (is.early done);
       hands_back = subst (λ began. AreHandsOf tells.kind_of began ended.last hands.items ended.hands.items) (sym unbegun.began)
           (ap (λ v. v.items) unbegun.hands_are);
-      boxes = λ began. let clash : true ≡ false = sym began ∙ unbegun.began in absurd (cc);
-      diaries = λ done. absurd (is.early done);
-      serial = IsSerialRun-unopened commands ended.status ended.first ended.log ended.last askable is.early unbegun.first unbegun.log;
+      boxes = λ alone began. let clash : true ≡ false = sym began ∙ unbegun.began in absurd (cc);
+      diaries = λ alone done. absurd (is.early done);
+      serial = λ alone. IsSerialRun-unopened commands ended.status ended.first ended.log ended.last askable is.early unbegun.first unbegun.log;
       opened = is.opened;
       keeper_fault = is.keeper_fault;
       sink_fault = λ fault. absurd (is.no_sink_fault fault);
@@ -341,14 +345,14 @@ loaded_left before loaded now rows image is same left = elim left [
     told_then (Some kept) None is same told = absurd cc
 
 -- the end of a run over the rows that were loaded is one over the keeper as it was before
-pub IsRunEnd-loaded : {K W B : Type 0} (tells : Tells K W B) (commands : List Command) (hands : List (Hand B)) (name : List ℕ) (rows : List Row)
-    (keeper loaded : K) (sink : W) (ended : Ended K W B)
-    → IsRunEnd tells commands hands (tells.store loaded).name (Some rows) (Some rows) loaded sink ended
+pub IsRunEnd-loaded : {K W B : Type 0} (tells : Tells K W B) (workers : ℕ) (commands : List Command) (hands : List (Hand B)) (name : List ℕ)
+    (rows : List Row) (keeper loaded : K) (sink : W) (ended : Ended K W B)
+    → IsRunEnd tells workers commands hands (tells.store loaded).name (Some rows) (Some rows) loaded sink ended
     → IsAtMost (Some name) (tells.store loaded).name → IsLoaded rows (tells.store keeper) (tells.store loaded)
     → IsStoreKept (tells.store keeper) (tells.store loaded) → (tells.store loaded).faults ≡ (tells.store keeper).faults
-    → IsRunEnd tells commands hands (Some name) (told_before (tells.store keeper).rows (tells.store ended.keeper).rows) (tells.store keeper).rows
-    keeper sink ended
-IsRunEnd-loaded tells commands hands name rows keeper loaded sink ended is named are kept faults =
+    → IsRunEnd tells workers commands hands (Some name) (told_before (tells.store keeper).rows (tells.store ended.keeper).rows)
+    (tells.store keeper).rows keeper sink ended
+IsRunEnd-loaded tells workers commands hands name rows keeper loaded sink ended is named are kept faults =
     let before = (tells.store keeper).rows in
     let last = (tells.store ended.keeper).rows in
     let held = told_before before last in

@@ -1,35 +1,50 @@
 -- Lemmas on the words of the command line.
-use Rattle.std.proofs.Common.{◌≡◌, ◌≢◌, ◌<◌, ◌==◌, ℕ, suc, false, List, [], ◌∷◌, ◌++◌, get_or, length, Option, Some, None, option_map, refl, sym, ap, ◌∙◌, arith}
-use Rattle.std.specs.Borrow.{Bor}
-use Rattle.std.specs.Prelude.{MatchOption}
+use Rattle.std.proofs.Common.{◌≡◌, ◌⊎◌, ◌==◌, inl, inr, ◌<◌, ◌^◌, ℕ, true, false, leb, List, ◌∷◌, length, Option, Some, None, option_map, IfSome, Result, Ok, Err, bytes_eq, refl, sym, subst, arith, rules}
+use Rattle.std.specs.Char.{is_ascii_digit}
+use Rattle.std.specs.List.{list_all}
+use Rattle.std.specs.Result.{result_ok}
+use Rattle.std.specs.Str.Parse.{digits_value, ParsesUnsigned}
 use Rattle.std.proofs.lemmas.Bool.Decides.{nat_tests}
-use Rattle.wm_cli.specs.Words.{parts_of}
+use Rattle.std.proofs.lemmas.Str.Parse.{IsNumeralModel, numerals_by_value, parse_digits}
+use Rattle.wm_cli.specs.Words.{Setting, asked, is_numeral, number_within, options_of, value_of, AskForNoThreads}
+use Rattle.wm_cli.specs.declared.words.Options.{Options as ReadOptions}
 
--- no byte is `=`
-abbrev pub HasNone : List ℕ → Type 0
-HasNone text = (i : ℕ) → i < length text → get_or text i 0 ≢ 61
+-- texts of digits, and their values, as `parse` has them
+digits_read : IsNumeralModel (λ text. list_all is_ascii_digit text ≡ true) (digits_value 10)
+digits_read = numerals_by_value _ (search rules)
 
-later : (byte : ℕ) (text : List ℕ) → HasNone (byte ∷ text) → HasNone text
-later byte text none i h = none (suc i) (omega arith)
+-- what is no number of the type is above each one that is
+above : (most value size : ℕ) → most < 2 ^ 64 → 0 < size → ((0 < size) × (value < 2 ^ 64) → ⊥) → leb value most ≡ false
+above most value size fits some none = grind (arith, nat_tests)
 
-first : (byte : ℕ) (text : List ℕ) → HasNone (byte ∷ text) → (byte == 61) ≡ false
-first byte text none =
-    let differs = none 0 (omega arith) in
-    grind (arith, nat_tests)
+-- a numeral that `parse` refuses is above every number of the type
+pub number_within-refused : {E : Type 0} (most : ℕ) (text : List ℕ) (r : Result ℕ E) → most < 2 ^ 64 → is_numeral text ≡ true → ParsesUnsigned 64 10 text r → result_ok r ≡ None
+    → None ≡ number_within most text
+number_within-refused most text (Ok number) fits is parsed refused = absurd cc
+number_within-refused most text (Err fault) fits is parsed refused =
+    let digits : list_all is_ascii_digit text ≡ true = grind (arith, nat_tests) in
+    let some : 0 < length text = grind (arith, nat_tests) in
+    let large = above most (digits_value 10 text) (length text) fits some (parse_digits digits_read 64 text (Err fault) parsed digits) in
+    rw (is, large) refl
 
--- the text before the first `=` and that after it
-pub parts_of-at : (before after : List ℕ) → HasNone before → parts_of (before ++ 61 ∷ after) ≡ Some (before, after)
-parts_of-at [] after none = refl
-parts_of-at (byte ∷ before) after none =
-    rw (first byte before none, parts_of-at before after (later byte before none)) refl
+-- so many words that have no first setting can't be read, where there are any
+pub none_read : (size : ℕ) (read : Option (List Setting)) → false ≡ (size == 0) → (size ≡ 0) ⊎ (read ≡ None) → read ≡ None
+none_read size read some (inl none) = absurd (grind (arith, nat_tests))
+none_read size read some (inr is) = is
 
-pub parts_of-none : (text : List ℕ) → HasNone text → parts_of text ≡ None
-parts_of-none [] none = refl
-parts_of-none (byte ∷ text) none = rw (first byte text none, parts_of-none text (later byte text none)) refl
+-- where the words that are left can't be read, all of them couldn't
+pub IfSome-unread : (P : List Setting → Type 0) (option : List ℕ) (read : Option (List Setting)) → option_map (value_of option) read ≡ None → IfSome read P
+IfSome-unread P option None is = tt
+IfSome-unread P option (Some settings) is = absurd cc
 
--- what `split_once` says of a word
-pub split_is : (text : List ℕ) (r : Option (Bor (List ℕ) × Bor (List ℕ)))
-    → MatchOption r (HasNone text) (λ parts. (text ≡ parts.0.now ++ (61 ∷ parts.1.now)) × HasNone parts.0.now)
-    → option_map (λ parts. (parts.0.now, parts.1.now)) r ≡ parts_of text
-split_is text None none = sym (parts_of-none text none)
-split_is text (Some parts) is = sym (ap parts_of is.0 ∙ parts_of-at parts.0.now parts.1.now is.1)
+-- the value of the first setting of those that are left, where it is of the option
+pub value_of-first : (option : List ℕ) (setting : Setting) (later read : Option (List Setting)) → bytes_eq setting.option option ≡ true
+    → option_map (value_of option) (option_map (λ settings. setting ∷ settings) later) ≡ option_map (value_of option) read
+    → IfSome read (λ settings. Some setting.value ≡ value_of option settings)
+value_of-first option setting later None is same = tt
+value_of-first option setting None (Some settings) is same = absurd cc
+value_of-first option setting (Some others) (Some settings) is same = let first = rw is at same in cc
+
+-- where the words ask for no threads, the options that were read have none
+pub no_threads : (words : List (List ℕ)) (options : ReadOptions) → Some (asked options) ≡ options_of words → AskForNoThreads words → options.workers ≡ 0
+no_threads words options are none = subst (λ read. IfSome read (λ options. options.workers ≡ 0)) (sym are) none

@@ -23,13 +23,14 @@ pub record AreBenched {B : Type 0} (kind_of : B → Kind) (places : List (Place 
   pub at_places : places ≡ map place_of hands
   pub are : instances ≡ instances_from kind_of 0 hands
 
--- a table that has just begun, of what its run was given: the rows are sound, its state is the one that they open to, nothing has happened, and its
--- keeper holds the state's rows, in the store that was loaded, and met no fault; a crash leaves just these, where it left just the rows loaded
+-- a table that has just begun, of what its run was given: the rows are sound, its state is the one that they open to, nothing has happened, no ticket
+-- is out, and its keeper holds the state's rows, in the store that was loaded, and met no fault; a crash leaves just these, where it left just the rows loaded
 pub record HasJustBegun {K W B : Type 0} (tells : Tells K W B) (run : Inputs) (table : TableState K) : Type 0 where
   pub sound : AreSound run.rows
   pub opened : Opened run.rows run.instances table.first
   pub state : table.state ≡ table.first
   pub log : table.log ≡ []
+  pub roll : table.roll ≡ []
   pub rows : HoldsRowsOf table.first (tells.store table.keeper)
   pub tells_on : TellsOn run.store (tells.store table.keeper)
   pub no_fault : (tells.store table.keeper).faults ≡ run.store.faults

@@ -1,10 +1,11 @@
 -- How a run ends: what its log, its last state, the rows kept, the bytes given and the workers handed back are.
-use Rattle.std.specs.Prelude.{◌≡◌, ◌⊎◌, ℕ, ℤ, Bool, true, false, List, [], Option, Some, IfSome, IsSome, MatchBool, option_map, Err, Vec}
+use Rattle.std.specs.Prelude.{◌≡◌, ◌⊎◌, ℕ, ℤ, Bool, true, false, List, [], ◌∷◌, ◌++◌, Option, Some, IfSome, IsSome, MatchBool, option_map, Err, Vec}
 use Rattle.std.specs.declared.alloc.Global.{Global}
 use Rattle.wm_bench.specs.declared.hand.Hand.{Hand}
 use Rattle.wm_cli.specs.Causes.{IsOpeningStatus, IsUnlessMemory, StoreCause}
 use Rattle.wm_cli.specs.Images.{IsHeldAlone, RunImages}
 use Rattle.wm_cli.specs.Words.{options_of}
+use Rattle.wm_data.specs.declared.data.DataEntry.{DataEntry}
 use Rattle.wm_faults.specs.Faults.{Failed}
 use Rattle.wm_keeper.specs.Store.{Store, IsAtMost}
 use Rattle.wm_keeper.specs.declared.row.Row.{Row}
@@ -12,8 +13,10 @@ use Rattle.wm_script.specs.Lines.{commands_in}
 use Rattle.wm_machine.specs.Opened.{opening_state, Opened}
 use Rattle.wm_machine.specs.Quiet.{IsQuiet}
 use Rattle.wm_machine.specs.Replay.{Replay}
+use Rattle.wm_machine.specs.Reports.{IsReportedOnce}
 use Rattle.wm_machine.specs.declared.command.Command.{Command}
 use Rattle.wm_machine.specs.declared.event.Event.{Event}
+use Rattle.wm_machine.specs.declared.event.Event.TheVariants as event
 use Rattle.wm_machine.specs.declared.state.Instance.{Instance}
 use Rattle.wm_machine.specs.declared.state.State.{State}
 use Rattle.wm_rows.specs.Sound.{checked}
@@ -97,6 +100,13 @@ IsCrashSafe left began ended held instances last log store =
 abbrev pub IsQuietOnDone : Status → State → Type 0
 IsQuietOnDone ended last = ended ≡ status.Done → IsQuiet last
 
+-- ---- the runs
+
+-- each run that the log starts is reported once
+abbrev pub AreReportedOnce : List Event → State → Type 0
+AreReportedOnce log last = (before later : List Event) (run seq instance : ℕ) (input : List DataEntry)
+    → log ≡ before ++ event.Start run seq instance input ∷ later → IsReportedOnce run before later last
+
 -- ---- the workers
 
 -- the workers that come back are those of the instances that aren't retired, and those given where the table wasn't begun
@@ -126,9 +136,9 @@ pub record IsEndedAtOnce {K W B : Type 0} (table : TableState K) (sink : W) (han
   pub hands_are : ended.hands ≡ hands
 
 -- A run that is over whose commands, these, were read, and that was given these workers, this keeper, of a store of this name, where it tells it,
--- and this sink. The keeper told these rows before, and they are held where it tells rows to the end. Each fact is the promise of `run` of that
--- name, but for the last two, which say where rows are told.
-pub record IsRunEnd {K W B : Type 0} (tells : Tells K W B) (commands : List Command) (hands : List (Hand B)) (name : Option (List ℕ))
+-- and this sink; so many worker threads drove its works. The keeper told these rows before, and they are held where it tells rows to the end. Each
+-- fact is the promise of `run` of that name, but for the last two, which say where rows are told.
+pub record IsRunEnd {K W B : Type 0} (tells : Tells K W B) (workers : ℕ) (commands : List Command) (hands : List (Hand B)) (name : Option (List ℕ))
     (held before : Option (List Row)) (keeper : K) (sink : W) (ended : Ended K W B) : Type 0 where
   pub replay : IsReplayed held (instances_from tells.kind_of 0 hands) ended.began ended.first ended.log ended.last
   pub begun : IsBegunBy ended.status ended.began
@@ -139,9 +149,9 @@ pub record IsRunEnd {K W B : Type 0} (tells : Tells K W B) (commands : List Comm
   pub bytes : IsTextWritten (tells.given sink) (tells.given ended.sink) ended.status ended.first ended.log
   pub end : IsQuietOnDone ended.status ended.last
   pub hands_back : AreHandsOf tells.kind_of ended.began ended.last hands ended.hands.items
-  pub boxes : AreBoxesOf tells.diary_of ended.began hands ended.log ended.last ended.hands.items
-  pub diaries : HaveToldOnDone tells.diary_of ended.status hands ended.first ended.log ended.last ended.hands.items
-  pub serial : IsSerialRun commands ended.status ended.first ended.log ended.last
+  pub boxes : workers ≡ 0 → AreBoxesOf tells.diary_of ended.began hands ended.log ended.last ended.hands.items
+  pub diaries : workers ≡ 0 → HaveToldOnDone tells.diary_of ended.status hands ended.first ended.log ended.last ended.hands.items
+  pub serial : workers ≡ 0 → IsSerialRun commands ended.status ended.first ended.log ended.last
   pub opened : IsOpeningStatus ended.status
   pub keeper_fault : ended.status ≡ status.KeeperFault → Failed (tells.store keeper).faults (tells.store ended.keeper).faults
   pub sink_fault : ended.status ≡ status.SinkFault → Failed (tells.sink_faults sink) (tells.sink_faults ended.sink)

@@ -1,8 +1,10 @@
 -- The words of the command line.
-use Rattle.std.specs.Prelude.{ℕ, ◌==◌, ◌&&◌, ◌||◌, Bool, not, List, [], ◌∷◌, length, slice_index, nat_lt, nat_le, codes, if◌then◌else◌, Option, Some, None, option_and_then, option_map}
+use Rattle.std.specs.Prelude.{◌≡◌, ℕ, ◌+◌, ◌<◌, ◌==◌, ◌&&◌, ◌||◌, Bool, true, not, List, [], ◌∷◌, length, find, slice_index, nat_lt, nat_le, codes, take, drop, position, is_none, if◌then◌else◌, Option, Some, None, IfSome, bytes_eq, option_and_then, option_map}
+use Rattle.std.specs.Char.{is_ascii_digit}
 use Rattle.std.specs.List.{list_all}
-use Rattle.std.specs.Str.{bytes_eq}
+use Rattle.std.specs.Str.Parse.{digits_value}
 use Rattle.wm_cli.specs.declared.words.Options.{Options as ReadOptions}
+use Rattle.wm_cli.specs.declared.words.Setting.{Setting as ReadSetting}
 
 abbrev pub is_between : ℕ → ℕ → ℕ → Bool
 is_between low high byte = nat_le low byte && nat_le byte high
@@ -19,31 +21,88 @@ is_name name =
     nat_lt 0 (length name) && nat_le (length name) 200
     && not (slice_index name 0 == 45) && list_all is_name_byte name
 
--- what stands before the first `=` of a word, and what after it
-abbrev pub parts_of : List ℕ → Option (List ℕ × List ℕ)
-parts_of [] = None
-parts_of (byte ∷ word) = if byte == 61 then Some ([], word) else option_map (λ parts. (byte ∷ parts.0, parts.1)) (parts_of word)
+-- 1 to 20 decimal digits
+abbrev pub is_numeral : List ℕ → Bool
+is_numeral text = nat_lt 0 (length text) && nat_le (length text) 20 && list_all is_ascii_digit text
 
--- the value that a word gives this option after `=`
-abbrev pub value_in : List ℕ → List ℕ → Option (List ℕ)
-value_in option word = option_and_then (λ parts. if bytes_eq parts.0 option then Some parts.1 else None) (parts_of word)
+-- the number that 1 to 20 decimal digits write, where it is at most this
+abbrev pub number_within : ℕ → List ℕ → Option ℕ
+number_within most text =
+    if is_numeral text && nat_le (digits_value 10 text) most then Some (digits_value 10 text) else None
 
--- the value of this option, where the words say nothing else: in its own word, or in the word after it
-abbrev pub only_value : List ℕ → List (List ℕ) → Option (List ℕ)
-only_value option (word ∷ []) = value_in option word
-only_value option (named ∷ value ∷ []) = if bytes_eq named option then Some value else None
-only_value option _ = None
+-- an option of the command line, with its value
+pub record Setting : Type 0 where
+  pub option : List ℕ
+  pub value : List ℕ
+
+-- a word with `=`, cut at the first one
+abbrev pub setting_in : List ℕ → Option Setting
+setting_in word =
+    option_map (λ place. record { option = take place word; value = drop (place + 1) word }) (position (λ byte. byte == 61) word)
+
+-- The settings that the words are: a word with `=` is one, and any other word is an option that has the word after it as its value. There
+-- are none where the last word would be an option without a value.
+abbrev pub settings_of : List (List ℕ) → Option (List Setting)
+settings_of [] = Some []
+settings_of (word ∷ []) = option_map (λ setting. setting ∷ []) (setting_in word)
+settings_of (word ∷ next ∷ words) =
+    elim (setting_in word) [
+      | Some setting ↦ option_map (λ settings. setting ∷ settings) (settings_of (next ∷ words))
+      | None ↦ option_map (λ settings. record { option = word; value = next } ∷ settings) (settings_of words)
+    ]
+
+-- the options that there are
+abbrev pub is_option : List ℕ → Bool
+is_option option = bytes_eq option (codes "--store") || bytes_eq option (codes "--workers")
+
+-- the value that the settings give this option, the first where it stands twice
+abbrev pub value_of : List ℕ → List Setting → Option (List ℕ)
+value_of option settings =
+    option_map (λ setting. setting.value) (find (λ setting. bytes_eq setting.option option) settings)
+
+-- each option is one that there is, and none stands twice
+abbrev pub are_options : List Setting → Bool
+are_options [] = true
+are_options (setting ∷ later) =
+    is_option setting.option && is_none (value_of setting.option later) && are_options later
+
+-- the name of the store, which has to be set
+abbrev pub store_in : List Setting → Option (List ℕ)
+store_in settings =
+    option_and_then (λ name. if is_name name then Some name else None) (value_of (codes "--store") settings)
+
+-- the number of workers, at most 64; 0 where it isn't set
+abbrev pub workers_in : List Setting → Option ℕ
+workers_in settings = elim (value_of (codes "--workers") settings) [ Some value ↦ number_within 64 value | None ↦ Some 0 ]
 
 -- what the words ask for
 pub record Options : Type 0 where
   pub store : List ℕ
+  pub workers : ℕ
 
--- The options of the words: the name of the store, once, and nothing else. Other options come with what they ask for, and words that name them
--- are out of the grammar until then.
+-- what the settings ask for
+abbrev pub options_in : List Setting → Option Options
+options_in settings =
+    option_and_then (λ store. option_map (λ workers. record { store = store; workers = workers }) (workers_in settings)) (store_in settings)
+
+-- what the words ask for: they are settings, of options that there are, none twice, and each value has the form of its option
 abbrev pub options_of : List (List ℕ) → Option Options
 options_of words =
-    option_and_then (λ name. if is_name name then Some (record { store = name }) else None) (only_value (codes "--store") words)
+    option_and_then (λ settings. if are_options settings then options_in settings else None) (settings_of words)
 
--- the same, of options that point to their words
+-- what options that point to their words ask for
 abbrev pub asked : ReadOptions → Options
-asked options = record { store = options.store.now }
+asked options = record { store = options.store.now; workers = options.workers }
+
+-- what a setting that points to its words sets
+abbrev pub set : ReadSetting → Setting
+set setting = record { option = setting.option.now; value = setting.value.now }
+
+-- these words are this setting, and after it those
+pub record IsFirst (setting : Setting) (words later : List (List ℕ)) : Type 0 where
+  pub settings : settings_of words ≡ option_map (λ settings. setting ∷ settings) (settings_of later)
+  pub shorter : length later < length words
+
+-- the words ask for no threads
+abbrev pub AskForNoThreads : List (List ℕ) → Type 0
+AskForNoThreads words = IfSome (options_of words) (λ options. options.workers ≡ 0)

@@ -1,12 +1,12 @@
-ghost use Rattle.std.specs.Prelude.{◌≡◌, ◌↔◌, ◌+◌, ◌≤◌, ◌<◌, ◌^◌, ℤ, Bool, List, length, map, vec_len, true, false, None, Some, Err, IfOk, IfErr, IfSome, IsSome, OnOk, string_bytes};
+ghost use Rattle.std.specs.Prelude.{◌≡◌, ◌↔◌, ◌+◌, ◌≤◌, ◌<◌, ◌^◌, ℤ, Bool, List, [], length, map, vec_len, true, false, None, Some, Err, IfOk, IfErr, IfSome, IsSome, OnOk, string_bytes};
 ghost use Rattle.std.specs.List.{AllByRecursion};
 ghost use Rattle.wm_bench.specs.Places.{idle_hands, most_hands, place_of};
 ghost use Rattle.wm_cli.specs.Benched.{AreBenched, HasJustBegun};
 ghost use Rattle.wm_cli.specs.Causes.{IsToldTooLong, IsToldWithin, IsUnlessMemory, LimitCause, StoreCause};
-ghost use Rattle.wm_cli.specs.Ended.{AreBoxesOf, AreHandsOf, AreRowsKept, HasCommandsOf, HaveToldOnDone, IsBegunBy, IsCrashSafe, IsEndedAtOnce, IsQuietOnDone, IsReplayed, IsRunEnd, IsSerialOver, IsStoreOf};
+ghost use Rattle.wm_cli.specs.Ended.{AreBoxesOf, AreHandsOf, AreReportedOnce, AreRowsKept, HasCommandsOf, HaveToldOnDone, IsBegunBy, IsCrashSafe, IsEndedAtOnce, IsQuietOnDone, IsReplayed, IsRunEnd, IsSerialOver, IsStoreOf};
 ghost use Rattle.wm_cli.specs.Reading.{AreCommandsOf, IsReadStatus};
 ghost use Rattle.wm_cli.specs.Script.{IsTakenWithin};
-ghost use Rattle.wm_cli.specs.Words.{options_of};
+ghost use Rattle.wm_cli.specs.Words.{options_of, AskForNoThreads};
 ghost use Rattle.wm_faults.specs.Faults.{Failed};
 ghost use Rattle.wm_keeper.specs.Store.{told_before, IsSettled};
 ghost use Rattle.wm_keeper.specs.declared.row.Row.{Row};
@@ -14,25 +14,42 @@ ghost use Rattle.wm_machine.specs.Outcome.{IsAskable};
 ghost use Rattle.wm_rows.specs.Sound.{checked, AreSound};
 ghost use Rattle.wm_script.specs.Limits.{most_script_bytes};
 ghost use Rattle.wm_script.specs.declared.limits.Limit.{Limit};
-ghost use Rattle.wm_session.specs.Ended.{IsSerialEnd, IsTextWritten};
+ghost use Rattle.wm_session.specs.BetweenRuns.{IsAtBegin};
+ghost use Rattle.wm_session.specs.Ended.{IsBookEnd, IsSerialEnd, IsTextWritten};
 ghost use Rattle.wm_session.specs.Hands.{instances_from};
 ghost use Rattle.wm_session.specs.Tells.{tells_of, AreInputs};
 ghost use Rattle.wm_table.specs.Table.{row_fault};
 
 use crate::instances::instances_of;
+use crate::pool::run_pool;
 use crate::script::{ReadFault, read_script};
 use crate::words::options_of;
-use std::alloc::{AllocFailed, Global};
+use std::alloc::{AllocError, AllocFailed, Global};
 use std::marker::Brand;
+use std::sync::Wait;
+use std::thread::Threads;
 use wm_bench::{Bench, Hand};
 use wm_collections::Items;
 use wm_io::{Sink, Source};
 use wm_keeper::{Keeper, Row};
 use wm_machine::{Command, Instance};
+use wm_pool::Gate;
+use wm_roll::Roll;
 use wm_script::{Limit, ScriptFault, read_lines};
 use wm_session::{Book, Ended, Status, run_serial};
 use wm_table::{Mark, Table, TableEnd};
 use wm_worker::Worker;
+
+/// What a run works with beside its parts: the runtime of its threads, the gate that they pass, and
+/// how many of them drive works.
+#[derive(Drop)]
+struct Crew<'a, R, G> {
+    rt: &'a R,
+    alloc: Global,
+    gate: &'a G,
+    workers: u32,
+    ghost few: { workers ≤ 64 },
+}
 
 /// Reads the commands of a script, or says with which status a run ends without them.
 #[tactic(auto, using(crate::proofs::ScriptLimits::read_whole))]
@@ -57,9 +74,29 @@ fn read_commands<S: Source>(alloc: Global, source: &mut S) -> Result<Items<Comma
     }
 }
 
-/// Loads the store of this name, opens it and executes the commands on it.
-fn run_commands<W: Sink, K: Keeper, B: Worker>(
+/// The instances of these workers, and a roll on which no part stands.
+fn instances_and_roll<B: Worker>(
     alloc: Global,
+    hands: &[Hand<B>],
+) -> Result<(Items<Instance>, Roll), AllocError>
+    requires { length hands.now < 2 ^ 32 }
+    ensures instances { IfOk result (λ begun. begun.0 ≡ instances_from B.kind_of 0 hands.now) }
+    ensures roll { IfOk result (λ begun. begun.1.parts ≡ []) }
+{
+    let instances = instances_of(alloc, hands)?;
+    let roll = Roll::new(alloc)?;
+    Ok((instances, roll))
+}
+
+/// Loads the store of this name, opens it and executes the commands on it.
+fn run_commands<
+    W: Sink + Send,
+    K: Keeper + Send,
+    B: Worker + Send,
+    R: Threads + Wait + Sync,
+    G: Gate + Sync,
+>(
+    crew: &Crew<'_, R, G>,
     store: &str,
     commands: Items<Command>,
     hands: Vec<Hand<B>>,
@@ -70,56 +107,73 @@ fn run_commands<W: Sink, K: Keeper, B: Worker>(
     requires askable { AllByRecursion IsAskable commands }
     requires few { length commands < 2 ^ 32 }
     ensures { IsRunEnd (tells_of K.store W.given W.faults B.kind_of B.diary_of)
-        commands hands.items (Some store.now)
+        crew.now.workers commands hands.items (Some store.now)
         (told_before (K.store keeper).rows (K.store result.keeper).rows)
         (K.store keeper).rows keeper sink result }
 {
     let rows = match keeper.load(store) {
         Ok(rows) => rows,
         Err(fault) => {
-            return Ended::before_begin(alloc, Status::from(fault), keeper, sink, hands);
+            return Ended::before_begin(crew.alloc, Status::from(fault), keeper, sink, hands);
         }
     };
-    let Ok(instances) = instances_of(alloc, &hands) else {
-        return Ended::before_begin(alloc, Status::Memory, keeper, sink, hands);
+    let Ok(begun) = instances_and_roll(crew.alloc, &hands) else {
+        return Ended::before_begin(crew.alloc, Status::Memory, keeper, sink, hands);
     };
-    run_loaded::<W, K, B, Brand>(alloc, rows, instances, commands, hands, sink, keeper)
+    let (instances, roll) = begun;
+    run_loaded::<W, K, B, Brand, R, G>(crew, rows, instances, roll, commands, hands, sink, keeper)
 }
 
 /// Opens the rows that were loaded, and executes the commands on them, with these workers. The mark
 /// is what the run is given.
-fn run_loaded<W: Sink, K: Keeper, B: Worker, M: Mark>(
-    alloc: Global,
+fn run_loaded<
+    W: Sink + Send,
+    K: Keeper + Send,
+    B: Worker + Send,
+    M: Mark + Send + Sync,
+    R: Threads + Wait + Sync,
+    G: Gate + Sync,
+>(
+    crew: &Crew<'_, R, G>,
     rows: Vec<Row>,
     instances: Items<Instance>,
+    roll: Roll,
     commands: Items<Command>,
     hands: Vec<Hand<B>>,
     sink: W,
     keeper: K,
 ) -> Ended<K, W, B>
     requires inputs { AreInputs (tells_of K.store W.given W.faults B.kind_of B.diary_of) M.inputs
-        keeper rows.items instances commands sink }
+        keeper rows.items instances commands sink roll.table_id }
+    requires roll { roll.parts ≡ [] }
     requires instances { instances ≡ instances_from B.kind_of 0 hands.items }
     requires rows { IfSome (K.store keeper).rows (λ held. rows.items ≡ held) }
     requires few_hands { vec_len hands ≤ most_hands }
     requires askable { AllByRecursion IsAskable commands }
     requires few { length commands < 2 ^ 32 }
     ensures { IsRunEnd (tells_of K.store W.given W.faults B.kind_of B.diary_of)
-        commands hands.items (K.store keeper).name (Some rows.items) (Some rows.items)
+        crew.now.workers commands hands.items (K.store keeper).name (Some rows.items) (Some rows.items)
         keeper sink result }
 {
-    match Table::begin(alloc, keeper, rows, instances) {
-        Ok(table) => run_begun::<W, K, B, M>(alloc, table, commands, hands, sink),
+    match Table::begin(crew.alloc, keeper, rows, instances, roll) {
+        Ok(table) => run_begun::<W, K, B, M, R, G>(crew, table, commands, hands, sink),
         Err(refused) => {
             let (keeper, fault) = refused;
-            Ended::before_begin(alloc, Status::from(fault), keeper, sink, hands)
+            Ended::before_begin(crew.alloc, Status::from(fault), keeper, sink, hands)
         }
     }
 }
 
 /// Executes the commands on a table that has just begun, with these workers.
-fn run_begun<W: Sink, K: Keeper, B: Worker, M: Mark>(
-    alloc: Global,
+fn run_begun<
+    W: Sink + Send,
+    K: Keeper + Send,
+    B: Worker + Send,
+    M: Mark + Send + Sync,
+    R: Threads + Wait + Sync,
+    G: Gate + Sync,
+>(
+    crew: &Crew<'_, R, G>,
     table: Table<K, M>,
     commands: Items<Command>,
     hands: Vec<Hand<B>>,
@@ -134,11 +188,14 @@ fn run_begun<W: Sink, K: Keeper, B: Worker, M: Mark>(
     requires few { length commands < 2 ^ 32 }
     requires begun { HasJustBegun (tells_of K.store W.given W.faults B.kind_of B.diary_of)
         M.inputs table }
-    ensures { IsSerialEnd (tells_of K.store W.given W.faults B.kind_of B.diary_of)
+    ensures end { IsBookEnd (tells_of K.store W.given W.faults B.kind_of B.diary_of)
+        M.inputs result }
+    ensures serial { crew.now.workers ≡ 0
+        → IsSerialEnd (tells_of K.store W.given W.faults B.kind_of B.diary_of)
         M.inputs (idle_hands (map place_of hands.items)) result }
 {
-    match Bench::new(alloc, hands) {
-        Ok(bench) => run_benched(alloc, table, bench, commands, sink),
+    match Bench::new(crew.alloc, hands) {
+        Ok(bench) => run_benched(crew, table, bench, commands, sink),
         Err(failed) => {
             let AllocFailed { value } = failed;
             end_at_once(table, value, sink)
@@ -147,8 +204,15 @@ fn run_begun<W: Sink, K: Keeper, B: Worker, M: Mark>(
 }
 
 /// Executes the commands in a book.
-fn run_benched<W: Sink, K: Keeper, B: Worker, M: Mark>(
-    alloc: Global,
+fn run_benched<
+    W: Sink + Send,
+    K: Keeper + Send,
+    B: Worker + Send,
+    M: Mark + Send + Sync,
+    R: Threads + Wait + Sync,
+    G: Gate + Sync,
+>(
+    crew: &Crew<'_, R, G>,
     table: Table<K, M>,
     bench: Bench<B>,
     commands: Items<Command>,
@@ -162,15 +226,43 @@ fn run_benched<W: Sink, K: Keeper, B: Worker, M: Mark>(
     requires few { length commands < 2 ^ 32 }
     requires begun { HasJustBegun (tells_of K.store W.given W.faults B.kind_of B.diary_of)
         M.inputs table }
-    ensures { IsSerialEnd (tells_of K.store W.given W.faults B.kind_of B.diary_of)
+    ensures end { IsBookEnd (tells_of K.store W.given W.faults B.kind_of B.diary_of)
+        M.inputs result }
+    ensures serial { crew.now.workers ≡ 0
+        → IsSerialEnd (tells_of K.store W.given W.faults B.kind_of B.diary_of)
         M.inputs (idle_hands bench) result }
 {
-    match Book::<K, W, B, M>::new(alloc, table, bench, commands, sink) {
-        Ok(book) => run_serial(alloc, book),
+    match Book::<K, W, B, M>::new(crew.alloc, table, bench, commands, sink) {
+        Ok(book) => run_book(crew, book),
         Err(parts) => {
             let (table, bench, sink) = parts;
             end_at_once(table, bench.back(), sink)
         }
+    }
+}
+
+/// Executes the lines of a book that begins: with worker threads, where there are some, and else one
+/// after another.
+fn run_book<
+    W: Sink + Send,
+    K: Keeper + Send,
+    B: Worker + Send,
+    M: Mark + Send + Sync,
+    R: Threads + Wait + Sync,
+    G: Gate + Sync,
+>(crew: &Crew<'_, R, G>, book: Book<K, W, B, M>) -> Ended<K, W, B>
+    requires begins { IsAtBegin M.inputs.lines book }
+    requires askable { AllByRecursion IsAskable M.inputs.lines }
+    ensures end { IsBookEnd (tells_of K.store W.given W.faults B.kind_of B.diary_of)
+        M.inputs result }
+    ensures serial { crew.now.workers ≡ 0
+        → IsSerialEnd (tells_of K.store W.given W.faults B.kind_of B.diary_of)
+        M.inputs (idle_hands book.places) result }
+{
+    if crew.workers == 0 {
+        run_serial(crew.alloc, book, crew.gate)
+    } else {
+        run_pool(crew.rt, crew.alloc, book, crew.workers, crew.gate)
     }
 }
 
@@ -180,6 +272,7 @@ fn end_at_once<W: Sink, K: Keeper, B: Worker, M: Mark>(
     hands: Vec<Hand<B>>,
     sink: W,
 ) -> Ended<K, W, B>
+    requires none_out { table.roll ≡ [] }
     ensures { IsEndedAtOnce table sink hands result }
 {
     let TableEnd {
@@ -201,20 +294,31 @@ fn end_at_once<W: Sink, K: Keeper, B: Worker, M: Mark>(
 }
 
 /// Does all that the program does: reads the words, then the whole script, then opens the store,
-/// and executes the script's commands one after another, writing the reply to each. After each
-/// command the works that may start are driven to their ends by the workers.
+/// and executes the script's commands one after another, writing the reply to each. Where the words
+/// ask for no threads, the works that may start are driven to their ends by the workers after each
+/// command. Where they ask for some, each of them drives one work after another meanwhile.
 ///
 /// The words are those of the command line after the program's name. The workers are boxed by
-/// whoever calls, or of any one type; they are of any kinds, and at most 10,000. What comes back is
-/// how the run ended, with the log of its events between the first state and the last, the keeper,
-/// the sink and the workers. Each status has its cause: see [`Status`].
-pub fn run<S: Source, W: Sink + Send, K: Keeper + Send, B: Worker>(
+/// whoever calls, or of any one type; they are of any kinds, and at most 10,000. The gate is passed
+/// before each command and before each turn of a worker. What comes back is how the run ended, with
+/// the log of its events between the first state and the last, the keeper, the sink and the workers.
+/// Each status has its cause: see [`Status`]. With threads, that the call returns isn't promised.
+pub fn run<
+    R: Threads + Wait + Sync,
+    S: Source,
+    W: Sink + Send,
+    K: Keeper + Send,
+    B: Worker + Send,
+    G: Gate + Sync,
+>(
+    rt: &R,
     alloc: Global,
     words: &[String],
     hands: Vec<Hand<B>>,
     source: &mut S,
     sink: W,
     keeper: K,
+    gate: &G,
 ) -> Ended<K, W, B>
     requires few_hands { vec_len hands ≤ most_hands }
 
@@ -243,15 +347,20 @@ pub fn run<S: Source, W: Sink + Send, K: Keeper + Send, B: Worker>(
         result.status result.first result.log }
     // On `Done` nothing is startable and no run is unreturned.
     ensures end { IsQuietOnDone result.status result.last }
-    // The workers whose class wasn't retired come back, each of them that was given, with what it
-    // wrote down.
+    // Each run is reported once: at most, and just once where nothing is left to do in the end.
+    ensures reports { AreReportedOnce result.log result.last }
+    // The workers whose class wasn't retired come back.
     ensures hands { AreHandsOf B.kind_of result.began result.last hands.items result.hands.items }
-    ensures boxes { AreBoxesOf B.diary_of result.began hands.items
+    // Without threads each of them is the one that was given, with what it wrote down.
+    ensures boxes { AskForNoThreads (map string_bytes words.now)
+        → AreBoxesOf B.diary_of result.began hands.items
         result.log result.last result.hands.items }
-    ensures diaries { HaveToldOnDone B.diary_of result.status hands.items
+    ensures diaries { AskForNoThreads (map string_bytes words.now)
+        → HaveToldOnDone B.diary_of result.status hands.items
         result.first result.log result.last result.hands.items }
-    // The log is that of a serial run over the script's commands, or a front of one.
-    ensures serial { IsSerialOver (S.left source.old) result.status
+    // Without threads the log is that of a serial run over the script's commands, or a front of one.
+    ensures serial { AskForNoThreads (map string_bytes words.now)
+        → IsSerialOver (S.left source.old) result.status
         result.first result.log result.last }
 
     // At most one byte more than a script may have is read.
@@ -304,7 +413,15 @@ pub fn run<S: Source, W: Sink + Send, K: Keeper + Send, B: Worker>(
         return Ended::before_begin(alloc, Status::Usage, keeper, sink, hands);
     };
     match read_commands(alloc, source) {
-        Ok(commands) => run_commands(alloc, options.store, commands, hands, sink, keeper),
+        Ok(commands) => {
+            let crew = Crew {
+                rt,
+                alloc,
+                gate,
+                workers: options.workers,
+            };
+            run_commands(&crew, options.store, commands, hands, sink, keeper)
+        }
         Err(status) => Ended::before_begin(alloc, status, keeper, sink, hands),
     }
 }

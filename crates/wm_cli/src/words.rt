@@ -1,10 +1,18 @@
 //! The words of the command line.
-ghost use Rattle.std.specs.Prelude.{◌≡◌, map, option_map, string_bytes};
+ghost use Rattle.std.specs.Prelude.{◌≡◌, ◌⊎◌, ◌≤◌, false, length, map, None, option_map, string_bytes, IfSome, MatchOption};
+ghost use Rattle.std.specs.Char.{is_ascii_digit};
 ghost use Rattle.std.specs.List.{list_all};
-ghost use Rattle.wm_cli.specs.Words.{asked, is_name_byte, is_name, only_value, options_of, parts_of, value_in};
+ghost use Rattle.std.specs.Option.{option_map_or};
+ghost use Rattle.wm_cli.specs.Words.{are_options, asked, is_name_byte, is_name, is_numeral, is_option, number_within, options_of, set, setting_in, settings_of, value_of, workers_in, IsFirst};
 
 /// The most bytes that the name of a store has.
 const MAX_NAME_BYTES: usize = 200;
+
+/// The most digits that a number has.
+const MAX_DIGITS: usize = 20;
+
+/// The most workers that the words may ask for.
+const MAX_WORKERS: u64 = 64;
 
 /// A byte that the name of a store may have.
 fn is_name_byte(byte: u8) -> bool
@@ -29,31 +37,103 @@ fn is_name(name: &str) -> bool
     bytes[0] != b'-' && are_name_bytes(bytes)
 }
 
-/// What stands before the first `=` of a word, and what after it.
-fn parts_of(word: &str) -> Option<(&str, &str)>
-    ensures { option_map (λ parts. (parts.0.now, parts.1.now)) result ≡ parts_of word.now }
+fn are_digits(bytes: &[u8]) -> bool
+    ensures { result ≡ list_all is_ascii_digit bytes.now }
 {
-    word.split_once('=')
+    bytes.iter().all(|byte| byte.is_ascii_digit())
 }
 
-/// The value of this option, which may be the one that a word gives a value.
-fn value_in<'w>(option: &str, word: &'w str) -> Option<&'w str>
-    ensures { option_map (λ value. value.now) result ≡ value_in option.now word.now }
+fn is_numeral(text: &str) -> bool
+    ensures { result ≡ is_numeral text.now }
 {
-    let (named, value) = parts_of(word)?;
-    if named == option { Some(value) } else { None }
+    let bytes = text.as_bytes();
+    !bytes.is_empty() && bytes.len() <= MAX_DIGITS && are_digits(bytes)
 }
 
-/// The value of this option, where the words say nothing else: it is a word of its own, or stands
-/// after `=` in the word of the option.
-fn only_value<'w>(option: &str, words: &'w [String]) -> Option<&'w str>
-    ensures { option_map (λ value. value.now) result ≡ only_value option.now (map string_bytes words.now) }
+/// The number that 1 to 20 decimal digits write, where it is at most `most`.
+fn number_within(most: u64, text: &str) -> Option<u64>
+    ensures value { result ≡ number_within most text.now }
+    ensures within { IfSome result (λ number. number ≤ most) }
 {
-    match words {
-        [word] => value_in(option, word.as_str()),
-        [named, value] if named.as_str() == option => Some(value.as_str()),
-        _ => None,
+    if !is_numeral(text) {
+        return None;
     }
+    let number = text.parse::<u64>().ok()?;
+    (number <= most).then_some(number)
+}
+
+/// An option of the command line, with its value.
+#[derive(Clone, Copy)]
+struct Setting<'w> {
+    option: &'w str,
+    value: &'w str,
+}
+
+/// The setting of a word with `=`, cut at the first one.
+fn setting_in(word: &str) -> Option<Setting<'_>>
+    ensures { option_map set result ≡ setting_in word.now }
+{
+    let (option, value) = word.split_once('=')?;
+    Some(Setting { option, value })
+}
+
+/// The first setting of the words and the words after it. There is none where there are no words, or
+/// where one alone is left that would need a value.
+fn first_setting(words: &[String]) -> Option<(Setting<'_>, &[String])>
+    ensures { MatchOption result
+        ((length words.now ≡ 0) ⊎ (settings_of (map string_bytes words.now) ≡ None))
+        (λ first. IsFirst (set first.0) (map string_bytes words.now) (map string_bytes first.1.now)) }
+{
+    let (word, rest) = words.split_first()?;
+    if let Some(setting) = setting_in(word.as_str()) {
+        return Some((setting, rest));
+    }
+    let (value, rest) = rest.split_first()?;
+    let setting = Setting {
+        option: word.as_str(),
+        value: value.as_str(),
+    };
+    Some((setting, rest))
+}
+
+/// The value that the words give this option, the first where it stands twice.
+fn value_of<'w>(option: &str, words: &'w [String]) -> Option<&'w str>
+    ensures { IfSome (settings_of (map string_bytes words.now))
+        (λ settings. option_map (λ value. value.now) result ≡ value_of option.now settings) }
+{
+    let mut rest = words;
+    while !rest.is_empty() {
+        let (setting, later) = first_setting(rest)?;
+        if setting.option == option {
+            return Some(setting.value);
+        }
+        rest = later;
+    }
+    None
+}
+
+/// Whether this is an option that there is.
+fn is_option(option: &str) -> bool
+    ensures { result ≡ is_option option.now }
+{
+    option == "--store" || option == "--workers"
+}
+
+/// Whether the words are settings, of options that there are, none twice.
+fn are_options(words: &[String]) -> bool
+    ensures { result ≡ option_map_or are_options (settings_of (map string_bytes words.now)) false }
+{
+    let mut rest = words;
+    while !rest.is_empty() {
+        let Some((setting, later)) = first_setting(rest) else {
+            return false;
+        };
+        if !is_option(setting.option) || value_of(setting.option, later).is_some() {
+            return false;
+        }
+        rest = later;
+    }
+    true
 }
 
 /// What the words of the command line ask for.
@@ -61,16 +141,34 @@ fn only_value<'w>(option: &str, words: &'w [String]) -> Option<&'w str>
 pub struct Options<'w> {
     /// The name of the store.
     pub store: &'w str,
+    /// The number of workers, 0 where the words don't say it.
+    pub workers: u32,
 }
 
-/// The options of the words: `--store NAME` or `--store=NAME`, once, and nothing else.
-pub fn options_of(words: &[String]) -> Option<Options<'_>>
-    ensures { option_map asked result ≡ options_of (map string_bytes words.now) }
+/// The number of workers that the words ask for.
+fn workers_in(words: &[String]) -> Option<u32>
+    ensures asked { IfSome (settings_of (map string_bytes words.now)) (λ settings. result ≡ workers_in settings) }
+    ensures few { IfSome result (λ workers. workers ≤ 64) }
 {
-    let store = only_value("--store", words)?;
-    if is_name(store) {
-        Some(Options { store })
-    } else {
-        None
+    match value_of("--workers", words) {
+        Some(value) => Some(number_within(MAX_WORKERS, value)? as u32),
+        None => Some(0),
     }
+}
+
+/// What the words ask for: `--store NAME` and, where it is given, `--workers N`, in any order, each
+/// once at most, as two words or as one with `=`.
+pub fn options_of(words: &[String]) -> Option<Options<'_>>
+    ensures asked { option_map asked result ≡ options_of (map string_bytes words.now) }
+    ensures few { IfSome result (λ options. options.workers ≤ 64) }
+{
+    if !are_options(words) {
+        return None;
+    }
+    let store = value_of("--store", words)?;
+    if !is_name(store) {
+        return None;
+    }
+    let workers = workers_in(words)?;
+    Some(Options { store, workers })
 }

@@ -1,5 +1,5 @@
 -- What an event tells of the lines, and what one by which a run ends or goes on makes of a state.
-use Rattle.std.proofs.Common.{◌≡◌, ℕ, ◌+◌, ◌≤◌, cond, eqb, not, List, [], ◌∷◌, ◌++◌, length, Option, Some, refl, sym, ap, subst}
+use Rattle.std.proofs.Common.{◌≡◌, ℕ, ◌+◌, ◌≤◌, cond, eqb, not, List, [], ◌∷◌, ◌++◌, length, Option, refl, sym, ap, subst}
 use Rattle.std.proofs.lemmas.Bool.{cond_both}
 use Rattle.std.proofs.lemmas.List.{length-map}
 use Rattle.wm_data.specs.declared.data.DataEntry.{DataEntry}
@@ -15,7 +15,7 @@ use Rattle.wm_machine.specs.Turns.{turned, with_turned}
 use Rattle.wm_machine.specs.Waiting.{left_to_drain, LeavesOf}
 use Rattle.wm_machine.specs.Log.{command_in, AreNumberedFrom}
 use Rattle.wm_machine.specs.Narrow.{IsReached}
-use Rattle.wm_machine.specs.Runs.{other_runs, run_numbered}
+use Rattle.wm_machine.specs.Runs.{other_runs}
 use Rattle.wm_machine.specs.declared.event.Event.TheVariants as event
 
 -- ---- events that aren't commands
@@ -48,16 +48,6 @@ no_more_after_end s number gave e ends reached legal =
 pub no_more_after_turn : (s : State) (number : ℕ) (progress : Option (List DataEntry)) → IsReached s → IsTurn s number progress
     → left_to_drain (after s (event.Turn number progress)) ≤ left_to_drain s
 no_more_after_turn s number progress reached legal = (kept_by s (event.Turn number progress) reached legal).left
-
--- the run of its number is at its next turn
-pub run_numbered-turned : (number : ℕ) (runs : List Run) (run : Run) → run_numbered number runs ≡ Some run
-    → run_numbered number (with_turned number runs) ≡ Some (turned run)
-run_numbered-turned number [] run found = absurd (cc)
-run_numbered-turned number (other ∷ runs) run found =
-    cond_both (eqb other.run number) (turned other) other
-    (λ now. cond (eqb now.run number) (Some now) (run_numbered number (with_turned number runs)) ≡ Some (turned run))
-    (λ e. let same : other ≡ run = let is = rw e at found in cc in rw e (ap (λ one. Some (turned one)) same))
-    (λ e. rw e (run_numbered-turned number runs run (rw e at found)))
 
 -- the others stay
 pub other_runs-turned : (number : ℕ) (runs : List Run) → other_runs number (with_turned number runs) ≡ other_runs number runs

@@ -13,6 +13,7 @@ use Rattle.wm_machine.specs.Rows.{rows_of}
 use Rattle.wm_machine.specs.Valid.{Valid}
 use Rattle.wm_machine.specs.declared.command.Command.{Command}
 use Rattle.wm_machine.specs.declared.reply.Reply.{Reply}
+use Rattle.wm_machine.specs.declared.state.Run.{Run}
 use Rattle.wm_machine.specs.declared.state.State.{State}
 use Rattle.wm_machine.specs.declared.event.Event.TheVariants as event
 use Rattle.wm_session.proofs.PlacesAndInstances.{all_here}
@@ -23,13 +24,13 @@ use Rattle.wm_session.specs.Bench.{instance_traits, place_traits, places_after, 
 use Rattle.wm_session.specs.BookState.{BookState}
 use Rattle.wm_table.specs.Images.{LeavesOnly}
 use Rattle.wm_table.specs.Inputs.{Inputs}
-use Rattle.wm_session.specs.Invariant.{BookInvariant}
+use Rattle.wm_session.specs.Invariant.{BookInvariant, ListsExactly}
 use Rattle.wm_session.specs.Pending.{PendingState, nothing}
 use Rattle.wm_session.specs.Tells.{Tells}
 use Rattle.wm_table.specs.Table.{IsOneStep}
 use Rattle.wm_table.specs.TableState.{TableState}
 use Rattle.wm_session.specs.declared.book.Stop.{Stop}
-use Rattle.wm_session.proofs.BookSteps.{IsTold, away_now, BookInvariant-step}
+use Rattle.wm_session.proofs.BookSteps.{IsTold, away_now, exact_now, reached_after, BookInvariant-step}
 
 module _ {K W B : Type 0} {run : Inputs} {tells : Tells K W B} where
   -- a line was executed, and its text told or not
@@ -38,10 +39,10 @@ module _ {K W B : Type 0} {run : Inputs} {tells : Tells K W B} where
       → BookInvariant run tells old → old.status ≡ None
       → IsOneStep tells.store (event.Command (old.line + 1) command reply) old.table table → old.left ≡ command ∷ left
       → (tells.store table.keeper).faults ≡ (tells.store old.table.keeper).faults
-      → IsTold run tells old table pending sink status → places ≡ places_after tells.kind_of command old.places
+      → IsTold run tells old table pending sink status → places ≡ places_after tells.kind_of command old.places → table.roll ≡ old.table.roll
       → BookInvariant run tells
       (record old { table = table; places = places; left = left; line = old.line + 1; pending = pending; sink = sink; status = status })
-  BookInvariant-line {old = old} table places left pending sink status command reply kept going step next no_fault told places_are =
+  BookInvariant-line {old = old} table places left pending sink status command reply kept going step next no_fault told places_are roll =
       let new : BookState K W B =
       record old { table = table; places = places; left = left; line = old.line + 1; pending = pending; sink = sink; status = status } in
       let e = event.Command (old.line + 1) command reply in
@@ -50,6 +51,8 @@ module _ {K W B : Type 0} {run : Inputs} {tells : Tells K W B} where
       let before = old.table.state.instances in
       let instances : table.state.instances ≡ instances_after command before =
       ap (λ (t : State). t.instances) step.state ∙ ap (λ (f : Frame). f.instances) (framed old.table.state e step.legal) in
+      let runs : table.state.runs ≡ old.table.state.runs =
+      ap (λ (t : State). t.runs) step.state ∙ ap (λ (f : Frame). f.runs) (framed old.table.state e step.legal) in
       BookInvariant-step e old new kept (record {
         going = going;
         step = step;
@@ -61,13 +64,15 @@ module _ {K W B : Type 0} {run : Inputs} {tells : Tells K W B} where
       })
       (AreNumberedFrom-push 1 old.table.log (old.line + 1) command reply kept.numbered number)
       told
-      (AwayInvariant-from status new (rw (places_are, instances) (away-after tells.kind_of command old.places before (away_now old going kept.away))))
+      (AwayInvariant-from status new (reached_after e old new kept step).valid
+      (subst (ListsExactly table.state.runs) (sym roll) (subst (λ (runs : List Run). ListsExactly runs old.table.roll) (sym runs) (exact_now old going kept.away)))
+      (rw (places_are, instances) (away-after tells.kind_of command old.places before (away_now old going kept.valid kept.away))))
 
 -- ---- the begin
 
 pub BookInvariant-new : {K W B : Type 0} (run : Inputs) (tells : Tells K W B) (table : TableState K) (places : List (Place B)) (left : List Command)
     (pending : PendingState) (sink : W)
-    → table.log ≡ [] → left ≡ run.lines → pending ≡ nothing
+    → table.log ≡ [] → left ≡ run.lines → pending ≡ nothing → table.roll ≡ [] → table.state.runs ≡ []
     → map (place_traits tells.kind_of) places ≡ map instance_traits table.state.instances → NoneAway places
     → AllByRecursion (λ instance. instance.out ≡ false) table.state.instances → Valid table.state → IsNarrow table.state
     → 0 + length left < 2 ^ 32 → AllByRecursion IsAskable left
@@ -76,7 +81,7 @@ pub BookInvariant-new : {K W B : Type 0} (run : Inputs) (tells : Tells K W B) (t
     → (LeavesOnly run.rows run.store → LeavesOnly (rows_of table.state) (tells.store table.keeper))
     → BookInvariant run tells
     (record { table = table; places = places; left = left; line = 0; pending = pending; sink = sink; status = None })
-BookInvariant-new run tells table places left pending sink empty lines none workers idle all_in valid narrow few askable begun written
+BookInvariant-new run tells table places left pending sink empty lines none none_out no_run workers idle all_in valid narrow few askable begun written
     keeper sink_later images =
     record {
       replay = subst (λ log. Replay table.first log table.state) (sym empty) begun;
@@ -90,7 +95,8 @@ BookInvariant-new run tells table places left pending sink empty lines none work
       texts = rw (empty, none, written) (TextsInvariant-unwritten run.written []);
       all_told = λ same. ap (λ (p : PendingState). p.untold) none;
       workers = workers;
-      away = all_here tells.kind_of places table.state.instances workers idle all_in;
+      away = AwayInvariant-from None (record { table = table; places = places; left = left; line = 0; pending = pending; sink = sink; status = None })
+          valid (rw (none_out, no_run) (record { of_runs = tt; each = tt })) (all_here tells.kind_of places table.state.instances workers idle all_in);
       keeper_later = keeper;
       sink_later = sink_later;
       cause = tt;

@@ -1,5 +1,5 @@
 -- Parts of what a book keeps, after a change.
-use Rattle.std.proofs.Common.{◌≡◌, ◌⊎◌, ℕ, ◌+◌, ◌-◌, ◌^◌, ◌≤◌, min, List, [], ◌++◌, map, Option, Some, None, IsSome, IsSomeAnd, Err, refl, sym, ap, subst, inr, arith}
+use Rattle.std.proofs.Common.{◌≡◌, ◌⊎◌, ℕ, ◌+◌, ◌-◌, ◌^◌, ◌≤◌, min, List, [], ◌++◌, map, Option, Some, None, IsSome, Err, refl, sym, ◌∙◌, subst, inr, arith}
 use Rattle.std.proofs.Math.Nat.{le-min, le_trans, min-le_left, min-le_right}
 use Rattle.wm_faults.specs.Faults.{Failed}
 use Rattle.wm_keeper.specs.Store.{Store}
@@ -9,16 +9,19 @@ use Rattle.wm_machine.specs.declared.state.Run.{Run}
 use Rattle.wm_machine.proofs.Logs.{Replay-push}
 use Rattle.wm_machine.specs.Log.{command_in, HasPrefix}
 use Rattle.wm_machine.specs.Replay.{Replay}
-use Rattle.wm_machine.specs.Runs.{run_numbered}
+use Rattle.wm_machine.specs.Valid.{Valid}
+use Rattle.wm_roll.specs.declared.part.Part.{Part}
+use Rattle.wm_session.proofs.BookRolls.{out-agrees}
+use Rattle.wm_table.proofs.Claims.{IsClaimAnswer-roll}
 use Rattle.wm_machine.specs.declared.event.Event.TheVariants as event
-use Rattle.wm_session.specs.Bench.{is_away}
+use Rattle.wm_session.specs.Bench.{is_away, is_out_on}
 use Rattle.wm_session.specs.Book as book
 use Rattle.wm_session.specs.BookState.{BookState}
 use Rattle.wm_session.specs.Causes.{stop_by_fault, stop_by_trouble, StopCause}
-use Rattle.wm_session.specs.Invariant.{AwayInvariant, LinesInvariant}
+use Rattle.wm_session.specs.Invariant.{AwayInvariant, LinesInvariant, ListsExactly, RollInvariant}
 use Rattle.wm_session.specs.Pending.{PendingState}
 use Rattle.wm_table.specs.Table.{IsClaimAnswer, IsOneStep, IsUntouched, TroubleCause, TurnCause}
-use Rattle.wm_table.specs.TableState.{TableState, TicketState, ticket_of}
+use Rattle.wm_table.specs.TableState.{TableState, TicketState}
 use Rattle.wm_session.specs.Writing.{WriteCause}
 use Rattle.wm_session.specs.declared.book.Stop.{Stop}
 use Rattle.wm_table.specs.declared.table.Claim.TheVariants as claim
@@ -38,14 +41,28 @@ pub LinesInvariant-front : (status : Option Stop) (lines done left : List Comman
 LinesInvariant-front None lines done left kept = (left, kept)
 LinesInvariant-front (Some why) lines done left kept = kept
 
-pub AwayInvariant-stopped : {K W B : Type 0} (status : Option Stop) (book : BookState K W B) → IsSome status → AwayInvariant status book
-AwayInvariant-stopped (Some why) book stopped = tt
-AwayInvariant-stopped None book stopped = absurd cc
+RollInvariant-from : (status : Option Stop) (runs : List Run) (roll : List Part) → ListsExactly runs roll → RollInvariant status runs roll
+RollInvariant-from None runs roll exact = exact
+RollInvariant-from (Some why) runs roll exact = tt
 
-pub AwayInvariant-from : {K W B : Type 0} (status : Option Stop) (book : BookState K W B)
+-- where the roll lists exactly the runs, and the workers that are away are those of the instances that are out
+pub AwayInvariant-from : {K W B : Type 0} (status : Option Stop) (book : BookState K W B) → Valid book.table.state
+    → ListsExactly book.table.state.runs book.table.roll
     → map (λ place. is_away place.presence) book.places ≡ map (λ instance. instance.out) book.table.state.instances → AwayInvariant status book
-AwayInvariant-from None book same = same
-AwayInvariant-from (Some why) book same = tt
+AwayInvariant-from status book valid exact same = record {
+  away = same ∙ sym (out-agrees book.table.state book.table.roll valid exact);
+  listed = RollInvariant-from status book.table.state.runs book.table.roll exact;
+}
+
+RollInvariant-stopped : (status : Option Stop) (runs : List Run) (roll : List Part) → IsSome status → RollInvariant status runs roll
+RollInvariant-stopped (Some why) runs roll stopped = tt
+RollInvariant-stopped None runs roll stopped = absurd cc
+
+-- where the session has stopped
+pub AwayInvariant-stopped : {K W B : Type 0} (status : Option Stop) (book : BookState K W B) → IsSome status
+    → map (λ place. is_away place.presence) book.places ≡ map (is_out_on book.table.roll) book.table.state.instances → AwayInvariant status book
+AwayInvariant-stopped status book stopped away =
+    record { away = away; listed = RollInvariant-stopped status book.table.state.runs book.table.roll stopped }
 
 -- ---- why a session stops
 
@@ -97,28 +114,16 @@ claimed_step store (claim.Run ticket) old new run =
     (event.Start ticket.task.run ticket.seq ticket.instance ticket.task.input, run.step, refl)
 claimed_step store (claim.Failed seq cause) old new step = (event.StartFailed seq cause, step, refl)
 
--- a ticket that holds what its run keeps stands
-ticket_stands : (found : Option Run) (ticket : TicketState) → IsSomeAnd found (λ run. ticket ≡ ticket_of run)
-    → IsSomeAnd found (λ run. (run.instance ≡ ticket.instance) × (run.kind ≡ ticket.kind))
-ticket_stands None ticket is = absurd is
-ticket_stands (Some run) ticket is = (ap (λ (t : TicketState). t.instance) (sym is), ap (λ (t : TicketState). t.kind) (sym is))
-
--- so a claim can be given up
-pub claimed_in : {K M : Type 0} (store : K → Store) (claimed : Claim M) (old new : TableState K) → IsClaimAnswer store (Some claimed) old new
-    → book.IsClaimIn new.state claimed
-claimed_in store (claim.Run ticket) old new run = ticket_stands (run_numbered ticket.task.run new.state.runs) ticket run.ticket_in
-claimed_in store (claim.Failed seq cause) old new step = tt
-
 -- the session stopped while a claim was told, and its ticket was taken back
 pub IsUntold-claimed : {K W B M : Type 0} (store : K → Store) (claimed : Claim M) (old : BookState K W B) (between table : TableState K)
-    (pending : PendingState) (sink : W) (stop : Stop)
-    → old.status ≡ None → IsClaimAnswer store (Some claimed) old.table between → table ≡ between
+    (roll : List Part) (pending : PendingState) (sink : W) (stop : Stop)
+    → old.status ≡ None → IsClaimAnswer store (Some claimed) old.table between → table ≡ record between { roll = roll }
     → book.HasStopped store old (record old { table = table; pending = pending; sink = sink; status = Some stop })
     ⊎ book.IsClaimUntold M store old (record old { table = table; pending = pending; sink = sink; status = Some stop })
-IsUntold-claimed store claimed old between table pending sink stop going done same = inr (record {
+IsUntold-claimed store claimed old between table roll pending sink stop going done same = inr (record {
   made = claimed;
   before = going;
   status = refl;
-  claimed = subst (IsClaimAnswer store (Some claimed) old.table) (sym same) done;
+  claimed = subst (IsClaimAnswer store (Some claimed) old.table) (sym same) (IsClaimAnswer-roll store claimed old.table between roll done);
   left = refl;
 })

@@ -14,13 +14,16 @@ use Rattle.wm_machine.specs.declared.command.Command.{Command}
 use Rattle.wm_machine.specs.declared.event.Event.{Event}
 use Rattle.wm_session.proofs.BookEvents.{AreNumberedFrom-silent}
 use Rattle.wm_session.proofs.BookImages.{images-going, images-only}
+use Rattle.wm_machine.specs.Valid.{Valid}
+use Rattle.wm_roll.specs.declared.part.Part.{Part}
+use Rattle.wm_session.proofs.BookRolls.{out-agrees}
 use Rattle.wm_session.proofs.BookParts.{LinesInvariant-from, StopCause-write, Replay-step}
 use Rattle.wm_session.proofs.WrittenTexts.{TextsInvariant-more}
 use Rattle.wm_session.specs.Bench.{instance_traits, is_away, place_traits}
 use Rattle.wm_session.specs.BookState.{BookState}
 use Rattle.wm_session.specs.Causes.{stop_by_fault, StopCause}
 use Rattle.wm_table.specs.Inputs.{Inputs}
-use Rattle.wm_session.specs.Invariant.{AwayInvariant, LinesInvariant, TextsInvariant, BookInvariant}
+use Rattle.wm_session.specs.Invariant.{AwayInvariant, LinesInvariant, ListsExactly, RollInvariant, TextsInvariant, BookInvariant}
 use Rattle.wm_session.specs.Pending.{PendingState, nothing, pending_text}
 use Rattle.wm_session.specs.Tells.{Tells}
 use Rattle.wm_table.specs.Table.{IsOneStep}
@@ -47,10 +50,22 @@ pub record IsTold {K W B : Type 0} (run : Inputs) (tells : Tells K W B) (old : B
   pub later : tells.sink_faults old.sink ≤ tells.sink_faults sink
   pub cause : StopCause status run.store.faults (tells.store table.keeper).faults run.sink_faults (tells.sink_faults sink)
 
--- the workers that are away are those of the instances that are out
-pub away_now : {K W B : Type 0} (old : BookState K W B) → old.status ≡ None → AwayInvariant old.status old
+-- where the session goes on the roll lists exactly the runs
+pub exact_now : {K W B : Type 0} (old : BookState K W B) → old.status ≡ None → AwayInvariant old.status old
+    → ListsExactly old.table.state.runs old.table.roll
+exact_now old going kept = subst (λ status. RollInvariant status old.table.state.runs old.table.roll) going kept.listed
+
+-- and the workers that are away are those of the instances that are out
+pub away_now : {K W B : Type 0} (old : BookState K W B) → old.status ≡ None → Valid old.table.state → AwayInvariant old.status old
     → map (λ place. is_away place.presence) old.places ≡ map (λ instance. instance.out) old.table.state.instances
-away_now old going kept = subst (λ status. AwayInvariant status old) going kept
+away_now old going valid kept = kept.away ∙ out-agrees old.table.state old.table.roll valid (exact_now old going kept)
+
+-- what was told was, whatever becomes of the roll
+pub IsTold-roll : {K W B : Type 0} (run : Inputs) (tells : Tells K W B) (old : BookState K W B) (table : TableState K) (roll : List Part)
+    (pending : PendingState) (sink : W) (status : Option Stop) → IsTold run tells old table pending sink status
+    → IsTold run tells old (record table { roll = roll }) pending sink status
+IsTold-roll run tells old table roll pending sink status told =
+    record { texts = told.texts; all_told = told.all_told; later = told.later; cause = told.cause }
 
 module _ {K W B : Type 0} {run : Inputs} {tells : Tells K W B} where
   pub reached : {book : BookState K W B} → BookInvariant run tells book → IsReached book.table.state

@@ -5,6 +5,8 @@ pub mod BookImages
 pub mod BookLines
 pub mod BookParts
 pub mod BookReports
+pub mod BookRests
+pub mod BookRolls
 pub mod BookSteps
 pub mod BookStops
 pub mod BoxLemmas

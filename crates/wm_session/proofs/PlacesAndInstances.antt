@@ -204,7 +204,7 @@ kind_at-idle kind_of (Idle other) worker is = let same : other ≡ worker = cc i
 kind_at-idle kind_of (Away kind retired) worker is = absurd cc
 kind_at-idle kind_of (Gone kind) worker is = absurd cc
 
-run-from : (first : ℕ) (run : Run) (instances : List Instance) → AreNumberedInOrder first instances → HasOne (IsInstanceOf run) instances → first ≤ run.instance
+pub run-from : (first : ℕ) (run : Run) (instances : List Instance) → AreNumberedInOrder first instances → HasOne (IsInstanceOf run) instances → first ≤ run.instance
 run-from first run [] in_order one = absurd one
 run-from first run (instance ∷ instances) in_order (inl is) =
     let number : instance.number ≡ run.instance = is.number in

@@ -3,7 +3,7 @@ use Rattle.std.proofs.Common.{◌≡◌, ◌⊎◌, ℕ, ◌+◌, ◌<◌, ◌�
 use Rattle.std.specs.List.{AllByRecursion}
 use Rattle.std.specs.declared.alloc.AllocError.{AllocError}
 use Rattle.std.proofs.lemmas.Bool.{eq-eqb}
-use Rattle.wm_bench.specs.Places.{idle_at, changed_at, idle_hands, made_back, IsAwayAt}
+use Rattle.wm_bench.specs.Places.{idle_at, changed_at, made_back, IsAwayAt}
 use Rattle.wm_bench.specs.Seat.{Seat}
 use Rattle.wm_bench.specs.declared.hand.Hand.{Hand}
 use Rattle.wm_data.specs.declared.data.DataEntry.{DataEntry}
@@ -29,12 +29,17 @@ use Rattle.wm_machine.specs.Step.{Legal}
 use Rattle.wm_machine.specs.declared.event.Event.TheVariants as event
 use Rattle.wm_machine.proofs.Steps.{framed}
 use Rattle.wm_machine.proofs.Turns.{after_turn}
-use Rattle.wm_session.proofs.BookEvents.{end_in_turn, length-turned, other_runs-turned, run_numbered-turned}
+use Rattle.wm_runs.proofs.RunLookups.{run_numbered-turned}
+use Rattle.wm_session.proofs.BookEvents.{end_in_turn, length-turned, other_runs-turned}
 use Rattle.wm_table.proofs.NoLines.{framed_end}
 use Rattle.wm_session.proofs.BookParts.{claimed_step, Replay-same, Replay-step}
 use Rattle.wm_session.proofs.BoxLemmas.{no_longer, KeepBoxes-cut, KeepBoxes-given_up, KeepBoxes-last, KeepBoxes-same, KeepBoxes-silent, KeepBoxes-turned, KeepBoxesOut-later}
 use Rattle.wm_session.proofs.DiaryLemmas.{ticket-found, IsDiaryLater-same}
-use Rattle.wm_session.proofs.HandLemmas.{IsAwayAt-taken, NoneAway-back, NoneAway-hands}
+use Rattle.wm_roll.specs.Parts.{without}
+use Rattle.wm_roll.specs.declared.part.Part.{Part}
+use Rattle.wm_session.proofs.BookRolls.{taken_again, without-new}
+use Rattle.wm_session.proofs.HandLemmas.{IsAwayAt-taken, NoneAway-back}
+use Rattle.wm_table.specs.Parts.{ticket_part}
 use Rattle.wm_session.specs.Bench.{NoneAway}
 use Rattle.wm_session.proofs.RetiredPlaces.{idle_at-after, NoneAway-after}
 use Rattle.wm_session.specs.Book.{IsBegun, IsClaimStopped, IsFrontStopped, IsGivenBack, IsLineDone, IsReported, IsStartFailed, IsTurnUntold}
@@ -70,9 +75,9 @@ module _ {K W B : Type 0} (store : K → Store) (kind_of : B → Kind) (diary_of
       → new.places ≡ changed_at (made_back kind_of seat.worker) ticket.instance old.places
   at_place places = places ∙ ap (λ n. changed_at (made_back kind_of seat.worker) n old.places) number
 
-  given_up : IsDiaryLater (diary_of worker) (diary_of seat.worker) → IsGivenBack store kind_of seat old new
+  given_up : IsDiaryLater (diary_of worker) (diary_of seat.worker) → IsGivenBack store kind_of ticket seat old new
       → IsGivenUp store kind_of diary_of ticket (diary_of worker) old new
-  given_up later given = record { back = seat.worker; diary_later = later; stopped = given.stopped; places = at_place given.places }
+  given_up later given = record { back = seat.worker; diary_later = later; stopped = given.stopped; roll = given.roll; places = at_place given.places }
 
   -- what a worker has written down that gave this
   wrote : (gave : Given) (answered : Answer) → given_of answered ≡ Some gave
@@ -82,11 +87,12 @@ module _ {K W B : Type 0} (store : K → Store) (kind_of : B → Kind) (diary_of
       written ∙ ap (λ given. diary_with (map (λ given. Gave ticket.task.run ticket.k given) (option_to_list given)) (diary_of worker)) is
 
   last_turn : (told : Report) (timed_out : Bool) → old.status ≡ None → IsFinished store ticket.task.run told timed_out old.table new.table
+      → new.table.roll ≡ without ticket.task.run old.table.roll
       → new.places ≡ changed_at (made_back kind_of seat.worker) seat.number old.places → new.left ≡ old.left
       → left_to_drain new.table.state ≤ left_to_drain old.table.state
       → diary_of seat.worker ≡ diary_with (turn_entries ticket.task.run ticket.k told.answer) (diary_of worker)
       → IsLastTurn store kind_of diary_of ticket worker old new
-  last_turn told timed_out before ended places left no_more written = record {
+  last_turn told timed_out before ended roll places left no_more written = record {
     ending = ended.ending;
     reported = ended.reported;
     gave = ended.gave;
@@ -96,20 +102,23 @@ module _ {K W B : Type 0} (store : K → Store) (kind_of : B → Kind) (diary_of
     ends = ended.ends;
     step = ended.step;
     diary = wrote ended.gave told.answer ended.told_is written;
+    roll = roll;
     places = at_place places;
     left = left;
     no_more = no_more;
   }
 
-  cut_short : (told : Report) → IsTurnUntold store ticket told old new → new.places ≡ changed_at (made_back kind_of seat.worker) seat.number old.places
+  cut_short : (told : Report) → IsTurnUntold store ticket told old new → new.table.roll ≡ without ticket.task.run old.table.roll
+      → new.places ≡ changed_at (made_back kind_of seat.worker) seat.number old.places
       → IsDiaryLater (diary_of worker) (diary_of seat.worker) → IsCutShort store kind_of diary_of ticket (diary_of worker) old new
-  cut_short told untold places later = record {
+  cut_short told untold roll places later = record {
     progress = untold.turn.progress;
     back = seat.worker;
     diary_later = later;
     before = untold.before;
     status = untold.status;
     step = untold.turn.step;
+    roll = roll;
     places = at_place places;
     left = untold.left;
     no_more = untold.no_more;
@@ -120,7 +129,7 @@ module _ {K W B : Type 0} (store : K → Store) (kind_of : B → Kind) (diary_of
       → (result ≡ report.Over) ⊎ (result ≡ report.Stopped) → HasWritten diary_of ticket worker seat.worker told
       → IsNoTurn store kind_of diary_of ticket worker old new
   IsNoTurn-reported (Ok told) report.Over done ends written =
-      inl (last_turn told done.timed_out done.goes_on.before done.ended done.places done.left done.no_more written)
+      inl (last_turn told done.timed_out done.goes_on.before done.ended done.roll done.places done.left done.no_more written)
   IsNoTurn-reported (Ok told) (report.Go next kept) done (inl ends) written = absurd (cc)
   IsNoTurn-reported (Ok told) (report.Go next kept) done (inr ends) written = absurd (cc)
   IsNoTurn-reported (Ok told) (report.Again same kept) done (inl ends) written = absurd (cc)
@@ -128,10 +137,11 @@ module _ {K W B : Type 0} (store : K → Store) (kind_of : B → Kind) (diary_of
   IsNoTurn-reported (Ok told) report.Stopped done ends written =
       elim done.how [
         | inl stopped ↦
-            inr (inl (given_up (turn_entries ticket.task.run ticket.k told.answer, written) (record { stopped = stopped; places = done.places })))
+            inr (inl (given_up (turn_entries ticket.task.run ticket.k told.answer, written)
+            (record { stopped = stopped; out = done.out; roll = done.roll; places = done.places })))
         | inr untold ↦ elim untold [
-          | inl ended ↦ inl (last_turn told ended.timed_out ended.before ended.ended done.places ended.left ended.no_more written)
-          | inr turned ↦ inr (inr (cut_short told turned done.places (turn_entries ticket.task.run ticket.k told.answer, written)))
+          | inl ended ↦ inl (last_turn told ended.timed_out ended.before ended.ended done.roll done.places ended.left ended.no_more written)
+          | inr turned ↦ inr (inr (cut_short told turned done.roll done.places (turn_entries ticket.task.run ticket.k told.answer, written)))
         ]
       ]
   IsNoTurn-reported (Err refused) report.Stopped done ends written =
@@ -175,6 +185,7 @@ module _ {K W B : Type 0} (store : K → Store) (kind_of : B → Kind) (diary_of
         number = ap (λ (s : Seat B). s.number) done.seat_is ∙ number;
         kind = ap (λ (s : Seat B). kind_of s.worker) done.seat_is ∙ kind;
         diary = ap (λ (s : Seat B). diary_of s.worker) done.seat_is ∙ wrote (More on.progress) told.answer on.told_is written;
+        roll = done.roll;
         places = done.places;
         left = done.left;
         no_more = done.no_more;
@@ -236,9 +247,9 @@ GoesInOrder-ready lines book drains ready = record {
 
 -- a book is at rest again
 rest_again : {K W B : Type 0} {old new : BookState K W B} → IsBetweenRuns old → Replay new.table.first new.table.log new.table.state
-    → (new.status ≡ None → new.table.state.runs ≡ []) → new.places ≡ old.places → IsBetweenRuns new
-rest_again rest replays none places =
-    record { replay = replays; no_run = none; none_away = rw places rest.none_away }
+    → (new.status ≡ None → new.table.state.runs ≡ []) → new.table.roll ≡ old.table.roll → new.places ≡ old.places → IsBetweenRuns new
+rest_again rest replays none roll places =
+    record { replay = replays; no_run = none; none_out = roll ∙ rest.none_out; none_away = rw places rest.none_away }
 
 module _ {K W B : Type 0} (store : K → Store) (old new : BookState K W B) (rest : IsBetweenRuns old) (going : old.status ≡ None) where
   -- where a run began, it alone is unreturned
@@ -275,6 +286,8 @@ IsUnderWay-begun {store = store} {kind_of = kind_of} {ticket = ticket} {seat = s
       replay = Replay-step store start old.table new.table rest.replay begun.step;
       ticket_in = begun.ticket_in;
       alone = rw (one, eq-eqb its.run.run task.run (sym its.number_is)) refl;
+      alone_out = ap (without ticket.task.run) (begun.roll ∙ ap (λ (roll : List Part). roll ++ ticket_part ticket ∷ []) rest.none_out)
+          ∙ without-new ticket.task.run [] (ticket_part ticket) refl tt;
       away = rw (begun.places, ← begun.kind) (IsAwayAt-taken kind_of seat.worker ticket.instance old.places begun.worker);
       others = λ back. rw begun.places (NoneAway-back kind_of back ticket.instance old.places rest.none_away);
     }
@@ -284,7 +297,7 @@ pub IsBetweenRuns-failed : {K W B : Type 0} {store : K → Store} {old new : Boo
     → IsBetweenRuns new
 IsBetweenRuns-failed {store = store} {old = old} {new = new} rest failed =
     rest_again rest (Replay-step store (event.StartFailed failed.seq failed.cause) old.table new.table rest.replay failed.step)
-    (λ going. failed_none store old new rest failed.goes_on.before failed.seq failed.cause failed.step) failed.places
+    (λ going. failed_none store old new rest failed.goes_on.before failed.seq failed.cause failed.step) failed.roll failed.places
 
 -- the session has stopped early, with or without the event of a claim
 module _ {K W B M : Type 0} (store : K → Store) (old new : BookState K W B) where
@@ -298,10 +311,10 @@ module _ {K W B M : Type 0} (store : K → Store) (old new : BookState K W B) wh
   IsBetweenRuns-halted rest halted =
       elim halted.how [
         | inl stopped ↦
-            rest_again rest (Replay-same store old.table new.table rest.replay stopped.table) (no_longer new.status stopped.status) halted.places
+            rest_again rest (Replay-same store old.table new.table rest.replay stopped.table) (no_longer new.status stopped.status) halted.roll halted.places
         | inr untold ↦
             let step = claimed_step store untold.made old.table new.table untold.claimed in
-            rest_again rest (Replay-step store step.0 old.table new.table rest.replay step.1) (no_longer new.status untold.status) halted.places
+            rest_again rest (Replay-step store step.0 old.table new.table rest.replay step.1) (no_longer new.status untold.status) halted.roll halted.places
       ]
 
   pub GoesInOrder-halted : IsBetweenRuns old → IsClaimStopped M store old new → (lines : List Command) → GoesInOrder lines old → GoesInOrder lines new
@@ -327,10 +340,12 @@ module _ {K W B M : Type 0} (store : K → Store) (old new : BookState K W B) wh
 -- its worker is back
 rest_back : {K W B : Type 0} {kind_of : B → Kind} {ticket : TicketState} {old new : BookState K W B} (back : B) → IsUnderWay kind_of ticket old
     → Replay new.table.first new.table.log new.table.state → (new.status ≡ None → new.table.state.runs ≡ [])
+    → new.table.roll ≡ without ticket.task.run old.table.roll
     → new.places ≡ changed_at (made_back kind_of back) ticket.instance old.places → IsBetweenRuns new
-rest_back back under_way replays none places = record {
+rest_back back under_way replays none roll places = record {
   replay = replays;
   no_run = none;
+  none_out = roll ∙ under_way.alone_out;
   none_away = rw places (under_way.others back);
 }
 
@@ -353,7 +368,7 @@ IsDriven-given_up {store = store} {old = old} {new = new} diary_of has owes unde
     let same = over.stopped.table in
     let stopped = over.stopped.status in
     record {
-      rest = rest_back over.back under_way (Replay-same store old.table new.table under_way.replay same) (no_longer new.status stopped) over.places;
+      rest = rest_back over.back under_way (Replay-same store old.table new.table under_way.replay same) (no_longer new.status stopped) over.roll over.places;
       left = over.stopped.left;
       no_more = rw same.state (omega arith);
       order = λ lines. GoesInOrder-stopped store lines old new same stopped;
@@ -379,7 +394,7 @@ IsDriven-cut {store = store} {ticket = ticket} {old = old} {new = new} diary_of 
     let number = ticket.task.run in
     record {
       rest = rest_back cut.back under_way (Replay-step store (event.Turn number cut.progress) old.table new.table under_way.replay cut.step)
-          (no_longer new.status cut.status) cut.places;
+          (no_longer new.status cut.status) cut.roll cut.places;
       left = cut.left;
       no_more = cut.no_more;
       order = λ lines. GoesInOrder-turned store number cut.progress lines old new cut.step under_way.replay cut.before;
@@ -401,7 +416,7 @@ module _ {K W B : Type 0} {store : K → Store} {kind_of : B → Kind} {diary_of
       ∙ ap (λ (t : TicketState). other_runs t.task.run s.runs) (sym (ticket-found ticket under_way.ticket_in ended.is_running))
       ∙ under_way.alone in
       record {
-        rest = rest_back last.back under_way (Replay-step store last.ending old.table new.table under_way.replay last.step) (λ going. none) last.places;
+        rest = rest_back last.back under_way (Replay-step store last.ending old.table new.table under_way.replay last.step) (λ going. none) last.roll last.places;
         left = last.left;
         no_more = last.no_more;
         order = λ lines. GoesInOrder-step store lines last.ending old new last.step (rw none (omega arith)) under_way.replay last.before
@@ -435,6 +450,10 @@ module _ {K W B : Type 0} {store : K → Store} {kind_of : B → Kind} {diary_of
             ∙ ap (other_runs number) runs
             ∙ other_runs-turned number s.runs
             ∙ under_way.alone;
+        alone_out = ap (λ (t : TicketState). without t.task.run new.table.roll) turned.next_is
+            ∙ ap (without number) turned.roll
+            ∙ taken_again ticket old.table.roll
+            ∙ under_way.alone_out;
         away = subst (λ (t : TicketState). IsAwayAt t.instance t.kind new.places) (sym turned.next_is) (rw turned.places under_way.away);
         others = λ back. subst (λ (t : TicketState). NoneAway (changed_at (made_back kind_of back) t.instance new.places)) (sym turned.next_is)
             (rw turned.places (under_way.others back));
@@ -467,6 +486,7 @@ module _ {K W B : Type 0} {store : K → Store} {kind_of : B → Kind} {old new 
   IsBetweenRuns-line going done = record {
     replay = Replay-step store (event.Command (old.line + 1) done.command done.reply) old.table new.table rest.replay done.step;
     no_run = λ still. line_none going done;
+    none_out = done.roll ∙ rest.none_out;
     none_away = rw done.places (NoneAway-after kind_of done.command old.places rest.none_away);
   }
 
@@ -492,7 +512,7 @@ module _ {K W B : Type 0} {store : K → Store} {kind_of : B → Kind} {old new 
   pub IsBetweenRuns-front : IsFrontStopped store kind_of old new → IsBetweenRuns new
   IsBetweenRuns-front stopped =
       elim stopped.how [
-        | inl same ↦ rest_again rest (Replay-same store old.table new.table rest.replay same.table) (no_longer new.status stopped.status) same.places
+        | inl same ↦ rest_again rest (Replay-same store old.table new.table rest.replay same.table) (no_longer new.status stopped.status) same.roll same.places
         | inr untold ↦ IsBetweenRuns-line untold.before untold.line
       ]
 
@@ -515,16 +535,7 @@ module _ {K W B : Type 0} {store : K → Store} {kind_of : B → Kind} {old new 
 
 -- ---- begin and end
 
--- a session that begins is at rest
-pub IsBetweenRuns-begin : {K W B : Type 0} {lines : List Command} {book : BookState K W B} → IsAtBegin lines book → IsBetweenRuns book
-IsBetweenRuns-begin {book = book} begins =
-    record {
-      replay = rw begins.log begins.begun;
-      no_run = λ going. begins.no_run;
-      none_away = subst NoneAway (sym begins.all_idle) (NoneAway-hands (idle_hands book.places));
-    }
-
--- and in order, for its lines
+-- a session that begins is in order, for its lines
 pub IsReady-begin : {K W B : Type 0} {lines : List Command} {book : BookState K W B} → IsAtBegin lines book → IsReady lines book
 IsReady-begin {lines = lines} {book = book} begins = record {
   order = record {

@@ -1,6 +1,6 @@
 -- How the bench of a session agrees with the instances of its state.
-use Rattle.std.specs.Prelude.{◌≡◌, ℕ, Bool, true, false, List, map}
-use Rattle.std.specs.List.{AllByRecursion}
+use Rattle.std.specs.Prelude.{◌≡◌, ℕ, ◌==◌, Bool, true, false, List, map}
+use Rattle.std.specs.List.{list_any, AllByRecursion}
 use Rattle.wm_bench.specs.Places.{retired_at, retired_in}
 use Rattle.wm_bench.specs.declared.hand.Hand.{Hand}
 use Rattle.wm_bench.specs.declared.place.Place.{Place}
@@ -9,6 +9,7 @@ use Rattle.wm_bench.specs.declared.place.Presence.TheVariants.{Idle, Away, Gone}
 use Rattle.wm_machine.specs.declared.command.Command.{Command}
 use Rattle.wm_machine.specs.declared.command.Command.TheVariants as command
 use Rattle.wm_machine.specs.declared.state.Instance.{Instance}
+use Rattle.wm_roll.specs.declared.part.Part.{Part}
 use Rattle.wm_worker.specs.declared.kind.Kind.{Kind}
 
 -- what stays of an instance while it is out and when it is back
@@ -45,3 +46,7 @@ is_away (Gone kind) = false
 -- no worker is away
 abbrev pub NoneAway : {B : Type 0} → List (Place B) → Type 0
 NoneAway places = AllByRecursion (λ place. is_away place.presence ≡ false) places
+
+-- whether a part of this instance is on the roll
+abbrev pub is_out_on : List Part → Instance → Bool
+is_out_on roll instance = list_any (λ part. part.instance == instance.number) roll

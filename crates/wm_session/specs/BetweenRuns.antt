@@ -11,18 +11,20 @@ use Rattle.wm_session.specs.BookState.{BookState}
 use Rattle.wm_session.specs.Boxes.{EachAtPlace, HasTold, IsBoxAfter}
 use Rattle.wm_worker.specs.declared.answer.Entry.{Entry}
 
--- a session that begins: nothing has happened, every worker is at its place, and all of these lines are left
+-- a session that begins: nothing has happened, no ticket is out, every worker is at its place, and all of these lines are left
 pub record IsAtBegin {K W B : Type 0} (lines : List Command) (book : BookState K W B) : Type 0 where
   pub log : book.table.log ≡ []
   pub no_run : book.table.state.runs ≡ []
+  pub none_out : book.table.roll ≡ []
   pub all_idle : book.places ≡ map place_of (idle_hands book.places)
   pub begun : book.table.state ≡ book.table.first
   pub lines_are : lines ≡ book.left
 
--- the log replays, no worker is away, and while the session goes on no run is unreturned
+-- the log replays, no ticket is out and no worker away, and while the session goes on no run is unreturned
 pub record IsBetweenRuns {K W B : Type 0} (book : BookState K W B) : Type 0 where
   pub replay : Replay book.table.first book.table.log book.table.state
   pub no_run : book.status ≡ None → book.table.state.runs ≡ []
+  pub none_out : book.table.roll ≡ []
   pub none_away : NoneAway book.places
 
 -- ---- the workers

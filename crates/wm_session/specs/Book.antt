@@ -1,5 +1,5 @@
 -- What the calls of a book do.
-use Rattle.std.specs.Prelude.{◌≡◌, ◌⊎◌, ℕ, ◌+◌, ◌<◌, ◌≤◌, Bool, true, List, [], ◌∷◌, Some, None, IsSome, Result, Ok, Err}
+use Rattle.std.specs.Prelude.{◌≡◌, ◌≢◌, ◌⊎◌, ℕ, ◌+◌, ◌<◌, ◌≤◌, Bool, true, List, [], ◌∷◌, ◌++◌, Some, None, IsSome, Result, Ok, Err}
 use Rattle.std.specs.declared.alloc.AllocError.{AllocError}
 use Rattle.wm_bench.specs.Places.{changed_at, idle_at, made_away, made_back}
 use Rattle.wm_bench.specs.Seat.{Seat}
@@ -17,9 +17,13 @@ use Rattle.wm_machine.specs.declared.state.State.{State}
 use Rattle.wm_session.specs.Bench.{places_after}
 use Rattle.wm_session.specs.BookState.{BookState}
 use Rattle.wm_session.specs.Pending.{nothing}
+use Rattle.wm_roll.specs.Parts.{without}
+use Rattle.wm_roll.specs.declared.part.Part.{Part}
 use Rattle.wm_runs.specs.Reports.{CountsIn}
 use Rattle.wm_table.specs.Images.{IsLine, IsNoLine}
-use Rattle.wm_table.specs.Table.{HasGoneOn, IsClaimAnswer, IsFinished, IsOneStep, IsUntouched, IsTicketIn, Stands}
+use Rattle.wm_table.specs.Parts.{ticket_part, WasOut}
+use Rattle.wm_table.specs.Rolls.{given_again}
+use Rattle.wm_table.specs.Table.{HasGoneOn, IsClaimAnswer, IsFinished, IsOneStep, IsUntouched, IsTicketIn}
 use Rattle.wm_table.specs.TableState.{TicketState}
 use Rattle.wm_table.specs.declared.table.Claim.{Claim}
 use Rattle.wm_table.specs.declared.table.Claim.TheVariants as claim
@@ -47,17 +51,29 @@ pub record StaysStopped {K W B : Type 0} (old new : BookState K W B) : Type 0 wh
 
 -- ---- a line
 
--- the next line was executed, in one step, and a class that it retires is retired on the bench
+-- the first of these lines settles
+abbrev pub SettlesNext : List Command → Type 0
+SettlesNext [] = ⊥
+SettlesNext (asked ∷ lines) = asked ≡ command.Settle
+
+-- a line may come that is the next one: no run is unreturned, and where it settles there is nothing left to do
+pub record MayCome (lines : List Command) (s : State) : Type 0 where
+  pub no_run : s.runs ≡ []
+  pub settled : SettlesNext lines → IsQuiet s
+
+-- the next line was executed, in one step, which leaves the roll, and a class that it retires is retired on the bench
 pub record IsLineDone {K W B : Type 0} (store : K → Store) (kind_of : B → Kind) (old new : BookState K W B) : Type 0 where
   pub command : Command
   pub reply : Reply
   pub next : old.left ≡ command ∷ new.left
   pub step : IsOneStep store (event.Command (old.line + 1) command reply) old.table new.table
   pub places : new.places ≡ places_after kind_of command old.places
+  pub roll : new.table.roll ≡ old.table.roll
 
--- the next line was executed and its reply told
+-- the next line, which could come, was executed and its reply told
 pub record HasMoved {K W B : Type 0} (store : K → Store) (kind_of : B → Kind) (old new : BookState K W B) : Type 0 where
   pub goes_on : GoesOn old new
+  pub could_come : MayCome old.left old.table.state
   pub line : IsLineDone store kind_of old new
 
 -- an event of the next of these lines, of which so many were executed
@@ -65,15 +81,10 @@ abbrev pub IsNextLine : ℕ → List Command → Event → Type 0
 IsNextLine line [] e = ⊥
 IsNextLine line (asked ∷ lines) e = IsLine (line + 1) asked e
 
--- the first of these lines settles
-abbrev pub SettlesNext : List Command → Type 0
-SettlesNext [] = ⊥
-SettlesNext (asked ∷ lines) = asked ≡ command.Settle
-
--- the next line settles, and there is something left to do first
+-- a line is left, but it can't come yet
 pub record MustWait (lines : List Command) (s : State) : Type 0 where
-  pub next : SettlesNext lines
-  pub busy : IsQuiet s → ⊥
+  pub some_left : lines ≢ []
+  pub not_yet : MayCome lines s → ⊥
 
 -- the session goes on, but its next line has to wait, and nothing changes
 pub record IsNotSettled {K W B : Type 0} (old new : BookState K W B) : Type 0 where
@@ -96,6 +107,7 @@ pub record IsLineUntold {K W B : Type 0} (store : K → Store) (kind_of : B → 
 pub record IsNoLineDone {K W B : Type 0} (store : K → Store) (old new : BookState K W B) : Type 0 where
   pub table : IsUntouched store (IsNextLine old.line old.left) old.table new.table
   pub places : new.places ≡ old.places
+  pub roll : new.table.roll ≡ old.table.roll
 
 -- the session has stopped early, with or without the next line's event, or had before
 pub record IsFrontStopped {K W B : Type 0} (store : K → Store) (kind_of : B → Kind) (old new : BookState K W B) : Type 0 where
@@ -103,7 +115,7 @@ pub record IsFrontStopped {K W B : Type 0} (store : K → Store) (kind_of : B �
   pub stays : IsSome old.status → StaysStopped old new
   pub how : IsNoLineDone store old new ⊎ IsLineUntold store kind_of old new
 
--- Moved where a line was executed; NotSettled where the next one settles and can't come yet; Ended where none is left; Stopped where the
+-- Moved where a line was executed; NotSettled where one is left that can't come yet; Ended where none is left; Stopped where the
 -- session has stopped early
 abbrev pub IsFronted : {K W B : Type 0} → (K → Store) → (B → Kind) → Front → BookState K W B → BookState K W B → Type 0
 IsFronted store kind_of front.Moved old new = HasMoved store kind_of old new
@@ -111,14 +123,22 @@ IsFronted store kind_of front.NotSettled old new = IsNotSettled old new
 IsFronted store kind_of front.Ended old new = HasNoLine old new
 IsFronted store kind_of front.Stopped old new = IsFrontStopped store kind_of old new
 
+-- ---- the end
+
+-- a session is over: it has stopped early, or no line is left and there is nothing left to do
+abbrev pub IsSessionOver : {K W B : Type 0} → BookState K W B → Type 0
+IsSessionOver book = IsSome book.status ⊎ ((book.left ≡ []) × IsQuiet book.table.state)
+
 -- ---- a start
 
--- a run began: its ticket holds what it keeps, the worker of its instance is out with the seat, and fewer works are left to drain
+-- a run began: its ticket holds what it keeps, its part is on the roll, the worker of its instance is out with the seat, and fewer works are left
+-- to drain
 pub record IsBegun {K W B : Type 0} (store : K → Store) (kind_of : B → Kind) (ticket : TicketState) (seat : Seat B) (signal : SignalState)
     (old new : BookState K W B) : Type 0 where
   pub goes_on : GoesOn old new
   pub step : IsOneStep store (event.Start ticket.task.run ticket.seq ticket.instance ticket.task.input) old.table new.table
   pub ticket_in : IsTicketIn new.table.state ticket
+  pub roll : new.table.roll ≡ old.table.roll ++ ticket_part ticket ∷ []
   pub number : seat.number ≡ ticket.instance
   pub kind : kind_of seat.worker ≡ ticket.kind
   pub worker : idle_at ticket.instance old.places ≡ Some seat.worker
@@ -134,6 +154,7 @@ pub record IsStartFailed {K W B : Type 0} (store : K → Store) (old new : BookS
   pub goes_on : GoesOn old new
   pub step : IsOneStep store (event.StartFailed seq cause) old.table new.table
   pub places : new.places ≡ old.places
+  pub roll : new.table.roll ≡ old.table.roll
   pub left : new.left ≡ old.left
   pub fewer : left_to_drain new.table.state < left_to_drain old.table.state
 
@@ -144,10 +165,10 @@ pub record HasStopped {K W B : Type 0} (store : K → Store) (old new : BookStat
   pub table : IsUntouched store IsNoLine old.table new.table
   pub left : new.left ≡ old.left
 
--- the ticket of a claim stands in the state, where it has one
-abbrev pub IsClaimIn : {M : Type 0} → State → Claim M → Type 0
-IsClaimIn s (claim.Run ticket) = Stands s ticket
-IsClaimIn s (claim.Failed seq cause) = Unit {0}
+-- the roll once a claim was given up
+abbrev pub roll_given_up : {M : Type 0} → Claim M → List Part → List Part
+roll_given_up (claim.Run ticket) roll = without ticket.task.run roll
+roll_given_up (claim.Failed seq cause) roll = roll
 
 -- a work was started, or couldn't start, and the session stopped while that was told: a run that began stays in the state, without a
 -- ticket, and its worker stays on the bench
@@ -158,10 +179,11 @@ pub record IsClaimUntold {K W B : Type 0} (M : Type 0) (store : K → Store) (ol
   pub claimed : IsClaimAnswer store (Some made) old.table new.table
   pub left : new.left ≡ old.left
 
--- the session has stopped early, with or without the event of a claim; the bench is as it was
+-- the session has stopped early, with or without the event of a claim; bench and roll are as they were
 pub record IsClaimStopped {K W B : Type 0} (M : Type 0) (store : K → Store) (old new : BookState K W B) : Type 0 where
   pub how : HasStopped store old new ⊎ IsClaimUntold M store old new
   pub places : new.places ≡ old.places
+  pub roll : new.table.roll ≡ old.table.roll
 
 -- the session goes on, but no work can start, and nothing changes
 pub record NothingStarts {K W B : Type 0} (old new : BookState K W B) : Type 0 where
@@ -179,12 +201,17 @@ IsClaimed {M = M} store kind_of job.Stopped old new = IsClaimStopped M store old
 
 -- ---- a report
 
--- a run goes on: its turn was made, the next ticket holds what it keeps, the seat is out as it was, and no more works are left to drain
+-- a run goes on: its turn was made, the next ticket holds what it keeps, on the same instance and of the same kind, ticket and seat are out as
+-- they were, and no more works are left to drain
 pub record IsTurnTold {K W B : Type 0} (store : K → Store) (ticket next : TicketState) (seat kept : Seat B) (told : Report)
     (old new : BookState K W B) : Type 0 where
   pub goes_on : GoesOn old new
   pub turn : HasGoneOn store ticket told next old.table new.table
+  pub instance : next.instance ≡ ticket.instance
+  pub kind : next.kind ≡ ticket.kind
   pub seat_is : kept ≡ seat
+  pub out : WasOut old.table.state old.table.roll ticket
+  pub roll : new.table.roll ≡ given_again (ticket_part ticket) old.table.roll
   pub places : new.places ≡ old.places
   pub left : new.left ≡ old.left
   pub no_more : left_to_drain new.table.state ≤ left_to_drain old.table.state
@@ -198,13 +225,15 @@ pub record IsTurnUntold {K W B : Type 0} (store : K → Store) (ticket : TicketS
   pub left : new.left ≡ old.left
   pub no_more : left_to_drain new.table.state ≤ left_to_drain old.table.state
 
--- a run is over, for want of a turn or not, its worker is back, and no more works are left to drain
+-- a run is over, for want of a turn or not, it is off the roll and its worker is back, and no more works are left to drain
 pub record IsOver {K W B : Type 0} (store : K → Store) (kind_of : B → Kind) (ticket : TicketState) (seat : Seat B) (told : Report)
     (old new : BookState K W B) : Type 0 where
   pub timed_out : Bool
   pub goes_on : GoesOn old new
   pub counts : CountsIn old.table.state ticket.task.run told
   pub ended : IsFinished store ticket.task.run told timed_out old.table new.table
+  pub out : WasOut old.table.state old.table.roll ticket
+  pub roll : new.table.roll ≡ without ticket.task.run old.table.roll
   pub places : new.places ≡ changed_at (made_back kind_of seat.worker) seat.number old.places
   pub left : new.left ≡ old.left
   pub no_more : left_to_drain new.table.state ≤ left_to_drain old.table.state
@@ -227,15 +256,21 @@ pub record IsAskedAgain {K W B : Type 0} (ticket same : TicketState) (seat kept 
   pub seat_is : kept ≡ seat
   pub book_is : new ≡ old
 
--- the session has stopped early without an event of the run, or had before, and the worker is back
-pub record IsGivenBack {K W B : Type 0} (store : K → Store) (kind_of : B → Kind) (seat : Seat B) (old new : BookState K W B) : Type 0 where
+-- the session has stopped early without an event of the run, or had before, the ticket was taken back, and the worker is back
+pub record IsGivenBack {K W B : Type 0} (store : K → Store) (kind_of : B → Kind) (ticket : TicketState) (seat : Seat B) (old new : BookState K W B)
+    : Type 0 where
   pub stopped : HasStopped store old new
+  pub out : WasOut old.table.state old.table.roll ticket
+  pub roll : new.table.roll ≡ without ticket.task.run old.table.roll
   pub places : new.places ≡ changed_at (made_back kind_of seat.worker) seat.number old.places
 
--- the session has stopped early, without an event of the run, or with the one by which it is over or goes on, and the worker is back
+-- the session has stopped early, without an event of the run, or with the one by which it is over or goes on; the run is off the roll, and the
+-- worker is back
 pub record IsReportStopped {K W B : Type 0} (store : K → Store) (kind_of : B → Kind) (ticket : TicketState) (seat : Seat B) (told : Report)
     (old new : BookState K W B) : Type 0 where
   pub how : HasStopped store old new ⊎ (IsEndUntold store ticket told old new ⊎ IsTurnUntold store ticket told old new)
+  pub out : WasOut old.table.state old.table.roll ticket
+  pub roll : new.table.roll ≡ without ticket.task.run old.table.roll
   pub places : new.places ≡ changed_at (made_back kind_of seat.worker) seat.number old.places
 
 -- Go and Over where what was told counts, with its event; Again where it doesn't; Stopped where the session has stopped early, as it has where
@@ -246,5 +281,5 @@ IsReported store kind_of ticket seat (Ok told) (after.Go next kept) old new = Is
 IsReported store kind_of ticket seat (Ok told) after.Over old new = IsOver store kind_of ticket seat told old new
 IsReported store kind_of ticket seat (Ok told) (after.Again same kept) old new = IsAskedAgain ticket same seat kept told old new
 IsReported store kind_of ticket seat (Ok told) after.Stopped old new = IsReportStopped store kind_of ticket seat told old new
-IsReported store kind_of ticket seat (Err refused) after.Stopped old new = IsGivenBack store kind_of seat old new
+IsReported store kind_of ticket seat (Err refused) after.Stopped old new = IsGivenBack store kind_of ticket seat old new
 IsReported store kind_of ticket seat (Err refused) _ old new = ⊥

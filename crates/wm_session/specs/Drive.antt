@@ -22,6 +22,9 @@ use Rattle.wm_session.specs.Book.{GoesOn, HasStopped}
 use Rattle.wm_session.specs.BookState.{BookState}
 use Rattle.wm_session.specs.Boxes.{IsDiaryLater, IsStartOn}
 use Rattle.wm_session.specs.BetweenRuns.{GoesInOrder, IsBetweenRuns, KeepBoxes}
+use Rattle.wm_roll.specs.Parts.{without}
+use Rattle.wm_table.specs.Parts.{ticket_part}
+use Rattle.wm_table.specs.Rolls.{given_again}
 use Rattle.wm_table.specs.Table.{IsOneStep, IsTicketIn}
 use Rattle.wm_table.specs.TableState.{TicketState}
 use Rattle.wm_worker.specs.Diary.{diary_with, turn_entries}
@@ -34,12 +37,13 @@ use Rattle.wm_worker.specs.declared.kind.Kind.{Kind}
 
 -- ---- a run under way
 
--- The run of a ticket is under way: the log replays, no other run is unreturned, the worker of its instance is away, and once it is back
--- none is.
+-- The run of a ticket is under way: the log replays, no other run is unreturned and no other ticket out, the worker of its instance is away, and
+-- once it is back none is.
 pub record IsUnderWay {K W B : Type 0} (kind_of : B → Kind) (ticket : TicketState) (book : BookState K W B) : Type 0 where
   pub replay : Replay book.table.first book.table.log book.table.state
   pub ticket_in : IsTicketIn book.table.state ticket
   pub alone : other_runs ticket.task.run book.table.state.runs ≡ []
+  pub alone_out : without ticket.task.run book.table.roll ≡ []
   pub away : IsAwayAt ticket.instance ticket.kind book.places
   pub others : (back : B) → NoneAway (changed_at (made_back kind_of back) ticket.instance book.places)
 
@@ -77,6 +81,7 @@ pub record IsLastTurn {K W B : Type 0} (store : K → Store) (kind_of : B → Ki
   pub ends : role_of ending ≡ role.Ends ticket.task.run reported
   pub step : IsOneStep store ending old.table new.table
   pub diary : diary_of back ≡ diary_with (Gave ticket.task.run ticket.k gave ∷ []) (diary_of worker)
+  pub roll : new.table.roll ≡ without ticket.task.run old.table.roll
   pub places : new.places ≡ changed_at (made_back kind_of back) ticket.instance old.places
   pub left : new.left ≡ old.left
   pub no_more : left_to_drain new.table.state ≤ left_to_drain old.table.state
@@ -87,6 +92,7 @@ pub record IsGivenUp {K W B : Type 0} (store : K → Store) (kind_of : B → Kin
   pub back : B
   pub diary_later : IsDiaryLater diary (diary_of back)
   pub stopped : HasStopped store old new
+  pub roll : new.table.roll ≡ without ticket.task.run old.table.roll
   pub places : new.places ≡ changed_at (made_back kind_of back) ticket.instance old.places
 
 -- the session has stopped early while it was told that the run goes on, and the worker, whose diary begins with this, is back
@@ -98,6 +104,7 @@ pub record IsCutShort {K W B : Type 0} (store : K → Store) (kind_of : B → Ki
   pub before : old.status ≡ None
   pub status : IsSome new.status
   pub step : IsOneStep store (event.Turn ticket.task.run progress) old.table new.table
+  pub roll : new.table.roll ≡ without ticket.task.run old.table.roll
   pub places : new.places ≡ changed_at (made_back kind_of back) ticket.instance old.places
   pub left : new.left ≡ old.left
   pub no_more : left_to_drain new.table.state ≤ left_to_drain old.table.state
@@ -114,6 +121,7 @@ pub record IsOtherTurn {K W B : Type 0} (store : K → Store) (kind_of : B → K
   pub number : seat.number ≡ ticket.instance
   pub kind : kind_of seat.worker ≡ ticket.kind
   pub diary : diary_of seat.worker ≡ diary_with (Gave ticket.task.run ticket.k (given.More progress) ∷ []) (diary_of worker)
+  pub roll : new.table.roll ≡ given_again (ticket_part ticket) old.table.roll
   pub places : new.places ≡ old.places
   pub left : new.left ≡ old.left
   pub no_more : left_to_drain new.table.state ≤ left_to_drain old.table.state

@@ -115,12 +115,16 @@ pub record IsWrittenOut {K W B : Type 0} (tells : Tells K W B) (book : BookState
   pub cause : WriteCause answer (tells.sink_faults book.sink) (tells.sink_faults ended.sink)
   pub ends : EndsBy book.status answer ended.status
 
--- A serial session that is over, which was given these workers: on `Done` nothing is left to do, and the workers have written down their
--- part of the log; they come back, as far as their class wasn't retired; and the log is that of a serial run, or a front of one.
-pub record IsSerialEnd {K W B : Type 0} (tells : Tells K W B) (run : Inputs) (given : List (Hand B)) (ended : Ended K W B) : Type 0 where
+-- A session that is over, in which no ticket is out: on `Done` nothing is left to do, and the workers come back, as far as their class wasn't
+-- retired.
+pub record IsBookEnd {K W B : Type 0} (tells : Tells K W B) (run : Inputs) (ended : Ended K W B) : Type 0 where
   pub session : IsSessionEnd tells run ended
   pub quiet : ended.status ≡ status.Done → IsQuiet ended.last
   pub hands : AreHandsBack tells.kind_of ended.last ended.hands.items
+
+-- What holds besides of a serial session that is over, which was given these workers: each that comes back is the one that was given, or a run
+-- started on it, and on `Done` it has written down its part of the log; and the log is that of a serial run, or a front of one.
+pub record IsSerialEnd {K W B : Type 0} (tells : Tells K W B) (run : Inputs) (given : List (Hand B)) (ended : Ended K W B) : Type 0 where
   pub boxes : AreBoxesBack tells.diary_of given ended.log ended.last ended.hands.items
   pub diaries : ended.status ≡ status.Done → HaveTold tells.diary_of given ended.first ended.log ended.last ended.hands.items
   pub serial : IsSerialRun run.lines ended.status ended.first ended.log ended.last

@@ -8,12 +8,16 @@ use Rattle.wm_machine.specs.Replay.{Replay}
 use Rattle.wm_texts.specs.Texts.{log_text}
 use Rattle.wm_machine.specs.Valid.{Valid}
 use Rattle.wm_machine.specs.declared.command.Command.{Command}
-use Rattle.wm_session.specs.Bench.{instance_traits, is_away, place_traits}
+use Rattle.wm_machine.specs.declared.state.Run.{Run}
+use Rattle.wm_roll.specs.Parts.{IsListed}
+use Rattle.wm_roll.specs.declared.part.Part.{Part}
+use Rattle.wm_session.specs.Bench.{instance_traits, is_away, is_out_on, place_traits}
 use Rattle.wm_session.specs.BookState.{BookState}
 use Rattle.wm_session.specs.Causes.{StopCause}
 use Rattle.wm_session.specs.Images.{StopImages}
 use Rattle.wm_table.specs.Images.{LeavesOnly}
 use Rattle.wm_table.specs.Inputs.{Inputs}
+use Rattle.wm_table.specs.Parts.{part_of, AreOut}
 use Rattle.wm_session.specs.Pending.{pending_text}
 use Rattle.wm_session.specs.Tells.{Tells}
 use Rattle.wm_session.specs.Writing.{IsAppended}
@@ -31,14 +35,25 @@ pub record TextsInvariant (before now : Option (List ℕ)) (text pending : List 
   pub given : IsAppended before now written
   pub kept : text ≡ written ++ pending
 
--- while a session goes on, the workers that are away are those of the instances that are out
-abbrev pub AwayInvariant : {K W B : Type 0} → Option Stop → BookState K W B → Type 0
-AwayInvariant None book = map (λ place. is_away place.presence) book.places ≡ map (λ instance. instance.out) book.table.state.instances
-AwayInvariant (Some why) book = Unit {0}
+-- the roll lists exactly these runs: each part is that of one, and the part of each is listed
+pub record ListsExactly (runs : List Run) (roll : List Part) : Type 0 where
+  pub of_runs : AreOut runs roll
+  pub each : AllByRecursion (λ run. IsListed roll (part_of run)) runs
+
+-- while a session goes on, the roll lists exactly the runs of the state
+abbrev pub RollInvariant : Option Stop → List Run → List Part → Type 0
+RollInvariant None runs roll = ListsExactly runs roll
+RollInvariant (Some why) runs roll = Unit {0}
+
+-- the workers that are away are those of the instances whose parts are on the roll
+pub record AwayInvariant {K W B : Type 0} (status : Option Stop) (book : BookState K W B) : Type 0 where
+  pub away : map (λ place. is_away place.presence) book.places ≡ map (is_out_on book.table.roll) book.table.state.instances
+  pub listed : RollInvariant status book.table.state.runs book.table.roll
 
 -- The facts of a book, of what its run was given, beside those that its table keeps: the log replays to the state now, which is valid, and narrow
 -- for now; its commands are the lines up to the one that is next; the bytes written and pending are its text, and while the session goes on each
--- text is made; the workers are the instances; the counts of faults haven't fallen, and have risen where a fault stopped the session; and where
+-- text is made; the workers are the instances, and those that are away
+-- have their parts on the roll, which lists the runs; the counts of faults haven't fallen, and have risen where a fault stopped the session; and where
 -- nothing was pending once the rows were loaded, a crash leaves the state's rows, or those of the event that was being committed.
 pub record BookInvariant {K W B : Type 0} (run : Inputs) (tells : Tells K W B) (book : BookState K W B) : Type 0 where
   pub replay : Replay book.table.first book.table.log book.table.state

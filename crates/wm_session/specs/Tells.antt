@@ -1,5 +1,6 @@
 -- What the keeper, the sink and the workers of a run tell, and what a run is given by that.
 use Rattle.std.specs.Prelude.{◌≡◌, ◌↔◌, ℕ, List, Option}
+use Rattle.atomic_table.specs.Seated.{TableId}
 use Rattle.wm_keeper.specs.Store.{Store}
 use Rattle.wm_keeper.specs.declared.row.Row.{Row}
 use Rattle.wm_machine.specs.declared.command.Command.{Command}
@@ -27,20 +28,21 @@ tells_of store given sink_faults kind_of diary_of = record {
   diary_of = diary_of;
 }
 
--- what a run is given that begins with this keeper, once these rows were loaded from it, with these instances, these lines and this sink
-abbrev pub inputs_of : {K W B : Type 0} → Tells K W B → K → List Row → List Instance → List Command → W → Inputs
-inputs_of tells keeper rows instances lines sink = record {
+-- what a run is given that begins with this keeper, once these rows were loaded from it, with these instances, these lines, this sink and this roll
+abbrev pub inputs_of : {K W B : Type 0} → Tells K W B → K → List Row → List Instance → List Command → W → TableId → Inputs
+inputs_of tells keeper rows instances lines sink roll = record {
   rows = rows;
   store = tells.store keeper;
   instances = instances;
   lines = lines;
   written = tells.given sink;
   sink_faults = tells.sink_faults sink;
+  roll = roll;
 }
 
 -- a run's inputs are what it is given that begins so
 pub record AreInputs {K W B : Type 0} (tells : Tells K W B) (run : Inputs) (keeper : K) (rows : List Row) (instances : List Instance)
-    (lines : List Command) (sink : W) : Type 0 where
+    (lines : List Command) (sink : W) (roll : TableId) : Type 0 where
   pub rows_are : rows ≡ run.rows
   pub instances_are : instances ≡ run.instances
   pub lines_are : lines ≡ run.lines
@@ -50,3 +52,4 @@ pub record AreInputs {K W B : Type 0} (tells : Tells K W B) (run : Inputs) (keep
   pub told : (tells.store keeper).rows ≡ run.store.rows
   pub name : (tells.store keeper).name ≡ run.store.name
   pub faults : (tells.store keeper).faults ≡ run.store.faults
+  pub roll_is : roll ≡ run.roll

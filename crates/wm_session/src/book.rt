@@ -1,8 +1,7 @@
 //! The book of a session: the table with the bench, the lines that are left, and what is still to
 //! be written.
-ghost use Rattle.std.specs.Prelude.{◌≡◌, ◌↔◌, ◌^◌, ◌<◌, ◌≤◌, ◌+◌, [], None, Some, length, map, IsSome, IsNone, IsTrue, IfOk, IfErr, MatchBool, Ok, false};
+ghost use Rattle.std.specs.Prelude.{◌≡◌, ◌≢◌, ◌↔◌, ◌^◌, ◌<◌, ◌≤◌, ◌+◌, [], None, Some, length, map, IsSome, IsNone, IsTrue, IfOk, IfErr, MatchBool, Ok, false};
 ghost use Rattle.std.specs.List.{AllByRecursion};
-ghost use Rattle.wm_bench.specs.Places.{IsAwayAt};
 ghost use Rattle.wm_machine.specs.Outcome.{IsAskable};
 ghost use Rattle.wm_machine.specs.Narrow.{IsNarrow};
 ghost use Rattle.wm_machine.specs.Quiet.{IsQuiet};
@@ -10,11 +9,11 @@ ghost use Rattle.wm_machine.specs.Rows.{rows_of};
 ghost use Rattle.wm_machine.specs.Serial.{drains_first};
 ghost use Rattle.wm_machine.specs.Valid.{Valid};
 ghost use Rattle.wm_session.specs.Bench.{instance_traits, place_traits, NoneAway};
-ghost use Rattle.wm_session.specs.Book.{IsClaimed, IsFronted, IsReported, MustWait, SettlesNext};
+ghost use Rattle.wm_session.specs.BetweenRuns.{IsBetweenRuns};
+ghost use Rattle.wm_session.specs.Book.{IsSessionOver, IsClaimed, IsFronted, IsReported, MayCome, MustWait, SettlesNext};
 ghost use Rattle.wm_session.specs.Ended.{IsHandedBack, IsSessionEnd, IsWrittenOut};
 ghost use Rattle.wm_session.specs.Tells.{tells_of};
 ghost use Rattle.wm_table.specs.Images.{LeavesOnly};
-ghost use Rattle.wm_table.specs.Table.{Stands};
 
 use crate::ended::Ended;
 use crate::pending::Pending;
@@ -76,7 +75,7 @@ impl From<WriteFault> for Stop {
 pub enum Front {
     /// It was executed.
     Moved,
-    /// It settles, and there is something left to do first.
+    /// It can't come yet: a run is unreturned, or it settles and there is something left to do first.
     NotSettled,
     /// There is none.
     Ended,
@@ -106,6 +105,12 @@ pub enum After<B, M: Mark> {
     Again(Ticket<M>, Seated<B>),
     /// The session has ended early, and the worker is back.
     Stopped,
+}
+
+/// That a session of this run was over when it was asked: only [`Book::over`] makes one.
+#[derive(Drop)]
+pub struct Over<M: Mark> {
+    of: PhantomData<M>,
 }
 
 /// A session under way: the table with the bench, the lines that are left, what is still to be
@@ -148,6 +153,7 @@ impl<K: Keeper, W: Sink, B: Worker, M: Mark> Book<K, W, B, M> {
         sink: W,
     ) -> Result<Book<K, W, B, M>, (Table<K, M>, Bench<B>, W)>
         requires log { table.log ≡ [] }
+        requires none_out { table.roll ≡ [] }
         requires no_run { table.state.runs ≡ [] }
         requires workers { map (place_traits B.kind_of) bench
             ≡ map instance_traits table.state.instances }
@@ -190,10 +196,9 @@ impl<K: Keeper, W: Sink, B: Worker, M: Mark> Book<K, W, B, M> {
     }
 
     /// Executes the next line, retires a class on the bench where it retires one, and writes the
-    /// reply; one that settles only where there is nothing left to do. No run is unreturned while the
-    /// session goes on.
+    /// reply. No line comes while a run is unreturned, and one that settles only where there is
+    /// nothing left to do.
     pub fn front_step(&mut self) -> Front
-        requires { self.old.status ≡ None → self.old.table.state.runs ≡ [] }
         ensures { IsFronted K.store B.kind_of result self.old self.new }
     {
         if self.status.is_some() {
@@ -270,10 +275,8 @@ impl<K: Keeper, W: Sink, B: Worker, M: Mark> Book<K, W, B, M> {
         seat: Seated<B>,
         told: Result<Told, AllocError>,
     ) -> After<B, M>
-        requires stands { Stands self.old.table.state ticket }
         requires number { seat.number ≡ ticket.instance }
         requires kind { B.kind_of seat.worker ≡ ticket.kind }
-        requires away { IsAwayAt seat.number (B.kind_of seat.worker) self.old.places }
         ensures { IsReported K.store B.kind_of ticket seat told result self.old self.new }
     {
         if self.status.is_some() {
@@ -294,9 +297,8 @@ impl<K: Keeper, W: Sink, B: Worker, M: Mark> Book<K, W, B, M> {
     /// Ends the turn of a run as its worker told, while the session goes on.
     fn end_turn(&mut self, ticket: Ticket<M>, seat: Seated<B>, told: Told) -> After<B, M>
         requires going { self.old.status ≡ None }
-        requires stands { Stands self.old.table.state ticket }
         requires number { seat.number ≡ ticket.instance }
-        requires away { IsAwayAt seat.number (B.kind_of seat.worker) self.old.places }
+        requires kind { B.kind_of seat.worker ≡ ticket.kind }
         ensures { IsReported K.store B.kind_of ticket seat (Ok told) result self.old self.new }
     {
         match self.table.turn(ticket, told) {
@@ -343,20 +345,49 @@ impl<K: Keeper, W: Sink, B: Worker, M: Mark> Book<K, W, B, M> {
         matches!(self.left.front(), Some(Command::Settle))
     }
 
-    /// Whether the next line settles, and there is something left to do first.
+    /// Whether a line may come that is the next one: no run is unreturned, and where it settles there
+    /// is nothing left to do.
+    fn may_come(&self) -> bool
+        ensures { IsTrue result ↔ MayCome self.now.left self.now.table.state }
+    {
+        self.table.at_rest() && (!self.settles_next() || self.table.quiet())
+    }
+
+    /// Whether a line is left that can't come yet.
     fn must_wait(&self) -> bool
         ensures { MatchBool result (MustWait self.now.left self.now.table.state)
-            (SettlesNext self.now.left → IsQuiet self.now.table.state) }
+            (self.now.left ≢ [] → MayCome self.now.left self.now.table.state) }
     {
-        self.settles_next() && !self.table.quiet()
+        !self.left.is_empty() && !self.may_come()
     }
 
     /// Whether all that may start is driven to its end before the next line: none is left, or it
-    /// settles. It takes no memory.
+    /// settles. It takes no memory. Where no ticket is out, no run is unreturned while the session goes
+    /// on, and no worker is away.
     pub fn drains_first(&self) -> bool
-        ensures { result ≡ drains_first self.now.left }
+        ensures drains { result ≡ drains_first self.now.left }
+        ensures rest { self.now.table.roll ≡ [] → IsBetweenRuns self.now }
     {
         self.left.is_empty() || self.settles_next()
+    }
+
+    /// Whether the session is over: it has stopped early, or no line is left and there is nothing left
+    /// to do. It takes no memory.
+    pub fn over(&self) -> Option<Over<M>>
+        ensures { IsSome result ↔ IsSessionOver self.now }
+    {
+        if self.has_ended() {
+            Some(Over { of: PhantomData })
+        } else {
+            None
+        }
+    }
+
+    /// Whether the session has stopped early, or no line is left and there is nothing left to do.
+    fn has_ended(&self) -> bool
+        ensures { IsTrue result ↔ IsSessionOver self.now }
+    {
+        self.status.is_some() || (self.left.is_empty() && self.table.quiet())
     }
 
     /// The number of the next line, from 1; none where no line is left. It takes no memory.
@@ -371,10 +402,10 @@ impl<K: Keeper, W: Sink, B: Worker, M: Mark> Book<K, W, B, M> {
         }
     }
 
-    /// Writes what is pending, and hands everything back. No worker is away, and while the session
-    /// goes on no line is left and nothing to do.
+    /// Writes what is pending, and hands everything back. No ticket is out, and while the session goes
+    /// on no line is left and nothing to do.
     pub fn finish(self) -> Ended<K, W, B>
-        requires none_away { NoneAway self.places }
+        requires none_out { self.table.roll ≡ [] }
         requires lines { self.status ≡ None → self.left ≡ [] }
         requires quiet { self.status ≡ None → IsQuiet self.table.state }
         ensures session { IsSessionEnd (tells_of K.store W.given W.faults B.kind_of B.diary_of)

@@ -15,7 +15,7 @@ pub mod status;
 mod steps;
 mod writing;
 
-pub use book::{After, Book, Front, Job, Stop};
+pub use book::{After, Book, Front, Job, Over, Stop};
 pub use ended::Ended;
 pub use serial::run_serial;
 pub use status::Status;

@@ -7,10 +7,12 @@ ghost use Rattle.wm_machine.specs.declared.event.Event.TheVariants as event;
 ghost use Rattle.wm_machine.specs.declared.command.Command.{Command};
 ghost use Rattle.wm_machine.specs.declared.reply.Reply.{Reply};
 ghost use Rattle.wm_session.specs.Bench.{places_after};
-ghost use Rattle.wm_session.specs.Book.{IsClaimIn};
+ghost use Rattle.wm_roll.specs.Parts.{without};
+ghost use Rattle.wm_session.specs.Book.{roll_given_up};
 ghost use Rattle.wm_session.specs.Causes.{EndsBy};
 ghost use Rattle.wm_table.specs.Images.{IsLine};
-ghost use Rattle.wm_table.specs.Table.{IsOneStep, IsUntouched, Stands, TroubleCause};
+ghost use Rattle.wm_table.specs.Parts.{WasOut};
+ghost use Rattle.wm_table.specs.Table.{IsOneStep, IsUntouched, TroubleCause};
 
 use crate::book::Stop;
 use crate::status::Status;
@@ -36,6 +38,7 @@ pub fn execute<K: Keeper, B: Worker, M: Mark>(
     ensures places { OnOk result (bench.new ≡ places_after B.kind_of command bench.old) }
     ensures places_err { OnErr result (bench.new ≡ bench.old) }
     ensures cause { TroubleCause result (K.store table.old.keeper).faults (K.store table.new.keeper).faults }
+    ensures roll { table.new.roll ≡ table.old.roll }
 {
     match table.command(line, command) {
         Ok(reply) => {
@@ -74,9 +77,11 @@ pub fn give_back<K: Keeper, B: Worker, M: Mark>(
     ticket: Ticket<M>,
     seat: Seated<B>,
 )
-    requires stands { Stands table.old.state ticket }
-    requires away { IsAwayAt seat.number (B.kind_of seat.worker) bench.old }
-    ensures table { table.new ≡ table.old }
+    requires away { WasOut table.old.state table.old.roll ticket
+        → IsAwayAt seat.number (B.kind_of seat.worker) bench.old }
+    ensures table { table.new
+        ≡ record table.old { roll = without ticket.task.run table.old.roll } }
+    ensures out { WasOut table.old.state table.old.roll ticket }
     ensures places { bench.new ≡ changed_at (made_back B.kind_of seat.worker) seat.number bench.old }
 {
     table.take_back(ticket);
@@ -85,8 +90,7 @@ pub fn give_back<K: Keeper, B: Worker, M: Mark>(
 
 /// Gives up a claim: a ticket of it is taken without an event.
 pub fn give_up<K: Keeper, M: Mark>(table: &mut Table<K, M>, claim: Claim<M>)
-    requires { IsClaimIn table.old.state claim }
-    ensures { table.new ≡ table.old }
+    ensures { table.new ≡ record table.old { roll = roll_given_up claim table.old.roll } }
 {
     match claim {
         Claim::Run(ticket) => table.take_back(ticket),

@@ -9,6 +9,7 @@ use Rattle.wm_machine.specs.declared.event.Event.{Event}
 use Rattle.wm_machine.specs.declared.state.State.{State}
 use Rattle.wm_collections.specs.Lists.{last_of}
 use Rattle.wm_machine.proofs.Logs.{Replay-push}
+use Rattle.wm_machine.proofs.Openings.{reached-opened, reached-replayed}
 use Rattle.wm_machine.specs.First.{first_of}
 use Rattle.wm_machine.specs.Opened.{Opened}
 use Rattle.wm_machine.specs.Quiet.{IsQuiet}
@@ -16,11 +17,17 @@ use Rattle.wm_machine.specs.Rows.{rows_of}
 use Rattle.wm_observe.proofs.NoteLaws.{last_notes-push}
 use Rattle.wm_observe.specs.Notes.{last_notes, notes_between}
 use Rattle.wm_observe.specs.declared.note.Note.{Note}
+use Rattle.wm_machine.specs.Step.{role_of}
+use Rattle.wm_machine.specs.Valid.{Valid}
+use Rattle.wm_roll.specs.Views.{RollView}
+use Rattle.wm_roll.specs.declared.part.Part.{Part}
 use Rattle.wm_steps.specs.StepChanges.{changed_state, IsStepOf}
 use Rattle.wm_steps.specs.declared.change.StepChange.{StepChange}
 use Rattle.wm_table.proofs.Images.{would_leave, WouldLeave-as}
+use Rattle.wm_table.proofs.Parts.{out-after}
 use Rattle.wm_table.specs.Images.{LeavesBefore, LeavesOnly}
 use Rattle.wm_table.specs.Inputs.{Inputs}
+use Rattle.wm_table.specs.Parts.{AreOut, IsOffRoll}
 use Rattle.wm_table.specs.Table.{HoldsRowsOf, IsOneStep, TableInvariant, IsUntouched}
 use Rattle.wm_table.specs.TableState.{TableState}
 
@@ -37,28 +44,37 @@ slice_get-last (x ∷ y ∷ xs) =
 -- ---- what a table keeps
 
 -- what a table keeps when it begins
-pub kept-opening : (run : Inputs) (first s : State) (log : List Event) (notes : List Note) (store : Store)
+pub kept-opening : (run : Inputs) (first s : State) (log : List Event) (notes : List Note) (store : Store) (roll : RollView)
     → Opened run.rows run.instances first → s ≡ first → log ≡ [] → notes ≡ [] → HoldsRowsOf first store
-    → TellsOn run.store store → TableInvariant run first s log notes store
-kept-opening run first s log notes store opened s_is log_is notes_is held tells_on =
+    → TellsOn run.store store → roll.table_id ≡ run.roll → roll.parts ≡ [] → TableInvariant run first s log notes store roll
+kept-opening run first s log notes store roll opened s_is log_is notes_is held tells_on own none =
     let next_run : first.next_run ≡ 1 = ap (λ (t : State). t.next_run) opened.state in
     rw (s_is, log_is, notes_is)
-    (record { opened = opened; replay = refl; notes_are = refl; rows = held; tells_on = tells_on; few_runs = omega (arith, next_run) })
+    (record {
+      opened = opened;
+      replay = refl;
+      notes_are = refl;
+      rows = held;
+      tells_on = tells_on;
+      few_runs = omega (arith, next_run);
+      own = own;
+      out = subst (AreOut first.runs) (sym none) tt;
+    })
 
 -- what is made by carrying out the change of a step is one step
-pub made-step : {K : Type 0} (store : K → Store) (old : TableState K) (change : StepChange) (state : State) (log : List Event) (keeper : K)
+pub made-step : {K : Type 0} (store : K → Store) (old : TableState K) (change : StepChange) (state : State) (log : List Event) (keeper : K) (roll : List Part)
     → IsStepOf old.state change → state ≡ changed_state change old.state → log ≡ old.log ++ change.event ∷ []
     → HoldsRowsOf state (store keeper) → (LeavesOnly (rows_of old.state) (store old.keeper) → LeavesOnly (rows_of state) (store keeper))
-    → IsOneStep store change.event old (record { first = old.first; state = state; log = log; keeper = keeper })
-made-step store old change state log keeper is state_is log_is rows images =
+    → IsOneStep store change.event old (record { first = old.first; state = state; log = log; keeper = keeper; roll = roll })
+made-step store old change state log keeper roll is state_is log_is rows images =
     record { first = refl; legal = is.legal; state = state_is ∙ is.state; appended = log_is; rows = rows; images = images }
 
 -- and where it was refused, nothing has changed, and a crash may leave what its event would have left
-pub refused-step : {K : Type 0} (store : K → Store) (old : TableState K) (change : StepChange) (state : State) (log : List Event) (keeper : K)
+pub refused-step : {K : Type 0} (store : K → Store) (old : TableState K) (change : StepChange) (state : State) (log : List Event) (keeper : K) (roll : List Part)
     → IsStepOf old.state change → state ≡ old.state → log ≡ old.log → IsAtMost (store old.keeper).rows (store keeper).rows
     → LeavesBefore (rows_of (changed_state change old.state)) (store old.keeper) (store keeper)
-    → IsUntouched store (λ e. e ≡ change.event) old (record { first = old.first; state = state; log = log; keeper = keeper })
-refused-step store old change state log keeper is state_is log_is rows images = record {
+    → IsUntouched store (λ e. e ≡ change.event) old (record { first = old.first; state = state; log = log; keeper = keeper; roll = roll })
+refused-step store old change state log keeper roll is state_is log_is rows images = record {
   first = refl;
   state = state_is;
   log = log_is;
@@ -94,13 +110,13 @@ IsUntouched-as store may also old new weaker same = record {
   ];
 }
 
-module _ {K : Type 0} (run : Inputs) (store : K → Store) (old new : TableState K) where
+module _ {K : Type 0} (run : Inputs) (store : K → Store) (old new : TableState K) (roll : RollView) where
   -- a step that begins one run at most, with what is told of it
-  pub kept-step : (e : Event) (before told : List Note) → TableInvariant run old.first old.state old.log before (store old.keeper)
+  pub kept-step : (e : Event) (before told : List Note) → TableInvariant run old.first old.state old.log before (store old.keeper) roll
       → IsOneStep store e old new → told ≡ notes_between old.state new.state → new.state.next_run ≤ old.state.next_run + 1
-      → TellsOn (store old.keeper) (store new.keeper)
-      → TableInvariant run new.first new.state new.log told (store new.keeper)
-  kept-step e before told kept step told_is more tells_on =
+      → TellsOn (store old.keeper) (store new.keeper) → IsOffRoll (role_of e) roll.parts
+      → TableInvariant run new.first new.state new.log told (store new.keeper) roll
+  kept-step e before told kept step told_is more tells_on off =
       let longer : length new.log ≡ length old.log + 1 = ap length step.appended ∙ length-append old.log (e ∷ []) in
       let few : new.state.next_run ≤ length new.log + 1 = omega (arith, kept.few_runs) in
       record {
@@ -114,11 +130,13 @@ module _ {K : Type 0} (run : Inputs) (store : K → Store) (old new : TableState
         rows = step.rows;
         tells_on = TellsOn-then run.store (store old.keeper) (store new.keeper) kept.tells_on tells_on;
         few_runs = few;
+        own = kept.own;
+        out = subst (λ (s : State). AreOut s.runs roll.parts) (sym step.state) (out-after old.state e roll.parts step.legal off kept.out);
       }
 
-  pub kept-untouched : (may_be : Event → Type 0) (notes : List Note) → TableInvariant run old.first old.state old.log notes (store old.keeper)
+  pub kept-untouched : (may_be : Event → Type 0) (notes : List Note) → TableInvariant run old.first old.state old.log notes (store old.keeper) roll
       → IsUntouched store may_be old new → TellsOn (store old.keeper) (store new.keeper)
-      → TableInvariant run new.first new.state new.log notes (store new.keeper)
+      → TableInvariant run new.first new.state new.log notes (store new.keeper) roll
   kept-untouched may_be notes kept same tells_on =
       let rows : HoldsRowsOf old.state (store new.keeper) =
       IfSome-still (λ rows. rows ≡ rows_of old.state) (store old.keeper).rows (store new.keeper).rows kept.rows same.rows in
@@ -130,7 +148,30 @@ module _ {K : Type 0} (run : Inputs) (store : K → Store) (old new : TableState
         rows = rows;
         tells_on = TellsOn-then run.store (store old.keeper) (store new.keeper) kept.tells_on tells_on;
         few_runs = kept.few_runs;
+        own = kept.own;
+        out = kept.out;
       })
+
+-- the same with other parts on the roll, each that of a run
+pub kept-roll : (run : Inputs) (first s : State) (log : List Event) (notes : List Note) (store : Store) (roll now : RollView)
+    → TableInvariant run first s log notes store roll → now.table_id ≡ roll.table_id → AreOut s.runs now.parts
+    → TableInvariant run first s log notes store now
+kept-roll run first s log notes store roll now kept same out = record {
+  opened = kept.opened;
+  replay = kept.replay;
+  notes_are = kept.notes_are;
+  rows = kept.rows;
+  tells_on = kept.tells_on;
+  few_runs = kept.few_runs;
+  own = same ∙ kept.own;
+  out = out;
+}
+
+-- the state is one that the machine reaches
+pub valid-kept : (run : Inputs) (first s : State) (log : List Event) (notes : List Note) (store : Store) (roll : RollView)
+    → TableInvariant run first s log notes store roll → Valid s
+valid-kept run first s log notes store roll kept =
+    (reached-replayed first s log (reached-opened run.rows run.instances first kept.opened) kept.replay).valid
 
 -- ---- rest
 

@@ -3,6 +3,8 @@ pub mod Acknowledged
 pub mod Following
 pub mod Images
 pub mod Inputs
+pub mod Parts
+pub mod Rolls
 pub mod Table
 pub mod TableState
 pub mod Trouble

@@ -18,6 +18,7 @@ use Rattle.wm_machine.specs.declared.state.Instance.{Instance}
 use Rattle.wm_machine.specs.declared.state.State.{State}
 use Rattle.wm_observe.specs.Notes.{last_notes}
 use Rattle.wm_observe.specs.declared.note.Note.{Note}
+use Rattle.wm_roll.specs.Views.{RollView}
 use Rattle.wm_runs.specs.Reports.{is_timeout, CountsIn}
 use Rattle.wm_runs.specs.declared.starting.Claimed.{Claimed}
 use Rattle.wm_runs.specs.declared.starting.Claimed.TheVariants as claimed
@@ -27,6 +28,7 @@ use Rattle.wm_rows.specs.declared.fault.RowFault.TheVariants as row
 use Rattle.wm_rows.specs.declared.fault.RowFault.TheVariants.{BadRow, Unsound}
 use Rattle.wm_table.specs.Images.{IsNoLine, LeavesOnly, WouldLeave, WouldOpen}
 use Rattle.wm_table.specs.Inputs.{Inputs}
+use Rattle.wm_table.specs.Parts.{AreOut}
 use Rattle.wm_table.specs.TableState.{TableState, TicketState, ticket_of}
 use Rattle.wm_table.specs.declared.table.BeginFault.{BeginFault}
 use Rattle.wm_table.specs.declared.table.BeginFault.TheVariants as begin
@@ -154,10 +156,6 @@ IsClaim s _ _ = ⊥
 
 -- ---- turn
 
--- the ticket's run stands in the state, on the ticket's instance and of its kind
-abbrev pub Stands : State → TicketState → Type 0
-Stands s ticket = IsSomeAnd (run_numbered ticket.task.run s.runs) (λ run. (run.instance ≡ ticket.instance) × (run.kind ≡ ticket.kind))
-
 -- the run of this number is over, by an event that ends it as was told; whether for want of a turn
 pub record IsFinished {K : Type 0} (store : K → Store) (number : ℕ) (told : Report) (timed_out : Bool) (old new : TableState K) : Type 0 where
   pub ending : Event
@@ -228,11 +226,14 @@ TurnCause answer before now = faults.HasCause (is_refused_for_keeper answer) bef
 -- ---- what a table keeps
 
 -- of what the run was given: the first state is the one that its rows open to, the log replays from there to the state now, whose rows are held in
--- the store that was loaded, and the notes are those of its last event
-pub record TableInvariant (run : Inputs) (first state : State) (log : List Event) (notes : List Note) (store : Store) : Type 0 where
+-- the store that was loaded, and the notes are those of its last event; the roll is the run's, and each part on it is that of a run of the state
+pub record TableInvariant (run : Inputs) (first state : State) (log : List Event) (notes : List Note) (store : Store) (roll : RollView)
+    : Type 0 where
   pub opened : Opened run.rows run.instances first
   pub replay : Replay first log state
   pub notes_are : notes ≡ last_notes first log
   pub rows : HoldsRowsOf state store
   pub tells_on : TellsOn run.store store
   pub few_runs : state.next_run ≤ length log + 1
+  pub own : roll.table_id ≡ run.roll
+  pub out : AreOut state.runs roll.parts

@@ -3,24 +3,21 @@ use Rattle.std.specs.Prelude.{ℕ, List}
 use Rattle.wm_machine.specs.declared.event.Event.{Event}
 use Rattle.wm_machine.specs.declared.state.Run.{Run}
 use Rattle.wm_machine.specs.declared.state.State.{State}
+use Rattle.wm_roll.specs.declared.part.Part.{Part}
 use Rattle.wm_runs.specs.Reports.{task_in}
-use Rattle.wm_worker.specs.declared.kind.Kind.{Kind}
-use Rattle.wm_worker.specs.declared.task.Task.{Task}
+use Rattle.wm_table.specs.declared.table.ticket.Held.{Held}
 
--- the first state, the state now, the log of the events between them, and the keeper of the rows
+-- the first state, the state now, the log of the events between them, the keeper of the rows, and the parts that stand on the roll
 pub record TableState (K : Type 0) : Type 0 where
   pub first : State
   pub state : State
   pub log : List Event
   pub keeper : K
+  pub roll : List Part
 
 -- the work, and what its run took and where it stands
-pub record TicketState : Type 0 where
-  pub seq : ℕ
-  pub task : Task
-  pub kind : Kind
-  pub instance : ℕ
-  pub k : ℕ
+abbrev pub TicketState : Type 0
+TicketState = Held
 
 -- the ticket of a run, which holds what the run keeps
 abbrev pub ticket_of : Run → TicketState

@@ -1,5 +1,5 @@
 //! The table: the state, the log of the events that led to it, and the keeper of its rows.
-ghost use Rattle.std.specs.Prelude.{◌≡◌, ◌≢◌, ◌↔◌, [], true, false, Err, IsTrue, IfOk, IfErr, IfSome, OnOk, OnErr};
+ghost use Rattle.std.specs.Prelude.{◌≡◌, ◌≢◌, ◌↔◌, ◌++◌, ◌∷◌, [], true, false, Err, IsTrue, IfOk, IfErr, IfSome, OnOk, OnErr};
 ghost use Rattle.std.specs.Option.{option_copied};
 ghost use Rattle.wm_collections.specs.Lists.{last_of};
 ghost use Rattle.wm_machine.specs.Outcome.{IsLegalLine};
@@ -17,7 +17,11 @@ ghost use Rattle.wm_steps.specs.StepChanges.{row_changes, IsStepOf};
 ghost use Rattle.wm_commands.specs.Builds.{ChangesNoRow, ChangesRows};
 ghost use Rattle.wm_runs.specs.Reports.{goes_on, CountsIn};
 ghost use Rattle.wm_table.specs.Images.{IsLine, IsNoLine};
-ghost use Rattle.wm_table.specs.Table.{BeginCause, HasClaimed, HoldsRowsOf, IsClaim, IsBeginFault, IsClaimAnswer, IsFinished, IsOneStep, IsTurnAnswer, IsTurned, IsUntouched, LeavesOpened, LeavesUnopened, Stands, TroubleCause, TurnCause};
+ghost use Rattle.wm_table.specs.Table.{BeginCause, HasClaimed, HoldsRowsOf, IsClaim, IsBeginFault, IsClaimAnswer, IsFinished, IsOneStep, IsTicketIn, IsTurnAnswer, IsTurned, IsUntouched, LeavesOpened, LeavesUnopened, TroubleCause, TurnCause};
+ghost use Rattle.wm_table.specs.Parts.{IsOffRoll, NoneOf, Stands, ticket_part, WasOut};
+ghost use Rattle.wm_table.specs.Rolls.{IsNewOn, IsRollClaimed, IsRollReturned, IsRollTurned, roll_after, WasOutWhereTaken};
+ghost use Rattle.wm_machine.specs.Step.{role_of};
+ghost use Rattle.wm_roll.specs.Parts.{without};
 
 mod carry;
 mod follow;
@@ -28,7 +32,7 @@ use crate::mark::Mark;
 use crate::table::carry::{carry_out, commit};
 use std::alloc::{AllocError, Global};
 use std::marker::{Model, PhantomData};
-use ticket::{Ticket, ticket_for};
+use ticket::{Held, Ticket, held_for};
 use wm_collections::{Items, Replica};
 use wm_commands::{Executed, execute};
 use wm_keeper::{KeepFault, Keeper, Row};
@@ -36,6 +40,7 @@ use wm_machine::{Cause, Command, Event, Instance, Reply, State};
 use wm_observe::{Note, step_notes};
 use wm_opening::{Opening, open};
 use wm_query::first_index;
+use wm_roll::Roll;
 use wm_rows::RowFault;
 use wm_runs::{Claimed, Claiming, Ending, claim_first, counts_in, finish, goes_on, next_turn};
 use wm_steps::{StepChange, View};
@@ -115,7 +120,6 @@ impl From<Trouble> for BeginFault {
 }
 
 /// What became of the work that was first.
-#[derive(Debug)]
 pub enum Claim<M: Mark> {
     /// A run of it began.
     Run(Ticket<M>),
@@ -130,20 +134,7 @@ fn is_quiet(view: &View) -> bool
     view.state.runs.is_empty() && first_index(&view.state).is_none()
 }
 
-/// What was claimed: the ticket of its run, which the state has, or that the work couldn't start. It
-/// takes no memory.
-fn claim_of<M: Mark>(view: &View, claimed: Claimed) -> Claim<M>
-    requires { HasClaimed view.now claimed }
-    ensures { IsClaim view.entry.now claimed result }
-{
-    match claimed {
-        Claimed::Run { run, input } => Claim::Run(ticket_for(view, run, input)),
-        Claimed::Failed { seq, cause } => Claim::Failed { seq, cause },
-    }
-}
-
 /// What became of a run whose worker reported.
-#[derive(Debug)]
 pub enum TurnAnswer<M: Mark> {
     /// It goes on: the ticket is for its next turn.
     Go(Ticket<M>),
@@ -169,11 +160,12 @@ pub struct TableEnd<K> {
     pub keeper: K,
 }
 
-/// The state, the log of the events that led to it from the first state, and the keeper of its
-/// rows. The state stands in a [`View`] with what is kept beside it, and so do the notes of the last
-/// event. Its type keeps that the log replays, that the notes are those of its last event, and that
-/// the keeper holds the state's rows, where it tells them. A contract sees first state, state, log
-/// and keeper.
+/// The state, the log of the events that led to it from the first state, the keeper of its rows, and
+/// the roll of the runs that are out. The state stands in a [`View`] with what is kept beside it, and
+/// so do the notes of the last event. Its type keeps that the log replays, that the notes are those
+/// of its last event, that the keeper holds the state's rows, where it tells them, and that each part
+/// on the roll has the number, the instance and the kind of a run of the state. A contract sees first
+/// state, state, log and keeper, and the parts on the roll.
 ///
 /// Each call makes at most one event. It takes all its memory first, then commits the rows that
 /// change, and changes the state last: so nothing can fail after a commit, and where there is
@@ -185,6 +177,7 @@ pub struct Table<K: Keeper, M: Mark> {
     log: Items<Event>,
     notes: Items<Note>,
     keeper: K,
+    roll: Roll,
     of: PhantomData<M>,
 }
 
@@ -195,9 +188,9 @@ impl<K: Keeper, M: Mark> Model for Table<K, M> {
 
     ghost use Rattle.wm_table.specs.Table.{TableInvariant};
 
-    ghost view = { λ t. record { first = t.first; state = t.view; log = t.log; keeper = t.keeper } };
+    ghost view = { λ t. record { first = t.first; state = t.view; log = t.log; keeper = t.keeper; roll = t.roll.parts } };
 
-    ghost invariant = { λ t. TableInvariant M.inputs t.first t.view t.log t.notes (K.store t.keeper) };
+    ghost invariant = { λ t. TableInvariant M.inputs t.first t.view t.log t.notes (K.store t.keeper) t.roll };
 }
 
 impl<K: Keeper, M: Mark> Table<K, M> {
@@ -212,16 +205,20 @@ impl<K: Keeper, M: Mark> Table<K, M> {
         keeper: K,
         rows: Vec<Row>,
         instances: Items<Instance>,
+        roll: Roll,
     ) -> Result<Table<K, M>, (K, BeginFault)>
         requires rows { IfSome (K.store keeper).rows (λ held. rows.items ≡ held) }
         requires instances { AreFresh instances }
+        requires roll { roll.parts ≡ [] }
         requires given_rows { rows.items ≡ M.inputs.rows }
         requires given_instances { instances ≡ M.inputs.instances }
         requires given_store { TellsOn M.inputs.store (K.store keeper) }
+        requires given_roll { roll.table_id ≡ M.inputs.roll }
         ensures opened { IfOk result (λ table. Opened rows.items instances table.first) }
         ensures sound { OnOk result (AreSound rows.items) }
         ensures state { IfOk result (λ table. table.state ≡ table.first) }
         ensures log { IfOk result (λ table. table.log ≡ []) }
+        ensures roll { IfOk result (λ table. table.roll ≡ []) }
         ensures held { IfOk result (λ table. HoldsRowsOf table.first (K.store table.keeper)) }
         ensures tells_on { IfOk result (λ table. TellsOn (K.store keeper) (K.store table.keeper)) }
         ensures only_changed { IfOk result (λ table. rows_of table.first ≡ rows.items → table.keeper ≡ keeper) }
@@ -249,6 +246,7 @@ impl<K: Keeper, M: Mark> Table<K, M> {
                 log: Items::new(alloc),
                 notes: Items::new(alloc),
                 keeper,
+                roll,
                 of: PhantomData,
             }),
             Err(trouble) => Err((keeper, BeginFault::from(trouble))),
@@ -267,6 +265,7 @@ impl<K: Keeper, M: Mark> Table<K, M> {
             → self.new.keeper ≡ self.old.keeper }
         ensures keeper_fault { result ≡ Err Trouble.KeeperFault
             → ChangesRows self.old.state command }
+        ensures roll { self.new.roll ≡ self.old.roll }
     {
         let Executed { change, reply } = execute(self.alloc, &self.view, line, command)?;
         match self.make(change) {
@@ -278,19 +277,20 @@ impl<K: Keeper, M: Mark> Table<K, M> {
         }
     }
 
-    /// Starts the work that is first, in one event: on the idle instance of its class, or as a work
-    /// that can't start. None where nothing is startable.
+    /// Starts the work that is first, in one event: on the idle instance of its class, and then the
+    /// run's part stands on the roll, or as a work that can't start. None where nothing is startable.
     pub fn claim(&mut self) -> Result<Option<Claim<M>>, Trouble>
         ensures ok { IfOk result (λ claim. IsClaimAnswer K.store claim self.old self.new) }
         ensures err { OnErr result (IsUntouched K.store IsNoLine self.old self.new) }
         ensures cause { TroubleCause result (K.store self.old.keeper).faults (K.store self.new.keeper).faults }
+        ensures roll { IsRollClaimed result self.old.roll self.new.roll }
     {
         let Some(claiming) = claim_first(self.alloc, &self.view)? else {
             return Ok(None);
         };
         let Claiming { change, claimed } = claiming;
         match self.make(change) {
-            Ok(()) => Ok(Some(claim_of(&self.view, claimed))),
+            Ok(()) => Ok(Some(self.claim_of(claimed))),
             Err(trouble) => {
                 drop(claimed);
                 Err(trouble)
@@ -298,32 +298,35 @@ impl<K: Keeper, M: Mark> Table<K, M> {
         }
     }
 
-    /// Ends the turn of a run as its worker told, in one event: the run goes on or is over. Where it
-    /// goes on, the keeper isn't called. Where the report isn't on the run's turn, or the worker was
-    /// cut, nothing changes.
+    /// Ends the turn of a run as its worker told, in one event: the run goes on, or is over and off
+    /// the roll. Where it goes on, the keeper isn't called. Where the report isn't on the run's turn,
+    /// or the worker was cut, nothing changes.
     pub fn turn(&mut self, ticket: Ticket<M>, told: Told) -> TurnAnswer<M>
-        requires { Stands self.old.state ticket }
         ensures answer { IsTurnAnswer K.store ticket told result self.old self.new }
         ensures cause { TurnCause result (K.store self.old.keeper).faults (K.store self.new.keeper).faults }
+        ensures roll { IsRollTurned ticket result self.old.roll self.new.roll }
+        ensures out { WasOutWhereTaken self.old.state self.old.roll ticket result }
     {
         if !counts_in(&self.view, ticket.task().run, &told) {
             drop(told);
             return TurnAnswer::Again(ticket);
         }
+        let held = self.take(ticket);
         if goes_on(&told) {
-            self.go_on(ticket, told)
+            self.go_on(held, told)
         } else {
-            self.end_run(ticket, told)
+            self.end_run(held, told)
         }
     }
 
     /// Takes a ticket without an event, after a trouble that ends the session. Its run stays in the
-    /// state.
+    /// state, and is off the roll.
     pub fn take_back(&mut self, ticket: Ticket<M>)
-        requires { Stands self.old.state ticket }
-        ensures { self.new ≡ self.old }
+        ensures table { self.new
+            ≡ record self.old { roll = without ticket.task.run self.old.roll } }
+        ensures out { WasOut self.old.state self.old.roll ticket }
     {
-        ticket.spend();
+        drop(self.take(ticket));
     }
 
     /// Whether nothing is startable and no run is unreturned.
@@ -331,6 +334,13 @@ impl<K: Keeper, M: Mark> Table<K, M> {
         ensures { IsTrue result ↔ IsQuiet self.now.state }
     {
         is_quiet(&self.view)
+    }
+
+    /// Whether no run is unreturned.
+    pub fn at_rest(&self) -> bool
+        ensures { IsTrue result ↔ (self.now.state.runs ≡ []) }
+    {
+        self.view.state.runs.is_empty()
     }
 
     /// Whether only summaries are written.
@@ -363,8 +373,9 @@ impl<K: Keeper, M: Mark> Table<K, M> {
         self.notes.as_slice()
     }
 
-    /// What the table has, which is over. It takes no memory.
+    /// What the table has, which is over: no ticket is out. It takes no memory.
     pub fn end(self) -> TableEnd<K>
+        requires none_out { self.roll ≡ [] }
         ensures first { result.first ≡ self.first }
         ensures last { result.last ≡ self.state }
         ensures log { result.log ≡ self.log }
@@ -383,6 +394,7 @@ impl<K: Keeper, M: Mark> Table<K, M> {
             log,
             notes: _,
             keeper,
+            roll: _,
             of: _,
         } = self;
         let View { state, graph: _ } = view;
@@ -396,20 +408,72 @@ impl<K: Keeper, M: Mark> Table<K, M> {
 }
 
 impl<K: Keeper, M: Mark> Table<K, M> {
-    /// Ends the turn of a ticket's run, for which the report counts, and which goes on.
-    fn go_on(&mut self, ticket: Ticket<M>, told: Told) -> TurnAnswer<M>
-        requires counts { CountsIn self.old.state ticket.task.run told }
-        requires goes_on { goes_on told ≡ true }
-        ensures answer { IsTurnAnswer K.store ticket told result self.old self.new }
-        ensures cause { TurnCause result (K.store self.old.keeper).faults (K.store self.new.keeper).faults }
+    /// What was claimed: the ticket of its run, which the state has, or that the work couldn't start.
+    /// It takes no memory.
+    fn claim_of(&mut self, claimed: Claimed) -> Claim<M>
+        requires claimed { HasClaimed self.old.state claimed }
+        requires new { IsNewOn self.old.roll claimed }
+        ensures claim { IsClaim self.old.state claimed result }
+        ensures table { self.new
+            ≡ record self.old { roll = roll_after self.old.roll result } }
     {
-        let number = ticket.task().run;
+        match claimed {
+            Claimed::Run { run, input } => {
+                let held = held_for(&self.view, run, input);
+                Claim::Run(self.issue(held))
+            }
+            Claimed::Failed { seq, cause } => Claim::Failed { seq, cause },
+        }
+    }
+
+    /// Gives the part of a run to the roll, and makes the run's ticket. It takes no memory.
+    fn issue(&mut self, held: Held) -> Ticket<M>
+        requires stands { Stands self.old.state held }
+        requires new { NoneOf held.task.run self.old.roll }
+        ensures ticket { result ≡ held }
+        ensures table { self.new
+            ≡ record self.old { roll = self.old.roll ++ ticket_part held ∷ [] } }
+    {
+        let token = self.roll.give(held.part());
+        Ticket {
+            held,
+            token,
+            of: PhantomData,
+        }
+    }
+
+    /// Takes the part of a ticket's run off the roll, on which it stood: so its run is in the state.
+    /// It takes no memory.
+    fn take(&mut self, ticket: Ticket<M>) -> Held
+        ensures held { result ≡ ticket }
+        ensures out { WasOut self.old.state self.old.roll ticket }
+        ensures table { self.new
+            ≡ record self.old { roll = without ticket.task.run self.old.roll } }
+        ensures off { NoneOf ticket.task.run self.new.roll }
+    {
+        let Ticket { held, token, of: _ } = ticket;
+        self.roll.take(token);
+        held
+    }
+
+    /// Ends the turn of a run that is off the roll, for which the report counts, and which goes on.
+    fn go_on(&mut self, held: Held, told: Told) -> TurnAnswer<M>
+        requires counts { CountsIn self.old.state held.task.run told }
+        requires goes_on { goes_on told ≡ true }
+        requires stands { Stands self.old.state held }
+        requires off { NoneOf held.task.run self.old.roll }
+        ensures answer { IsTurnAnswer K.store held told result self.old self.new }
+        ensures cause { TurnCause result (K.store self.old.keeper).faults (K.store self.new.keeper).faults }
+        ensures roll { IsRollReturned held result self.old.roll self.new.roll }
+    {
+        let number = held.task.run;
         match self.advance(number, &told) {
             Ok(()) => {
-                ticket.spend();
-                TurnAnswer::Go(ticket_for(&self.view, number, told.into_input()))
+                drop(held);
+                let next = held_for(&self.view, number, told.into_input());
+                TurnAnswer::Go(self.issue(next))
             }
-            Err(trouble) => TurnAnswer::Refused(ticket, told, trouble),
+            Err(trouble) => TurnAnswer::Refused(self.issue(held), told, trouble),
         }
     }
 
@@ -420,29 +484,33 @@ impl<K: Keeper, M: Mark> Table<K, M> {
         ensures ok { OnOk result (IsTurned K.store number told.now self.old self.new) }
         ensures err { OnErr result (IsUntouched K.store IsNoLine self.old self.new) }
         ensures cause { TroubleCause result (K.store self.old.keeper).faults (K.store self.new.keeper).faults }
+        ensures roll { self.new.roll ≡ self.old.roll }
     {
         let change = next_turn(self.alloc, &self.view, number, told)?;
         self.make(change)
     }
 
-    /// Ends a ticket's run, for which the report counts, and which doesn't go on.
-    fn end_run(&mut self, ticket: Ticket<M>, told: Told) -> TurnAnswer<M>
-        requires counts { CountsIn self.old.state ticket.task.run told }
+    /// Ends a run that is off the roll, for which the report counts, and which doesn't go on.
+    fn end_run(&mut self, held: Held, told: Told) -> TurnAnswer<M>
+        requires counts { CountsIn self.old.state held.task.run told }
         requires over { goes_on told ≡ false }
-        ensures answer { IsTurnAnswer K.store ticket told result self.old self.new }
+        requires stands { Stands self.old.state held }
+        requires off { NoneOf held.task.run self.old.roll }
+        ensures answer { IsTurnAnswer K.store held told result self.old self.new }
         ensures cause { TurnCause result (K.store self.old.keeper).faults (K.store self.new.keeper).faults }
+        ensures roll { IsRollReturned held result self.old.roll self.new.roll }
     {
-        match self.finish(ticket.task().run, &told) {
+        match self.finish(held.task.run, &told) {
             Ok(timed_out) => {
                 drop(told);
-                ticket.spend();
+                drop(held);
                 if timed_out {
                     TurnAnswer::TimedOut
                 } else {
                     TurnAnswer::Finished
                 }
             }
-            Err(trouble) => TurnAnswer::Refused(ticket, told, trouble),
+            Err(trouble) => TurnAnswer::Refused(self.issue(held), told, trouble),
         }
     }
 
@@ -450,10 +518,12 @@ impl<K: Keeper, M: Mark> Table<K, M> {
     fn finish(&mut self, number: u64, told: &Told) -> Result<bool, Trouble>
         requires counts { CountsIn self.old.state number told.now }
         requires over { goes_on told.now ≡ false }
+        requires off { NoneOf number self.old.roll }
         ensures ok { IfOk result (λ timed_out.
             IsFinished K.store number told.now timed_out self.old self.new) }
         ensures err { OnErr result (IsUntouched K.store IsNoLine self.old self.new) }
         ensures cause { TroubleCause result (K.store self.old.keeper).faults (K.store self.new.keeper).faults }
+        ensures roll { self.new.roll ≡ self.old.roll }
     {
         let ending = finish(self.alloc, &self.view, number, told)?;
         let Ending { change, timed_out } = ending;
@@ -464,12 +534,14 @@ impl<K: Keeper, M: Mark> Table<K, M> {
     /// Makes the step of a change, and before it the notes of its event. Where it changes no row, the
     /// keeper is as it was.
     fn make(&mut self, change: StepChange) -> Result<(), Trouble>
-        requires { IsStepOf self.old.state change }
+        requires step { IsStepOf self.old.state change }
+        requires off { IsOffRoll (role_of change.event) self.old.roll }
         ensures ok { OnOk result (IsOneStep K.store change.event self.old self.new) }
         ensures err { OnErr result (IsUntouched K.store (λ e. e ≡ change.event) self.old self.new) }
         ensures cause { TroubleCause result (K.store self.old.keeper).faults (K.store self.new.keeper).faults }
         ensures untouched_keeper { row_changes change ≡ [] → self.new.keeper ≡ self.old.keeper }
         ensures no_keeper_fault { row_changes change ≡ [] → result ≢ Err Trouble.KeeperFault }
+        ensures roll { self.new.roll ≡ self.old.roll }
     {
         let notes = step_notes(self.alloc, &self.view, &change)?;
         carry_out(

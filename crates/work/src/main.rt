@@ -9,12 +9,15 @@ mod tests;
 use std::alloc::{AllocError, Global};
 use std::process::ExitCode;
 use std::rt::Env;
+use std::sync::Wait;
+use std::thread::Threads;
 use std::{env, io};
 use wm_bench::Hand;
 use wm_cli::Status;
 use wm_collections::Text;
 use wm_io::{Sink, Source, StdSink, StdSource};
 use wm_keeper::Keeper;
+use wm_pool::OpenGate;
 use wm_sqlite::FileKeeper;
 use wm_stock::{AnyStock, STOCK_WORKERS};
 
@@ -29,7 +32,8 @@ fn words(rt: &(impl Env + AllocGlobal)) -> Result<Vec<String>, AllocError> {
 
 /// Runs a script with these words and the stock workers, a few of each kind, whose classes are
 /// named as their kinds.
-fn run<S: Source, W: Sink + Send + Drop, K: Keeper + Send + Drop>(
+fn run<R: Threads + Wait + Sync, S: Source, W: Sink + Send + Drop, K: Keeper + Send + Drop>(
+    rt: &R,
     alloc: Global,
     words: &[String],
     source: &mut S,
@@ -43,7 +47,7 @@ fn run<S: Source, W: Sink + Send + Drop, K: Keeper + Send + Drop>(
         let worker = Box::new(alloc, worker)?;
         hands.push(Hand { class, worker })?;
     }
-    Ok(wm_cli::run(alloc, words, hands, source, sink, keeper).status)
+    Ok(wm_cli::run(rt, alloc, words, hands, source, sink, keeper, &OpenGate).status)
 }
 
 /// Prints what a status has to say on standard error.
@@ -64,15 +68,22 @@ fn exit(rt: &impl Eprint, alloc: Global, ran: Result<Status, AllocError>) -> Exi
     ExitCode::from(status.code())
 }
 
-/// Runs the script on standard input with the words of the command line, over the store that they
-/// name.
-fn run_streams(rt: &HostRuntime) -> Result<Status, AllocError> {
+/// Runs a script with the words of the command line.
+fn run_words<
+    R: Threads + Wait + Sync + Env + AllocGlobal,
+    S: Source,
+    W: Sink + Send + Drop,
+    K: Keeper + Send + Drop,
+>(rt: &R, source: &mut S, sink: W, keeper: K) -> Result<Status, AllocError> {
     let words = words(rt)?;
-    let mut source = StdSource::new(rt.stdin());
-    let sink = StdSink::new(rt.stdout());
-    run(rt.alloc(), &words, &mut source, sink, FileKeeper::new(rt))
+    run(rt, rt.alloc(), &words, source, sink, keeper)
 }
 
+/// Runs the script on standard input, over the store that the words of the command line name. The
+/// streams are those of the host, which has threads only here.
 fn main(rt: HostRuntime) -> ExitCode {
-    exit(&rt, rt.alloc(), run_streams(&rt))
+    let mut source = StdSource::new(rt.stdin());
+    let sink = StdSink::new(rt.stdout());
+    let ran = run_words(&rt, &mut source, sink, FileKeeper::new(&rt));
+    exit(&rt, rt.alloc(), ran)
 }

@@ -6,7 +6,9 @@ use std::cell::RefCell;
 use std::fmt::Display;
 use std::io;
 use std::process::ExitCode;
+use std::sync::Wait;
 use std::test::Fail;
+use std::thread::Threads;
 use wm_io::{StdSink, StdSource};
 use wm_keeper::SureKeeper;
 
@@ -33,7 +35,12 @@ impl Eprint for Page {
 
 /// How the program ends with these words on a script of so many bytes that is one line, and what
 /// it says on standard error.
-fn ended(alloc: Global, words: &[&str], bytes: usize) -> Result<(ExitCode, String), AllocError> {
+fn ended<R: Threads + Wait + Sync>(
+    rt: &R,
+    alloc: Global,
+    words: &[&str],
+    bytes: usize,
+) -> Result<(ExitCode, String), AllocError> {
     let mut copies = Vec::new(alloc);
     for word in words {
         copies.push(String::from_str(alloc, word)?)?;
@@ -43,7 +50,7 @@ fn ended(alloc: Global, words: &[&str], bytes: usize) -> Result<(ExitCode, Strin
     let mut source = StdSource::new(script.as_slice());
     let sink = StdSink::new(&mut replies);
     let keeper = SureKeeper::new(Vec::new(alloc));
-    let ran = run(alloc, &copies, &mut source, sink, keeper);
+    let ran = run(rt, alloc, &copies, &mut source, sink, keeper);
     let page = Page {
         alloc,
         text: RefCell::new(String::new(alloc)),
@@ -67,7 +74,7 @@ fn the_program_ends_with_a_code_and_a_text(rt: HostRuntime) -> Result<(), Fail> 
         ),
     ];
     for (words, bytes, code, text) in cases {
-        let (ended, said) = ended(rt.alloc(), words, bytes)?;
+        let (ended, said) = ended(&rt, rt.alloc(), words, bytes)?;
         assert!(rt; ended == ExitCode::from(code), "{text}");
         assert_eq!(rt; said.as_str(), text);
     }

@@ -2,7 +2,7 @@ use Rattle.std.proofs.Common.{◌≡◌, false, map, sym, ◌∙◌, ap, subst, 
 use Rattle.std.specs.List.{AllByRecursion}
 use Rattle.wm_bench.specs.Places.{idle_hands, place_of}
 use Rattle.wm_cli.proofs.Hands.{all_in, idle_hands-places, traits-places}
-use Rattle.wm_cli.proofs.RunEnds.{IsSerialEnd-at_once}
+use Rattle.wm_cli.proofs.RunEnds.{IsEnd-at_once}
 use Rattle.wm_cli.specs.Ended.{IsEndedAtOnce}
 use Rattle.wm_machine.proofs.Openings.{reached-opened, rest-opened}
 use Rattle.wm_machine.specs.Narrow.{IsNarrow}
@@ -56,8 +56,8 @@ new-requires-clause-images g c =
     let begun = c.requires.begun in
     λ only. rw begun.state (begun.images only)
 
-pub run_serial-requires-clause-begins : goal.run_serial-requires-clause-begins
-run_serial-requires-clause-begins g c =
+pub run_book-requires-clause-begins : goal.run_book-requires-clause-begins
+run_book-requires-clause-begins g c lifetimes outlive =
     let benched = c.requires.benched in
     let begun = c.requires.begun in
     let places = c.in-Ok.ensures.places ∙ benched.at_places in
@@ -65,10 +65,14 @@ run_serial-requires-clause-begins g c =
     record {
       log = search rules;
       no_run = rw table (ap (λ (s : State). s.runs) begun.state ∙ rest-opened begun.opened);
+      none_out = rw table begun.roll;
       all_idle = places ∙ ap (map place_of) (sym (ap idle_hands places ∙ idle_hands-places benched.hands));
       begun = search rules;
       lines_are = search rules;
     }
+
+pub end_at_once-requires : goal.end_at_once-requires
+end_at_once-requires g c = record { none_out = rw (ap (λ parts. parts.0) c.in-Err.ensures.kept) c.requires.begun.roll }
 
 pub returns-in-Err : goal.returns-in-Err
 returns-in-Err g c =
@@ -79,7 +83,8 @@ returns-in-Err g c =
     let kept = c.in-Err.ensures.kept in
     let at : IsEndedAtOnce c.args.table c.args.sink c.back.result ended =
     subst (λ parts. IsEndedAtOnce parts.0 parts.2 c.back.result ended) kept c.end_at_once.ensures in
-    rw are
-    (IsSerialEnd-at_once tells g.M.Mark.inputs benched.hands c.args.table c.args.sink c.back.result ended at c.requires.begun
+    let over =
+    IsEnd-at_once tells g.M.Mark.inputs benched.hands c.args.table c.args.sink c.back.result ended at c.requires.begun
     (subst (AllByRecursion IsAskable) c.requires.lines c.requires.askable) benched.are c.requires.sink
-    (c.back.ensures ∙ ap (λ parts. idle_hands parts.1) kept ∙ are))
+    (c.back.ensures ∙ ap (λ parts. idle_hands parts.1) kept ∙ are) in
+    record { end = over.0; serial = λ alone. rw are over.1 }

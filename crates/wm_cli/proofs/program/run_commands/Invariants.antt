@@ -6,5 +6,5 @@ abbrev pub ghosts-run_loaded : goal.ghosts-run_loaded
 ghosts-run_loaded g a =
     record {
       inputs = inputs_of (tells_of g.K.Keeper.store g.W.Sink.given g.W.Sink.faults g.B.Worker.kind_of g.B.Worker.diary_of) a.keeper a.rows.items
-          a.instances a.commands a.sink;
+          a.instances a.commands a.sink a.roll.table_id;
     }

@@ -18,7 +18,7 @@ pub begin-requires-clause-given_store : goal.begin-requires-clause-given_store
 begin-requires-clause-given_store g c = TellsOn-same g.M.Mark.inputs.store (g.K.Keeper.store c.args.keeper) c.requires.inputs.told c.requires.inputs.name
 
 pub run_begun-requires-clause-begun : goal.run_begun-requires-clause-begun
-run_begun-requires-clause-begun g c =
+run_begun-requires-clause-begun g c lifetimes outlive =
     let begun = c.in-Ok.ensures in
     let given = c.requires.inputs in
     let run = g.M.Mark.inputs in
@@ -29,6 +29,7 @@ run_begun-requires-clause-begun g c =
           (subst (λ instances. Opened c.args.rows.items instances table.first) given.instances_are begun.opened);
       state = begun.state;
       log = begun.log;
+      roll = begun.roll;
       rows = begun.held;
       tells_on = TellsOn-then run.store (g.K.Keeper.store c.args.keeper) (g.K.Keeper.store table.keeper)
           (TellsOn-same run.store (g.K.Keeper.store c.args.keeper) given.told given.name) begun.tells_on;
@@ -41,7 +42,8 @@ returns-in-Ok g c =
     let tells = tells_of g.K.Keeper.store g.W.Sink.given g.W.Sink.faults g.B.Worker.kind_of g.B.Worker.diary_of in
     let given = c.requires.inputs in
     rw (given.rows_are)
-    (IsRunEnd-begun tells g.M.Mark.inputs c.args.commands c.args.hands.items c.args.keeper c.args.sink c.run_begun.result c.run_begun.ensures
+    (IsRunEnd-begun tells g.M.Mark.inputs c.args.crew.now.workers c.args.commands c.args.hands.items c.args.keeper c.args.sink c.run_begun.result
+    c.run_begun.ensures.end c.run_begun.ensures.serial
     (sym given.lines_are) (sym given.instances_are ∙ c.requires.instances) (sym given.written) (sym given.sink_faults) (sym given.faults)
     (sym given.told) (sym given.name)
     (λ image left. (given.images image).1 left) (subst AreSound given.rows_are c.in-Ok.ensures.sound))
@@ -53,7 +55,7 @@ returns-in-Err g c =
     let rows = c.args.rows.items in
     let before = (tells.store c.args.keeper).faults in
     let now = (tells.store refused.0).faults in
-    IsRunEnd-unbegun tells c.args.commands c.from.result c.args.hands (tells.store c.args.keeper).name (Some rows) (Some rows) c.args.keeper refused.0
+    IsRunEnd-unbegun tells c.args.crew.now.workers c.args.commands c.from.result c.args.hands (tells.store c.args.keeper).name (Some rows) (Some rows) c.args.keeper refused.0
     c.args.sink
     c.before_begin.result c.before_begin.ensures c.requires.askable c.in-Err.ensures.kept
     (subst (λ why. EarlyCause why before now (Some rows)) (sym c.from.ensures)

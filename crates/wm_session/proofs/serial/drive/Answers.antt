@@ -30,6 +30,7 @@ returns-in-Stopped g c =
       back = seat.worker;
       diary_later = IsDiaryLater-same has (diary_of seat.worker) c.in-Err.ensures.diary_err;
       stopped = stopped.stopped;
+      roll = stopped.roll;
       places = stopped.places
           ∙ ap (λ n. changed_at (made_back g.B.Worker.kind_of seat.worker) n c.args.book.now.places) (c.begin.ensures.number ∙ c.requires.number);
     })

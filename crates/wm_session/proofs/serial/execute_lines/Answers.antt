@@ -20,12 +20,12 @@ lines-init g c =
             quiet = λ going drains. drained.quiet going;
             order = λ lines ready.
                 IsReady-quiet lines new drained.quiet
-                (drained.order lines (GoesInOrder-ready lines c.args.book.now (sym c.drains_first.ensures ∙ w.if-drains_first.true) ready));
+                (drained.order lines (GoesInOrder-ready lines c.args.book.now (sym c.drains_first.ensures.drains ∙ w.if-drains_first.true) ready));
             boxes = drained.boxes;
           })
       | else-drains_first w ↦ rw w.book-is (record {
-        rest = c.requires;
-        quiet = λ going drains. absurd (false≢true (sym w.if-drains_first.false ∙ c.drains_first.ensures ∙ drains));
+        rest = c.drains_first.ensures.rest c.requires.none_out;
+        quiet = λ going drains. absurd (false≢true (sym w.if-drains_first.false ∙ c.drains_first.ensures.drains ∙ drains));
         order = λ lines ready. ready;
         boxes = λ given keep. keep;
       })
@@ -78,8 +78,11 @@ returns-in-Ended g c =
           }
     ]
 
--- before a line that settles nothing is left to do
+-- no run is unreturned before a line, and nothing is left to do before one that settles
 pub unreachable-requires : goal.unreachable-requires
 unreachable-requires g c =
     let is = c.in-NotSettled.ensures in
-    absurd (is.waits.busy (c.lines.invariant.quiet is.going (drains-settles c.lines.book.left is.waits.next)))
+    absurd (is.waits.not_yet (record {
+      no_run = c.lines.invariant.rest.no_run is.going;
+      settled = λ settles. c.lines.invariant.quiet is.going (drains-settles c.lines.book.left settles);
+    }))

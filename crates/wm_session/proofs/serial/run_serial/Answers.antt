@@ -2,15 +2,23 @@ use Rattle.wm_bench.specs.Places.{idle_hands}
 use Rattle.wm_machine.specs.Serial.{AreInOrder}
 use Rattle.wm_session.proofs.BoxLemmas.{AtPlace-weaker, KeepBoxes-begin}
 use Rattle.wm_session.proofs.HandLemmas.{AreHandsBack-all, EachBack-all}
-use Rattle.wm_session.proofs.SerialLemmas.{IsBetweenRuns-begin, IsReady-begin, IsSerialRun-order}
+use Rattle.wm_session.proofs.SerialLemmas.{IsReady-begin, IsSerialRun-order}
 use Rattle.wm_session.specs.Boxes.{HasTold, IsBoxAfter}
 use Rattle.wm_session.proofs.serial.run_serial.Goals as goal
 
-pub execute_lines-requires : goal.execute_lines-requires
-execute_lines-requires g c = IsBetweenRuns-begin c.requires.begins
+pub returns-clause-end : goal.returns-clause-end
+returns-clause-end g c =
+    let kind_of = g.B.Worker.kind_of in
+    let executed = c.execute_lines.ensures in
+    let back = c.finish.ensures.back in
+    record {
+      session = c.finish.ensures.session;
+      quiet = λ done. rw back.last (executed.quiet (c.finish.ensures.done done));
+      hands = rw back.hands (AreHandsBack-all kind_of c.execute_lines.new.book.places c.finish.result.last executed.rest.none_away back.workers);
+    }
 
-pub returns : goal.returns
-returns g c =
+pub returns-clause-serial : goal.returns-clause-serial
+returns-clause-serial g c begins =
     let lines = g.M.Mark.inputs.lines in
     let kind_of = g.B.Worker.kind_of in
     let diary_of = g.B.Worker.diary_of in
@@ -23,13 +31,10 @@ returns g c =
     let back = c.finish.ensures.back in
     let none = executed.rest.none_away in
     let numbered = back.valid.instances.numbered in
-    let boxes = executed.boxes given (KeepBoxes-begin diary_of c.args.book c.requires.begins) in
-    let order = (executed.order lines (IsReady-begin c.requires.begins)).order in
+    let boxes = executed.boxes given (KeepBoxes-begin diary_of c.args.book begins) in
+    let order = (executed.order lines (IsReady-begin begins)).order in
     let in_order : AreInOrder lines last.first last.log = rw (back.first, back.log) order.in_order in
     record {
-      session = session;
-      quiet = λ done. rw back.last (executed.quiet (c.finish.ensures.done done));
-      hands = rw back.hands (AreHandsBack-all kind_of book.places last.last none back.workers);
       boxes = rw (back.hands, back.log)
           (EachBack-all (IsBoxAfter diary_of log) given kind_of book.places last.last numbered none back.workers
           (AtPlace-weaker given book.places (λ number had now is. is.box) boxes));

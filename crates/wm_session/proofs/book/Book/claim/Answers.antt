@@ -1,15 +1,12 @@
-use Rattle.std.proofs.Common.{Option, refl, rules}
-use Rattle.wm_session.proofs.BookParts.{claimed_in, IsUntold-claimed}
+use Rattle.std.proofs.Common.{Option, refl, rules, ap, ◌∙◌}
+use Rattle.wm_session.proofs.BookParts.{IsUntold-claimed}
+use Rattle.wm_session.specs.Book.{roll_given_up}
 use Rattle.wm_session.proofs.BookSteps.{IsTold-all, IsTold-cut}
-use Rattle.wm_session.proofs.BookClaims.{claimed_idle, BookInvariant-begun, BookInvariant-start_failed, BookInvariant-untold, IsBegun-taken, IsStartFailed-kept}
+use Rattle.wm_session.proofs.BookClaims.{claimed_idle, given_up, BookInvariant-begun, BookInvariant-start_failed, BookInvariant-untold, IsBegun-taken, IsStartFailed-kept}
 use Rattle.wm_session.proofs.BookStops.{BookInvariant-claim_refused}
+use Rattle.wm_table.specs.TableState.{TableState}
 use Rattle.wm_table.specs.declared.table.Claim.{Claim}
 use Rattle.wm_session.proofs.book.Book.claim.Goals as goal
-
-pub give_up-requires : goal.give_up-requires
-give_up-requires g c =
-    let done = rw c.in-Ok-Some.field-0-is at c.in-Ok-Some.ensures.ok in
-    claimed_in g.K.Keeper.store c.in-Ok-Some.claim c.self.inside.table c.claim.new.self done
 
 pub invariant_of-self-in-Err-tell_last : goal.invariant_of-self-in-Err-tell_last
 invariant_of-self-in-Err-tell_last g c =
@@ -18,7 +15,7 @@ invariant_of-self-in-Err-tell_last g c =
     let refused = c.in-Err-tell_last in
     let stop = c.from-in-Err-tell_last in
     BookInvariant-untold c.in-Ok-Some.claim c.claim.new.self c.give_up.new.table told.self told.sink stop.result c.self.invariant
-    (search rules) done c.give_up.ensures
+    (search rules) done (rw c.in-Ok-Some.field-0-is at c.in-Ok-Some.ensures.roll) c.give_up.ensures
     (IsTold-cut c.claim.new.self told.self told.sink refused.fault stop.result c.self.invariant refused.ensures.told refused.ensures.cause stop.ensures)
     c.in-Ok-Some.ensures.cause
 
@@ -34,8 +31,8 @@ invariant_of-self-in-Run g c =
     let ticket = c.in-Run.ticket in
     let told = c.tell_last.new in
     let run = rw (c.in-Ok-Some.field-0-is, c.in-Run.is) at c.in-Ok-Some.ensures.ok in
-    BookInvariant-begun c.claim.new.self c.take.new.self told.self told.sink ticket.task.run ticket.seq ticket.instance c.instance.result
-    ticket.task.input c.in-Some.seat c.self.invariant (search rules) run.step c.instance.ensures c.in-Some.ensures.seat c.in-Some.ensures.taken
+    BookInvariant-begun c.claim.new.self c.take.new.self told.self told.sink ticket c.instance.result c.in-Some.seat c.self.invariant (search rules) run.step
+    run.ticket_in (rw (c.in-Ok-Some.field-0-is, c.in-Run.is) at c.in-Ok-Some.ensures.roll) c.instance.ensures c.in-Some.ensures.seat c.in-Some.ensures.taken
     (IsTold-all c.claim.new.self told.self told.sink (search rules) c.in-Ok.ensures.told c.in-Ok.ensures.all c.in-Ok.ensures.cause)
     c.in-Ok-Some.ensures.cause
 
@@ -45,6 +42,7 @@ invariant_of-self-in-Failed g c =
     let told = c.tell_last.new in
     let step = rw (c.in-Ok-Some.field-0-is, failed.is) at c.in-Ok-Some.ensures.ok in
     BookInvariant-start_failed c.claim.new.self told.self told.sink failed.seq failed.cause c.self.invariant (search rules) step
+    (rw (c.in-Ok-Some.field-0-is, failed.is) at c.in-Ok-Some.ensures.roll)
     (IsTold-all c.claim.new.self told.self told.sink (search rules) c.in-Ok.ensures.told c.in-Ok.ensures.all c.in-Ok.ensures.cause)
     c.in-Ok-Some.ensures.cause
 
@@ -53,9 +51,12 @@ returns-in-Err-tell_last g c =
     let done = rw c.in-Ok-Some.field-0-is at c.in-Ok-Some.ensures.ok in
     let told = c.tell_last.new in
     rw (← c.self.view_is) (record {
-      how = IsUntold-claimed g.K.Keeper.store c.in-Ok-Some.claim _ c.claim.new.self c.give_up.new.table told.self told.sink
-          c.from-in-Err-tell_last.result (search rules) done c.give_up.ensures;
+      how = IsUntold-claimed g.K.Keeper.store c.in-Ok-Some.claim _ c.claim.new.self c.give_up.new.table
+          (roll_given_up c.in-Ok-Some.claim c.claim.new.self.roll) told.self told.sink c.from-in-Err-tell_last.result (search rules) done
+          c.give_up.ensures;
       places = refl;
+      roll = ap (λ (t : TableState g.row.K.Denot). t.roll) c.give_up.ensures
+          ∙ given_up c.in-Ok-Some.claim _ c.claim.new.self c.self.invariant (search rules) done (rw c.in-Ok-Some.field-0-is at c.in-Ok-Some.ensures.roll);
     })
 
 pub returns-in-Some : goal.returns-in-Some
@@ -65,7 +66,7 @@ returns-in-Some g c =
     let run = rw (c.in-Ok-Some.field-0-is, c.in-Run.is) at c.in-Ok-Some.ensures.ok in
     rw (← c.self.view_is)
     (IsBegun-taken c.claim.new.self c.take.new.self told.self told.sink ticket c.instance.result c.in-Some.seat c.never-signal.result
-    c.self.invariant (search rules) run.step run.ticket_in c.instance.ensures c.in-Some.ensures.seat c.in-Some.ensures.taken (cc) c.in-Ok.ensures.all)
+    c.self.invariant (search rules) run.step run.ticket_in (rw (c.in-Ok-Some.field-0-is, c.in-Run.is) at c.in-Ok-Some.ensures.roll) c.instance.ensures c.in-Some.ensures.seat c.in-Some.ensures.taken (cc) c.in-Ok.ensures.all)
 
 pub returns-in-Failed : goal.returns-in-Failed
 returns-in-Failed g c =
@@ -73,10 +74,11 @@ returns-in-Failed g c =
     let told = c.tell_last.new in
     let step = rw (c.in-Ok-Some.field-0-is, failed.is) at c.in-Ok-Some.ensures.ok in
     rw (← c.self.view_is)
-    (IsStartFailed-kept c.claim.new.self told.self told.sink failed.seq failed.cause c.self.invariant (search rules) step c.in-Ok.ensures.all)
+    (IsStartFailed-kept c.claim.new.self told.self told.sink failed.seq failed.cause c.self.invariant (search rules) step
+    (rw (c.in-Ok-Some.field-0-is, failed.is) at c.in-Ok-Some.ensures.roll) c.in-Ok.ensures.all)
 
 pub invariant_of-self-in-Err : goal.invariant_of-self-in-Err
 invariant_of-self-in-Err g c =
     let refused = c.in-Err.ensures in
     BookInvariant-claim_refused (Option (Claim g.row.M.Denot)) c.claim.new.self c.in-Err.trouble c.from.result c.self.invariant (search rules) refused.err
-    refused.cause c.from.ensures
+    refused.cause c.from.ensures refused.roll

@@ -1,10 +1,12 @@
-use Rattle.std.proofs.Common.{◌≡◌, None, Some, inl, inr, subst, sym}
-use Rattle.wm_bench.specs.Places.{IsAwayAt}
-use Rattle.wm_session.proofs.PlacesAndInstances.{traits-back}
+use Rattle.std.proofs.Common.{◌≡◌, None, Some, inl, inr, map, ap, subst, sym, ◌∙◌}
+use Rattle.wm_machine.specs.declared.state.State.{State}
+use Rattle.wm_roll.specs.Parts.{without}
+use Rattle.wm_session.proofs.BookRolls.{away-out, given_back, taken_again}
+use Rattle.wm_session.specs.Bench.{is_out_on}
+use Rattle.wm_table.specs.TableState.{TableState, TicketState}
 use Rattle.wm_session.proofs.BookSteps.{IsTold-all, IsTold-cut}
-use Rattle.wm_session.proofs.BookReports.{BookInvariant-over, BookInvariant-turn_untold, BookInvariant-turned, IsEndUntold-ended, IsOver-ended, IsTurnTold-made, IsTurnUntold-made}
-use Rattle.wm_session.proofs.BookStops.{BookInvariant-refused}
-use Rattle.wm_table.specs.Table.{Stands}
+use Rattle.wm_session.proofs.BookReports.{ended_out, ended_roll, turned_instances, BookInvariant-over, BookInvariant-turn_untold, BookInvariant-turned, IsEndUntold-ended, IsOver-ended, IsTurnTold-made, IsTurnUntold-made}
+use Rattle.wm_session.proofs.BookStops.{BookInvariant-refused, IsReportStopped-refused}
 use Rattle.wm_session.proofs.book.Book.end_turn.Goals as goal
 
 -- ---- the run goes on
@@ -15,21 +17,41 @@ invariant_of-self g c =
     let table = c.turn.new.self in
     let going = subst (λ book. book.status ≡ None) (sym c.self.view_is) c.requires.going in
     BookInvariant-turned table told.self told.sink c.args.ticket c.in-Go.next c.args.told c.self.invariant going c.in-Go.ensures.answer
+    c.in-Go.ensures.out.stands c.in-Go.ensures.roll
     (IsTold-all table told.self told.sink going c.in-Ok.ensures.told c.in-Ok.ensures.all c.in-Ok.ensures.cause)
     c.in-Go.ensures.cause
 
+pub give_back-requires : goal.give_back-requires
+give_back-requires g c =
+    let i = c.self.inside in
+    let kept = c.self.invariant in
+    record {
+      away = λ out.
+          away-out g.B.Worker.kind_of i.table.state i.table.roll c.args.ticket c.args.seat.number c.args.seat.worker i.bench kept.valid kept.workers kept.away.away
+          c.requires.number c.requires.kind c.in-Go.ensures.out;
+    }
+
 pub invariant_of-self-in-Err : goal.invariant_of-self-in-Err
 invariant_of-self-in-Err g c =
+    let i = c.self.inside in
+    let kept = c.self.invariant in
     let seat = c.args.seat in
+    let ticket = c.args.ticket in
     let told = c.tell_last.new in
     let table = c.turn.new.self in
     let back = c.give_back in
+    let on = c.in-Go.ensures.answer in
     let going = subst (λ book. book.status ≡ None) (sym c.self.view_is) c.requires.going in
-    let away = subst (λ book. IsAwayAt seat.number (g.B.Worker.kind_of seat.worker) book.places) (sym c.self.view_is) c.requires.away in
-    BookInvariant-turn_untold table back.new.table back.new.bench told.self told.sink c.from.result c.args.ticket c.in-Go.next c.args.told
-    c.self.invariant going c.in-Go.ensures.answer back.ensures.table
-    (traits-back g.B.Worker.kind_of seat.worker seat.number c.self.inside.bench back.new.bench away back.ensures.places)
-    (IsTold-cut table told.self told.sink c.in-Err.fault c.from.result c.self.invariant c.in-Err.ensures.told c.in-Err.ensures.cause c.from.ensures)
+    let given =
+    given_back g.B.Worker.kind_of i.table.state i.table.roll ticket seat.number seat.worker i.bench back.new.bench kept.valid kept.workers kept.away.away
+    c.requires.number c.requires.kind c.in-Go.ensures.out back.ensures.places in
+    let left = without ticket.task.run i.table.roll in
+    let taken : without c.in-Go.next.task.run table.roll ≡ left =
+    (λ j. without (on.same_run j) (c.in-Go.ensures.roll j)) ∙ taken_again ticket i.table.roll in
+    BookInvariant-turn_untold table back.new.table back.new.bench told.self told.sink left c.from.result ticket c.in-Go.next c.args.told kept going on
+    (back.ensures.table ∙ (λ j. record table { roll = taken j })) given.0
+    (given.1 ∙ ap (map (is_out_on left)) (sym (turned_instances g.K.Keeper.store i.table table ticket c.in-Go.next c.args.told on)))
+    (IsTold-cut table told.self told.sink c.in-Err.fault c.from.result kept c.in-Err.ensures.told c.in-Err.ensures.cause c.from.ensures)
     c.in-Go.ensures.cause
 
 pub returns-in-Ok : goal.returns-in-Ok
@@ -38,7 +60,7 @@ returns-in-Ok g c =
     let going = subst (λ book. book.status ≡ None) (sym c.self.view_is) c.requires.going in
     rw (← c.self.view_is)
     (IsTurnTold-made c.turn.new.self told.self told.sink c.args.ticket c.in-Go.next c.args.seat c.args.told c.self.invariant going
-    c.in-Go.ensures.answer c.in-Ok.ensures.all)
+    c.in-Go.ensures.answer c.in-Go.ensures.out c.in-Go.ensures.roll c.in-Ok.ensures.all)
 
 pub returns-in-Err : goal.returns-in-Err
 returns-in-Err g c =
@@ -46,12 +68,25 @@ returns-in-Err g c =
     let back = c.give_back in
     let going = subst (λ book. book.status ≡ None) (sym c.self.view_is) c.requires.going in
     rw (← c.self.view_is) (record {
-      how = inr (inr (IsTurnUntold-made c.turn.new.self back.new.table back.new.bench told.self told.sink c.from.result c.args.ticket c.in-Go.next
-          c.args.told c.self.invariant going c.in-Go.ensures.answer back.ensures.table));
+      how = inr (inr (IsTurnUntold-made c.turn.new.self back.new.table back.new.bench told.self told.sink
+          (without c.in-Go.next.task.run c.turn.new.self.roll) c.from.result c.args.ticket c.in-Go.next c.args.told c.self.invariant going
+          c.in-Go.ensures.answer back.ensures.table));
+      out = c.in-Go.ensures.out;
+      roll = ap (λ (t : TableState g.row.K.Denot). t.roll) back.ensures.table
+          ∙ (λ j. without (c.in-Go.ensures.answer.same_run j) (c.in-Go.ensures.roll j))
+          ∙ taken_again c.args.ticket c.self.inside.table.roll;
       places = back.ensures.places;
     })
 
 -- ---- the run is over
+
+pub give-requires : goal.give-requires
+give-requires g c =
+    let i = c.self.inside in
+    let kept = c.self.invariant in
+    let out = ended_out i.table.state i.table.roll c.args.ticket c.turn.result c.in-Finished.is c.turn.ensures.out in
+    away-out g.B.Worker.kind_of i.table.state i.table.roll c.args.ticket c.args.seat.number c.args.seat.worker i.bench kept.valid kept.workers kept.away.away
+    c.requires.number c.requires.kind out
 
 pub invariant_of-self-in-Ok-tell_last : goal.invariant_of-self-in-Ok-tell_last
 invariant_of-self-in-Ok-tell_last g c =
@@ -59,10 +94,14 @@ invariant_of-self-in-Ok-tell_last g c =
     let told = c.tell_last-in-Finished.new in
     let table = c.turn.new.self in
     let going = subst (λ book. book.status ≡ None) (sym c.self.view_is) c.requires.going in
-    let stands = subst (λ book. Stands book.table.state c.args.ticket) (sym c.self.view_is) c.requires.stands in
-    let away = subst (λ book. IsAwayAt seat.number (g.B.Worker.kind_of seat.worker) book.places) (sym c.self.view_is) c.requires.away in
+    let out = ended_out c.self.inside.table.state c.self.inside.table.roll c.args.ticket c.turn.result c.in-Finished.is c.turn.ensures.out in
+    let roll = ended_roll c.args.ticket c.turn.result c.self.inside.table.roll table.roll c.in-Finished.is c.turn.ensures.roll in
+    let kept = c.self.invariant in
+    let away =
+    away-out g.B.Worker.kind_of c.self.inside.table.state c.self.inside.table.roll c.args.ticket seat.number seat.worker c.self.inside.bench kept.valid
+    kept.workers kept.away.away c.requires.number c.requires.kind out in
     BookInvariant-over table c.give.new.self told.self told.sink c.self.inside.status c.args.ticket seat.number c.args.told seat.worker
-    c.turn.result c.self.invariant going stands c.requires.number away c.give.ensures c.in-Finished.is c.turn.ensures.answer c.turn.ensures.cause
+    c.turn.result c.self.invariant going out.stands c.requires.number away c.give.ensures c.in-Finished.is c.turn.ensures.answer c.turn.ensures.cause roll
     (IsTold-all table told.self told.sink going c.in-Ok-tell_last.ensures.told c.in-Ok-tell_last.ensures.all c.in-Ok-tell_last.ensures.cause)
 
 pub invariant_of-self-in-Err-tell_last : goal.invariant_of-self-in-Err-tell_last
@@ -73,39 +112,88 @@ invariant_of-self-in-Err-tell_last g c =
     let refused = c.in-Err-tell_last in
     let stop = c.from-in-Err-tell_last in
     let going = subst (λ book. book.status ≡ None) (sym c.self.view_is) c.requires.going in
-    let stands = subst (λ book. Stands book.table.state c.args.ticket) (sym c.self.view_is) c.requires.stands in
-    let away = subst (λ book. IsAwayAt seat.number (g.B.Worker.kind_of seat.worker) book.places) (sym c.self.view_is) c.requires.away in
+    let out = ended_out c.self.inside.table.state c.self.inside.table.roll c.args.ticket c.turn.result c.in-Finished.is c.turn.ensures.out in
+    let roll = ended_roll c.args.ticket c.turn.result c.self.inside.table.roll table.roll c.in-Finished.is c.turn.ensures.roll in
+    let kept = c.self.invariant in
+    let away =
+    away-out g.B.Worker.kind_of c.self.inside.table.state c.self.inside.table.roll c.args.ticket seat.number seat.worker c.self.inside.bench kept.valid
+    kept.workers kept.away.away c.requires.number c.requires.kind out in
     BookInvariant-over table c.give.new.self told.self told.sink (Some stop.result) c.args.ticket seat.number c.args.told seat.worker
-    c.turn.result c.self.invariant going stands c.requires.number away c.give.ensures c.in-Finished.is c.turn.ensures.answer c.turn.ensures.cause
+    c.turn.result c.self.invariant going out.stands c.requires.number away c.give.ensures c.in-Finished.is c.turn.ensures.answer c.turn.ensures.cause roll
     (IsTold-cut table told.self told.sink refused.fault stop.result c.self.invariant refused.ensures.told refused.ensures.cause stop.ensures)
 
 pub returns-in-Ok-tell_last : goal.returns-in-Ok-tell_last
 returns-in-Ok-tell_last g c =
     let told = c.tell_last-in-Finished.new in
     let going = subst (λ book. book.status ≡ None) (sym c.self.view_is) c.requires.going in
+    let out = ended_out c.self.inside.table.state c.self.inside.table.roll c.args.ticket c.turn.result c.in-Finished.is c.turn.ensures.out in
+    let roll = ended_roll c.args.ticket c.turn.result c.self.inside.table.roll c.turn.new.self.roll c.in-Finished.is c.turn.ensures.roll in
     rw (← c.self.view_is)
     (IsOver-ended c.turn.new.self c.give.new.self told.self told.sink c.args.ticket c.args.seat c.args.told c.turn.result c.self.invariant going
-    c.in-Finished.is c.turn.ensures.answer c.give.ensures c.in-Ok-tell_last.ensures.all)
+    c.in-Finished.is c.turn.ensures.answer out roll c.give.ensures c.in-Ok-tell_last.ensures.all)
 
 pub returns-in-Err-tell_last : goal.returns-in-Err-tell_last
 returns-in-Err-tell_last g c =
     let told = c.tell_last-in-Finished.new in
     let going = subst (λ book. book.status ≡ None) (sym c.self.view_is) c.requires.going in
+    let out = ended_out c.self.inside.table.state c.self.inside.table.roll c.args.ticket c.turn.result c.in-Finished.is c.turn.ensures.out in
+    let roll = ended_roll c.args.ticket c.turn.result c.self.inside.table.roll c.turn.new.self.roll c.in-Finished.is c.turn.ensures.roll in
     rw (← c.self.view_is) (record {
       how = inr (inl (IsEndUntold-ended c.turn.new.self c.give.new.self told.self told.sink c.from-in-Err-tell_last.result c.args.ticket
           c.args.told c.turn.result c.self.invariant going c.in-Finished.is c.turn.ensures.answer));
+      out = out;
+      roll = roll;
       places = c.give.ensures;
     })
 
 -- ---- the table had trouble
 
+pub give_back-requires-in-Refused : goal.give_back-requires-in-Refused
+give_back-requires-in-Refused g c =
+    let i = c.self.inside in
+    let kept = c.self.invariant in
+    record {
+      away = λ out.
+          away-out g.B.Worker.kind_of i.table.state i.table.roll c.args.ticket c.args.seat.number c.args.seat.worker i.bench kept.valid kept.workers kept.away.away
+          c.requires.number c.requires.kind c.in-Refused.ensures.out;
+    }
+
 pub invariant_of-self-in-Refused : goal.invariant_of-self-in-Refused
 invariant_of-self-in-Refused g c =
+    let i = c.self.inside in
+    let kept = c.self.invariant in
     let seat = c.args.seat in
+    let ticket = c.args.ticket in
     let refused = c.in-Refused in
-    let away = subst (λ book. IsAwayAt seat.number (g.B.Worker.kind_of seat.worker) book.places) (sym c.self.view_is) c.requires.away in
+    let table = c.turn.new.self in
     let back = c.give_back-in-Refused in
+    let answer = refused.ensures.answer in
     let going = subst (λ book. book.status ≡ None) (sym c.self.view_is) c.requires.going in
-    BookInvariant-refused g.row.M.Denot c.turn.new.self back.new.table back.new.bench refused.ticket refused.told refused.trouble
-    c.from-in-Refused.result c.self.invariant going refused.ensures.answer.untouched back.ensures.table refused.ensures.cause c.from-in-Refused.ensures
-    (traits-back g.B.Worker.kind_of seat.worker seat.number c.self.inside.bench back.new.bench away back.ensures.places)
+    let given =
+    given_back g.B.Worker.kind_of i.table.state i.table.roll ticket seat.number seat.worker i.bench back.new.bench kept.valid kept.workers kept.away.away
+    c.requires.number c.requires.kind refused.ensures.out back.ensures.places in
+    let left = without ticket.task.run i.table.roll in
+    let taken : without refused.ticket.task.run table.roll ≡ left =
+    (λ j. without (ap (λ (t : TicketState). t.task.run) answer.same_ticket j) (refused.ensures.roll j)) ∙ taken_again ticket i.table.roll in
+    BookInvariant-refused g.row.M.Denot table back.new.table left back.new.bench refused.ticket refused.told refused.trouble c.from-in-Refused.result kept going
+    answer.untouched (back.ensures.table ∙ (λ j. record table { roll = taken j })) refused.ensures.cause c.from-in-Refused.ensures given.0
+    (given.1 ∙ ap (λ (s : State). map (is_out_on left) s.instances) (sym answer.untouched.state))
+
+pub returns-in-Refused : goal.returns-in-Refused
+returns-in-Refused g c =
+    let i = c.self.inside in
+    let seat = c.args.seat in
+    let ticket = c.args.ticket in
+    let refused = c.in-Refused in
+    let table = c.turn.new.self in
+    let back = c.give_back-in-Refused in
+    let answer = refused.ensures.answer in
+    let going = subst (λ book. book.status ≡ None) (sym c.self.view_is) c.requires.going in
+    let left = without ticket.task.run i.table.roll in
+    let taken : without refused.ticket.task.run table.roll ≡ left =
+    (λ j. without (ap (λ (t : TicketState). t.task.run) answer.same_ticket j) (refused.ensures.roll j)) ∙ taken_again ticket i.table.roll in
+    rw (← c.self.view_is)
+    (IsReportStopped-refused g.K.Keeper.store g.B.Worker.kind_of
+    (record { table = i.table; places = i.bench; left = i.left.items; line = i.line; pending = i.pending; sink = i.sink; status = i.status })
+    table back.new.table back.new.bench ticket seat c.args.told c.from-in-Refused.result going answer.untouched
+    (back.ensures.table ∙ (λ j. record table { roll = taken j })) refused.ensures.out back.ensures.places)

@@ -1,7 +1,21 @@
-use Rattle.std.proofs.Common.{sym, subst}
+use Rattle.std.proofs.Common.{List, sym, subst}
+use Rattle.wm_keeper.specs.declared.row.Row.{Row}
+use Rattle.wm_rows.specs.Sound.{AreSound}
 use Rattle.wm_table.proofs.Images.{unopened-left}
-use Rattle.wm_table.specs.Table.{LeavesUnopened}
+use Rattle.wm_table.specs.Table.{begin_trouble_of, IsBeginFault, LeavesUnopened}
+use Rattle.wm_table.specs.declared.table.Trouble.{Trouble}
+use Rattle.wm_table.specs.declared.table.Trouble.TheVariants.{KeeperFault, Memory}
 use Rattle.wm_table.proofs.table.Table.begin.Goals as goal
+
+-- the commit of an opening is refused where the rows are sound
+refused : (rows : List Row) (trouble : Trouble) → AreSound rows → IsBeginFault rows (begin_trouble_of trouble)
+refused rows KeeperFault sound = sound
+refused rows Memory sound = tt
+
+pub returns-clause-bad : goal.returns-clause-bad
+returns-clause-bad g c =
+    subst (IsBeginFault c.args.rows.items) (sym c.from-in-Err-commit.ensures)
+    (refused c.args.rows.items c.in-Err-commit.trouble (rw c.deref.ensures.value at c.in-Ok.ensures.sound))
 
 pub returns-clause-images_err : goal.returns-clause-images_err
 returns-clause-images_err g c =

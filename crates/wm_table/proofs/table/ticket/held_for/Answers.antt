@@ -6,7 +6,7 @@ use Rattle.wm_machine.specs.declared.state.State.{State}
 use Rattle.wm_runs.proofs.RunLookups.{found-numbered}
 use Rattle.wm_table.specs.Table.{IsTicketIn}
 use Rattle.wm_table.specs.TableState.{ticket_of, TicketState}
-use Rattle.wm_table.proofs.table.ticket.ticket_for.Goals as goal
+use Rattle.wm_table.proofs.table.ticket.held_for.Goals as goal
 
 -- the ticket of a run that is found is in the state
 ticket-in : (s : State) (number : ℕ) (run : Run) → run_numbered number s.runs ≡ Some run → IsTicketIn s (ticket_of run)
@@ -15,14 +15,14 @@ ticket-in s number run found =
     subst (λ (o : Option Run). IsSomeAnd o (λ r. ticket_of run ≡ ticket_of r)) (sym there) refl
 
 pub returns-clause-run : goal.returns-clause-run
-returns-clause-run g c =
+returns-clause-run c =
     let s = c.args.view.now in
     let run = c.in-Some.run'.now in
     let found : run_numbered c.args.number s.runs ≡ Some run = search rules in
     ap (λ (t : TicketState). t.task.run) c.of_run.ensures ∙ found-numbered c.args.number s.runs run found
 
 pub returns-clause-ticket : goal.returns-clause-ticket
-returns-clause-ticket g c =
+returns-clause-ticket c =
     let s = c.args.view.now in
     let run = c.in-Some.run'.now in
     let found : run_numbered c.args.number s.runs ≡ Some run = search rules in
