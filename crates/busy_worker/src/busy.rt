@@ -9,7 +9,7 @@ use wm_data::{Data, Value};
 use wm_worker::{Answer, Entry, Kind, Signal, Task, Told, Worker};
 
 /// How many steps a turn takes: a millisecond's or so.
-const STEPS: u32 = 1_000_000;
+const STEPS: u32 = 5_000_000;
 
 /// Takes as many turns as an Int in its input says under `turns`, or one where none is there, each as
 /// long as any other, and succeeds with no data.
