@@ -7,12 +7,21 @@ use Rattle.sqlite.specs.declared.error.Error.{Error}
 use Rattle.sqlite_trees.specs.View.{doubt}
 use Rattle.sqlite_trees.specs.declared.store.Store.{Ghosts}
 use Rattle.sqlite_value.specs.Order.{Row as Cells}
-use Rattle.std.proofs.Common.{◌≡◌, ◌≤◌, ℕ, Bool, true, false, List, Result, Ok, Err, IsTrue, IfOk, IfErr, OnOk, OnErr, refl, sym, ap, ◌∙◌, inl, inr, true≢false, arith}
+use Rattle.std.proofs.Common.{◌≡◌, ◌≤◌, ℕ, Bool, true, false, List, Result, Ok, Err, IsTrue, IfOk, IfErr, OnOk, OnErr, refl, sym, ap, ◌∙◌, subst, inl, inr, true≢false, arith}
 use Rattle.wm_keeper.specs.declared.row.Row.{Row}
 use Rattle.wm_sqlite.specs.Resting.{Holds, Rests, RestsEmpty, RestsWith}
 use Rattle.wm_sqlite.specs.Standing.{Stands, StandsEmpty}
 
 -- ---- answers
+
+pub on_ok : {T E P : Type 0} (r : Result T E) → P → OnOk r P
+on_ok (Ok x) p = p
+on_ok (Err e) p = tt
+
+-- an answer with the value of another
+pub if_ok_from : {T E F : Type 0} (P : T → Type 0) (r : Result T E) (s : Result T F) → IfOk s (λ x. r ≡ Ok x) → IfOk r P → IfOk s P
+if_ok_from P r (Ok x) same p = subst (λ one. IfOk one P) same p
+if_ok_from P r (Err e) same p = tt
 
 pub on_err : {T E P : Type 0} (r : Result T E) → P → OnErr r P
 on_err (Ok x) p = tt

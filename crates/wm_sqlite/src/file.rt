@@ -4,7 +4,10 @@ ghost use Rattle.wm_keeper.specs.Keeper.{AreOfDifferentNumbers, KeepCause};
 use crate::keeper::SqliteKeeper;
 use crate::refusal::{Refusal, counted, refused};
 use sqlite::{Alter, Connection, Error, File, FileStore};
+use sqlite_disk::Disk;
+use std::alloc::Global;
 use std::marker::Model;
+use std::mem;
 use std::rt::HostRuntime;
 use wm_faults::FaultCount;
 use wm_keeper::{Change, KeepFault, Keeper, Row};
@@ -46,15 +49,17 @@ impl FileKeeper {
     }
 }
 
-impl<A: Alter + Drop> FileKeeper<A> {
+impl<A: Alter> FileKeeper<A> {
     /// Takes over what was opened. No file is open yet.
     fn take_over(&mut self, opened: Result<Connection<A>, Error>) -> Result<(), KeepFault>
         requires { self.old.is_open ≡ false }
         ensures { KeepCause result self.old.faults self.new.faults }
     {
         let connection = counted(&mut self.faults, refused(opened))?;
-        self.keeper = Some(SqliteKeeper::adopt(connection));
-        Ok(())
+        match mem::replace(&mut self.keeper, Some(SqliteKeeper::adopt(connection))) {
+            None => Ok(()),
+            Some(_before) => unreachable!(),
+        }
     }
 
     /// Makes the changes where there are some to make, and else answers the rows: in the file that
@@ -75,43 +80,55 @@ impl<A: Alter + Drop> FileKeeper<A> {
         }
         self.answer_open(name, changes)
     }
-}
 
-impl<A: Alter> FileKeeper<A> {
     /// The same in the file that is open.
     fn answer_open(&mut self, name: &str, changes: Option<&[Change]>) -> Result<Vec<Row>, KeepFault>
         requires { IfSome changes (λ asked. AreOfDifferentNumbers asked.now) }
         ensures closed { self.old.is_open ≡ false → result ≡ Err KeepFault.Failed }
         ensures cause { KeepCause result self.old.faults self.new.faults }
     {
-        let Some(changes) = changes else {
-            return self.load_open(name);
-        };
-        self.commit_open(changes)?;
-        Ok(Vec::new(self.rt.alloc()))
-    }
-
-    /// The rows of the file that is open.
-    fn load_open(&mut self, name: &str) -> Result<Vec<Row>, KeepFault>
-        ensures closed { self.old.is_open ≡ false → result ≡ Err KeepFault.Failed }
-        ensures cause { KeepCause result self.old.faults self.new.faults }
-    {
-        let Some(keeper) = &mut self.keeper else {
-            return counted(&mut self.faults, Err(Refusal::Store));
-        };
-        keeper.load(name)
-    }
-
-    /// Makes the changes in the file that is open.
-    fn commit_open(&mut self, changes: &[Change]) -> Result<(), KeepFault>
-        requires { AreOfDifferentNumbers changes.now }
-        ensures closed { self.old.is_open ≡ false → result ≡ Err KeepFault.Failed }
-        ensures cause { KeepCause result self.old.faults self.new.faults }
-    {
+        let alloc = self.rt.alloc();
         match &mut self.keeper {
-            Some(keeper) => keeper.commit(changes),
+            Some(keeper) => asked(keeper, alloc, name, changes),
             None => counted(&mut self.faults, Err(Refusal::Store)),
         }
+    }
+}
+
+/// What a keeper answers: no rows where it has made the changes, and else those that it loads.
+fn asked<K: Keeper>(
+    keeper: &mut K,
+    alloc: Global,
+    name: &str,
+    changes: Option<&[Change]>,
+) -> Result<Vec<Row>, KeepFault>
+    requires { IfSome changes (λ asked. AreOfDifferentNumbers asked.now) }
+    ensures { KeepCause result (K.store keeper.old).faults (K.store keeper.new).faults }
+{
+    match changes {
+        Some(changes) => {
+            keeper.commit(changes)?;
+            Ok(Vec::new(alloc))
+        }
+        None => keeper.load(name),
+    }
+}
+
+impl<D: Disk> FileKeeper<FileStore<D>> {
+    /// Answers in a file, on whatever disk. A call at a file's store of what is generic over stores
+    /// takes long to prove, so this is the only one.
+    fn serve(
+        &mut self,
+        opened: Option<Result<Connection<FileStore<D>>, Error>>,
+        name: &str,
+        changes: Option<&[Change]>,
+    ) -> Result<Vec<Row>, KeepFault>
+        requires different { IfSome changes (λ asked. AreOfDifferentNumbers asked.now) }
+        requires closed { IsSome opened → self.old.is_open ≡ false }
+        ensures closed { is_some opened ≡ false → self.old.is_open ≡ false → result ≡ Err KeepFault.Failed }
+        ensures cause { KeepCause result self.old.faults self.new.faults }
+    {
+        self.answer(opened, name, changes)
     }
 }
 
@@ -124,22 +141,6 @@ impl FileKeeper {
             Some(_) => None,
             None => Some(Connection::open(&self.rt, name)),
         }
-    }
-
-    /// Makes the changes where there are some to make, and else answers the rows. Each call of a
-    /// generic function at this type takes long to prove, so this is the only one.
-    fn serve(
-        &mut self,
-        opened: Option<Result<Connection<FileStore<File>>, Error>>,
-        name: &str,
-        changes: Option<&[Change]>,
-    ) -> Result<Vec<Row>, KeepFault>
-        requires different { IfSome changes (λ asked. AreOfDifferentNumbers asked.now) }
-        requires closed { IsSome opened → self.old.is_open ≡ false }
-        ensures closed { is_some opened ≡ false → self.old.is_open ≡ false → result ≡ Err KeepFault.Failed }
-        ensures cause { KeepCause result self.old.faults self.new.faults }
-    {
-        self.answer(opened, name, changes)
     }
 }
 

@@ -9,7 +9,7 @@ ghost use Rattle.wm_sqlite.specs.Told.{rows_told, told_of, AreShown, AreThere, I
 use crate::form::{has_work_table, is_blank, is_of_work_alone};
 use crate::numbers::do_ascend;
 use crate::reading::rows_of;
-use crate::refusal::Refusal;
+use crate::refusal::{Refusal, refused};
 use crate::standing::Standing;
 use crate::table::{make_work_table, read_work_table};
 use sqlite::{Alter, Connection, Row as ShownRow};
@@ -76,8 +76,7 @@ fn show_rows<A: Alter>(
         return Err(Refusal::Store);
     }
     make_table(connection, standing)?;
-    let shown = read_work_table(connection)?;
-    Ok(shown)
+    refused(read_work_table(connection))
 }
 
 /// Makes the table where it isn't known to be there. No transaction is open.

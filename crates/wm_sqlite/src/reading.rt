@@ -4,7 +4,7 @@ ghost use Rattle.sqlite_trees.specs.View.{is_int};
 ghost use Rattle.sqlite_value.specs.Order.{bytes, column};
 ghost use Rattle.sqlite_value.specs.declared.value.Value.TheVariants.{Int};
 ghost use Rattle.std.specs.List.{AllByRecursion};
-ghost use Rattle.std.specs.Prelude.{◌≡◌, [], IfOk, IsTrue, OnOk, map, pos};
+ghost use Rattle.std.specs.Prelude.{◌≡◌, ◌≤◌, ◌+◌, [], IfOk, IsTrue, OnOk, map, pos};
 ghost use Rattle.wm_sqlite.specs.Columns.{prior_in, tags_in};
 ghost use Rattle.wm_sqlite.specs.Held.{lists_of, row_of};
 ghost use Rattle.wm_sqlite.specs.Table.{read_row, text_in};
@@ -122,16 +122,19 @@ fn asked_of(shown: &ShownRow) -> Result<Asked, Error>
       flags = id_in (column shown.now 13);
     }) }
 {
+    let (kind, period, flex) = numbers_at(shown, 5)?;
+    let (delay, policy, wait) = numbers_at(shown, 8)?;
+    let (merger, network, flags) = numbers_at(shown, 11)?;
     Ok(Asked {
-        kind: number_at(shown, 5)?,
-        period: number_at(shown, 6)?,
-        flex: number_at(shown, 7)?,
-        delay: number_at(shown, 8)?,
-        policy: number_at(shown, 9)?,
-        wait: number_at(shown, 10)?,
-        merger: number_at(shown, 11)?,
-        network: number_at(shown, 12)?,
-        flags: number_at(shown, 13)?,
+        kind,
+        period,
+        flex,
+        delay,
+        policy,
+        wait,
+        merger,
+        network,
+        flags,
     })
 }
 
@@ -146,13 +149,15 @@ fn standing_of(shown: &ShownRow) -> Result<Standing, Error>
       enqueued_at = id_in (column shown.now 19);
     }) }
 {
+    let (phase, attempt, backoff_n) = numbers_at(shown, 14)?;
+    let (runs, generation, enqueued_at) = numbers_at(shown, 17)?;
     Ok(Standing {
-        phase: number_at(shown, 14)?,
-        attempt: number_at(shown, 15)?,
-        backoff_n: number_at(shown, 16)?,
-        runs: number_at(shown, 17)?,
-        generation: number_at(shown, 18)?,
-        enqueued_at: number_at(shown, 19)?,
+        phase,
+        attempt,
+        backoff_n,
+        runs,
+        generation,
+        enqueued_at,
     })
 }
 
@@ -179,6 +184,19 @@ fn name_of(shown: &ShownRow) -> Result<Option<Text>, Error>
 {
     let name: Option<String> = shown.get(3)?;
     Ok(name.map(Text::from_string))
+}
+
+/// The numbers in a column and the two after it.
+fn numbers_at(shown: &ShownRow, at: usize) -> Result<(i64, i64, i64), Error>
+    requires { at ≤ 21 }
+    ensures { IfOk result (λ numbers. numbers
+        ≡ (id_in (column shown.now at), id_in (column shown.now (at + 1)), id_in (column shown.now (at + 2)))) }
+{
+    Ok((
+        number_at(shown, at)?,
+        number_at(shown, at + 1)?,
+        number_at(shown, at + 2)?,
+    ))
 }
 
 /// The number in a column.

@@ -1,4 +1,4 @@
-ghost use Rattle.std.specs.Prelude.{◌≡◌};
+ghost use Rattle.std.specs.Prelude.{◌≡◌, IfOk, Ok};
 ghost use Rattle.wm_keeper.specs.Keeper.{KeepCause};
 ghost use Rattle.wm_sqlite.specs.Refusals.{answer_of};
 
@@ -30,7 +30,9 @@ impl From<Error> for Refusal {
 }
 
 /// The same outcome, with the cause that a keeper tells apart.
-pub(crate) fn refused<T>(outcome: Result<T, Error>) -> Result<T, Refusal> {
+pub(crate) fn refused<T>(outcome: Result<T, Error>) -> Result<T, Refusal>
+    ensures { IfOk result (λ value. outcome ≡ Ok value) }
+{
     Ok(outcome?)
 }
 
