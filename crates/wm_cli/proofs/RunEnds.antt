@@ -1,5 +1,5 @@
 -- What a run hands back, from what the calls below it handed back.
-use Rattle.std.proofs.Common.{◌≡◌, ◌⊎◌, ℕ, ℤ, Bool, true, false, List, [], Option, map, Some, None, IfSome, IsSome, Vec, Global, Ok, Err, refl, sym, ◌∙◌, ap, subst, inl, inr}
+use Rattle.std.proofs.Common.{◌≡◌, ◌⊎◌, ℕ, ℤ, Bool, true, false, List, [], Option, map, Some, None, IfSome, IsSome, Vec, Global, Result, Ok, Err, IfErr, refl, sym, ◌∙◌, ap, subst, inl, inr}
 use Rattle.std.specs.List.{AllByRecursion}
 use Rattle.wm_bench.specs.Places.{idle_hands, place_of}
 use Rattle.wm_bench.specs.declared.hand.Hand.{Hand}
@@ -7,7 +7,7 @@ use Rattle.wm_cli.proofs.RunsWithoutEvents.{HasCommands-nothing, IsTextWritten-n
 use Rattle.wm_cli.proofs.Hands.{AreBoxesBack-opened, AreHandsBack-opened, idle_hands-places}
 use Rattle.wm_cli.proofs.Opening.{BeginsSerial-nothing, IsSerialRun-early, IsSerialRun-unopened}
 use Rattle.wm_cli.proofs.RunImages.{images_told, leaves-only, loaded-alone}
-use Rattle.wm_cli.specs.Benched.{HasJustBegun}
+use Rattle.wm_cli.specs.Benched.{HasJustBegun, IsEndedBeforeLines}
 use Rattle.wm_cli.specs.Causes.{IsBadStore, IsOpeningStatus, IsUnlessMemory, StoreCause}
 use Rattle.wm_cli.specs.Ended.{AreHandsOf, AreRowsKept, HasNotBegun, HasReplayed, IsBegunBy, IsEndedAtOnce, IsOpenedFrom, IsReplayed, IsRunEnd}
 use Rattle.wm_cli.specs.Images.{IsHeldAlone, RunImages, UnbegunImages}
@@ -126,14 +126,12 @@ none_refused rows fault sound refused = let clash : Ok sound.0 ≡ Err fault = s
 -- a session that is over ends its run
 pub IsRunEnd-begun : {K W B : Type 0} (tells : Tells K W B) (run : Inputs) (workers : ℕ) (commands : List Command) (hands : List (Hand B)) (keeper : K)
     (sink : W) (ended : Ended K W B)
-    → IsBookEnd tells run ended → (workers ≡ 0 → IsSerialEnd tells run (idle_hands (map place_of hands)) ended) → run.lines ≡ commands → run.instances ≡ instances_from tells.kind_of 0 hands
+    → IsBookEnd tells run ended → (workers ≡ 0 → IsSerialEnd tells run hands ended) → run.lines ≡ commands → run.instances ≡ instances_from tells.kind_of 0 hands
     → run.written ≡ tells.given sink → run.sink_faults ≡ tells.sink_faults sink → run.store.faults ≡ (tells.store keeper).faults
     → run.store.rows ≡ (tells.store keeper).rows → run.store.name ≡ (tells.store keeper).name
     → ((image : List Row) → run.store.images image → (tells.store keeper).images image) → AreSound run.rows
     → IsRunEnd tells workers commands hands (tells.store keeper).name (Some run.rows) (Some run.rows) keeper sink ended
-IsRunEnd-begun tells run workers commands hands keeper sink ended over by_places lines are written sink_faults faults told name images sound =
-    let serial : workers ≡ 0 → IsSerialEnd tells run hands ended =
-    λ alone. subst (λ given. IsSerialEnd tells run given ended) (idle_hands-places hands) (by_places alone) in
+IsRunEnd-begun tells run workers commands hands keeper sink ended over serial lines are written sink_faults faults told name images sound =
     let session = over.session in
     let instances = instances_from tells.kind_of 0 hands in
     let replayed : HasReplayed (Some run.rows) instances ended.first ended.log ended.last = record {
@@ -166,6 +164,46 @@ IsRunEnd-begun tells run workers commands hands keeper sink ended over by_places
           absurd (none_refused rows (row_fault seq bad_row) (subst AreSound same sound) refused);
       tells_on = subst (λ rows. IfSome (tells.store ended.keeper).rows (λ last. IsSome rows)) told session.tells_on.rows;
       leaves = λ unbegun. let clash : true ≡ false = sym session.began ∙ unbegun in absurd (cc);
+    }
+
+-- so does one that ended before its first line, as a serial run
+pub IsRunEnd-early : {T K W B : Type 0} (tells : Tells K W B) (run : Inputs) (commands : List Command) (hands : List (Hand B)) (keeper : K) (sink : W)
+    (result : Result T (Ended K W B))
+    → IfErr result (IsEndedBeforeLines tells run hands) → run.lines ≡ commands → run.instances ≡ instances_from tells.kind_of 0 hands
+    → run.written ≡ tells.given sink → run.sink_faults ≡ tells.sink_faults sink → run.store.faults ≡ (tells.store keeper).faults
+    → run.store.rows ≡ (tells.store keeper).rows → run.store.name ≡ (tells.store keeper).name
+    → ((image : List Row) → run.store.images image → (tells.store keeper).images image) → AreSound run.rows
+    → IfErr result (IsRunEnd tells 0 commands hands (tells.store keeper).name (Some run.rows) (Some run.rows) keeper sink)
+IsRunEnd-early tells run commands hands keeper sink (Ok begun) early lines are written sink_faults faults told name images sound = tt
+IsRunEnd-early tells run commands hands keeper sink (Err ended) early lines are written sink_faults faults told name images sound =
+    IsRunEnd-begun tells run 0 commands hands keeper sink ended early.end (λ alone. early.serial) lines are written sink_faults faults told name images sound
+
+-- the end of a serial run is one with any number of worker threads
+pub IsRunEnd-threads : {K W B : Type 0} (tells : Tells K W B) (workers : ℕ) (commands : List Command) (hands : List (Hand B)) (name : Option (List ℕ))
+    (held before : Option (List Row)) (keeper : K) (sink : W) (ended : Ended K W B)
+    → IsRunEnd tells 0 commands hands name held before keeper sink ended → IsRunEnd tells workers commands hands name held before keeper sink ended
+IsRunEnd-threads tells workers commands hands name held before keeper sink ended is =
+    record {
+      replay = is.replay;
+      begun = is.begun;
+      not_begun_keeps = is.not_begun_keeps;
+      rows = is.rows;
+      store_is = is.store_is;
+      has_commands = is.has_commands;
+      bytes = is.bytes;
+      end = is.end;
+      hands_back = is.hands_back;
+      boxes = λ alone. is.boxes refl;
+      diaries = λ alone. is.diaries refl;
+      serial = λ alone. is.serial refl;
+      opened = is.opened;
+      keeper_fault = is.keeper_fault;
+      sink_fault = is.sink_fault;
+      images = is.images;
+      bad_store = is.bad_store;
+      unsound = is.unsound;
+      tells_on = is.tells_on;
+      leaves = is.leaves;
     }
 
 -- ---- a run whose table wasn't begun

@@ -1,4 +1,4 @@
--- The table and the workers that a run begins with.
+-- The table and the workers that a run begins with, and the end of one that began with them alone.
 use Rattle.std.specs.Prelude.{◌≡◌, ◌≤◌, List, [], length, map}
 use Rattle.wm_bench.specs.Places.{most_hands, place_of}
 use Rattle.wm_bench.specs.declared.hand.Hand.{Hand}
@@ -8,8 +8,10 @@ use Rattle.wm_machine.specs.Opened.{Opened}
 use Rattle.wm_machine.specs.Rows.{rows_of}
 use Rattle.wm_machine.specs.declared.state.Instance.{Instance}
 use Rattle.wm_rows.specs.Sound.{AreSound}
+use Rattle.wm_session.specs.Ended.{IsBookEnd, IsSerialEnd}
 use Rattle.wm_session.specs.Hands.{instances_from}
 use Rattle.wm_session.specs.Tells.{Tells}
+use Rattle.wm_session.specs.declared.ended.Ended.{Ended}
 use Rattle.wm_table.specs.Images.{LeavesOnly}
 use Rattle.wm_table.specs.Inputs.{Inputs}
 use Rattle.wm_table.specs.Table.{HoldsRowsOf}
@@ -35,3 +37,8 @@ pub record HasJustBegun {K W B : Type 0} (tells : Tells K W B) (run : Inputs) (t
   pub tells_on : TellsOn run.store (tells.store table.keeper)
   pub no_fault : (tells.store table.keeper).faults ≡ run.store.faults
   pub images : LeavesOnly run.rows run.store → LeavesOnly (rows_of table.first) (tells.store table.keeper)
+
+-- a run that ended before its first line, of what it was given, with these workers: it ended as a book does, and as a serial run does
+pub record IsEndedBeforeLines {K W B : Type 0} (tells : Tells K W B) (run : Inputs) (hands : List (Hand B)) (ended : Ended K W B) : Type 0 where
+  pub end : IsBookEnd tells run ended
+  pub serial : IsSerialEnd tells run hands ended

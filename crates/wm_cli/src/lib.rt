@@ -2,10 +2,12 @@
 //!
 //! [`run`] does all that the program does: it reads the words of the command line, then the whole
 //! script, then loads the store, and executes the script's commands one after another, driving the
-//! workers that it is given. Its contract is the promise of the program. [`run_pool`] drives them in
-//! threads, over a [`Book`](wm_session::Book) behind a lock.
+//! workers that it is given. Its contract is the promise of the program. [`open_book`] begins a run over
+//! rows that were loaded, and [`run_pool`] drives its workers in threads, over a
+//! [`Book`](wm_session::Book) behind a lock.
 #![tactic(auto)]
 
+mod beginning;
 mod desk;
 mod instances;
 mod pool;
@@ -14,6 +16,8 @@ mod script;
 mod words;
 mod work;
 
+pub use beginning::open_book;
+pub use instances::instances_of;
 pub use pool::run_pool;
 pub use program::run;
 pub use wm_session::{Ended, Status};

@@ -1,9 +1,8 @@
 ghost use Rattle.std.specs.Prelude.{◌≡◌, ◌↔◌, ◌+◌, ◌≤◌, ◌<◌, ◌^◌, ℤ, Bool, List, [], length, map, vec_len, true, false, None, Some, Err, IfOk, IfErr, IfSome, IsSome, OnOk, string_bytes};
 ghost use Rattle.std.specs.List.{AllByRecursion};
-ghost use Rattle.wm_bench.specs.Places.{idle_hands, most_hands, place_of};
-ghost use Rattle.wm_cli.specs.Benched.{AreBenched, HasJustBegun};
+ghost use Rattle.wm_bench.specs.Places.{idle_hands, most_hands};
 ghost use Rattle.wm_cli.specs.Causes.{IsToldTooLong, IsToldWithin, IsUnlessMemory, LimitCause, StoreCause};
-ghost use Rattle.wm_cli.specs.Ended.{AreBoxesOf, AreHandsOf, AreReportedOnce, AreRowsKept, HasCommandsOf, HaveToldOnDone, IsBegunBy, IsCrashSafe, IsEndedAtOnce, IsQuietOnDone, IsReplayed, IsRunEnd, IsSerialOver, IsStoreOf};
+ghost use Rattle.wm_cli.specs.Ended.{AreBoxesOf, AreHandsOf, AreReportedOnce, AreRowsKept, HasCommandsOf, HaveToldOnDone, IsBegunBy, IsCrashSafe, IsQuietOnDone, IsReplayed, IsRunEnd, IsSerialOver, IsStoreOf};
 ghost use Rattle.wm_cli.specs.Reading.{AreCommandsOf, IsReadStatus};
 ghost use Rattle.wm_cli.specs.Script.{IsTakenWithin};
 ghost use Rattle.wm_cli.specs.Words.{options_of, AskForNoThreads};
@@ -20,15 +19,16 @@ ghost use Rattle.wm_session.specs.Hands.{instances_from};
 ghost use Rattle.wm_session.specs.Tells.{tells_of, AreInputs};
 ghost use Rattle.wm_table.specs.Table.{row_fault};
 
+use crate::beginning::open_book;
 use crate::instances::instances_of;
 use crate::pool::run_pool;
 use crate::script::{ReadFault, read_script};
 use crate::words::options_of;
-use std::alloc::{AllocError, AllocFailed, Global};
+use std::alloc::{AllocError, Global};
 use std::marker::Brand;
 use std::sync::Wait;
 use std::thread::Threads;
-use wm_bench::{Bench, Hand};
+use wm_bench::Hand;
 use wm_collections::Items;
 use wm_io::{Sink, Source};
 use wm_keeper::{Keeper, Row};
@@ -37,7 +37,7 @@ use wm_pool::Gate;
 use wm_roll::Roll;
 use wm_script::{Limit, ScriptFault, read_lines};
 use wm_session::{Book, Ended, Status, run_serial};
-use wm_table::{Mark, Table, TableEnd};
+use wm_table::Mark;
 use wm_worker::Worker;
 
 /// What a run works with beside its parts: the runtime of its threads, the gate that they pass, and
@@ -155,89 +155,11 @@ fn run_loaded<
         crew.now.workers commands hands.items (K.store keeper).name (Some rows.items) (Some rows.items)
         keeper sink result }
 {
-    match Table::begin(crew.alloc, keeper, rows, instances, roll) {
-        Ok(table) => run_begun::<W, K, B, M, R, G>(crew, table, commands, hands, sink),
-        Err(refused) => {
-            let (keeper, fault) = refused;
-            Ended::before_begin(crew.alloc, Status::from(fault), keeper, sink, hands)
-        }
-    }
-}
-
-/// Executes the commands on a table that has just begun, with these workers.
-fn run_begun<
-    W: Sink + Send,
-    K: Keeper + Send,
-    B: Worker + Send,
-    M: Mark + Send + Sync,
-    R: Threads + Wait + Sync,
-    G: Gate + Sync,
->(
-    crew: &Crew<'_, R, G>,
-    table: Table<K, M>,
-    commands: Items<Command>,
-    hands: Vec<Hand<B>>,
-    sink: W,
-) -> Ended<K, W, B>
-    requires lines { commands ≡ M.inputs.lines }
-    requires instances { M.inputs.instances ≡ instances_from B.kind_of 0 hands.items }
-    requires sink { W.given sink ≡ M.inputs.written }
-    requires sink_faults { W.faults sink ≡ M.inputs.sink_faults }
-    requires few_hands { vec_len hands ≤ most_hands }
-    requires askable { AllByRecursion IsAskable commands }
-    requires few { length commands < 2 ^ 32 }
-    requires begun { HasJustBegun (tells_of K.store W.given W.faults B.kind_of B.diary_of)
-        M.inputs table }
-    ensures end { IsBookEnd (tells_of K.store W.given W.faults B.kind_of B.diary_of)
-        M.inputs result }
-    ensures serial { crew.now.workers ≡ 0
-        → IsSerialEnd (tells_of K.store W.given W.faults B.kind_of B.diary_of)
-        M.inputs (idle_hands (map place_of hands.items)) result }
-{
-    match Bench::new(crew.alloc, hands) {
-        Ok(bench) => run_benched(crew, table, bench, commands, sink),
-        Err(failed) => {
-            let AllocFailed { value } = failed;
-            end_at_once(table, value, sink)
-        }
-    }
-}
-
-/// Executes the commands in a book.
-fn run_benched<
-    W: Sink + Send,
-    K: Keeper + Send,
-    B: Worker + Send,
-    M: Mark + Send + Sync,
-    R: Threads + Wait + Sync,
-    G: Gate + Sync,
->(
-    crew: &Crew<'_, R, G>,
-    table: Table<K, M>,
-    bench: Bench<B>,
-    commands: Items<Command>,
-    sink: W,
-) -> Ended<K, W, B>
-    requires lines { commands ≡ M.inputs.lines }
-    requires benched { AreBenched B.kind_of bench M.inputs.instances }
-    requires sink { W.given sink ≡ M.inputs.written }
-    requires sink_faults { W.faults sink ≡ M.inputs.sink_faults }
-    requires askable { AllByRecursion IsAskable commands }
-    requires few { length commands < 2 ^ 32 }
-    requires begun { HasJustBegun (tells_of K.store W.given W.faults B.kind_of B.diary_of)
-        M.inputs table }
-    ensures end { IsBookEnd (tells_of K.store W.given W.faults B.kind_of B.diary_of)
-        M.inputs result }
-    ensures serial { crew.now.workers ≡ 0
-        → IsSerialEnd (tells_of K.store W.given W.faults B.kind_of B.diary_of)
-        M.inputs (idle_hands bench) result }
-{
-    match Book::<K, W, B, M>::new(crew.alloc, table, bench, commands, sink) {
+    match open_book::<W, K, B, M>(
+        crew.alloc, rows, instances, roll, commands, hands, sink, keeper,
+    ) {
         Ok(book) => run_book(crew, book),
-        Err(parts) => {
-            let (table, bench, sink) = parts;
-            end_at_once(table, bench.back(), sink)
-        }
+        Err(ended) => ended,
     }
 }
 
@@ -263,33 +185,6 @@ fn run_book<
         run_serial(crew.alloc, book, crew.gate)
     } else {
         run_pool(crew.rt, crew.alloc, book, crew.workers, crew.gate)
-    }
-}
-
-/// Ends a run for want of memory whose table was begun, before its first event.
-fn end_at_once<W: Sink, K: Keeper, B: Worker, M: Mark>(
-    table: Table<K, M>,
-    hands: Vec<Hand<B>>,
-    sink: W,
-) -> Ended<K, W, B>
-    requires none_out { table.roll ≡ [] }
-    ensures { IsEndedAtOnce table sink hands result }
-{
-    let TableEnd {
-        first,
-        last,
-        log,
-        keeper,
-    } = table.end();
-    Ended {
-        status: Status::Memory,
-        began: true,
-        first,
-        log,
-        last,
-        keeper,
-        sink,
-        hands,
     }
 }
 

@@ -1,49 +1,24 @@
-use Rattle.std.proofs.Common.{◌≤◌, length, Some, sym, ◌∙◌, subst, rules}
-use Rattle.wm_bench.specs.Places.{most_hands}
-use Rattle.wm_cli.proofs.Hands.{AreFresh-instances_from}
-use Rattle.wm_cli.proofs.RunEnds.{EarlyCause, EarlyCause-begin, IsRunEnd-begun, IsRunEnd-unbegun}
-use Rattle.wm_cli.proofs.RunImages.{unbegun-opened, unopened-leaves}
-use Rattle.wm_keeper.proofs.Stores.{TellsOn-same, TellsOn-then}
-use Rattle.wm_machine.specs.Opened.{AreFresh, Opened}
+use Rattle.std.proofs.Common.{Some, sym, ◌∙◌, subst}
+use Rattle.wm_cli.proofs.RunEnds.{IsRunEnd-begun, IsRunEnd-threads}
 use Rattle.wm_rows.specs.Sound.{AreSound}
+use Rattle.wm_session.specs.BetweenRuns.{IsAtBegin}
+use Rattle.wm_session.specs.Ended.{IsSerialEnd}
 use Rattle.wm_session.specs.Tells.{tells_of}
 use Rattle.wm_cli.proofs.program.run_loaded.Goals as goal
 
-pub begin-requires-clause-instances : goal.begin-requires-clause-instances
-begin-requires-clause-instances g c =
-    let few : length c.args.hands.items ≤ most_hands = search rules in
-    subst AreFresh (sym c.requires.instances) (AreFresh-instances_from g.B.Worker.kind_of c.args.hands.items few)
-
-pub begin-requires-clause-given_store : goal.begin-requires-clause-given_store
-begin-requires-clause-given_store g c = TellsOn-same g.M.Mark.inputs.store (g.K.Keeper.store c.args.keeper) c.requires.inputs.told c.requires.inputs.name
-
-pub run_begun-requires-clause-begun : goal.run_begun-requires-clause-begun
-run_begun-requires-clause-begun g c lifetimes outlive =
-    let begun = c.in-Ok.ensures in
-    let given = c.requires.inputs in
-    let run = g.M.Mark.inputs in
-    let table = c.in-Ok.table in
-    record {
-      sound = subst AreSound given.rows_are begun.sound;
-      opened = subst (λ rows. Opened rows run.instances table.first) given.rows_are
-          (subst (λ instances. Opened c.args.rows.items instances table.first) given.instances_are begun.opened);
-      state = begun.state;
-      log = begun.log;
-      roll = begun.roll;
-      rows = begun.held;
-      tells_on = TellsOn-then run.store (g.K.Keeper.store c.args.keeper) (g.K.Keeper.store table.keeper)
-          (TellsOn-same run.store (g.K.Keeper.store c.args.keeper) given.told given.name) begun.tells_on;
-      no_fault = begun.cause ∙ given.faults;
-      images = λ only. begun.images (λ image left. only image ((given.images image).0 left) ∙ sym given.rows_are);
-    }
+pub run_book-requires-clause-begins : goal.run_book-requires-clause-begins
+run_book-requires-clause-begins g c lifetimes outlive =
+    subst (λ lines. IsAtBegin lines c.in-Ok.book) c.requires.inputs.lines_are c.in-Ok.ensures.begins
 
 pub returns-in-Ok : goal.returns-in-Ok
 returns-in-Ok g c =
     let tells = tells_of g.K.Keeper.store g.W.Sink.given g.W.Sink.faults g.B.Worker.kind_of g.B.Worker.diary_of in
     let given = c.requires.inputs in
-    rw (given.rows_are)
-    (IsRunEnd-begun tells g.M.Mark.inputs c.args.crew.now.workers c.args.commands c.args.hands.items c.args.keeper c.args.sink c.run_begun.result
-    c.run_begun.ensures.end c.run_begun.ensures.serial
+    let run = g.M.Mark.inputs in
+    rw given.rows_are
+    (IsRunEnd-begun tells run c.args.crew.now.workers c.args.commands c.args.hands.items c.args.keeper c.args.sink c.run_book.result
+    c.run_book.ensures.end
+    (λ alone. subst (λ hands. IsSerialEnd tells run hands c.run_book.result) c.in-Ok.ensures.workers (c.run_book.ensures.serial alone))
     (sym given.lines_are) (sym given.instances_are ∙ c.requires.instances) (sym given.written) (sym given.sink_faults) (sym given.faults)
     (sym given.told) (sym given.name)
     (λ image left. (given.images image).1 left) (subst AreSound given.rows_are c.in-Ok.ensures.sound))
@@ -51,16 +26,6 @@ returns-in-Ok g c =
 pub returns-in-Err : goal.returns-in-Err
 returns-in-Err g c =
     let tells = tells_of g.K.Keeper.store g.W.Sink.given g.W.Sink.faults g.B.Worker.kind_of g.B.Worker.diary_of in
-    let refused = c.in-Err.refused in
     let rows = c.args.rows.items in
-    let before = (tells.store c.args.keeper).faults in
-    let now = (tells.store refused.0).faults in
-    IsRunEnd-unbegun tells c.args.crew.now.workers c.args.commands c.from.result c.args.hands (tells.store c.args.keeper).name (Some rows) (Some rows) c.args.keeper refused.0
-    c.args.sink
-    c.before_begin.result c.before_begin.ensures c.requires.askable c.in-Err.ensures.kept
-    (subst (λ why. EarlyCause why before now (Some rows)) (sym c.from.ensures)
-    (EarlyCause-begin tells.store c.args.keeper rows refused c.in-Err.ensures.bad c.in-Err.ensures.cause))
-    (λ alone.
-    rw (c.from.ensures, ← c.requires.instances)
-    (unbegun-opened tells.store rows c.args.instances c.args.keeper refused c.in-Err.ensures.images_err alone))
-    (unopened-leaves tells.store rows c.args.instances c.args.keeper refused c.in-Err.ensures.images_err)
+    IsRunEnd-threads tells c.args.crew.now.workers c.args.commands c.args.hands.items (tells.store c.args.keeper).name (Some rows) (Some rows)
+    c.args.keeper c.args.sink c.in-Err.ended c.in-Err.ensures.ended

@@ -13,7 +13,7 @@ use Rattle.wm_machine.specs.declared.state.State.{State}
 use Rattle.wm_session.specs.Bench.{instance_traits, place_traits, NoneAway}
 use Rattle.wm_session.specs.Tells.{tells_of}
 use Rattle.wm_session.proofs.HandLemmas.{NoneAway-hands}
-use Rattle.wm_cli.proofs.program.run_benched.Goals as goal
+use Rattle.wm_cli.proofs.beginning.book_at_bench.Goals as goal
 
 pub new-requires-clause-no_run : goal.new-requires-clause-no_run
 new-requires-clause-no_run g c =
@@ -56,8 +56,8 @@ new-requires-clause-images g c =
     let begun = c.requires.begun in
     λ only. rw begun.state (begun.images only)
 
-pub run_book-requires-clause-begins : goal.run_book-requires-clause-begins
-run_book-requires-clause-begins g c lifetimes outlive =
+pub returns-in-Ok-clause-begins : goal.returns-in-Ok-clause-begins
+returns-in-Ok-clause-begins g c =
     let benched = c.requires.benched in
     let begun = c.requires.begun in
     let places = c.in-Ok.ensures.places ∙ benched.at_places in
@@ -71,11 +71,14 @@ run_book-requires-clause-begins g c lifetimes outlive =
       lines_are = search rules;
     }
 
+pub returns-in-Ok-clause-workers : goal.returns-in-Ok-clause-workers
+returns-in-Ok-clause-workers g c = ap idle_hands c.in-Ok.ensures.places
+
 pub end_at_once-requires : goal.end_at_once-requires
 end_at_once-requires g c = record { none_out = rw (ap (λ parts. parts.0) c.in-Err.ensures.kept) c.requires.begun.roll }
 
-pub returns-in-Err : goal.returns-in-Err
-returns-in-Err g c =
+pub returns-in-Err-clause-ended : goal.returns-in-Err-clause-ended
+returns-in-Err-clause-ended g c =
     let tells = tells_of g.K.Keeper.store g.W.Sink.given g.W.Sink.faults g.B.Worker.kind_of g.B.Worker.diary_of in
     let benched = c.requires.benched in
     let are : idle_hands c.args.bench ≡ benched.hands = ap idle_hands benched.at_places ∙ idle_hands-places benched.hands in
@@ -87,4 +90,4 @@ returns-in-Err g c =
     IsEnd-at_once tells g.M.Mark.inputs benched.hands c.args.table c.args.sink c.back.result ended at c.requires.begun
     (subst (AllByRecursion IsAskable) c.requires.lines c.requires.askable) benched.are c.requires.sink
     (c.back.ensures ∙ ap (λ parts. idle_hands parts.1) kept ∙ are) in
-    record { end = over.0; serial = λ alone. rw are over.1 }
+    record { end = over.0; serial = rw are over.1 }
