@@ -3,6 +3,8 @@
 # layer before: the time until all of them have succeeded and the line and a query are answered, for
 # layers of 50 works and for layers of 100, and the ratio of the two. Each time is the best of five.
 set -euo pipefail
+# A run that goes wrong ends the script also where its time is asked for.
+shopt -s inherit_errexit
 source "$(dirname "${BASH_SOURCE[0]}")/measure.bash"
 wide=${1:-100}
 narrow=$((wide / 2))
@@ -33,4 +35,4 @@ run() {
 
 script "$narrow" > "$work/script.$narrow"
 script "$wide" > "$work/script.$wide"
-compare ms "$((layers * narrow)) works" "$(milliseconds "$narrow")" "$((layers * wide)) works" "$(milliseconds "$wide")"
+compare ms milliseconds "$((layers * narrow)) works" "$narrow" "$((layers * wide)) works" "$wide"

@@ -37,9 +37,12 @@ instructions() {
   awk '/^totals:/ { printf "%.1f", $2 / 1000000 }' "$work/callgrind"
 }
 
-# Prints what two runs take in a unit, by their names, and the ratio.
+# Prints what the runs of two scripts take in a unit, by what measures it, each with what it is called, and
+# the ratio.
 compare() {
-  local unit=$1 one=$2 taken=$3 other=$4 more=$5
+  local unit=$1 measure=$2 one=$3 other=$5 taken more
+  taken=$("$measure" "$4")
+  more=$("$measure" "$6")
   if [ -z "$taken" ]; then echo "$unit: not counted, since valgrind isn't there" && return; fi
   echo "$one: $taken $unit"
   echo "$other: $more $unit"

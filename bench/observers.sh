@@ -3,6 +3,8 @@
 # ten lines that each observe one of them. Prints the time of each run and, where valgrind is there, its
 # instructions, and the ratios.
 set -euo pipefail
+# A run that goes wrong ends the script also where its time is asked for.
+shopt -s inherit_errexit
 source "$(dirname "${BASH_SOURCE[0]}")/measure.bash"
 works=${1:-1000}
 observers=10
@@ -29,5 +31,5 @@ run() {
 
 script 0 > "$work/script.0"
 script "$observers" > "$work/script.$observers"
-compare ms "no observer" "$(milliseconds 0)" "$observers observers" "$(milliseconds "$observers")"
-compare "million instructions" "no observer" "$(instructions 0)" "$observers observers" "$(instructions "$observers")"
+compare ms milliseconds "no observer" 0 "$observers observers" "$observers"
+compare "million instructions" instructions "no observer" 0 "$observers observers" "$observers"

@@ -3,6 +3,8 @@
 # valgrind is there, its instructions; and the ratios of the two runs. The works of the longer script
 # are four times those of the shorter.
 set -euo pipefail
+# A run that goes wrong ends the script also where its time is asked for.
+shopt -s inherit_errexit
 source "$(dirname "${BASH_SOURCE[0]}")/measure.bash"
 few=${1:-190}
 many=$((4 * few))
@@ -24,5 +26,5 @@ run() {
 
 script "$few" > "$work/script.$few"
 script "$many" > "$work/script.$many"
-compare ms "$few works" "$(milliseconds "$few")" "$many works" "$(milliseconds "$many")"
-compare "million instructions" "$few works" "$(instructions "$few")" "$many works" "$(instructions "$many")"
+compare ms milliseconds "$few works" "$few" "$many works" "$many"
+compare "million instructions" instructions "$few works" "$few" "$many works" "$many"
