@@ -36,7 +36,6 @@ pub waiting_viewed : (works : List Record) (next : ℕ) (graph : List NodeFields
     → next ≤ 2 ^ 53 → graph ≡ nodes_of works → IsViewed (waiting_state works next) graph
 waiting_viewed works next graph waiting few above fits is = record {
   valid = waiting_valid works next waiting few above fits;
-  narrow = record { runs = tt };
   graph_is = is;
 }
 

@@ -51,6 +51,6 @@ pub record AreWaiting (works : List Record) : Type 0 where
 abbrev pub waiting_state : List Record → ℕ → State
 waiting_state works number = record (opening_state works []) { next = number }
 
--- a command that is legal wherever no run is unreturned
-abbrev pub ComesBetweenRuns : Command → Type 0
-ComesBetweenRuns asked = (s : State) → s.runs ≡ [] → IsLegalLine s asked
+-- a command that is legal in every state
+abbrev pub ComesAnywhere : Command → Type 0
+ComesAnywhere asked = (s : State) → IsLegalLine s asked

@@ -1,7 +1,7 @@
 //! An enqueue under a unique name, of `wm_commands`, where there are as many works as there may be or
 //! no number is left: the works are kept, one is updated or a kind is refused before either is told.
 ghost use Rattle.std.specs.Prelude.{◌≡◌, ◌^◌, ◌<◌, ◌≤◌, [], length, IfOk, IfSome};
-ghost use Rattle.enqueue_tests.specs.Waiting.{waiting_state, AreWaiting, ComesBetweenRuns};
+ghost use Rattle.enqueue_tests.specs.Waiting.{waiting_state, AreWaiting, ComesAnywhere};
 ghost use Rattle.wm_machine.specs.Built.{AreAsked};
 ghost use Rattle.wm_steps.specs.Nodes.{nodes_of};
 ghost use Rattle.wm_request.specs.Requests.{IsRequest, IsShortText};
@@ -57,7 +57,6 @@ fn view(alloc: Global, works: Items<Record>, next: u64) -> Result<View, AllocErr
     requires few_works { length works ≤ 100000 }
     requires above { length works < next }
     requires next { next ≤ 2 ^ 53 }
-    ensures no_run { IfOk result (λ view. view.runs ≡ []) }
 {
     let graph = graph_of(alloc, works.as_slice());
     let (works, graph) = both(works, graph)?;
@@ -102,7 +101,7 @@ fn named(alloc: Global, policy: Option<Policy>) -> Result<Option<UniqueName>, Al
 fn enqueue_of(named: Option<UniqueName>, batch: Batch) -> Command
     requires name { IfSome named (λ unique. IsShortText unique.name) }
     requires asked { AreAsked batch.works }
-    ensures { ComesBetweenRuns result }
+    ensures { ComesAnywhere result }
 {
     match named {
         Some(unique) => Command::Enqueue {
@@ -115,7 +114,7 @@ fn enqueue_of(named: Option<UniqueName>, batch: Batch) -> Command
 
 /// An enqueue of one work, under the name of the first record where there is a policy.
 fn enqueue(alloc: Global, policy: Option<Policy>, is_periodic: bool) -> Result<Command, AllocError>
-    ensures { IfOk result ComesBetweenRuns }
+    ensures { IfOk result ComesAnywhere }
 {
     let named = named(alloc, policy)?;
     let (named, batch) = both(named, batch(alloc, is_periodic))?;
@@ -141,9 +140,7 @@ fn reply_to(
     view: &View,
     policy: Option<Policy>,
     is_periodic: bool,
-) -> Result<(&'static str, u128), AllocError>
-    requires { view.now.runs ≡ [] }
-{
+) -> Result<(&'static str, u128), AllocError> {
     let command = enqueue(alloc, policy, is_periodic)?;
     let executed = execute(alloc, view, 1, command)?;
     let found = replied(&executed.reply);
@@ -158,9 +155,7 @@ fn expect_replied(
     view: &View,
     asked: (Option<Policy>, bool),
     expected: Told,
-) -> Result<(), AllocError>
-    requires { view.now.runs ≡ [] }
-{
+) -> Result<(), AllocError> {
     let found = reply_to(alloc, view, asked.0, asked.1)?;
     assert_eq!(rt; found.0, expected.0);
     assert_eq!(rt; found.1, expected.1 as u128);
@@ -180,9 +175,12 @@ const NAMED: [Named; 3] = [
 ];
 
 /// Under the name each is replied as it tells, and so the same batch without a name.
-fn expect_each(rt: &impl Abort, alloc: Global, view: &View, unnamed: Told) -> Result<(), AllocError>
-    requires { view.now.runs ≡ [] }
-{
+fn expect_each(
+    rt: &impl Abort,
+    alloc: Global,
+    view: &View,
+    unnamed: Told,
+) -> Result<(), AllocError> {
     for named in &NAMED {
         expect_replied(rt, alloc, view, (Some(named.0), named.1), named.2)?;
         expect_replied(rt, alloc, view, (None, named.1), unnamed)?;

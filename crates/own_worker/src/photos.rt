@@ -80,16 +80,14 @@ fn begin<M: Mark>(alloc: Global, roll: Roll) -> Option<Table<SureKeeper, M>>
     requires store { IsSome M.inputs.store.rows }
     requires roll { roll.table_id ≡ M.inputs.roll }
     requires empty { roll.parts ≡ [] }
-    ensures no_run { IfSome result (λ table. table.state.runs ≡ []) }
     ensures none_out { IfSome result (λ table. table.roll ≡ []) }
 {
     let keeper = SureKeeper::new(Vec::new(alloc));
     Table::begin(alloc, keeper, Vec::new(alloc), Items::new(alloc), roll).ok()
 }
 
-/// The command that enqueues a batch, which a table takes as long as no run is out.
+/// The command that enqueues a batch, which a table takes in every state.
 fn enqueue<M: Mark>(table: &Table<SureKeeper, M>, batch: Batch) -> Command
-    requires { table.now.state.runs ≡ [] }
     ensures { IsLegalLine table.now.state result }
 {
     look_at_each(&batch);

@@ -15,7 +15,7 @@ use uuid::Uuid;
 use wm_collections::{Items, Replica, Text};
 use wm_data::{Data, Merger, Value};
 use wm_keeper::MemoryKeeper;
-use wm_machine::{Cause, Command, How, Instance, Kind, Phase, Record, Reply};
+use wm_machine::{Cause, Command, How, Instance, Kind, Phase, Record, Reply, Target};
 use wm_request::{Batch, Builder, Node, Request};
 use wm_roll::Roll;
 use wm_steps::{both, one};
@@ -75,7 +75,7 @@ fn request(alloc: Global, merger: Merger, count: usize) -> Result<Request, Alloc
 
 /// An enqueue of one such work.
 fn enqueue(alloc: Global, merger: Merger, count: usize) -> Result<Command, AllocError>
-    ensures { IfOk result (λ command. (s : State) → s.runs ≡ [] → IsLegalLine s command) }
+    ensures { IfOk result (λ command. (s : State) → IsLegalLine s command) }
 {
     let request = request(alloc, merger, count)?;
     let after = Items::new(alloc);
@@ -95,6 +95,8 @@ enum Subject {
     NextRun,
     /// Its run without an input.
     NoInput,
+    /// Its task, once all works were cancelled.
+    CancelledTask,
 }
 
 /// The run that an Echo with this task reports on.
@@ -143,7 +145,7 @@ fn finishes<M: Mark>(table: &mut Table<MemoryKeeper, M>, ticket: Ticket<M>, told
 {
     match table.turn(ticket, told) {
         TurnAnswer::Finished => true,
-        TurnAnswer::TimedOut => false,
+        TurnAnswer::TimedOut | TurnAnswer::Late => false,
         TurnAnswer::Go(ticket) => {
             table.take_back(ticket);
             false
@@ -175,6 +177,7 @@ enum Outcome {
     FinishedLater,
     Finished,
     TimedOut,
+    Late,
     NoMemory,
 }
 
@@ -194,6 +197,7 @@ fn report<M: Mark>(
     match table.turn(ticket, told) {
         TurnAnswer::Finished => Outcome::Finished,
         TurnAnswer::TimedOut => Outcome::TimedOut,
+        TurnAnswer::Late => Outcome::Late,
         TurnAnswer::Go(ticket) => {
             table.take_back(ticket);
             Outcome::GoesOn
@@ -230,6 +234,9 @@ fn run<M: Mark>(
     ensures none_out { table.new.roll ≡ [] }
 {
     let first = ticket.task().run == 1 && ticket.task().attempt == 1;
+    if let Subject::CancelledTask = subject {
+        drop(table.command(2, Command::Cancel(Target::All)));
+    }
     let told = echoed(alloc, ticket.task(), subject);
     let outcome = report(table, ticket, told);
     if first { outcome } else { Outcome::AnotherRun }
@@ -310,15 +317,14 @@ fn one_table<M: Mark>(
     requires fresh { AreFresh instances }
     requires roll { M.inputs.roll ≡ roll.table_id }
     requires empty { roll.parts ≡ [] }
-    ensures no_run { IfOk result (λ table. table.state.runs ≡ []) }
     ensures none_out { IfOk result (λ table. table.roll ≡ []) }
 {
     let keeper = MemoryKeeper::new(Vec::new(alloc), failing);
     Table::begin(alloc, keeper, Vec::new(alloc), instances, roll).map_err(|_| AllocError)
 }
 
-/// What becomes of one work over a keeper that fails at these calls, how many works and events
-/// there are in the end, and whether there is nothing left to do.
+/// What becomes of one work over a keeper that fails at these calls, the work and the number of events
+/// in the end, and whether there is nothing left to do and the worker is idle.
 fn outcome_on<M: Mark>(
     alloc: Global,
     command: Command,
@@ -326,22 +332,29 @@ fn outcome_on<M: Mark>(
     instances: Items<Instance>,
     roll: Roll,
     subject: Subject,
-) -> Result<(Outcome, usize, usize, bool), AllocError>
+) -> Result<(Outcome, String, usize, bool), AllocError>
     requires rows { M.inputs.rows ≡ [] }
     requires store { IsSome M.inputs.store.rows }
     requires instances { M.inputs.instances ≡ instances }
     requires fresh { AreFresh instances }
     requires roll { M.inputs.roll ≡ roll.table_id }
     requires empty { roll.parts ≡ [] }
-    requires legal { (s : State) → s.runs ≡ [] → IsLegalLine s command }
+    requires legal { (s : State) → IsLegalLine s command }
 {
     let (command, mut table) = beside(command, one_table::<M>(alloc, failing, instances, roll))?;
     let outcome = enqueue_and_run(&mut table, alloc, command, subject);
     let quiet = table.quiet();
     let end = table.end();
-    let counts = (end.last.works.len(), end.log.len());
+    let work = only_text(alloc, &end);
+    let events = end.log.len();
+    let idle = end
+        .last
+        .instances
+        .as_slice()
+        .iter()
+        .all(|instance| !instance.out);
     drop(end);
-    Ok((outcome, counts.0, counts.1, quiet))
+    Ok((outcome, work?, events, quiet && idle))
 }
 
 /// This number alone.
@@ -354,7 +367,7 @@ fn outcome_at(
     alloc: Global,
     failing: u32,
     subject: Subject,
-) -> Result<(Outcome, usize, usize, bool), AllocError> {
+) -> Result<(Outcome, String, usize, bool), AllocError> {
     let command = enqueue(alloc, Merger::Overwriting, 1)?;
     let (command, failing) = beside(command, alone(alloc, failing))?;
     let (command, instances) = beside(command, one_echo(alloc))?;
@@ -365,15 +378,69 @@ fn outcome_at(
 #[test]
 fn a_table_runs_one_echo(rt: HostRuntime) -> Result<(), Fail> {
     let alloc = rt.alloc();
-    for (failing, subject, want) in [
-        (0, Subject::Task, (Outcome::Finished, 1, 3, true)),
-        (1, Subject::Task, (Outcome::NotEnqueued, 0, 0, true)),
-        (2, Subject::Task, (Outcome::NotStarted, 1, 1, false)),
-        (3, Subject::Task, (Outcome::FinishedLater, 1, 3, true)),
-        (0, Subject::NextRun, (Outcome::Again, 1, 2, false)),
-        (0, Subject::NoInput, (Outcome::Again, 1, 2, false)),
+    for (failing, subject, want, work, events, rests) in [
+        (
+            0,
+            Subject::Task,
+            Outcome::Finished,
+            "succeeded, attempt 1, an output",
+            3,
+            true,
+        ),
+        (
+            1,
+            Subject::Task,
+            Outcome::NotEnqueued,
+            "not one work",
+            0,
+            true,
+        ),
+        (
+            2,
+            Subject::Task,
+            Outcome::NotStarted,
+            "waiting, attempt 0, no output",
+            1,
+            false,
+        ),
+        (
+            3,
+            Subject::Task,
+            Outcome::FinishedLater,
+            "succeeded, attempt 1, an output",
+            3,
+            true,
+        ),
+        (
+            0,
+            Subject::NextRun,
+            Outcome::Again,
+            "running, attempt 1, no output",
+            2,
+            false,
+        ),
+        (
+            0,
+            Subject::NoInput,
+            Outcome::Again,
+            "running, attempt 1, no output",
+            2,
+            false,
+        ),
+        (
+            0,
+            Subject::CancelledTask,
+            Outcome::Late,
+            "cancelled, attempt 1, no output",
+            4,
+            true,
+        ),
     ] {
-        assert_eq!(rt; outcome_at(alloc, failing, subject)?, want);
+        let came = outcome_at(alloc, failing, subject)?;
+        assert_eq!(rt;
+            (came.0, came.1.as_str(), came.2, came.3),
+            (want, work, events, rests)
+        );
     }
     Ok(())
 }
@@ -455,7 +522,7 @@ fn started_on<M: Mark>(
     requires fresh { AreFresh instances }
     requires roll { M.inputs.roll ≡ roll.table_id }
     requires empty { roll.parts ≡ [] }
-    requires legal { (s : State) → s.runs ≡ [] → IsLegalLine s command }
+    requires legal { (s : State) → IsLegalLine s command }
 {
     let table = one_table::<M>(alloc, Vec::new(alloc), instances, roll);
     let (command, mut table) = beside(command, table)?;

@@ -19,10 +19,10 @@ use Rattle.wm_session.specs.declared.status.Status.TheVariants as status
 pub BeginsSerial-nothing : {rows : List Row} {instances : List Instance} (lines : List Command) (first : State) (log : List Event)
     → AllByRecursion IsAskable lines → Opened rows instances first → log ≡ [] → BeginsSerial lines first log
 BeginsSerial-nothing {rows} {instances} lines first log askable opened none =
-    let reached = reached-opened rows instances first opened in
+    let valid = reached-opened rows instances first opened in
     let no_run = rest-opened opened in
     rw (none)
-    (BeginsSerial-goes-on lines lines first first [] askable refl no_run refl reached.valid reached.narrow (rw no_run (omega arith))
+    (BeginsSerial-goes-on lines lines first first [] askable refl no_run refl valid (rw no_run (omega arith))
     (AreInOrder-nothing lines first))
 
 -- a run that ended early

@@ -14,15 +14,15 @@ no_part [] later e is = absurd cc
 no_part (one ∷ before) later e is = absurd cc
 
 -- a log without an event starts none
-pub AreReportedOnce-nothing : (log : List Event) (last : State) → log ≡ [] → AreReportedOnce log last
-AreReportedOnce-nothing log last none before later run seq instance input is = absurd (no_part before later _ (sym none ∙ is))
+pub AreReportedOnce-nothing : (first : State) (log : List Event) (last : State) → log ≡ [] → AreReportedOnce first log last
+AreReportedOnce-nothing first log last none before later run seq instance input is = absurd (no_part before later _ (sym none ∙ is))
 
 -- a log that replays from the rows opened reports each once
 pub AreReportedOnce-replayed : (held : Option (List Row)) (instances : List Instance) (began : Bool) (first : State) (log : List Event) (last : State)
-    → IsReplayed held instances began first log last → AreReportedOnce log last
+    → IsReplayed held instances began first log last → AreReportedOnce first log last
 AreReportedOnce-replayed held instances true first log last replayed before later run seq instance input is =
     let from = replayed.opened in
-    let reached = reached-opened from.rows instances first from.opened in
-    reported_once first last before later run seq instance input reached.valid reached.narrow (subst (λ all. Replay first all last) is replayed.replay)
+    let valid = reached-opened from.rows instances first from.opened in
+    reported_once first last before later run seq instance input valid (subst (λ all. Replay first all last) is replayed.replay)
 AreReportedOnce-replayed held instances false first log last unbegun before later run seq instance input is =
     absurd (no_part before later _ (sym unbegun.no_event ∙ is))

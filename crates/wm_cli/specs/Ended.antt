@@ -102,10 +102,11 @@ IsQuietOnDone ended last = ended ≡ status.Done → IsQuiet last
 
 -- ---- the runs
 
--- each run that the log starts is reported once
-abbrev pub AreReportedOnce : List Event → State → Type 0
-AreReportedOnce log last = (before later : List Event) (run seq instance : ℕ) (input : List DataEntry)
-    → log ≡ before ++ event.Start run seq instance input ∷ later → IsReportedOnce run before later last
+-- each run that the log starts from the first state is reported once
+abbrev pub AreReportedOnce : State → List Event → State → Type 0
+AreReportedOnce first log last = (before later : List Event) (run seq instance : ℕ) (input : List DataEntry)
+    → log ≡ before ++ event.Start run seq instance input ∷ later
+    → IsReportedOnce first run before (event.Start run seq instance input) later last
 
 -- ---- the workers
 

@@ -243,7 +243,7 @@ pub fn run<
     // On `Done` nothing is startable and no run is unreturned.
     ensures end { IsQuietOnDone result.status result.last }
     // Each run is reported once: at most, and just once where nothing is left to do in the end.
-    ensures reports { AreReportedOnce result.log result.last }
+    ensures reports { AreReportedOnce result.first result.log result.last }
     // The workers whose class wasn't retired come back.
     ensures hands { AreHandsOf B.kind_of result.began result.last hands.items result.hands.items }
     // Without threads each of them is the one that was given, with what it wrote down.

@@ -1,24 +1,15 @@
 -- An enqueue that is checked, and placed where no check refuses it.
-use Rattle.std.proofs.Common.{◌≡◌, ◌+◌, ◌^◌, ◌≤◌, List, [], length, Option, Some, None, IsSome, refl, sym, ◌∙◌, ap}
-use Rattle.wm_commands.proofs.Outcomes.{some-of}
+use Rattle.std.proofs.Common.{◌≡◌, ◌+◌, ◌^◌, ◌≤◌, List, [], length, Option, Some, None, refl, sym, ◌∙◌, ap}
 use Rattle.wm_commands.specs.Placed.{name_in, placed_by, IsPlacedBy}
 use Rattle.wm_machine.proofs.Enqueues.{passes}
 use Rattle.wm_machine.proofs.Groups.{with_let_go-none}
-use Rattle.wm_machine.specs.Enqueued.{enqueued, made_ready, outcome_by, placing_in, refusal_of, refusal_of_placing, stops_run}
-use Rattle.wm_machine.specs.Outcome.{outcome}
+use Rattle.wm_machine.specs.Enqueued.{enqueued, made_ready, outcome_by, placing_in, refusal_of, refusal_of_placing}
 use Rattle.wm_machine.specs.Plan.{placed_freely, Placing}
-use Rattle.wm_machine.specs.declared.command.Command.TheVariants as command
 use Rattle.wm_machine.specs.declared.command.UniqueName.{UniqueName}
 use Rattle.wm_machine.specs.declared.record.Record.{Record}
 use Rattle.wm_machine.specs.declared.reply.Refusal.{Refusal}
 use Rattle.wm_machine.specs.declared.state.State.{State}
 use Rattle.wm_request.specs.declared.request.Node.{Node}
-use Rattle.wm_request.specs.declared.request.Batch.{Batch}
-
--- an enqueue that has an outcome stops no run
-pub outcome-enqueued : (s : State) (named : Option UniqueName) (batch : Batch) → IsSome (outcome s (command.Enqueue named batch))
-    → outcome s (command.Enqueue named batch) ≡ Some (enqueued s named batch.works)
-outcome-enqueued s named batch some = some-of (stops_run s named batch.works) (enqueued s named batch.works) some
 
 -- where no check refuses a batch it is placed
 pub placed-accepted : (s : State) (named : Option UniqueName) (placing : Placing) (works : List Node) → IsPlacedBy s named placing works

@@ -6,27 +6,33 @@ use Rattle.std.proofs.lemmas.Int.{ints}
 use Rattle.wm_collections.specs.Lists.{AllLater, HasOne, is_among}
 use Rattle.wm_commands.proofs.Clearings.{cleared-in_place, cleared-number, clearing-nodes}
 use Rattle.wm_commands.proofs.Placings.{apart, later-numbers, with_none}
-use Rattle.wm_commands.specs.Cleared.{becomes_cancelled, cancelled_in, cleared, cleared_by, cleared_state, is_touched, replaced_by_clearing, stays}
+use Rattle.wm_commands.specs.Cleared.{becomes_cancelled, cancelled_in, cleared, cleared_by, cleared_state, is_run_among, is_touched, pruning, replaced_by_clearing, stays, stopped_by, with_cleared}
 use Rattle.wm_commands.specs.Placed.{with_placed}
 use Rattle.wm_commands.specs.declared.clearing.Clearing.{Clearing}
 use Rattle.wm_keeper.specs.Keeper.{changed_number, AreOfDifferentNumbers}
 use Rattle.wm_keeper.specs.declared.row.Change.{Change}
 use Rattle.wm_collections.proofs.Lists.{All-append, All-kept, All-map, All-stored, All-weaker, All-with2, AllLater-filter, AllLater-map, none_pass, one_gives}
 use Rattle.wm_machine.proofs.Runnings.{WorksAscend-in_order}
+use Rattle.wm_machine.proofs.Stops.{stopped-among, with_stopped-none}
 use Rattle.wm_machine.specs.Closed.{closed}
 use Rattle.wm_machine.specs.Group.{numbers_in}
 use Rattle.wm_machine.specs.Limits.{FitsRow}
+use Rattle.wm_machine.specs.Runs.{with_stopped}
 use Rattle.wm_machine.specs.Step.{Legal, after}
 use Rattle.wm_machine.specs.Valid.{IsBefore, Valid}
 use Rattle.wm_machine.specs.declared.event.Event.{Event}
 use Rattle.wm_machine.specs.declared.record.Record.{Record}
+use Rattle.wm_machine.specs.declared.state.Instance.{Instance}
+use Rattle.wm_machine.specs.declared.state.Run.{Run}
 use Rattle.wm_machine.specs.declared.state.State.{State}
 use Rattle.wm_machine.specs.declared.record.How.TheVariants as how
 use Rattle.wm_steps.proofs.ManyRows.{replaced-apart, replaced-keep}
 use Rattle.wm_steps.proofs.Nodes.{HasOne-number}
 use Rattle.wm_steps.specs.Replacements.{at_index, replacements}
-use Rattle.wm_steps.specs.StepChanges.{placing, put_replaced, put_work, remove_numbered, HaveNextNumbers, IsStepOf, NameEarlier}
+use Rattle.wm_steps.specs.StepChanges.{instances_by, next_run_by, placing, put_replaced, put_work, remove_numbered, runs_by, HaveNextNumbers, IsStepOf, NameEarlier}
 use Rattle.wm_steps.specs.declared.change.Replacement.{Replacement}
+use Rattle.wm_steps.specs.declared.change.RunChange.{RunChange}
+use Rattle.wm_steps.specs.declared.change.RunChange.TheVariants.{Stop, Unchanged}
 
 -- ---- what holds of those that are replaced
 
@@ -116,6 +122,23 @@ not_true_is : (b : Bool) → not b ≡ true → b ≡ false
 not_true_is true e = absurd (cc)
 not_true_is false e = refl
 
+-- ---- the runs
+
+-- a change of the runs stops those of what is cancelled, and nothing else
+pub record StopsAlone (run : RunChange) (clearing : Clearing) (s : State) : Type 0 where
+  pub runs : runs_by run s.runs ≡ with_stopped (is_run_among clearing.cancelled) s.runs
+  pub instances : instances_by run s.instances ≡ s.instances
+  pub next_run : next_run_by run s.next_run ≡ s.next_run
+
+-- so does the one that stops the current ones of these
+pub StopsAlone-stopped : (clearing : Clearing) (s : State) → Valid s → StopsAlone (Stop (stopped_by clearing.cancelled s.runs)) clearing s
+StopsAlone-stopped clearing s valid =
+    record { runs = stopped-among (is_run_among clearing.cancelled) s.runs valid.runs.apart; instances = refl; next_run = refl }
+
+-- and none, where nothing is cancelled
+pub StopsAlone-none : (removed : List ℕ) (s : State) → StopsAlone Unchanged (pruning removed) s
+StopsAlone-none removed s = record { runs = sym (with_stopped-none s.runs); instances = refl; next_run = refl }
+
 -- ---- the step
 
 module _ (s : State) (clearing : Clearing) (new : List Record) (e : Event) (valid : Valid s) (removed : AreStored s.works clearing.removed)
@@ -145,10 +168,10 @@ module _ (s : State) (clearing : Clearing) (new : List Record) (e : Event) (vali
       (All-map _ put_replaced replaced (λ r is. later-numbers r.work.seq s.next new is.number numbered) given) (All-map _ remove_numbered clearing.removed
       (λ number below. later-numbers number s.next new below numbered) removed-below))
 
-  -- a legal event that clears the records so and places new ones is made by the change that does it
-  pub clearing-step : NameEarlier s.works new → AllByRecursion FitsRow new → s.next + length new ≤ 2 ^ 53 → Legal s e
-      → after s e ≡ with_placed (cleared_state clearing s) new → IsStepOf s (placing replaced clearing.removed new e)
-  clearing-step named fit room legal then = record {
+  -- a legal event that clears the records so and places new ones is made by the change that does it, where this becomes of the runs
+  pub clearing-step : (run : RunChange) → StopsAlone run clearing s → NameEarlier s.works new → AllByRecursion FitsRow new → s.next + length new ≤ 2 ^ 53
+      → Legal s e → after s e ≡ with_placed (cleared_state clearing s) new → IsStepOf s (placing replaced clearing.removed new run e)
+  clearing-step run stops named fit room legal then = record {
     fits = record {
       told = tt;
       replaced = replaced-keep (cleared_by clearing) s.works (clearing-nodes clearing s.works);
@@ -161,11 +184,32 @@ module _ (s : State) (clearing : Clearing) (new : List Record) (e : Event) (vali
       apart = all-apart;
     };
     legal = legal;
-    state = ap (λ (works : List Record). record s { works = works ++ new; next = s.next + length new }) (cleared-in_place clearing s.works) ∙ sym then;
+    state =
+        ap (λ (works : List Record). record s {
+          works = works ++ new;
+          next = s.next + length new;
+          runs = runs_by run s.runs;
+          instances = instances_by run s.instances;
+          next_run = next_run_by run s.next_run;
+        }) (cleared-in_place clearing s.works) ∙ stopped_alone run stops ∙ sym then;
   }
+    where
+      stopped_alone : (run : RunChange) → StopsAlone run clearing s → record s {
+        works = with_cleared clearing s.works ++ new;
+        next = s.next + length new;
+        runs = runs_by run s.runs;
+        instances = instances_by run s.instances;
+        next_run = next_run_by run s.next_run;
+      } ≡ with_placed (cleared_state clearing s) new
+      stopped_alone run stops =
+          let t = with_placed (cleared_state clearing s) new in
+          ap (λ (runs : List Run). record t { runs = runs; instances = instances_by run s.instances; next_run = next_run_by run s.next_run }) stops.runs
+          ∙ ap (λ (instances : List Instance). record t { instances = instances; next_run = next_run_by run s.next_run }) stops.instances
+          ∙ ap (λ next. record t { next_run = next }) stops.next_run
 
 -- and one that places none
-pub clearing_alone-step : (s : State) (clearing : Clearing) (e : Event) → Valid s → AreStored s.works clearing.removed → Legal s e
-    → after s e ≡ cleared_state clearing s → IsStepOf s (placing (replaced_by_clearing clearing s.works) clearing.removed [] e)
-clearing_alone-step s clearing e valid removed legal then =
-    clearing-step s clearing [] e valid removed tt tt tt (omega (arith, valid.works.fits)) legal (then ∙ sym (with_none (cleared_state clearing s)))
+pub clearing_alone-step : (s : State) (clearing : Clearing) (run : RunChange) (e : Event) → Valid s → AreStored s.works clearing.removed
+    → StopsAlone run clearing s → Legal s e → after s e ≡ cleared_state clearing s
+    → IsStepOf s (placing (replaced_by_clearing clearing s.works) clearing.removed [] run e)
+clearing_alone-step s clearing run e valid removed stops legal then =
+    clearing-step s clearing [] e valid removed tt run stops tt tt (omega (arith, valid.works.fits)) legal (then ∙ sym (with_none (cleared_state clearing s)))

@@ -1,24 +1,31 @@
 -- Works that are cancelled one after another, and others that are let go then: what becomes of each record, and the change that makes it so.
-use Rattle.std.proofs.Common.{◌≡◌, ◌&&◌, ◌||◌, ℕ, ◌+◌, Bool, true, false, not, cond, eqb, List, [], ◌∷◌, length, map, filter, Option, Some, None, refl, sym, ◌∙◌, ap, arith}
-use Rattle.std.specs.List.{list_any}
+use Rattle.std.proofs.Common.{◌≡◌, ◌&&◌, ◌||◌, ℕ, ◌+◌, Bool, true, false, not, cond, eqb, List, [], ◌∷◌, length, map, filter, Option, Some, None, refl, sym, ◌∙◌, ap, arith, inl, inr}
+use Rattle.std.specs.List.{AllByRecursion, list_any}
 use Rattle.std.specs.Prelude.{reverse}
-use Rattle.std.proofs.lemmas.Bool.{and_parts, and_right, cond_both, or_parts}
+use Rattle.std.proofs.lemmas.Bool.{and_from, and_parts, and_right, cases_Bool, cond_both, eq-eqb, or_parts}
 use Rattle.std.proofs.lemmas.Simd.{map-map}
-use Rattle.wm_collections.specs.Lists.{AllLater, is_among}
-use Rattle.wm_commands.specs.Cleared.{becomes_cancelled, cancelled_in, cancelling, cleared, cleared_by, clearing_of, is_needed_then, is_removed, is_touched, phase_then, pruning, replaced_by_clearing, stays, with_cleared}
+use Rattle.wm_collections.specs.Lists.{AllLater, HasOne, is_among}
+use Rattle.wm_commands.specs.Cleared.{becomes_cancelled, cancelled_in, cancelling, cleared, cleared_by, cleared_state, clearing_of, is_needed_then, is_removed, is_run_among, is_touched, phase_then, pruning, replaced_by_clearing, stays, with_cleared}
 use Rattle.wm_commands.specs.declared.clearing.Clearing.{Clearing}
-use Rattle.wm_machine.proofs.Groups.{closed_by, each_closed-at_once}
-use Rattle.wm_collections.proofs.Lists.{All-any, All-weaker, filter-all, filter-none, filter-same, list_any-agree, list_any-false, list_any_after, map-same}
+use Rattle.wm_machine.proofs.Closings.{not_run_reached}
+use Rattle.wm_machine.proofs.Groups.{closed_by, is_any_run_reached, works_closed-is}
+use Rattle.wm_collections.proofs.Lists.{All-any, All-stored, All-weaker, filter-all, filter-none, filter-same, list_any-agree, list_any-false, list_any-stored, list_any_after, map-same, one_gives}
 use Rattle.wm_graph.specs.Descendants.{descendants}
 use Rattle.wm_graph.specs.Nodes.{NodeFields}
-use Rattle.wm_machine.proofs.Runnings.{WorksAscend-in_order}
-use Rattle.wm_machine.specs.Closed.{closed, is_open, is_reached, with_each_closed}
+use Rattle.wm_machine.proofs.Runnings.{IsAlone, IsAlone-stored, WorksAscend-in_order}
+use Rattle.wm_machine.proofs.Stops.{stopped-idle, stopped_in}
+use Rattle.wm_machine.specs.Closed.{closed, is_open, is_reached, is_run_reached, with_works_closed}
+use Rattle.wm_machine.specs.Enqueued.{made_ready}
 use Rattle.wm_machine.specs.Group.{is_dropped, numbers_in, unnamed, with_let_go}
+use Rattle.wm_machine.specs.Plan.{Placing}
 use Rattle.wm_machine.specs.Pruned.{is_needed, removable}
-use Rattle.wm_machine.specs.Valid.{IsBefore}
+use Rattle.wm_machine.specs.Runs.{stopped, with_stopped}
+use Rattle.wm_machine.specs.Valid.{IsBefore, IsWorkOf, Valid}
 use Rattle.wm_machine.specs.declared.record.How.TheVariants as how
 use Rattle.wm_machine.specs.declared.record.Phase.TheVariants as phase
 use Rattle.wm_machine.specs.declared.record.Record.{Record}
+use Rattle.wm_machine.specs.declared.state.Run.{Run}
+use Rattle.wm_machine.specs.declared.state.State.{State}
 use Rattle.wm_steps.proofs.ManyRows.{after_change, replaced-all, KeepNodes}
 use Rattle.wm_steps.proofs.Nodes.{open_not_succeeded}
 use Rattle.wm_steps.proofs.ReachedNodes.{reached_any-test}
@@ -36,11 +43,48 @@ pub any_reached : (seqs : List ℕ) (works : List Record) (work : Record)
 any_reached seqs works work = sym (reached_any-test seqs works work)
 
 -- so each is cancelled at once
-pub cancelled-each : (seqs : List ℕ) (works : List Record)
-    → with_each_closed how.Cancelled seqs works ≡ map (cancelled_in (reached_from seqs (nodes_of works))) works
+cancelled-each : (seqs : List ℕ) (works : List Record)
+    → map (closed_by how.Cancelled seqs works) works ≡ map (cancelled_in (reached_from seqs (nodes_of works))) works
 cancelled-each seqs works =
-    each_closed-at_once how.Cancelled seqs works ∙ map-same (closed_by how.Cancelled seqs works) (cancelled_in (reached_from seqs (nodes_of works))) works
+    map-same (closed_by how.Cancelled seqs works) (cancelled_in (reached_from seqs (nodes_of works))) works
     (All-any works (λ work. ap (λ b. cond b (closed how.Cancelled work) work) (any_reached seqs works work)))
+
+-- ---- the runs that are stopped
+
+-- a current run is of a record that is reached exactly where its work is among those that are found
+current_reached : (seqs : List ℕ) (works : List Record) (run : Run) (work : Record) → HasOne (λ other. other ≡ work) works
+    → AllByRecursion (IsAlone work) works → IsWorkOf run work
+    → is_any_run_reached seqs works run ≡ is_run_among (reached_from seqs (nodes_of works)) run
+current_reached seqs works run work stored alone of =
+    let found = reached_from seqs (nodes_of works) in
+    list_any-agree (λ seq. is_run_reached seq works run) (λ seq. is_reached seq works work) seqs (All-any seqs (λ seq. elim (cases_Bool (is_reached seq works work)) [
+      | inl e ↦
+          list_any-stored (λ other. eqb other.seq run.seq && is_reached seq works other) works work stored
+          (and_from _ _ (eq-eqb work.seq run.seq of.seq) e) ∙ sym e
+      | inr e ↦ not_run_reached seq works work run alone e (sym of.seq) ∙ sym e
+    ])) ∙ any_reached seqs works work
+    ∙ ap (λ b. b && is_among found work.seq) (ap is_open of.running) ∙ ap (is_among found) of.seq
+
+-- so the runs of these are stopped
+pub stopped-each : (seqs : List ℕ) (s : State) → Valid s
+    → with_stopped (is_any_run_reached seqs s.works) s.runs ≡ with_stopped (is_run_among (reached_from seqs (nodes_of s.works))) s.runs
+stopped-each seqs s valid =
+    let any = is_any_run_reached seqs s.works in
+    let among = is_run_among (reached_from seqs (nodes_of s.works)) in
+    map-same (stopped_in any) (stopped_in among) s.runs (All-weaker s.runs (λ run fine. elim (cases_Bool run.current) [
+      | inl current ↦
+          one_gives s.works (λ work there of. ap (λ b. cond b (stopped run) run) (current_reached seqs s.works run work there
+          (IsAlone-stored work s.works valid.works.in_order there) of)) (All-stored s.works) (fine.work current)
+      | inr idle ↦ stopped-idle (any run) run idle ∙ sym (stopped-idle (among run) run idle)
+    ]) valid.runs.each)
+
+-- the state once works are cancelled one after another
+pub cancelled-state : (seqs : List ℕ) (s : State) → Valid s → let found = reached_from seqs (nodes_of s.works) in
+    with_works_closed how.Cancelled seqs s ≡ record s { works = map (cancelled_in found) s.works; runs = with_stopped (is_run_among found) s.runs }
+cancelled-state seqs s valid =
+    works_closed-is how.Cancelled seqs s
+    ∙ ap (λ (works : List Record). record s { works = works; runs = with_stopped (is_any_run_reached seqs s.works) s.runs }) (cancelled-each seqs s.works)
+    ∙ ap (λ (runs : List Run). record s { works = map (cancelled_in (reached_from seqs (nodes_of s.works))) s.works; runs = runs }) (stopped-each seqs s valid)
 
 -- ---- what a cancelling leaves of a record
 
@@ -145,17 +189,26 @@ none-cleared clearing works no_cancel no_unnamed =
 
 -- ---- the records made ready
 
--- cancelling these works one after another and letting go others is what becomes of each record by itself
-pub made_ready-cleared : (works : List Record) (cancel let_go : List ℕ) → AllLater IsBefore works
-    → with_let_go let_go (with_each_closed how.Cancelled cancel works) ≡ with_cleared (clearing_of works cancel let_go) works
-made_ready-cleared works cancel let_go order =
+-- letting go others once these are cancelled is what becomes of each record by itself
+let_go-cleared : (works : List Record) (cancel let_go : List ℕ) → AllLater IsBefore works
+    → with_let_go let_go (map (cancelled_in (reached_from cancel (nodes_of works))) works) ≡ with_cleared (clearing_of works cancel let_go) works
+let_go-cleared works cancel let_go order =
     let cancelled = reached_from cancel (nodes_of works) in
     let change = cancelled_in cancelled in
     let gone = is_dropped let_go (map change works) in
-    ap (with_let_go let_go) (cancelled-each cancel works) ∙ ap (map (unnamed let_go)) (filter-map (λ work. not (gone work)) change works)
+    ap (map (unnamed let_go)) (filter-map (λ work. not (gone work)) change works)
     ∙ map-map (unnamed let_go) change (filter (λ work. not (gone (change work))) works) ∙ ap (map (λ work. unnamed let_go (change work)))
     (filter-same (λ work. not (gone (change work))) (λ work. not (is_removed cancelled let_go works work)) works (All-any works
     (λ work. ap not (dropped-then cancelled let_go works work))) ∙ sym (stays-passing (is_removed cancelled let_go works) works order))
+
+-- and so is a state made ready
+pub made_ready-cleared : (s : State) (placing : Placing) → Valid s
+    → made_ready s placing ≡ cleared_state (clearing_of s.works placing.cancel placing.let_go) s
+made_ready-cleared s placing valid =
+    let found = reached_from placing.cancel (nodes_of s.works) in
+    ap (λ (t : State). record t { works = with_let_go placing.let_go t.works }) (cancelled-state placing.cancel s valid)
+    ∙ ap (λ (works : List Record). record s { works = works; runs = with_stopped (is_run_among found) s.runs })
+    (let_go-cleared s.works placing.cancel placing.let_go valid.works.in_order)
 
 -- ---- the change
 

@@ -2,13 +2,12 @@
 use Rattle.std.proofs.Common.{◌≡◌, ◌≢◌, ℕ, ◌≤◌, pos, true, List, [], ◌∷◌, ◌++◌, length, map, Option, Some, None, refl, sym, ◌∙◌, ap, subst, arith, inl}
 use Rattle.std.specs.List.{AllByRecursion}
 use Rattle.std.proofs.lemmas.Int.{ints}
-use Rattle.wm_commands.proofs.CheckedBatches.{outcome-enqueued}
-use Rattle.wm_commands.proofs.ClearingSteps.{clearing-step, passing-stored}
+use Rattle.wm_commands.proofs.ClearingSteps.{clearing-step, passing-stored, StopsAlone-stopped}
 use Rattle.wm_commands.proofs.Clearings.{made_ready-cleared}
-use Rattle.wm_commands.proofs.Executions.{Answers-outcome}
+use Rattle.wm_settings.proofs.Executions.{Answers-outcome}
 use Rattle.wm_commands.proofs.Placings.{as_many, named-earlier, numbered, placed-with, seqs-new, there-cleared}
-use Rattle.wm_commands.specs.Builds.{ChangesRows, IsExecuted}
-use Rattle.wm_commands.specs.Cleared.{cleared_state, clearing_of, is_removed, replaced_by_clearing, with_cleared}
+use Rattle.wm_settings.specs.Builds.{ChangesRows, IsExecuted}
+use Rattle.wm_commands.specs.Cleared.{cleared_state, clearing_of, is_removed, replaced_by_clearing, stopped_by, with_cleared}
 use Rattle.wm_commands.specs.Placed.{name_in, placed_records, with_placed}
 use Rattle.wm_commands.specs.declared.clearing.Clearing.{Clearing}
 use Rattle.wm_collections.proofs.Lists.{All-back, All-map, All-unmap, All-weaker}
@@ -19,7 +18,6 @@ use Rattle.wm_machine.specs.declared.record.Record.{Record}
 use Rattle.wm_machine.specs.declared.state.State.{State}
 use Rattle.wm_machine.proofs.Steps.{Valid-after}
 use Rattle.wm_machine.specs.Enqueued.{enqueued, made_ready, placing_in}
-use Rattle.wm_machine.specs.Narrow.{IsReached}
 use Rattle.wm_machine.specs.Outcome.{outcome, IsAskable, IsLegalLine}
 use Rattle.wm_machine.specs.Plan.{Placing}
 use Rattle.wm_machine.specs.Replied.{Outcome}
@@ -32,6 +30,7 @@ use Rattle.wm_machine.specs.declared.reply.Reply.TheVariants as reply
 use Rattle.wm_request.specs.declared.request.Batch.{Batch}
 use Rattle.wm_steps.specs.Nodes.{is_there}
 use Rattle.wm_steps.specs.StepChanges.{placing, seqs_of, HaveNextNumbers, NameEarlier}
+use Rattle.wm_steps.specs.declared.change.RunChange.TheVariants.{Stop}
 
 -- ---- rows
 
@@ -47,13 +46,10 @@ not_empty (Some unique) batch asked = let some = asked.asked.batch.not_empty in 
 
 -- ---- the step
 
-module _ (s : State) (line : ℕ) (named : Option UniqueName) (batch : Batch) (by : Placing) (reached : IsReached s)
+module _ (s : State) (line : ℕ) (named : Option UniqueName) (batch : Batch) (by : Placing) (valid : Valid s)
     (can : IsLegalLine s (command.Enqueue named batch))
     (places : enqueued s named batch.works ≡ placing_in (made_ready s by) (name_in named) by.after batch.works)
     (after_there : AllByRecursion (λ number. is_there s.works number ≡ true) by.after) where
-  valid : Valid s
-  valid = reached.valid
-
   abbrev clearing : Clearing
   clearing = clearing_of s.works by.cancel by.let_go
 
@@ -67,12 +63,11 @@ module _ (s : State) (line : ℕ) (named : Option UniqueName) (batch : Batch) (b
   enqueue_event = event.Command line (command.Enqueue named batch) (reply.Enqueued (seqs_of new))
 
   ready : made_ready s by ≡ cleared_s
-  ready = ap (λ (works : List Record). record s { works = works }) (made_ready-cleared s.works by.cancel by.let_go valid.works.in_order)
+  ready = made_ready-cleared s by valid
 
   outcome-is : outcome s (command.Enqueue named batch) ≡ Some (placing_in cleared_s (name_in named) by.after batch.works)
   outcome-is =
-      outcome-enqueued s named batch can.answered
-      ∙ ap (λ (o : Outcome). Some o) (places ∙ ap (λ (t : State). placing_in t (name_in named) by.after batch.works) ready)
+      ap (λ (o : Outcome). Some o) (places ∙ ap (λ (t : State). placing_in t (name_in named) by.after batch.works) ready)
 
   after-is : after s enqueue_event ≡ with_placed cleared_s new
   after-is = ap (state_by s) outcome-is ∙ placed-with cleared_s (name_in named) by.after batch.works
@@ -85,7 +80,7 @@ module _ (s : State) (line : ℕ) (named : Option UniqueName) (batch : Batch) (b
   )
 
   valid_after : Valid (with_placed cleared_s new)
-  valid_after = subst Valid after-is (Valid-after s enqueue_event valid reached.narrow legal)
+  valid_after = subst Valid after-is (Valid-after s enqueue_event valid legal)
 
   -- the new records are at the end
   new-numbered : HaveNextNumbers s.next new
@@ -111,14 +106,15 @@ module _ (s : State) (line : ℕ) (named : Option UniqueName) (batch : Batch) (b
 
   -- a batch is placed
   pub placement-executed : IsExecuted s line (command.Enqueue named batch) (record {
-    change = placing (replaced_by_clearing clearing s.works) clearing.removed new enqueue_event;
+    change = placing (replaced_by_clearing clearing s.works) clearing.removed new (Stop (stopped_by clearing.cancelled s.runs)) enqueue_event;
     reply = reply.Enqueued (seqs_of new);
   })
   placement-executed = record {
     event = refl;
     step =
         clearing-step s clearing new enqueue_event valid
-        (passing-stored (is_removed clearing.cancelled by.let_go s.works) s.works valid.works.in_order) new-numbered new-named
+        (passing-stored (is_removed clearing.cancelled by.let_go s.works) s.works valid.works.in_order) new-numbered
+        (Stop (stopped_by clearing.cancelled s.runs)) (StopsAlone-stopped clearing s valid) new-named
         (All-weaker new (λ work is. is.fits) new-records) valid_after.works.fits legal after-is;
     rows = inl more_rows;
   }

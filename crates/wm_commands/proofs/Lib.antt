@@ -2,9 +2,7 @@ pub mod CheckedBatches
 pub mod Clearings
 pub mod ClearingSteps
 pub mod Enqueueing
-pub mod Executions
 pub mod MemberUpdates
 pub mod NamedPlans
 pub mod Placings
 pub mod Updating
-pub mod Outcomes

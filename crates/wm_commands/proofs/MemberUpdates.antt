@@ -4,12 +4,12 @@ use Rattle.std.specs.List.{AllByRecursion, list_any}
 use Rattle.std.specs.Prelude.{option_map, IsSomeAnd}
 use Rattle.std.proofs.lemmas.Bool.{cond_both, ltb-false, or_parts}
 use Rattle.wm_collections.specs.Lists.{AllLater, HasOne}
-use Rattle.wm_commands.proofs.CheckedBatches.{outcome-enqueued}
 use Rattle.wm_commands.proofs.NamedPlans.{group-members, updated-outcome}
 use Rattle.wm_commands.proofs.Updating.{updating-executed}
-use Rattle.wm_commands.specs.Builds.{IsExecuted, IsUpdating}
+use Rattle.wm_commands.specs.Builds.{IsUpdating}
+use Rattle.wm_settings.specs.Builds.{IsExecuted}
 use Rattle.wm_commands.specs.Planned.{kind_refused_in}
-use Rattle.wm_commands.specs.declared.executed.Executed.{Executed}
+use Rattle.wm_settings.specs.declared.executed.Executed.{Executed}
 use Rattle.wm_collections.proofs.Lists.{find-stored, one_gives}
 use Rattle.wm_machine.proofs.Names.{alone_periodic, both_periodic, id_mismatched-none}
 use Rattle.wm_machine.specs.Enqueued.{plan_in}
@@ -156,8 +156,7 @@ module _ (s : State) (line : ℕ) (unique : UniqueName) (batch : Batch) (number 
       let member = member-is.member in
       updating-executed s line (command.Enqueue (Some unique) batch) index member node.request executed valid (at ∙ ap (λ (w : Record). Some w) itself)
       (subst (AllByRecursion (λ n. IsRequest n.request)) is can.askable.asked.requests).0 (member-is.kind node later is) can.askable
-      (outcome-enqueued s (Some unique) batch can.answered
-      ∙ ap (λ (o : Outcome). Some o) (updated-outcome s unique batch.works member node later is member-is.planned fits))
+      (ap (λ (o : Outcome). Some o) (updated-outcome s unique batch.works member node later is member-is.planned fits))
       (subst (λ w. IsUpdating line (command.Enqueue (Some unique) batch) index w node.request executed) itself
       (subst (λ r. IsUpdating line (command.Enqueue (Some unique) batch) index work r executed) first updating))
 

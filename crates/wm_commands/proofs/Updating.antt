@@ -1,9 +1,10 @@
 -- The step of an update: the record that has the request's id is replaced.
 use Rattle.std.proofs.Common.{◌≡◌, ◌≢◌, ℕ, true, cond, eqb, slice_get, Some, refl, sym, ◌∙◌, ap, subst, inl, inr}
 use Rattle.std.proofs.lemmas.Bool.{cond-true, eq-eqb}
-use Rattle.wm_commands.proofs.Executions.{Answers-outcome, rows-change}
-use Rattle.wm_commands.specs.Builds.{ChangesRows, IsExecuted, IsUpdating}
-use Rattle.wm_commands.specs.declared.executed.Executed.{Executed}
+use Rattle.wm_settings.proofs.Executions.{Answers-outcome, rows-change}
+use Rattle.wm_commands.specs.Builds.{IsUpdating}
+use Rattle.wm_settings.specs.Builds.{ChangesRows, IsExecuted}
+use Rattle.wm_settings.specs.declared.executed.Executed.{Executed}
 use Rattle.wm_machine.proofs.Records.{IsRecord-updated}
 use Rattle.wm_machine.proofs.Runnings.{changed}
 use Rattle.wm_machine.specs.Cancelled.{work_with_id}

@@ -5,10 +5,12 @@ use Rattle.wm_collections.specs.Lists.{is_among}
 use Rattle.wm_commands.specs.declared.clearing.Clearing.{Clearing}
 use Rattle.wm_machine.specs.Closed.{closed, is_open}
 use Rattle.wm_machine.specs.Group.{numbers_in, unnamed}
+use Rattle.wm_machine.specs.Runs.{with_stopped}
 use Rattle.wm_machine.specs.declared.record.How.TheVariants as how
 use Rattle.wm_machine.specs.declared.record.Phase.{Phase}
 use Rattle.wm_machine.specs.declared.record.Phase.TheVariants as phase
 use Rattle.wm_machine.specs.declared.record.Record.{Record}
+use Rattle.wm_machine.specs.declared.state.Run.{Run}
 use Rattle.wm_machine.specs.declared.state.State.{State}
 use Rattle.wm_steps.specs.Nodes.{nodes_of, reached_from}
 use Rattle.wm_steps.specs.Replacements.{replacements}
@@ -72,8 +74,18 @@ stays removed work = not (is_among removed work.seq)
 abbrev pub with_cleared : Clearing → List Record → List Record
 with_cleared clearing works = map (cleared clearing) (filter (stays clearing.removed) works)
 
+-- whether a run is of a work among these
+abbrev pub is_run_among : List ℕ → Run → Bool
+is_run_among seqs run = is_among seqs run.seq
+
+-- the numbers of the current runs of what is cancelled
+abbrev pub stopped_by : List ℕ → List Run → List ℕ
+stopped_by cancelled runs = map (λ run. run.run) (filter (λ run. run.current && is_run_among cancelled run) runs)
+
+-- the state then: the runs of what is cancelled are stopped
 abbrev pub cleared_state : Clearing → State → State
-cleared_state clearing s = record s { works = with_cleared clearing s.works }
+cleared_state clearing s =
+    record s { works = with_cleared clearing s.works; runs = with_stopped (is_run_among clearing.cancelled) s.runs }
 
 -- whether a record is another one then
 abbrev pub is_touched : Clearing → Record → Bool

@@ -1,6 +1,6 @@
 -- The records of new works, and the state with them.
 use Rattle.std.specs.Prelude.{◌≡◌, ℕ, ◌+◌, ◌&&◌, Bool, List, [], ◌∷◌, ◌++◌, length, Option, Some, None}
-use Rattle.wm_commands.specs.Cleared.{cleared_state, clearing_of, phase_then, replaced_by_clearing, stays}
+use Rattle.wm_commands.specs.Cleared.{cleared_state, clearing_of, phase_then, replaced_by_clearing, stays, stopped_by}
 use Rattle.wm_commands.specs.declared.clearing.Clearing.{Clearing}
 use Rattle.wm_commands.specs.declared.placement.Placement.{Placement}
 use Rattle.wm_machine.specs.Enqueued.{enqueued, is_cancelled, is_failed, made_ready, new_record, placing_in, prior_of, refusal_of_placing, with_work}
@@ -54,6 +54,7 @@ placement_in s name after clearing works = record {
   replaced = replaced_by_clearing clearing s.works;
   removed = clearing.removed;
   placed = placed_records (cleared_state clearing s) name after works;
+  stopped = stopped_by clearing.cancelled s.runs;
 }
 
 -- and where works are cancelled before and others let go

@@ -1,17 +1,17 @@
 //! Works are cancelled, each with its unfinished descendants: the one with an id, those with a tag
 //! or of a unique name, or all.
-ghost use Rattle.std.specs.Prelude.{◌≡◌, IfOk};
-ghost use Rattle.wm_commands.specs.Builds.{IsExecuted};
+ghost use Rattle.std.specs.Prelude.{◌≡◌, IfOk, Some};
+ghost use Rattle.wm_settings.specs.Builds.{IsExecuted};
 ghost use Rattle.wm_machine.specs.Cancelled.{cancelled_each, is_cancellable, is_for, is_stored, targeted};
-ghost use Rattle.wm_machine.specs.Outcome.{outcome, IsLegalLine};
+ghost use Rattle.wm_machine.specs.Outcome.{outcome};
 
-use crate::clearing::{cancelling, reached_from, replaced_by_clearing};
-use crate::executed::{Executed, event_of};
+use crate::clearing::{cancelling, reached_from, replaced_by_clearing, stopped_by};
 use std::alloc::{AllocError, Global};
 use uuid::Uuid;
 use wm_collections::Items;
 use wm_machine::{Command, Record, Refusal, Reply, Target};
 use wm_query::{has_tag, is_name};
+use wm_settings::{Executed, event_of};
 use wm_steps::{RunChange, StepChange, View};
 
 /// What a cancel comes to.
@@ -21,7 +21,6 @@ pub fn execute(
     line: u32,
     target: Target,
 ) -> Result<Executed, AllocError>
-    requires legal { IsLegalLine view.now (Command.Cancel target) }
     ensures { IfOk result (IsExecuted view.entry.now line (Command.Cancel target)) }
 {
     match target {
@@ -34,7 +33,6 @@ pub fn execute(
 
 /// What the cancelling of the work with this id comes to.
 fn cancel_id(alloc: Global, view: &View, line: u32, id: Uuid) -> Result<Executed, AllocError>
-    requires legal { IsLegalLine view.now (Command.Cancel (Target.Id id)) }
     ensures { IfOk result (IsExecuted view.entry.now line (Command.Cancel (Target.Id id))) }
 {
     if is_stored(view.state.works.as_slice(), id) {
@@ -46,25 +44,30 @@ fn cancel_id(alloc: Global, view: &View, line: u32, id: Uuid) -> Result<Executed
     }
 }
 
-/// Cancels the unfinished works that a target is for, which stops no run.
+/// Cancels the unfinished works that a target is for, each with its unfinished descendants, which
+/// stops their runs.
 fn cancel_each(
     alloc: Global,
     view: &View,
     line: u32,
     target: Target,
 ) -> Result<Executed, AllocError>
-    requires legal { IsLegalLine view.now (Command.Cancel target) }
     requires accepted { outcome view.now (Command.Cancel target)
-        ≡ cancelled_each view.now (targeted target view.now.works) }
+        ≡ Some (cancelled_each view.now (targeted target view.now.works)) }
     ensures { IfOk result (IsExecuted view.entry.now line (Command.Cancel target)) }
 {
     let works = view.state.works.as_slice();
     let seqs = targeted(alloc, works, &target)?;
     let cleared = cancelling(alloc, reached_from(view, seqs.as_slice())?);
     let replaced = replaced_by_clearing(alloc, works, &cleared)?;
+    let stopped = stopped_by(
+        alloc,
+        view.state.runs.as_slice(),
+        cleared.cancelled.as_slice(),
+    )?;
     let count = replaced.len() as u64;
     let event = event_of(line, Command::Cancel(target), Reply::Cancelled(count));
-    let change = StepChange::replacing_all(alloc, replaced, RunChange::Unchanged, event);
+    let change = StepChange::replacing_all(alloc, replaced, RunChange::Stop(stopped), event);
     let reply = Reply::Cancelled(count);
     Ok(Executed { change, reply })
 }

@@ -1,18 +1,18 @@
 //! A batch is checked, and placed where no check refuses it.
 ghost use Rattle.std.specs.Prelude.{◌≡◌, true, IfOk};
 ghost use Rattle.std.specs.List.{AllByRecursion};
-ghost use Rattle.wm_commands.specs.Builds.{IsExecuted};
+ghost use Rattle.wm_settings.specs.Builds.{IsExecuted};
 ghost use Rattle.wm_commands.specs.Placed.{IsPlacedBy};
 ghost use Rattle.wm_machine.specs.Outcome.{IsLegalLine};
 ghost use Rattle.wm_machine.specs.Enqueued.{refusal_of_placing};
 ghost use Rattle.wm_steps.specs.Nodes.{is_there};
 ghost use Rattle.wm_unique.specs.Plans.{placing_by};
 
-use crate::executed::Executed;
 use crate::placement::place;
 use std::alloc::{AllocError, Global};
 use wm_machine::{Command, Refusal, Reply, UniqueName};
 use wm_request::Batch;
+use wm_settings::Executed;
 use wm_steps::{View, both};
 use wm_unique::{GroupPlan, check, named_by};
 

@@ -5,7 +5,7 @@
 //! made: the others are seen through a [`Clearing`].
 ghost use Rattle.std.specs.Prelude.{◌≡◌, ◌&&◌, IfOk};
 ghost use Rattle.wm_collections.specs.Lists.{is_among};
-ghost use Rattle.wm_commands.specs.Cleared.{becomes_cancelled, cancelled_in, cancelling, cleared, clearing_of, is_needed_then, is_removed, is_touched, phase_then, removed_by, replaced_by_clearing, stays};
+ghost use Rattle.wm_commands.specs.Cleared.{becomes_cancelled, cancelled_in, cancelling, cleared, clearing_of, is_needed_then, is_removed, is_run_among, is_touched, phase_then, removed_by, replaced_by_clearing, stays, stopped_by};
 ghost use Rattle.wm_machine.specs.Closed.{is_open};
 ghost use Rattle.wm_machine.specs.Group.{unnamed};
 ghost use Rattle.wm_steps.specs.Nodes.{nodes_of, reached_from};
@@ -13,7 +13,7 @@ ghost use Rattle.wm_steps.specs.Nodes.{nodes_of, reached_from};
 use std::alloc::{AllocError, Global};
 use wm_collections::{Items, Replica, is_among};
 use wm_lifecycle::closed;
-use wm_machine::{How, Phase, Record};
+use wm_machine::{How, Phase, Record, Run};
 use wm_steps::{Replacement, View};
 
 /// Which records change where works are cancelled and others are let go, by their numbers.
@@ -68,6 +68,27 @@ pub fn reached_from(view: &View, seqs: &[u64]) -> Result<Items<u64>, AllocError>
     ensures { IfOk result (λ numbers. numbers ≡ reached_from seqs.now (nodes_of view.entry.now.works)) }
 {
     Ok(Items::from_vec(view.graph.descendants_of(seqs)?))
+}
+
+/// The numbers of the current runs whose works are cancelled, where those of these numbers are that
+/// are unfinished.
+pub fn stopped_by(alloc: Global, runs: &[Run], cancelled: &[u64]) -> Result<Items<u64>, AllocError>
+    ensures { IfOk result (λ numbers. numbers ≡ stopped_by cancelled.now runs.now) }
+{
+    let mut numbers = Items::new(alloc);
+    for run in runs {
+        if is_stopped(cancelled, run) {
+            numbers.push(run.run)?;
+        }
+    }
+    Ok(numbers)
+}
+
+/// Whether a run is current, and its work is cancelled.
+fn is_stopped(cancelled: &[u64], run: &Run) -> bool
+    ensures { result ≡ (run.now.current && is_run_among cancelled.now run.now) }
+{
+    run.current && is_among(cancelled, run.seq)
 }
 
 /// Whether a record becomes cancelled.

@@ -1,14 +1,14 @@
 //! A batch is checked, and its works are placed.
 ghost use Rattle.std.specs.Prelude.{IfOk};
-ghost use Rattle.wm_commands.specs.Builds.{IsExecuted};
+ghost use Rattle.wm_settings.specs.Builds.{IsExecuted};
 ghost use Rattle.wm_machine.specs.Outcome.{IsLegalLine};
 
 use crate::checking::check_and_place;
-use crate::executed::Executed;
 use crate::naming;
 use std::alloc::{AllocError, Global};
 use wm_machine::{Command, UniqueName};
 use wm_request::Batch;
+use wm_settings::Executed;
 use wm_steps::View;
 use wm_unique::GroupPlan;
 

@@ -1,11 +1,11 @@
 //! What each command comes to: the change of its step, built from a view of the state, and its reply.
-//! A command has a file of its own.
+//! A command that changes works has a file of its own; the others stand in wm_settings.
 //!
 //! [`execute`] asks them. Nothing here changes a state.
 #![tactic(auto)]
 
 ghost use Rattle.std.specs.Prelude.{IfOk};
-ghost use Rattle.wm_commands.specs.Builds.{IsExecuted};
+ghost use Rattle.wm_settings.specs.Builds.{IsExecuted};
 ghost use Rattle.wm_machine.specs.Outcome.{IsLegalLine};
 
 mod cancel;
@@ -13,25 +13,17 @@ mod checking;
 mod clearing;
 mod conditions;
 mod enqueue;
-pub mod executed;
-mod faulty;
-mod hush;
 mod member;
-mod moment;
 mod naming;
-mod observe;
 mod placement;
 mod placing;
 mod prune;
-mod query;
-mod retire;
-mod settle;
-mod summary;
 mod update;
 
-pub use executed::Executed;
 use std::alloc::{AllocError, Global};
 use wm_machine::Command;
+pub use wm_settings::Executed;
+use wm_settings::{faulty, hush, moment, observe, query, retire, settle, summary};
 use wm_steps::View;
 
 /// What the command of a line comes to in the state of a view.

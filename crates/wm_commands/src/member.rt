@@ -1,6 +1,6 @@
 //! The work of a unique name is updated, where its policy says so.
-ghost use Rattle.std.specs.Prelude.{◌≡◌, ◌<◌, ◌≤◌, [], length, slice_get, Some, None, IfOk, IsSomeAnd};
-ghost use Rattle.wm_commands.specs.Builds.{IsExecuted};
+ghost use Rattle.std.specs.Prelude.{◌≡◌, ◌<◌, ◌≤◌, length, slice_get, Some, None, IfOk, IsSomeAnd};
+ghost use Rattle.wm_settings.specs.Builds.{IsExecuted};
 ghost use Rattle.wm_commands.specs.Planned.{kind_refused_in};
 ghost use Rattle.wm_machine.specs.Outcome.{IsLegalLine};
 ghost use Rattle.wm_machine.specs.Enqueued.{plan_in};
@@ -8,12 +8,12 @@ ghost use Rattle.wm_machine.specs.Input.{work_numbered};
 ghost use Rattle.wm_machine.specs.Plan.{first_of_batch};
 ghost use Rattle.wm_unique.specs.Plans.{plan_fields};
 
-use crate::executed::Executed;
 use crate::update::update_of;
 use std::alloc::{AllocError, Global};
 use wm_collections::Replica;
 use wm_machine::{Command, UniqueName, index_numbered};
 use wm_request::{Batch, Node, Request};
+use wm_settings::Executed;
 use wm_steps::{View, at, both};
 
 /// Updates the member of this number by the first work of a batch, which is its only one.

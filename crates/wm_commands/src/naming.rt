@@ -3,8 +3,8 @@
 //! After the guide's page "Managing work" (unique work). What the policy of the name comes to is
 //! planned first; then the works that are there are kept, or one of them is updated, or the batch is
 //! checked and placed.
-ghost use Rattle.std.specs.Prelude.{◌≡◌, [], Some, None, IfErr, IfOk, OnOk};
-ghost use Rattle.wm_commands.specs.Builds.{IsExecuted};
+ghost use Rattle.std.specs.Prelude.{◌≡◌, Some, None, IfErr, IfOk, OnOk};
+ghost use Rattle.wm_settings.specs.Builds.{IsExecuted};
 ghost use Rattle.wm_commands.specs.Planned.{kind_refused_in};
 ghost use Rattle.wm_machine.specs.Outcome.{IsLegalLine};
 ghost use Rattle.wm_machine.specs.Enqueued.{plan_in};
@@ -14,13 +14,13 @@ ghost use Rattle.wm_machine.specs.Valid.{IsBefore};
 ghost use Rattle.wm_unique.specs.Plans.{grouped, plan_fields, AreNumbersOf, IsPlanFault};
 
 use crate::checking::check_and_place;
-use crate::executed::Executed;
 use crate::member::update_member;
 use std::alloc::{AllocError, Global};
 use wm_collections::{Items, Text};
 use wm_machine::{Command, Record, Refusal, Reply, UniqueName};
 use wm_query::is_name;
 use wm_request::Batch;
+use wm_settings::Executed;
 use wm_steps::View;
 use wm_unique::{GroupPlan, PlanFault, plan};
 

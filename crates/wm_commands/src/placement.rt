@@ -1,21 +1,21 @@
 //! A batch is placed, and other records make way for it.
-ghost use Rattle.std.specs.Prelude.{◌≡◌, ◌^◌, ◌≤◌, ◌+◌, [], true, length, IfOk};
+ghost use Rattle.std.specs.Prelude.{◌≡◌, ◌^◌, ◌≤◌, ◌+◌, true, length, IfOk};
 ghost use Rattle.std.specs.List.{AllByRecursion};
-ghost use Rattle.wm_commands.specs.Builds.{IsExecuted};
+ghost use Rattle.wm_settings.specs.Builds.{IsExecuted};
 ghost use Rattle.wm_commands.specs.Placed.{name_in, placement_of};
 ghost use Rattle.wm_machine.specs.Outcome.{IsLegalLine};
 ghost use Rattle.wm_machine.specs.Enqueued.{enqueued, made_ready, placing_in};
 ghost use Rattle.wm_steps.specs.Nodes.{is_there};
 ghost use Rattle.wm_unique.specs.Plans.{placing_by};
 
-use crate::clearing::{clearing_of, replaced_by_clearing};
-use crate::executed::{Executed, event_of};
+use crate::clearing::{clearing_of, replaced_by_clearing, stopped_by};
 use crate::placing::{placed_records, seqs_twice};
 use std::alloc::{AllocError, Global};
 use wm_collections::{Items, Replica, Text};
 use wm_machine::{Command, Record, Reply, UniqueName};
 use wm_request::{Batch, Node};
-use wm_steps::{Replacement, StepChange, View, both};
+use wm_settings::{Executed, event_of};
+use wm_steps::{Replacement, RunChange, StepChange, View, both};
 use wm_unique::GroupPlan;
 
 /// How a batch is placed, with its memory taken.
@@ -27,6 +27,8 @@ pub struct Placement {
     pub removed: Items<u64>,
     /// The new records.
     pub placed: Items<Record>,
+    /// The numbers of the runs that are stopped.
+    pub stopped: Items<u64>,
 }
 
 /// The unique name that works are placed under.
@@ -69,10 +71,13 @@ fn placement_of(
         works,
     )?;
     let replaced = replaced_by_clearing(alloc, stored, &clearing)?;
+    let runs = view.state.runs.as_slice();
+    let stopped = stopped_by(alloc, runs, clearing.cancelled.as_slice())?;
     Ok(Placement {
         replaced,
         removed: clearing.removed,
         placed,
+        stopped,
     })
 }
 
@@ -104,8 +109,10 @@ pub fn place(
         replaced,
         removed,
         placed,
+        stopped,
     } = placement;
-    let change = StepChange::placing(alloc, replaced, removed, placed, event);
+    let run = RunChange::Stop(stopped);
+    let change = StepChange::placing(alloc, replaced, removed, placed, run, event);
     let reply = Reply::Enqueued(told);
     Ok(Executed { change, reply })
 }

@@ -1,13 +1,13 @@
 //! The finished works that no unfinished one needs are removed.
 ghost use Rattle.std.specs.Prelude.{◌≡◌, filter, IfOk};
-ghost use Rattle.wm_commands.specs.Builds.{IsExecuted};
+ghost use Rattle.wm_settings.specs.Builds.{IsExecuted};
 ghost use Rattle.wm_machine.specs.Group.{numbers_in};
 ghost use Rattle.wm_machine.specs.Pruned.{is_needed, removable};
 
-use crate::executed::{Executed, event_of};
 use std::alloc::{AllocError, Global};
 use wm_collections::{Items, is_among};
 use wm_machine::{Command, Record, Reply};
+use wm_settings::{Executed, event_of};
 use wm_steps::{StepChange, View};
 
 /// What a prune comes to.

@@ -1,12 +1,12 @@
 //! A work that was enqueued is asked for anew.
 ghost use Rattle.std.specs.Prelude.{◌≡◌, ◌<◌, length, slice_get, None, IfOk, MatchOption};
-ghost use Rattle.wm_commands.specs.Builds.{IsExecuted, IsReplacing, IsUpdating};
+ghost use Rattle.wm_commands.specs.Builds.{IsReplacing, IsUpdating};
+ghost use Rattle.wm_settings.specs.Builds.{IsExecuted};
 ghost use Rattle.wm_machine.specs.Cancelled.{work_with_id};
 ghost use Rattle.wm_machine.specs.Limits.{FitsRow};
 ghost use Rattle.wm_machine.specs.Updated.{applied, is_same_kind, one_update_more, updated};
 ghost use Rattle.wm_request.specs.Requests.{IsRequest};
 
-use crate::executed::{Executed, event_of};
 use std::alloc::{AllocError, Global};
 use uuid::Uuid;
 use wm_collections::Replica;
@@ -14,6 +14,7 @@ use wm_machine::{Applied, Command, Event, Phase, Record, Refusal, Reply};
 use wm_request::Request;
 use wm_rows::have_one_row;
 use wm_schedule::Period;
+use wm_settings::{Executed, event_of};
 use wm_steps::{RunChange, StepChange, View, at, both, copied};
 
 /// Updates are counted up to this number, 2^53 - 1.

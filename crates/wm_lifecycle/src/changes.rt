@@ -2,6 +2,7 @@ ghost use Rattle.std.specs.Prelude.{◌≡◌, IfOk};
 ghost use Rattle.wm_machine.specs.Closed.{closed};
 ghost use Rattle.wm_machine.specs.Ends.{ended, enqueued_again, not_started, retried, succeeded, with_output};
 ghost use Rattle.wm_machine.specs.Runs.{started};
+ghost use Rattle.wm_machine.specs.Settings.{put_back};
 
 use std::alloc::{AllocError, Global};
 use wm_collections::Replica;
@@ -43,6 +44,17 @@ pub fn timed_out(alloc: Global, work: &Record, now: u64) -> Result<Record, Alloc
     ensures { IfOk result (λ changed. changed ≡ retried now work.entry.now) }
 {
     retried(alloc, work, now)
+}
+
+/// The record of a work whose run is stopped by new conditions: it waits as it did before, in its
+/// attempt, without progress.
+pub fn stopped(alloc: Global, work: &Record) -> Result<Record, AllocError>
+    ensures { IfOk result (λ changed. changed ≡ put_back work.entry.now) }
+{
+    let mut changed = work.replica(alloc)?;
+    changed.phase = Phase::Waiting;
+    changed.progress = Data::empty(alloc);
+    Ok(changed)
 }
 
 /// The record of a work that couldn't start at this moment: one-time work has failed without an

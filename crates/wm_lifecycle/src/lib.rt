@@ -1,4 +1,4 @@
-//! How a record changes where a run of its work begins, ends, or can't begin, where it is closed, and
+//! How a record changes where a run of its work begins, ends, is stopped, or can't begin, where it is closed, and
 //! where nothing holds it back any more: one record each, for one-time and periodic work.
 //!
 //! After the guide's pages "Work states", "Define work requests" (retry and backoff, periodic work)
@@ -7,4 +7,4 @@
 
 mod changes;
 
-pub use changes::{closed, ended, freed, not_started, started, timed_out};
+pub use changes::{closed, ended, freed, not_started, started, stopped, timed_out};

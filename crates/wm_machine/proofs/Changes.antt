@@ -7,8 +7,7 @@ use Rattle.wm_collections.specs.Lists.{AllLater, HasOne}
 use Rattle.wm_collections.proofs.Lists.{All-any, All-map, All-map2, All-weaker, All-with2, AllLater-map, HasOne-map_with, HasOne-weaker}
 use Rattle.wm_machine.proofs.Runnings.{AreRuns-beside, HasNoOtherName, IsBefore-same, IsSameWork, all_of_number, changed, changed_both, still_one_time}
 use Rattle.wm_machine.specs.Closed.{is_open}
-use Rattle.wm_machine.specs.Narrow.{IsReached}
-use Rattle.wm_machine.specs.Valid.{ArePriorSound, AreWorks, HasSucceeded, IsBefore, IsCurrentOf, IsPrerequisite, IsRecord, IsWorkOf, MaySucceedOrHas}
+use Rattle.wm_machine.specs.Valid.{Valid, ArePriorSound, AreWorks, HasSucceeded, IsBefore, IsCurrentOf, IsPrerequisite, IsRecord, IsWorkOf, MaySucceedOrHas}
 use Rattle.wm_machine.specs.declared.record.How.TheVariants as how
 use Rattle.wm_machine.specs.Types.{Phase, Record, Run, State}
 use Rattle.wm_machine.specs.declared.record.Phase.TheVariants as phase
@@ -228,20 +227,16 @@ IsWorkOf-kept run one other same keeps of = record { seq = same.seq ∙ of.seq; 
 abbrev pub with_changed : State → (Record → Record) → State
 with_changed s change = record s { works = map change s.works }
 
--- a change after which just those run that ran before keeps what holds of the states that are reached
-pub reached-changed : (s : State) (change : Record → Record) → IsReached s → IsChange s.works change
-    → AllByRecursion (λ work. KeepsRun work (change work)) s.works → IsReached (with_changed s change)
-reached-changed s change reached is keep =
-    let valid = reached.valid in
+-- a change after which just those run that ran before keeps what holds of the states that are valid
+pub reached-changed : (s : State) (change : Record → Record) → Valid s → IsChange s.works change
+    → AllByRecursion (λ work. KeepsRun work (change work)) s.works → Valid (with_changed s change)
+reached-changed s change valid is keep =
     record {
-      valid = record {
-        works = AreWorks-changed s.next s.works change valid.works is;
-        runs = AreRuns-beside s (map change s.works) valid
-            (All-map2 _ change s.works (λ w has keeps running. subst (λ n. HasOne (IsCurrentOf n) s.runs) (sym (is.same w).seq) (has (keeps.ran running)))
-            valid.runs.running keep) (λ r one. HasOne-map_with _ change s.works (λ w keeps of. IsWorkOf-kept r w (change w) (is.same w) keeps of) keep one);
-        instances = valid.instances;
-        few_observers = valid.few_observers;
-        now = valid.now;
-      };
-      narrow = record { runs = reached.narrow.runs };
+      works = AreWorks-changed s.next s.works change valid.works is;
+      runs = AreRuns-beside s (map change s.works) valid
+          (All-map2 _ change s.works (λ w has keeps running. subst (λ n. HasOne (IsCurrentOf n) s.runs) (sym (is.same w).seq) (has (keeps.ran running)))
+          valid.runs.running keep) (λ r one. HasOne-map_with _ change s.works (λ w keeps of. IsWorkOf-kept r w (change w) (is.same w) keeps of) keep one);
+      instances = valid.instances;
+      few_observers = valid.few_observers;
+      now = valid.now;
     }

@@ -6,7 +6,7 @@ use Rattle.wm_machine.proofs.Enqueues.{enqueue-answered}
 use Rattle.wm_collections.proofs.Lists.{All-any}
 use Rattle.wm_machine.proofs.Names.{enqueue-named-answered}
 use Rattle.wm_machine.proofs.Observings.{observe-answered}
-use Rattle.wm_machine.proofs.Owed.{IsAnswered, IsAtRest}
+use Rattle.wm_machine.proofs.Owed.{IsAnswered, IsLinedIn-quiet, MayBeAsked}
 use Rattle.wm_machine.proofs.Removals.{reached-removed}
 use Rattle.wm_machine.proofs.Retirings.{retire-answered}
 use Rattle.wm_machine.proofs.Settings.{conditions-answered, hush-answered, moment-answered}
@@ -24,7 +24,8 @@ reply_in : (o : Option Outcome) → IsSome o → (answer : Reply) × IsSomeAnd o
 reply_in None is = absurd (false≢true is)
 reply_in (Some out) is = (out.reply, refl)
 
--- each askable command has an outcome at rest, keeps what holds of the states, leaves the runs, and retires what it retires
+-- each askable command has an outcome where it may be asked, keeps what holds of every state, leaves the runs but for those that it stops, and
+-- retires what it retires
 pub answered : (s : State) (asked : Command) → IsAskable asked → IsAnswered s asked
 answered s (command.Enqueue None batch) askable = enqueue-answered s batch askable
 answered s (command.Enqueue (Some unique) batch) askable = enqueue-named-answered s unique batch askable
@@ -33,23 +34,27 @@ answered s (command.Update request) askable = update-answered s request askable
 answered s (command.Moment at) askable = moment-answered s at askable
 answered s (command.Conditions conditions) askable = conditions-answered s conditions
 answered s command.Prune askable = record {
-  answered = λ rest. refl;
+  answered = λ may. refl;
   reached = λ reached. reached-removed s (removable s.works) reached (All-any s.works (λ work is. is));
-  frame = refl;
+  frame = IsLinedIn-quiet command.Prune s _ refl;
 }
-answered s (command.Query query) askable = record { answered = λ rest. refl; reached = λ reached. reached; frame = refl }
+answered s (command.Query query) askable =
+    record { answered = λ may. refl; reached = λ reached. reached; frame = IsLinedIn-quiet (command.Query query) s _ refl }
 answered s (command.Observe query) askable = observe-answered s query
 answered s (command.Retire class) askable = retire-answered s class
 answered s command.Settle askable = settle-answered s
 answered s command.Hush askable = hush-answered s
-answered s command.Summary askable = record { answered = λ rest. refl; reached = λ reached. reached; frame = refl }
-answered s (command.Faulty fault) askable = record { answered = λ rest. refl; reached = λ reached. reached; frame = refl }
+answered s command.Summary askable =
+    record { answered = λ may. refl; reached = λ reached. reached; frame = IsLinedIn-quiet command.Summary s _ refl }
+answered s (command.Faulty fault) askable =
+    record { answered = λ may. refl; reached = λ reached. reached; frame = IsLinedIn-quiet (command.Faulty fault) s _ refl }
 
--- at rest each askable command is legal
-pub legal_line-at_rest : (s : State) (asked : Command) → IsAskable asked → IsAtRest s asked → IsLegalLine s asked
-legal_line-at_rest s asked askable rest = record { askable = askable; answered = (answered s asked askable).answered rest }
+-- where it may be asked each askable command is legal
+pub legal_line-asked : (s : State) (asked : Command) → IsAskable asked → MayBeAsked s asked → IsLegalLine s asked
+legal_line-asked s asked askable may = record { askable = askable; answered = (answered s asked askable).answered may }
 
 -- and has a reply
-pub reply_at_rest : (s : State) (asked : Command) (line : ℕ) → IsAskable asked → IsAtRest s asked → (answer : Reply) × Legal s (event.Command line asked answer)
-reply_at_rest s asked line askable rest =
-    let replied = reply_in (outcome s asked) ((answered s asked askable).answered rest) in (replied.0, (askable, replied.1))
+pub reply_where_asked : (s : State) (asked : Command) (line : ℕ) → IsAskable asked → MayBeAsked s asked
+    → (answer : Reply) × Legal s (event.Command line asked answer)
+reply_where_asked s asked line askable may =
+    let replied = reply_in (outcome s asked) ((answered s asked askable).answered may) in (replied.0, (askable, replied.1))

@@ -1,25 +1,25 @@
 -- From every valid state with at most one unreturned run a serial run goes on to its end.
-use Rattle.std.proofs.Common.{◌≡◌, ℕ, ◌+◌, ◌-◌, ◌<◌, ◌≤◌, zero, suc, cond, List, [], ◌∷◌, ◌++◌, length, Option, Some, None, Result, Ok, Err, refl, sym, ◌∙◌, ap, subst, arith, append_assoc}
+use Rattle.std.proofs.Common.{◌≡◌, ℕ, ◌+◌, ◌-◌, ◌<◌, ◌≤◌, zero, suc, Bool, true, false, cond, List, [], ◌∷◌, ◌++◌, length, Option, Some, None, Result, Ok, Err, refl, sym, ◌∙◌, ap, subst, arith, append_assoc}
 use Rattle.std.specs.List.{AllByRecursion}
 use Rattle.std.proofs.lemmas.Bool.{eq-eqb}
 use Rattle.wm_machine.specs.Types.{Cause, Command, DataEntry, End, Event, Instance, Record, Run, State}
-use Rattle.wm_machine.proofs.Commands.{answered, reply_at_rest}
+use Rattle.wm_machine.proofs.Commands.{answered, reply_where_asked}
 use Rattle.wm_machine.proofs.Firsts.{first_of-no_worker, start_refusal-no_worker}
 use Rattle.wm_machine.proofs.Inputs.{start_refusal-some}
-use Rattle.wm_machine.proofs.Runnings.{found_narrow, found_valid}
+use Rattle.wm_machine.proofs.Runnings.{found_valid}
 use Rattle.wm_machine.proofs.Roles.{closed, Closes, continued, Continues, opened, Opens}
-use Rattle.wm_machine.proofs.Steps.{framed, IsReached-after, kept}
+use Rattle.wm_machine.proofs.Steps.{framed, Valid-after, kept}
 use Rattle.wm_machine.specs.Outcome.{IsAskable}
 use Rattle.wm_machine.specs.Ends.{given_by}
 use Rattle.wm_machine.specs.First.{first_of, idle_instance}
 use Rattle.wm_machine.specs.Frame.{Frame, frame_of}
 use Rattle.wm_machine.specs.Input.{input_of}
 use Rattle.wm_machine.specs.Log.{command_in, commands_of}
-use Rattle.wm_machine.specs.Narrow.{IsReached}
+use Rattle.wm_machine.specs.Valid.{Valid}
 use Rattle.wm_machine.specs.Quiet.{IsQuiet}
 use Rattle.wm_machine.specs.Replay.{Replay}
 use Rattle.wm_machine.specs.Role.{Role}
-use Rattle.wm_machine.specs.Runs.{run_numbered, start_refusal}
+use Rattle.wm_machine.specs.Runs.{run_numbered, start_refusal, with_stopped}
 use Rattle.wm_machine.specs.Serial.{AreInTurn, IsInTurn}
 use Rattle.wm_machine.specs.Step.{after, IsReport, Legal, role_of}
 use Rattle.wm_machine.specs.Turns.{turned}
@@ -60,10 +60,10 @@ pub record GoesOn (lines : List Command) (s : State) : Type 0 where
   pub commands : commands_of log ≡ lines
   pub in_turn : AreInTurn s log
   pub quiet : IsQuiet last
-  pub reached : IsReached last
+  pub reached : Valid last
 
 -- there is nothing left to do
-GoesOn-nothing : (s : State) → IsReached s → IsQuiet s → GoesOn [] s
+GoesOn-nothing : (s : State) → Valid s → IsQuiet s → GoesOn [] s
 GoesOn-nothing s reached quiet = record {
   log = [];
   last = s;
@@ -142,31 +142,37 @@ found_one : (s : State) (run : Run) → s.runs ≡ run ∷ [] → run_numbered r
 found_one s run one = ap (run_numbered run.run) one ∙ ap (λ b. cond b (Some run) None) (eq-eqb run.run run.run refl)
 
 -- its worker may give this
-reports : (s : State) (run : Run) (gave : Given) → IsReached s → s.runs ≡ run ∷ [] → MayGive run.kind run.input run.attempt run.turn gave
+reports : (s : State) (run : Run) (gave : Given) → run.current ≡ true → s.runs ≡ run ∷ [] → MayGive run.kind run.input run.attempt run.turn gave
     → IsReport s run.run gave
-reports s run gave reached one may =
-    let found = found_one s run one in
-    record { run = run; is_running = found; is_current = found_narrow s run.run run reached.narrow found; may_give = may }
+reports s run gave current one may = record { run = run; is_running = found_one s run one; is_current = current; may_give = may }
 
-finishes : (s : State) (run : Run) (end : End) → IsReached s → s.runs ≡ run ∷ [] → MayGive run.kind run.input run.attempt run.turn (given_by end)
+finishes : (s : State) (run : Run) (end : End) → run.current ≡ true → s.runs ≡ run ∷ [] → MayGive run.kind run.input run.attempt run.turn (given_by end)
     → HasNext Closes s
-finishes s run end reached one may = record { e = event.Finish run.run end; legal = reports s run (given_by end) reached one may; role_is = tt }
+finishes s run end current one may = record { e = event.Finish run.run end; legal = reports s run (given_by end) current one may; role_is = tt }
 
-times_out : (s : State) (run : Run) (progress : Option (List DataEntry)) → IsReached s → s.runs ≡ run ∷ []
+times_out : (s : State) (run : Run) (progress : Option (List DataEntry)) → run.current ≡ true → s.runs ≡ run ∷ []
     → MayGive run.kind run.input run.attempt run.turn (given.More progress) → run.turn ≡ 999 → HasNext Closes s
 unfolding reports
-times_out s run progress reached one may last = record {
+times_out s run progress current one may last = record {
   e = event.TimedOut run.run;
-  legal = record { progress = progress; report = reports s run (given.More progress) reached one may; none_left = last };
+  legal = record { progress = progress; report = reports s run (given.More progress) current one may; none_left = last };
   role_is = tt;
 }
 
-goes_to_next : (s : State) (run : Run) (progress : Option (List DataEntry)) → IsReached s → s.runs ≡ run ∷ []
+goes_to_next : (s : State) (run : Run) (progress : Option (List DataEntry)) → run.current ≡ true → s.runs ≡ run ∷ []
     → MayGive run.kind run.input run.attempt run.turn (given.More progress) → run.turn < 999 → HasNext Continues s
 unfolding reports
-goes_to_next s run progress reached one may early = record {
+goes_to_next s run progress current one may early = record {
   e = event.Turn run.run progress;
-  legal = record { report = reports s run (given.More progress) reached one may; turns_left = early };
+  legal = record { report = reports s run (given.More progress) current one may; turns_left = early };
+  role_is = tt;
+}
+
+-- it was stopped, and is away
+returns : (s : State) (run : Run) → run.current ≡ false → s.runs ≡ run ∷ [] → HasNext Closes s
+returns s run stopped one = record {
+  e = event.Late run.run;
+  legal = record { run = run; is_running = found_one s run one; is_stopped = stopped };
   role_is = tt;
 }
 
@@ -174,10 +180,10 @@ goes_to_next s run progress reached one may early = record {
 
 -- how a drain goes on in a state where fewer works are left to it than this
 abbrev Recur : ℕ → Type 0
-Recur n = (t : State) → IsReached t → length t.runs ≤ 1 → left_to_drain t < n → GoesOn [] t
+Recur n = (t : State) → Valid t → length t.runs ≤ 1 → left_to_drain t < n → GoesOn [] t
 
 -- no run is unreturned: the first work starts, or can't
-from_rest : (s : State) (first : Option Record) → first_of s ≡ first → Recur (left_to_drain s) → IsReached s → s.runs ≡ [] → GoesOn [] s
+from_rest : (s : State) (first : Option Record) → first_of s ≡ first → Recur (left_to_drain s) → Valid s → s.runs ≡ [] → GoesOn [] s
 from_rest s None none recur reached no_run = GoesOn-nothing s reached (record { nothing_startable = none; no_run = no_run })
 from_rest s (Some work) first recur reached no_run =
     let next = start_or_fail s work (idle_instance s.instances work.request.class) (input_of s work) first refl refl in
@@ -187,7 +193,7 @@ from_rest s (Some work) first recur reached no_run =
     GoesOn-silent s e next.legal is.turn is.silent (recur (after s e) keeps.reached is.few is.fewer)
 
 -- one run is unreturned and is over: all else follows
-from_end : (s : State) (run : Run) → HasNext Closes s → Recur (left_to_drain s) → IsReached s → s.runs ≡ run ∷ [] → GoesOn [] s
+from_end : (s : State) (run : Run) → HasNext Closes s → Recur (left_to_drain s) → Valid s → s.runs ≡ run ∷ [] → GoesOn [] s
 from_end s run next recur reached one =
     let e = next.e in
     let t = after s e in
@@ -196,16 +202,18 @@ from_end s run next recur reached one =
     let no_more : left_to_drain t ≤ left_to_drain s = is.no_more in
     GoesOn-silent s e next.legal is.turn is.silent (from_rest t (first_of t) refl (λ u v few fewer. recur u v few (omega arith)) keeps.reached is.none)
 
--- one run is unreturned, with so many turns left, and its worker gives this: it is over, or at its next turn gives again
+-- one run is unreturned and current, with so many turns left, and its worker gives this: it is over, or at its next turn gives again
 from_gave : (turns : ℕ) (s : State) (run : Run) (gave : Given) → MayGive run.kind run.input run.attempt run.turn gave → run.turn + turns ≡ 999
-    → Recur (left_to_drain s) → IsReached s → s.runs ≡ run ∷ [] → GoesOn [] s
-from_gave turns s run (given.Success output) may so recur reached one = from_end s run (finishes s run (Success output) reached one may) recur reached one
-from_gave turns s run (given.Failure output) may so recur reached one = from_end s run (finishes s run (Failure output) reached one may) recur reached one
-from_gave turns s run given.Retry may so recur reached one = from_end s run (finishes s run Retry reached one may) recur reached one
-from_gave zero s run (given.More progress) may so recur reached one =
-    from_end s run (times_out s run progress reached one may (omega (arith, so))) recur reached one
-from_gave (suc turns) s run (given.More progress) may so recur reached one =
-    let next = goes_to_next s run progress reached one may (omega (arith, so)) in
+    → Recur (left_to_drain s) → Valid s → run.current ≡ true → s.runs ≡ run ∷ [] → GoesOn [] s
+from_gave turns s run (given.Success output) may so recur reached current one =
+    from_end s run (finishes s run (Success output) current one may) recur reached one
+from_gave turns s run (given.Failure output) may so recur reached current one =
+    from_end s run (finishes s run (Failure output) current one may) recur reached one
+from_gave turns s run given.Retry may so recur reached current one = from_end s run (finishes s run Retry current one may) recur reached one
+from_gave zero s run (given.More progress) may so recur reached current one =
+    from_end s run (times_out s run progress current one may (omega (arith, so))) recur reached one
+from_gave (suc turns) s run (given.More progress) may so recur reached current one =
+    let next = goes_to_next s run progress current one may (omega (arith, so)) in
     let e = next.e in
     let t = after s e in
     let keeps = kept s e reached next.legal in
@@ -213,18 +221,19 @@ from_gave (suc turns) s run (given.More progress) may so recur reached one =
     let no_more : left_to_drain t ≤ left_to_drain s = is.no_more in
     let then = has_given run.kind run.input run.attempt (run.turn + 1) in
     GoesOn-silent s e next.legal is.turn is.silent
-    (from_gave turns t (turned run) then.gave then.may_give (omega (arith, so)) (λ u v few fewer. recur u v few (omega arith)) keeps.reached is.one)
+    (from_gave turns t (turned run) then.gave then.may_give (omega (arith, so)) (λ u v few fewer. recur u v few (omega arith)) keeps.reached current is.one)
 
--- one run is unreturned: it comes to its end
-from_run : (s : State) (run : Run) → Recur (left_to_drain s) → IsReached s → s.runs ≡ run ∷ [] → GoesOn [] s
-from_run s run recur reached one =
+-- one run is unreturned: it comes to its end, or was stopped and is away
+from_run : (s : State) (run : Run) (current : Bool) → run.current ≡ current → Recur (left_to_drain s) → Valid s → s.runs ≡ run ∷ [] → GoesOn [] s
+from_run s run true current recur reached one =
     let gives = has_given run.kind run.input run.attempt run.turn in
-    let most = (found_valid s run.run run reached.valid (found_one s run one)).turn in
-    from_gave (999 - run.turn) s run gives.gave gives.may_give (omega (arith, most)) recur reached one
+    let most = (found_valid s run.run run reached (found_one s run one)).turn in
+    from_gave (999 - run.turn) s run gives.gave gives.may_give (omega (arith, most)) recur reached current one
+from_run s run false stopped recur reached one = from_end s run (returns s run stopped one) recur reached one
 
-settle_by : (s : State) (runs : List Run) → s.runs ≡ runs → Recur (left_to_drain s) → IsReached s → length runs ≤ 1 → GoesOn [] s
+settle_by : (s : State) (runs : List Run) → s.runs ≡ runs → Recur (left_to_drain s) → Valid s → length runs ≤ 1 → GoesOn [] s
 settle_by s [] is recur reached few = from_rest s (first_of s) refl recur reached is
-settle_by s (run ∷ []) is recur reached few = from_run s run recur reached is
+settle_by s (run ∷ []) is recur reached few = from_run s run run.current refl recur reached is
 settle_by s (run ∷ other ∷ runs) is recur reached few = absurd (omega arith)
 
 -- the run that is unreturned comes back, and all that is startable is driven to its end, since each step leaves fewer works
@@ -235,15 +244,15 @@ settle (suc n) s reached few below = settle_by s s.runs refl (λ t v one fewer. 
 -- ---- the lines
 
 -- the lines follow one another, each once all before it is done
-pub goes_on : (lines : List Command) (s : State) → AllByRecursion IsAskable lines → IsReached s → length s.runs ≤ 1 → GoesOn lines s
+pub goes_on : (lines : List Command) (s : State) → AllByRecursion IsAskable lines → Valid s → length s.runs ≤ 1 → GoesOn lines s
 goes_on [] s askable reached few = settle (suc (left_to_drain s)) s reached few (omega arith)
 goes_on (asked ∷ lines) s askable reached few =
     let done = settle (suc (left_to_drain s)) s reached few (omega arith) in
     let t = done.last in
     let owed = answered t asked askable.0 in
-    let answer = reply_at_rest t asked 0 askable.0 (record { no_run = done.quiet.no_run; settled = λ settles. done.quiet.nothing_startable }) in
+    let answer = reply_where_asked t asked 0 askable.0 (record { settled = λ settles. done.quiet }) in
     let e = event.Command 0 asked answer.0 in
     let legal : Legal t e = answer.1 in
-    let no_run : (after t e).runs ≡ [] = ap (λ (f : Frame). f.runs) owed.frame ∙ done.quiet.no_run in
+    let no_run : (after t e).runs ≡ [] = ap (λ (f : Frame). f.runs) owed.frame.frame_is ∙ ap (with_stopped owed.frame.stops) done.quiet.no_run in
     GoesOn-then s (asked ∷ lines) done (GoesOn-more t e lines legal done.quiet
-    (goes_on lines (after t e) askable.1 (IsReached-after t e done.reached legal) (subst (λ (runs : List Run). length runs ≤ 1) (sym no_run) (omega arith))))
+    (goes_on lines (after t e) askable.1 (Valid-after t e done.reached legal) (subst (λ (runs : List Run). length runs ≤ 1) (sym no_run) (omega arith))))

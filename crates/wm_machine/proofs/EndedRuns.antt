@@ -6,10 +6,10 @@ use Rattle.std.proofs.lemmas.List.{length-map}
 use Rattle.wm_machine.proofs.Changes.{AreWorks-changed, IsChange, IsWorkOf-kept, KeepsRun}
 use Rattle.wm_collections.proofs.Lists.{All-filter, All-map, All-weaker, All-with2, All-with3, AllLater-filter, HasOne-filter, HasOne-map_with, HasOne-weaker, find-passes, list_any-false, list_any-filter}
 use Rattle.wm_machine.proofs.Runnings.{all_of_number, AreNumberedInOrder-made, found_or_apart, found_valid, IsFoundOrApart, made, made_both, same_instance}
-use Rattle.wm_machine.specs.Narrow.{IsReached}
+use Rattle.wm_machine.specs.Ends.{with_return}
 use Rattle.wm_machine.specs.Runs.{other_runs, run_numbered, with_out}
 use Rattle.wm_collections.specs.Lists.{HasOne}
-use Rattle.wm_machine.specs.Valid.{AreApart, IsCurrentOf, IsOutForRun, IsValidRun, Valid}
+use Rattle.wm_machine.specs.Valid.{Valid, AreApart, AreInstances, IsCurrentOf, IsOutForRun, IsValidRun}
 use Rattle.wm_machine.specs.declared.record.Phase.TheVariants as phase
 use Rattle.wm_machine.specs.Types.{Instance, Record, Run, State}
 
@@ -30,6 +30,13 @@ others s run P told each =
     All-filter (stays run) s.runs (λ other kept is. elim is.0
     [ inl found ↦ absurd (true≢false (sym found.0 ∙ not-true (eqb other.run run.run) kept)) | inr apart ↦ each other apart.1 is.1 ]) told
 
+-- each run of a state is so told, where this one was found by its number
+each_told : (s : State) (number : ℕ) (run : Run) → Valid s → run_numbered number s.runs ≡ Some run → AllByRecursion (IsTold s run) s.runs
+each_told s number run valid found =
+    let same : run.run ≡ number = eqb-true run.run number (find-passes (λ r. eqb r.run number) s.runs run found) in
+    All-with2 s.runs (λ r told fine. (told, fine))
+    (found_or_apart run.run run s.runs (subst (λ n. run_numbered n s.runs ≡ Some run) (sym same) found) valid.runs.apart) valid.runs.each
+
 -- a running work other than this run's keeps its run
 running_stays : (s : State) (run : Run) (seq : ℕ) → AllByRecursion (IsTold s run) s.runs → (seq ≡ run.seq → ⊥) → HasOne (IsCurrentOf seq) s.runs
     → HasOne (IsCurrentOf seq) (other_runs run.run s.runs)
@@ -49,6 +56,15 @@ IsOutForRun-freed s run i told out =
       | inl found ↦ ne_eqb r.instance i.number (λ same. differs (sym same ∙ ap (λ (x : Run). x.instance) found.1))
       | inr apart ↦ absurd (true≢false (sym (ap not apart.0) ∙ dropped))
     ]) told)))
+
+-- the instances, once this run is away
+instances_freed : (s : State) (run : Run) → Valid s → AllByRecursion (IsTold s run) s.runs
+    → AreInstances (other_runs run.run s.runs) (with_out false run.instance s.instances)
+instances_freed s run valid told = record {
+  out = All-map _ (made false run.instance) s.instances (λ i is. IsOutForRun-freed s run i told is) valid.instances.out;
+  few = subst (λ n. n ≤ 10000) (sym (length-map s.instances (made false run.instance))) valid.instances.few;
+  numbered = AreNumberedInOrder-made false run.instance 0 s.instances valid.instances.numbered;
+}
 
 -- ---- the state
 
@@ -73,44 +89,68 @@ pub record IsEnding (s : State) (run : Run) (change : Record → Record) : Type 
   pub idle : AllByRecursion (λ w. w.seq ≡ run.seq → (change w).phase ≡ phase.Running → ⊥) s.works
   pub others : AllByRecursion (λ w. w.seq ≢ run.seq → KeepsRun w (change w)) s.works
 
--- it keeps what holds of the states that are reached, where that run is over
-pub reached-ended : (s : State) (number : ℕ) (run : Run) (change : Record → Record) → IsReached s → IsEnding s run change
-    → run_numbered number s.runs ≡ Some run → run.current ≡ true → IsReached (with_run_over s run change)
-reached-ended s number run change reached is found current =
-    let valid = reached.valid in
-    let same : run.run ≡ number = eqb-true run.run number (find-passes (λ r. eqb r.run number) s.runs run found) in
-    let told : AllByRecursion (IsTold s run) s.runs =
-    All-with2 s.runs (λ r told fine. (told, fine))
-    (found_or_apart run.run run s.runs (subst (λ n. run_numbered n s.runs ≡ Some run) (sym same) found) valid.runs.apart) valid.runs.each in
+-- it keeps what holds of the states that are valid, where that run is over
+pub reached-ended : (s : State) (number : ℕ) (run : Run) (change : Record → Record) → Valid s → IsEnding s run change
+    → run_numbered number s.runs ≡ Some run → run.current ≡ true → Valid (with_run_over s run change)
+reached-ended s number run change valid is found current =
+    let told = each_told s number run valid found in
     record {
-      valid = record {
-        works = AreWorks-changed s.next s.works change valid.works is.is_change;
-        runs = record {
-          running = All-map _ change s.works (λ w then. then) (All-with3 s.works (λ w has idle keeps running.
-              elim (cases_Bool (eqb w.seq run.seq)) [
-                | inl e ↦ absurd (idle (eqb-true w.seq run.seq e) running)
-                | inr e ↦
-                    let differs = eqb-false w.seq run.seq e in
-                    subst (λ n. HasOne (IsCurrentOf n) (other_runs run.run s.runs)) (sym (is.is_change.same w).seq)
-                    (running_stays s run w.seq told differs (has ((keeps differs).ran running)))
-              ]) valid.runs.running is.idle is.others);
-          each = others s run (IsValidRun (map change s.works) (with_out false run.instance s.instances) s.next_run) told (λ other apart fine. record {
-            number = fine.number;
-            turn = fine.turn;
-            input = fine.input;
-            work = λ also. HasOne-map_with _ change s.works (λ w keeps of.
-                IsWorkOf-kept other w (change w) (is.is_change.same w) (keeps (λ e. apart.works current also (sym e ∙ of.seq))) of) is.others (fine.work also);
-            instance = same_instance false run.instance s.instances other fine.instance;
-          });
-          apart = AllLater-filter _ (stays run) s.runs valid.runs.apart;
-        };
-        instances = record {
-          out = All-map _ (made false run.instance) s.instances (λ i is. IsOutForRun-freed s run i told is) valid.instances.out;
-          few = subst (λ n. n ≤ 10000) (sym (length-map s.instances (made false run.instance))) valid.instances.few;
-          numbered = AreNumberedInOrder-made false run.instance 0 s.instances valid.instances.numbered;
-        };
-        few_observers = valid.few_observers;
-        now = valid.now;
+      works = AreWorks-changed s.next s.works change valid.works is.is_change;
+      runs = record {
+        running = All-map _ change s.works (λ w then. then) (All-with3 s.works (λ w has idle keeps running.
+            elim (cases_Bool (eqb w.seq run.seq)) [
+              | inl e ↦ absurd (idle (eqb-true w.seq run.seq e) running)
+              | inr e ↦
+                  let differs = eqb-false w.seq run.seq e in
+                  subst (λ n. HasOne (IsCurrentOf n) (other_runs run.run s.runs)) (sym (is.is_change.same w).seq)
+                  (running_stays s run w.seq told differs (has ((keeps differs).ran running)))
+            ]) valid.runs.running is.idle is.others);
+        each = others s run (IsValidRun (map change s.works) (with_out false run.instance s.instances) s.next_run) told (λ other apart fine. record {
+          number = fine.number;
+          turn = fine.turn;
+          input = fine.input;
+          work = λ also. HasOne-map_with _ change s.works (λ w keeps of.
+              IsWorkOf-kept other w (change w) (is.is_change.same w) (keeps (λ e. apart.works current also (sym e ∙ of.seq))) of) is.others (fine.work also);
+          instance = same_instance false run.instance s.instances other fine.instance;
+        });
+        apart = AllLater-filter _ (stays run) s.runs valid.runs.apart;
       };
-      narrow = record { runs = All-filter (stays run) s.runs (λ r stay is. is) reached.narrow.runs };
+      instances = instances_freed s run valid told;
+      few_observers = valid.few_observers;
+      now = valid.now;
+    }
+
+-- ---- a run that was stopped
+
+-- another run than this, which isn't current, is the one of a running work
+current_stays : (s : State) (run : Run) (seq : ℕ) → AllByRecursion (IsTold s run) s.runs → run.current ≡ false → HasOne (IsCurrentOf seq) s.runs
+    → HasOne (IsCurrentOf seq) (other_runs run.run s.runs)
+current_stays s run seq told stopped one =
+    HasOne-filter (stays run) s.runs (λ r is of.
+    elim is.0 [
+      | inl found ↦ absurd (true≢false (sym of.current ∙ ap (λ (x : Run). x.current) found.1 ∙ stopped))
+      | inr apart ↦ ap not apart.0
+    ]) told one
+
+-- where it is away, all that holds of every state still does
+pub Valid-returned : (s : State) (number : ℕ) (run : Run) → Valid s → run_numbered number s.runs ≡ Some run → run.current ≡ false
+    → Valid (with_return s run)
+Valid-returned s number run valid found stopped =
+    let told = each_told s number run valid found in
+    record {
+      works = valid.works;
+      runs = record {
+        running = All-weaker s.works (λ w has running. current_stays s run w.seq told stopped (has running)) valid.runs.running;
+        each = others s run (IsValidRun s.works (with_out false run.instance s.instances) s.next_run) told (λ other apart fine. record {
+          number = fine.number;
+          turn = fine.turn;
+          input = fine.input;
+          work = fine.work;
+          instance = same_instance false run.instance s.instances other fine.instance;
+        });
+        apart = AllLater-filter _ (stays run) s.runs valid.runs.apart;
+      };
+      instances = instances_freed s run valid told;
+      few_observers = valid.few_observers;
+      now = valid.now;
     }

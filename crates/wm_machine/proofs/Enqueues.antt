@@ -6,16 +6,15 @@ use Rattle.std.specs.Str.{bytes_eq}
 use Rattle.std.proofs.lemmas.Bool.{cases_Bool, cond_both, ltb-false, or_left, or_right, true≢false}
 use Rattle.wm_collections.specs.Lists.{AllLater, HasOne}
 use Rattle.wm_collections.proofs.Lists.{All-any, All-map, All-push, All-stored, All-weaker, All-with2, All-with3, AllLater-any, AllLater-push, HasOne-front, find-none, list_any-false, none_pass, option_map-none}
-use Rattle.wm_machine.proofs.Owed.{IsAnswered}
+use Rattle.wm_machine.proofs.Owed.{IsAnswered, IsLinedIn-quiet}
 use Rattle.wm_machine.proofs.Placings.{bytes_eq-refl, bytes_eq-same, few_named, few_others, idle-placed, IsOneTime, IsPlaceable, IsRecord-placed, placeable-naming, prior-both, sound-placed}
 use Rattle.wm_machine.proofs.Runnings.{AreRuns-beside}
 use Rattle.wm_machine.specs.Built.{AreAsked}
 use Rattle.wm_machine.specs.Cancelled.{is_stored}
 use Rattle.wm_machine.specs.Enqueued.{count_prior, first_refusal, id_in_use, is_stored_periodic, new_record, no_such_prerequisite, numbers_spent, outcome_by, periodic_in_chain, placed_after, prior_of, refusal_of, refusal_of_placing, too_many_after, too_many_works, with_work, without}
 use Rattle.wm_machine.specs.Frame.{untouched}
-use Rattle.wm_machine.specs.Narrow.{IsReached}
 use Rattle.wm_machine.specs.Plan.{placed_freely, Placing}
-use Rattle.wm_machine.specs.Valid.{AreOfOneKind, ArePriorSound, IsRecord, Valid}
+use Rattle.wm_machine.specs.Valid.{Valid, AreOfOneKind, ArePriorSound, IsRecord}
 use Rattle.wm_machine.specs.Types.{Command, Node, Period, Phase, Record, Refusal, State}
 use Rattle.wm_machine.specs.declared.command.Command.TheVariants as command
 use Rattle.wm_machine.specs.declared.record.How.TheVariants as how
@@ -239,24 +238,24 @@ others_placeable works work name after node nodes same are =
 
 -- ---- a batch is placed
 
-pub reached-placed : (s : State) (name : Option (List ℕ)) (after : List ℕ) (nodes : List Node) → IsReached s → IfSome name IsShortText
+pub reached-placed : (s : State) (name : Option (List ℕ)) (after : List ℕ) (nodes : List Node) → Valid s → IfSome name IsShortText
     → ArePlaceable s.works name after nodes → length s.works + length nodes ≤ 100000 → s.next + length nodes ≤ 2 ^ 53
-    → IsReached (placed_after s name after nodes)
+    → Valid (placed_after s name after nodes)
 reached-placed s name after [] reached short are room numbers = reached
 reached-placed s name after (node ∷ nodes) reached short are room numbers =
     let prior = prior_of s.works after node.after in
-    let is = first_placeable s name after node nodes reached.valid are in
+    let is = first_placeable s name after node nodes reached are in
     let work = new_record s name prior node in
     let one : s.next + 1 ≤ 2 ^ 53 = omega (arith, numbers) in
-    let fine = IsRecord-placed s name prior node reached.valid one short is in
+    let fine = IsRecord-placed s name prior node reached one short is in
     let sound = sound-placed s prior node is in
     let then = with_work s work in
     let valid =
-    Valid-with_work s work reached.valid (sound-front s.works work work.phase work.prior (own_names_before s work fine) sound) refl
+    Valid-with_work s work reached (sound-front s.works work work.phase work.prior (own_names_before s work fine) sound) refl
     (All-weaker s.works (λ other kinds text has is. kinds.0 text has is) are.shares.records) are.new.0 fine
     (idle-placed s.works prior) (omega (arith, room)) one in
     let longer = length-append s.works (work ∷ []) in
-    reached-placed then name after nodes (record { valid = valid; narrow = record { runs = reached.narrow.runs } }) short
+    reached-placed then name after nodes (valid) short
     (others_placeable s.works work name after node nodes refl are) (omega (arith, room, longer)) (omega (arith, numbers))
 
 -- ---- what the checks give
@@ -375,8 +374,8 @@ CanFollow-none works nodes = record {
   alone = All-any nodes (λ node period is. refl);
 }
 
-reached-outcome : (s : State) (works : List Node) (found : Option Refusal) → AreAsked works → refusal_of s None works ≡ found → IsReached s
-    → IsReached (outcome_by found s None works).state
+reached-outcome : (s : State) (works : List Node) (found : Option Refusal) → AreAsked works → refusal_of s None works ≡ found → Valid s
+    → Valid (outcome_by found s None works).state
 reached-outcome s works (Some found) asked is reached = reached
 reached-outcome s works None asked is reached =
     let checks = passes s placed_freely works is in
@@ -403,5 +402,6 @@ pub enqueue-answered : (s : State) (batch : BatchFields) → AreAsked batch.work
 enqueue-answered s batch asked = record {
   answered = λ rest. refl;
   reached = λ reached. reached-outcome s batch.works (refusal_of s None batch.works) asked refl reached;
-  frame = frame-outcome s (command.Enqueue None batch ∷ []) (refusal_of s None batch.works) batch.works;
+  frame = IsLinedIn-quiet (command.Enqueue None batch) s _
+      (frame-outcome s (command.Enqueue None batch ∷ []) (refusal_of s None batch.works) batch.works);
 }

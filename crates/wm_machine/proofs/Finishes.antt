@@ -1,18 +1,18 @@
--- The end of a run, by its worker's report or for want of a turn.
-use Rattle.std.proofs.Common.{◌≡◌, ℕ, true, false, List, [], Option, Some, ◌∙◌, ap}
-use Rattle.wm_machine.proofs.EndedRuns.{reached-ended, running_of, with_run_over}
+-- The end of a run, by its worker's report or for want of a turn, and the return of one that was stopped.
+use Rattle.std.proofs.Common.{◌≡◌, ℕ, true, false, List, [], Option, Some, ◌∙◌, ap, arith}
+use Rattle.wm_machine.proofs.EndedRuns.{reached-ended, running_of, Valid-returned, with_run_over}
 use Rattle.wm_machine.proofs.Endings.{end_in, HasEnded-end, works_after_end-map}
 use Rattle.wm_machine.proofs.Owed.{IsKept}
 use Rattle.wm_machine.proofs.Runnings.{found_valid}
 use Rattle.wm_machine.proofs.Waitings.{left_among-changed}
 use Rattle.wm_machine.specs.Diaries.{given_lines}
-use Rattle.wm_machine.specs.Ends.{end_of, given_by, period_of}
-use Rattle.wm_machine.specs.Frame.{frame_of, frame_to, IsEndedIn}
-use Rattle.wm_machine.specs.Narrow.{IsReached}
+use Rattle.wm_machine.specs.Ends.{end_of, given_by, period_of, returned_of, with_return}
+use Rattle.wm_machine.specs.Frame.{frame_of, frame_to, IsEndedIn, IsReturnedIn}
+use Rattle.wm_machine.specs.Valid.{Valid}
 use Rattle.wm_machine.specs.Role as role
 use Rattle.wm_machine.specs.Role.{Reported, SomeMore, This}
 use Rattle.wm_machine.specs.Runs.{other_runs, run_numbered, with_out}
-use Rattle.wm_machine.specs.Step.{after, IsEnd, IsTimeout}
+use Rattle.wm_machine.specs.Step.{after, IsEnd, IsLate, IsTimeout}
 use Rattle.wm_machine.specs.Types.{End, Record, Run, State}
 use Rattle.wm_machine.specs.declared.event.End.TheVariants.{Retry}
 use Rattle.wm_machine.specs.declared.event.Event.TheVariants as event
@@ -56,24 +56,40 @@ timed_out-framed s number legal = record {
 
 -- ---- what it keeps
 
-end-kept : (s : State) (number : ℕ) (told : Reported) (run : Run) (end : End) → IsReached s → run_numbered number s.runs ≡ Some run → run.current ≡ true
+end-kept : (s : State) (number : ℕ) (told : Reported) (run : Run) (end : End) → Valid s → run_numbered number s.runs ≡ Some run → run.current ≡ true
     → GivesData (given_by end) → IsKept (role.Ends number told) s (with_run_over s run (end_in s run end))
 end-kept s number told run end reached found current gave =
     let change = end_in s run end in
-    let has = HasEnded-end s run end reached.valid (running_of s number run reached.valid found current) gave in
+    let has = HasEnded-end s run end reached (running_of s number run reached found current) gave in
     record {
       reached = reached-ended s number run change reached has.ending found current;
       left = left_among-changed s.now s.works change has.ending.is_change has.old;
     }
 
-pub finish-kept : (s : State) (number : ℕ) (end : End) → IsReached s → IsEnd s number end
+pub finish-kept : (s : State) (number : ℕ) (end : End) → Valid s → IsEnd s number end
     → IsKept (role.Ends number (This (given_by end))) s (after s (event.Finish number end))
 finish-kept s number end reached legal =
     let run = legal.run in
-    let taken = (found_valid s number run reached.valid legal.is_running).input in
+    let taken = (found_valid s number run reached legal.is_running).input in
     rw (after_finish s number end legal) (end-kept s number (This (given_by end)) run end reached legal.is_running legal.is_current
     (gives_data run.kind run.input run.attempt run.turn (given_by end) taken legal.may_give))
 
-pub timed_out-kept : (s : State) (number : ℕ) → IsReached s → IsTimeout s number → IsKept (role.Ends number SomeMore) s (after s (event.TimedOut number))
+pub timed_out-kept : (s : State) (number : ℕ) → Valid s → IsTimeout s number → IsKept (role.Ends number SomeMore) s (after s (event.TimedOut number))
 timed_out-kept s number reached legal =
     rw (after_timed_out s number legal) (end-kept s number SomeMore legal.report.run Retry reached legal.report.is_running legal.report.is_current tt)
+
+-- ---- a run that was stopped
+
+-- it is away, and its worker writes nothing
+pub late-framed : (s : State) (number : ℕ) → IsLate s number → IsReturnedIn number s (frame_of s (event.Late number))
+late-framed s number legal = record {
+  run = legal.run;
+  is_running = legal.is_running;
+  is_stopped = legal.is_stopped;
+  frame_is = ap (λ (found : Option Run). frame_to (returned_of s found) [] (λ worker. [])) legal.is_running;
+}
+
+pub late-kept : (s : State) (number : ℕ) → Valid s → IsLate s number → IsKept (role.Returns number) s (after s (event.Late number))
+late-kept s number valid legal =
+    let gone : after s (event.Late number) ≡ with_return s legal.run = ap (returned_of s) legal.is_running in
+    rw gone record { reached = Valid-returned s number legal.run valid legal.is_running legal.is_stopped; left = omega arith }

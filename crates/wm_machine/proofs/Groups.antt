@@ -1,24 +1,25 @@
 -- What holds of a state once works are cancelled one after another, and others are let go by their name.
 use Rattle.std.proofs.Common.{reverse, map-id, ◌≡◌, ◌&&◌, ◌||◌, ℕ, ◌≤◌, Bool, true, false, not, cond, eqb, List, [], ◌∷◌, map, filter, length, Option, Some, None, refl, sym, ◌∙◌, ap, arith, inl, inr}
 use Rattle.std.specs.List.{AllByRecursion, list_any}
-use Rattle.std.proofs.lemmas.Bool.{and_from, and_parts, cases_Bool, cond_both, true≢false}
+use Rattle.std.proofs.lemmas.Bool.{and_parts, cases_Bool, cond_both, true≢false}
 use Rattle.std.proofs.lemmas.List.{length-map}
 use Rattle.wm_collections.specs.Lists.{is_among}
 use Rattle.wm_machine.proofs.Changes.{IsChange-still, IsSameRequest, KeepsRun, OfNumber, reached-changed, Succeeded}
-use Rattle.wm_machine.proofs.Closings.{HasNotSucceeded, reached-closed}
+use Rattle.wm_machine.proofs.Closings.{HasNotSucceeded, Valid-work_closed}
 use Rattle.wm_machine.proofs.Endings.{closed_both, closed_in, KeepsRun-same}
-use Rattle.wm_collections.proofs.Lists.{All-any, All-filter, All-map, All-weaker, filter-all, filter-few, list_any-agree, list_any-before, list_any-false, map-reverse, map-same, map-twice, none_pass}
+use Rattle.wm_collections.proofs.Lists.{All-any, All-filter, All-map, All-weaker, filter-all, filter-few, list_any-agree, list_any-false, list_any_after, map-reverse, map-same, map-twice, none_pass}
 use Rattle.wm_machine.proofs.Records.{IsRecord-kept}
 use Rattle.wm_machine.proofs.Removals.{reached-removed, without_gone}
-use Rattle.wm_machine.specs.Cancelled.{reaches_any_run, reaches_run}
-use Rattle.wm_machine.specs.Closed.{closed, descendants, is_open, is_reached, with_closed, with_each_closed}
+use Rattle.wm_machine.proofs.Stops.{stopped_in, with_stopped-none, with_stopped-twice}
+use Rattle.wm_machine.specs.Closed.{closed, descendants, is_open, is_reached, is_run_reached, with_closed, with_work_closed, with_works_closed}
 use Rattle.wm_machine.specs.Enqueued.{made_ready}
+use Rattle.wm_machine.specs.Frame.{untouched}
 use Rattle.wm_machine.specs.Group.{is_dropped, unnamed, with_let_go}
-use Rattle.wm_machine.specs.Narrow.{IsReached}
 use Rattle.wm_machine.specs.Plan.{Placing}
 use Rattle.wm_machine.specs.Pruned.{removable}
-use Rattle.wm_machine.specs.Valid.{IsOfKind, IsRecord}
-use Rattle.wm_machine.specs.Types.{How, Period, Record, Run, State}
+use Rattle.wm_machine.specs.Runs.{stopped, with_stopped}
+use Rattle.wm_machine.specs.Valid.{Valid, IsOfKind, IsRecord}
+use Rattle.wm_machine.specs.Types.{Command, How, Period, Record, Run, State}
 use Rattle.wm_machine.specs.declared.record.How.TheVariants as how
 
 -- ---- what a closing reaches later
@@ -53,24 +54,24 @@ reached_before how seq other works work =
     (λ e is. absurd (true≢false (sym is ∙ reached-closed_one how other (with_closed how seq works) work)))
     (λ e is. sym (reached-same how seq other works work) ∙ is)
 
-not_implied : (before now : Bool) → (now ≡ true → before ≡ true) → before ≡ false → now ≡ false
-not_implied before true implied none = absurd (true≢false (sym (implied refl) ∙ none))
-not_implied before false implied none = refl
-
--- a work that reaches no run reaches none after a closing
-none_reached : (how : How) (seq other : ℕ) (works : List Record) (runs : List Run) → reaches_run other works runs ≡ false
-    → reaches_run other (with_closed how seq works) runs ≡ false
-none_reached how seq other works runs none =
-    let before = λ (run : Run). λ (work : Record). eqb work.seq run.seq && is_reached other works work in
-    let now = λ (run : Run). λ (work : Record). eqb work.seq run.seq && is_reached other (with_closed how seq works) work in
-    let change = closed_in how seq works in
-    list_any-false (λ run. run.current && list_any (now run) (with_closed how seq works)) runs (All-weaker runs (λ run.
-    not_implied (run.current && list_any (before run) works) (run.current && list_any (now run) (with_closed how seq works)) (λ is.
-    let parts = and_parts run.current (list_any (now run) (with_closed how seq works)) is in
-    and_from _ _ parts.0 (list_any-before (before run) (now run) change works (All-any works (λ work here.
-    let both = and_parts (eqb (change work).seq run.seq) (is_reached other (with_closed how seq works) (change work)) here in
-    and_from _ _ (closed_both (λ c. eqb c.seq run.seq ≡ true → eqb work.seq run.seq ≡ true) how seq works work (λ e is. is) (λ e is. is) both.0)
-    (reached_before how seq other works work both.1))) parts.1))) (none_pass (λ run. run.current && list_any (before run) works) runs none))
+-- nor does it reach other runs than before, but those of what is finished then
+run_reached_after : (how : How) (seq other : ℕ) (works : List Record) (run : Run) → is_run_reached seq works run ≡ false
+    → is_run_reached other (with_closed how seq works) run ≡ is_run_reached other works run
+run_reached_after how seq other works run none =
+    let then = with_closed how seq works in
+    list_any_after (λ work. eqb work.seq run.seq && is_reached other then work) (closed_in how seq works) works
+    ∙ list_any-agree (λ work. eqb (closed_in how seq works work).seq run.seq && is_reached other then (closed_in how seq works work))
+    (λ work. eqb work.seq run.seq && is_reached other works work) works (All-weaker works (λ work fails.
+    elim (cases_Bool (is_reached seq works work)) [
+      | inl e ↦
+          let apart : eqb work.seq run.seq ≡ false = left_fails (eqb work.seq run.seq) (is_reached seq works work) e fails in
+          rw (e, apart) refl
+      | inr e ↦ rw e (ap (λ b. eqb work.seq run.seq && b) (reached-same how seq other works work))
+    ]) (none_pass (λ work. eqb work.seq run.seq && is_reached seq works work) works none))
+  where
+    left_fails : (one other : Bool) → other ≡ true → (one && other) ≡ false → one ≡ false
+    left_fails true other is fails = absurd (true≢false (sym is ∙ fails))
+    left_fails false other is fails = refl
 
 -- ---- cancelling one after another
 
@@ -80,18 +81,13 @@ not_yet_later seq works other not_yet =
     All-map _ (closed_in how.Cancelled seq works) works (λ work not.
     closed_both (OfNumber other (λ w. Succeeded w.phase → ⊥)) how.Cancelled seq works work (λ e same succeeded. absurd (cc)) (λ e. not)) not_yet
 
-one_by_one : (seqs : List ℕ) (s : State) → IsReached s → AllByRecursion (HasNotSucceeded s.works) seqs
-    → AllByRecursion (λ seq. reaches_run seq s.works s.runs ≡ false) seqs → IsReached (record s { works = with_each_closed how.Cancelled seqs s.works })
-one_by_one [] s reached not_yet none = reached
-one_by_one (seq ∷ seqs) s reached not_yet none =
-    one_by_one seqs (record s { works = with_closed how.Cancelled seq s.works }) (reached-closed s seq reached not_yet.0 none.0)
+-- a state in which none of these has succeeded, once they are cancelled
+pub Valid-works_closed : (seqs : List ℕ) (s : State) → Valid s → AllByRecursion (HasNotSucceeded s.works) seqs
+    → Valid (with_works_closed how.Cancelled seqs s)
+Valid-works_closed [] s valid not_yet = valid
+Valid-works_closed (seq ∷ seqs) s valid not_yet =
+    Valid-works_closed seqs (with_work_closed how.Cancelled seq s) (Valid-work_closed s seq valid not_yet.0)
     (All-weaker seqs (λ other not. not_yet_later seq s.works other not) not_yet.1)
-    (All-weaker seqs (λ other no_run. none_reached how.Cancelled seq other s.works s.runs no_run) none.1)
-
--- a state in which none of these has succeeded or reaches a run, once they are cancelled
-pub reached-each_closed : (seqs : List ℕ) (s : State) → IsReached s → AllByRecursion (HasNotSucceeded s.works) seqs
-    → reaches_any_run seqs s.works s.runs ≡ false → IsReached (record s { works = with_each_closed how.Cancelled seqs s.works })
-reached-each_closed seqs s reached not_yet none = one_by_one seqs s reached not_yet (none_pass (λ seq. reaches_run seq s.works s.runs) seqs none)
 
 -- a record, closed where one of these works reaches it
 abbrev pub closed_by : How → List ℕ → List Record → Record → Record
@@ -117,13 +113,60 @@ closed_then how seq seqs works work =
     ]
 
 -- works that are closed one after another are closed at once: each record that one of them reaches
-pub each_closed-at_once : (how : How) (seqs : List ℕ) (works : List Record) → with_each_closed how seqs works ≡ map (closed_by how seqs works) works
-each_closed-at_once how [] works = sym (map-id works)
-each_closed-at_once how (seq ∷ seqs) works =
+pub works_closed-at_once : (how : How) (seqs : List ℕ) (s : State) → (with_works_closed how seqs s).works ≡ map (closed_by how seqs s.works) s.works
+works_closed-at_once how [] s = sym (map-id s.works)
+works_closed-at_once how (seq ∷ seqs) s =
+    let works = s.works in
     let then = with_closed how seq works in
-    each_closed-at_once how seqs then ∙ map-twice (closed_in how seq works) (closed_by how seqs then) works
+    works_closed-at_once how seqs (with_work_closed how seq s) ∙ map-twice (closed_in how seq works) (closed_by how seqs then) works
     ∙ map-same (λ work. closed_by how seqs then (closed_in how seq works work)) (closed_by how (seq ∷ seqs) works) works (All-any works
     (λ work. closed_then how seq seqs works work))
+
+-- ---- the runs that are stopped then
+
+-- whether a run is of a record that one of these works reaches
+abbrev pub is_any_run_reached : List ℕ → List Record → Run → Bool
+is_any_run_reached seqs works run = list_any (λ seq. is_run_reached seq works run) seqs
+
+-- and so are the runs of these records stopped
+pub runs_closed-at_once : (how : How) (seqs : List ℕ) (s : State)
+    → (with_works_closed how seqs s).runs ≡ with_stopped (is_any_run_reached seqs s.works) s.runs
+runs_closed-at_once how [] s = sym (with_stopped-none s.runs)
+runs_closed-at_once how (seq ∷ seqs) s =
+    let works = s.works in
+    let then = with_closed how seq works in
+    let first = is_run_reached seq works in
+    let after = λ (run : Run). first run || is_any_run_reached seqs then run in
+    let both = λ (run : Run). first run || is_any_run_reached seqs works run in
+    runs_closed-at_once how seqs (with_work_closed how seq s) ∙ with_stopped-twice first (is_any_run_reached seqs then) s.runs
+    ∙ map-same (stopped_in after) (stopped_in both) s.runs (All-any s.runs (λ run.
+    elim (cases_Bool (first run)) [
+      | inl e ↦
+          ap (λ b. cond (b || is_any_run_reached seqs then run) (stopped run) run) e
+          ∙ sym (ap (λ b. cond (b || is_any_run_reached seqs works run) (stopped run) run) e)
+      | inr e ↦
+          ap (λ b. cond (first run || b) (stopped run) run) (list_any-agree (λ other. is_run_reached other then run) (λ other. is_run_reached other works run) seqs
+          (All-any seqs (λ other. run_reached_after how seq other works run e)))
+    ]))
+
+-- and all else stays
+pub works_closed-is : (how : How) (seqs : List ℕ) (s : State) → with_works_closed how seqs s
+    ≡ record s { works = map (closed_by how seqs s.works) s.works; runs = with_stopped (is_any_run_reached seqs s.works) s.runs }
+works_closed-is how seqs s =
+    but_two how seqs s
+    ∙ ap (λ (works : List Record). record s { works = works; runs = (with_works_closed how seqs s).runs }) (works_closed-at_once how seqs s)
+    ∙ ap (λ (runs : List Run). record s { works = map (closed_by how seqs s.works) s.works; runs = runs }) (runs_closed-at_once how seqs s)
+  where
+    but_two : (how : How) (seqs : List ℕ) (s : State)
+        → with_works_closed how seqs s ≡ record s { works = (with_works_closed how seqs s).works; runs = (with_works_closed how seqs s).runs }
+    but_two how [] s = refl
+    but_two how (seq ∷ seqs) s = but_two how seqs (with_work_closed how seq s)
+
+-- so has the frame
+pub frame-works_closed : (how : How) (seqs : List ℕ) (s : State) (commands : List Command)
+    → untouched (with_works_closed how seqs s) commands
+    ≡ record (untouched s commands) { runs = with_stopped (is_any_run_reached seqs s.works) s.runs }
+frame-works_closed how seqs s commands = ap (λ (t : State). untouched t commands) (works_closed-is how seqs s)
 
 -- ---- letting go
 
@@ -141,10 +184,9 @@ IsRecord-unnamed work is =
     (kind-unnamed work.request.period work is.kind) is.output is.progress
 
 -- names are taken
-reached-unnamed : (numbers : List ℕ) (s : State) → IsReached s → IsReached (record s { works = map (unnamed numbers) s.works })
-reached-unnamed numbers s reached =
-    let valid = reached.valid in
-    reached-changed s (unnamed numbers) reached (IsChange-still s.works (unnamed numbers) (λ work. unnamed_both (IsSameRequest work) numbers work
+reached-unnamed : (numbers : List ℕ) (s : State) → Valid s → Valid (record s { works = map (unnamed numbers) s.works })
+reached-unnamed numbers s valid =
+    reached-changed s (unnamed numbers) valid (IsChange-still s.works (unnamed numbers) (λ work. unnamed_both (IsSameRequest work) numbers work
     (λ e. record { seq = refl; name = λ text is. absurd (cc); request = refl; prior = refl })
     (λ e. record { seq = refl; name = λ text is. is; request = refl; prior = refl }))
     (λ work. unnamed_both (λ w. w.phase ≡ work.phase) numbers work (λ e. refl) (λ e. refl))
@@ -153,26 +195,35 @@ reached-unnamed numbers s reached =
     unnamed_both (KeepsRun work) numbers work (λ e. KeepsRun-same work (record work { name = None }) refl refl) (λ e. KeepsRun-same work work refl refl)))
 
 -- records are let go
-reached-let_go : (numbers : List ℕ) (s : State) → IsReached s → IsReached (record s { works = with_let_go numbers s.works })
+reached-let_go : (numbers : List ℕ) (s : State) → Valid s → Valid (record s { works = with_let_go numbers s.works })
 reached-let_go numbers s reached =
     reached-unnamed numbers (record s { works = without_gone (is_dropped numbers s.works) s.works }) (reached-removed s (is_dropped numbers s.works) reached
     (All-any s.works (λ work is. (and_parts (is_among numbers work.seq) (removable s.works work) is).1)))
 
--- a state in which none is to be cancelled that has succeeded or reaches a run is made ready
-pub reached-made_ready : (s : State) (placing : Placing) → IsReached s → AllByRecursion (HasNotSucceeded s.works) placing.cancel
-    → reaches_any_run placing.cancel s.works s.runs ≡ false → IsReached (made_ready s placing)
-reached-made_ready s placing reached not_yet none =
-    reached-let_go placing.let_go (record s { works = with_each_closed how.Cancelled placing.cancel s.works })
-    (reached-each_closed placing.cancel s reached not_yet none)
+-- a state in which none is to be cancelled that has succeeded is made ready
+pub reached-made_ready : (s : State) (placing : Placing) → Valid s → AllByRecursion (HasNotSucceeded s.works) placing.cancel
+    → Valid (made_ready s placing)
+reached-made_ready s placing valid not_yet =
+    reached-let_go placing.let_go (with_works_closed how.Cancelled placing.cancel s) (Valid-works_closed placing.cancel s valid not_yet)
+
+-- its frame is that of a line that stops the runs of what is cancelled
+pub frame-made_ready : (s : State) (placing : Placing) (commands : List Command)
+    → untouched (made_ready s placing) commands
+    ≡ record (untouched s commands) { runs = with_stopped (is_any_run_reached placing.cancel s.works) s.runs }
+frame-made_ready s placing commands = frame-works_closed how.Cancelled placing.cancel s commands
+
+-- its next number is as it was
+pub next-made_ready : (s : State) (placing : Placing) → (made_ready s placing).next ≡ s.next
+next-made_ready s placing = ap (λ (t : State). t.next) (works_closed-is how.Cancelled placing.cancel s)
 
 -- ---- what holds of the records then
 
-All-each_closed : (P : Record → Type 0) (how : How) (seqs : List ℕ) (works : List Record) → ((work : Record) → P work → P (closed how work))
-    → AllByRecursion P works → AllByRecursion P (with_each_closed how seqs works)
-All-each_closed P how [] works keeps all = all
-All-each_closed P how (seq ∷ seqs) works keeps all =
-    All-each_closed P how seqs (with_closed how seq works) keeps
-    (All-map _ (closed_in how seq works) works (λ work p. closed_both P how seq works work (λ e. keeps work p) (λ e. p)) all)
+All-works_closed : (P : Record → Type 0) (how : How) (seqs : List ℕ) (s : State) → ((work : Record) → P work → P (closed how work))
+    → AllByRecursion P s.works → AllByRecursion P (with_works_closed how seqs s).works
+All-works_closed P how [] s keeps all = all
+All-works_closed P how (seq ∷ seqs) s keeps all =
+    All-works_closed P how seqs (with_work_closed how seq s) keeps
+    (All-map _ (closed_in how seq s.works) s.works (λ work p. closed_both P how seq s.works work (λ e. keeps work p) (λ e. p)) all)
 
 All-let_go : (P Q : Record → Type 0) (numbers : List ℕ) (works : List Record)
     → ((work : Record) → is_among numbers work.seq ≡ true → P work → Q (record work { name = None }))
@@ -187,20 +238,21 @@ pub All-made_ready : (P Q : Record → Type 0) (s : State) (placing : Placing) �
     → ((work : Record) → is_among placing.let_go work.seq ≡ true → P work → Q (record work { name = None }))
     → ((work : Record) → is_among placing.let_go work.seq ≡ false → P work → Q work) → AllByRecursion P s.works → AllByRecursion Q (made_ready s placing).works
 All-made_ready P Q s placing keeps taken left all =
-    All-let_go P Q placing.let_go (with_each_closed how.Cancelled placing.cancel s.works) taken left
-    (All-each_closed P how.Cancelled placing.cancel s.works keeps all)
+    All-let_go P Q placing.let_go (with_works_closed how.Cancelled placing.cancel s).works taken left
+    (All-works_closed P how.Cancelled placing.cancel s keeps all)
 
-length-each_closed : (how : How) (seqs : List ℕ) (works : List Record) → length (with_each_closed how seqs works) ≡ length works
-length-each_closed how [] works = refl
-length-each_closed how (seq ∷ seqs) works = length-each_closed how seqs (with_closed how seq works) ∙ length-map works (closed_in how seq works)
+length-works_closed : (how : How) (seqs : List ℕ) (s : State) → length (with_works_closed how seqs s).works ≡ length s.works
+length-works_closed how [] s = refl
+length-works_closed how (seq ∷ seqs) s =
+    length-works_closed how seqs (with_work_closed how seq s) ∙ length-map s.works (closed_in how seq s.works)
 
 -- there are no more records than before
 pub length-made_ready : (s : State) (placing : Placing) → length (made_ready s placing).works ≤ length s.works
 length-made_ready s placing =
-    let works = with_each_closed how.Cancelled placing.cancel s.works in
+    let works = (with_works_closed how.Cancelled placing.cancel s).works in
     let stays = filter (λ work. not (is_dropped placing.let_go works work)) works in
     let few = filter-few (λ work. not (is_dropped placing.let_go works work)) works in
-    let closed_ones = length-each_closed how.Cancelled placing.cancel s.works in
+    let closed_ones = length-works_closed how.Cancelled placing.cancel s in
     let renamed = length-map stays (unnamed placing.let_go) in
     omega (arith, few, closed_ones, renamed)
 

@@ -34,6 +34,8 @@ pub mod StartFailures
 pub mod StartedLogs
 pub mod Starts
 pub mod Steps
+pub mod StoppedRuns
+pub mod Stops
 pub mod Turns
 pub mod Updates
 pub mod Waitings

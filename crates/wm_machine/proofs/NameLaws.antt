@@ -4,12 +4,12 @@ use Rattle.std.specs.List.{AllByRecursion, list_any}
 use Rattle.std.proofs.lemmas.Bool.{cases_Bool, cond_both, eqb-true, true≢false}
 use Rattle.wm_collections.specs.Lists.{AllLater, HasOne, is_among}
 use Rattle.wm_machine.proofs.Endings.{reached_parts}
-use Rattle.wm_machine.proofs.Groups.{closed_by, each_closed-at_once}
+use Rattle.wm_machine.proofs.Groups.{closed_by, next-made_ready, works_closed-at_once}
 use Rattle.wm_collections.proofs.Lists.{All-any, All-filter, All-kept, All-map, All-passing, All-push, All-weaker, All-with2, AllLater-filter, HasOne-filter, HasOne-front, HasOne-map, HasOne-weaker, any_passes, find-stored, list_any-false, list_any_after, one_gives}
 use Rattle.wm_machine.proofs.Names.{name_is_free}
 use Rattle.wm_machine.proofs.Placings.{bytes_eq-same}
 use Rattle.wm_machine.proofs.Runnings.{changed, changed_both, IsAlone-stored}
-use Rattle.wm_machine.specs.Closed.{closed, is_reached, with_each_closed}
+use Rattle.wm_machine.specs.Closed.{closed, is_reached, with_works_closed}
 use Rattle.wm_machine.specs.Enqueued.{carried_out, enqueued, made_ready, new_record, outcome_by, placed_after, plan_in, prior_of, refusal_of, updated_by, with_work}
 use Rattle.wm_machine.specs.Group.{AreAloneOrOneTime, is_dropped, is_name, IsApartFrom, leaves_of, members_of, numbers_in, unnamed, with_let_go}
 use Rattle.wm_machine.specs.Plan as plan
@@ -68,7 +68,7 @@ name_passes s unique works planned accepted =
     let placing = replacing (members_of s.works name) in
     let outcome : enqueued s (Some unique) works ≡ carried_out (plan.Places placing) s name works =
     ap (λ found. outcome_by found s (Some unique) works) accepted ∙ ap (λ by. carried_out by s name works) planned in
-    subst (λ o. AllByRecursion (IsNewWhereNamed name s.next) o.state.works) (sym outcome) (new_placed (made_ready s placing) name [] works s.next (omega arith)
+    subst (λ o. AllByRecursion (IsNewWhereNamed name s.next) o.state.works) (sym outcome) (new_placed (made_ready s placing) name [] works s.next (omega (arith, next-made_ready s placing))
     (All-weaker (made_ready s placing).works (λ work other named. absurd (other name (name_of name work.name named) refl)) (name_is_free s name)))
 
 -- ---- what stays
@@ -80,11 +80,11 @@ IsStored works work = HasOne (λ other. other ≡ work) works
 stays_changed : (change : Record → Record) (works : List Record) (work : Record) → change work ≡ work → IsStored works work → IsStored (map change works) work
 stays_changed change works work same stored = HasOne-map _ change works (λ other is. ap change is ∙ same) stored
 
-stays_closed : (seqs : List ℕ) (works : List Record) (work : Record) → list_any (λ seq. is_reached seq works work) seqs ≡ false → IsStored works work
-    → IsStored (with_each_closed how.Cancelled seqs works) work
-stays_closed seqs works work none stored =
-    subst (λ (then : List Record). IsStored then work) (sym (each_closed-at_once how.Cancelled seqs works))
-    (stays_changed (closed_by how.Cancelled seqs works) works work (ap (λ b. cond b (closed how.Cancelled work) work) none) stored)
+stays_closed : (seqs : List ℕ) (s : State) (work : Record) → list_any (λ seq. is_reached seq s.works work) seqs ≡ false → IsStored s.works work
+    → IsStored (with_works_closed how.Cancelled seqs s).works work
+stays_closed seqs s work none stored =
+    subst (λ (then : List Record). IsStored then work) (sym (works_closed-at_once how.Cancelled seqs s))
+    (stays_changed (closed_by how.Cancelled seqs s.works) s.works work (ap (λ b. cond b (closed how.Cancelled work) work) none) stored)
 
 stays_let_go : (numbers : List ℕ) (works : List Record) (work : Record) → is_among numbers work.seq ≡ false → IsStored works work
     → IsStored (with_let_go numbers works) work
@@ -105,7 +105,7 @@ stays_placing : (s : State) (name : List ℕ) (placing : Placing) (works : List 
     → IsStored (carried_out (plan.Places placing) s name works).state.works work
 stays_placing s name placing works work unreached away stored =
     stays_placed (made_ready s placing) (Some name) placing.after works work
-    (stays_let_go placing.let_go (with_each_closed how.Cancelled placing.cancel s.works) work away (stays_closed placing.cancel s.works work unreached stored))
+    (stays_let_go placing.let_go (with_works_closed how.Cancelled placing.cancel s).works work away (stays_closed placing.cancel s work unreached stored))
 
 -- a number among those of records is one of theirs
 one_of_number : (works : List Record) (number : ℕ) → is_among (numbers_in works) number ≡ true → HasOne (λ work. work.seq ≡ number) works

@@ -1,26 +1,21 @@
 -- What is owed for an enqueue under a unique name.
-use Rattle.std.proofs.Common.{eqb, ◌≡◌, ◌⊎◌, ◌&&◌, ◌||◌, ℕ, ◌≤◌, Bool, true, false, not, ltb, List, [], ◌∷◌, filter, find, is_some, length, Option, Some, None, option_map, IsSome, refl, sym, ◌∙◌, ap, subst, arith, inl, inr}
+use Rattle.std.proofs.Common.{eqb, ◌≡◌, ◌⊎◌, ◌||◌, ℕ, ◌+◌, ◌^◌, ◌≤◌, true, false, not, ltb, List, [], ◌∷◌, filter, find, is_some, length, Option, Some, None, option_map, refl, sym, ◌∙◌, ap, subst, arith, inl, inr}
 use Rattle.std.specs.List.{AllByRecursion, list_any}
-use Rattle.std.proofs.Math.Bool.{and-true}
 use Rattle.std.proofs.lemmas.Bool.{cond_both, eq-eqb, false≢true, ltb-false, or_parts, true≢false}
 use Rattle.wm_collections.specs.Lists.{AllLater, HasOne, is_among}
-use Rattle.wm_machine.proofs.Closings.{HasNotSucceeded, no_run_reached, not_yet_passing}
+use Rattle.wm_machine.proofs.Closings.{HasNotSucceeded, not_yet_passing}
 use Rattle.wm_machine.proofs.Enqueues.{AreBothOneTime, CanFollow, CanFollow-none, CanShare, first_refusal-none, frame-placed, none_found, not_some, passes, PassesChecks, placeable, reached-placed}
-use Rattle.wm_machine.proofs.Groups.{All-made_ready, length-made_ready, reached-made_ready, with_let_go-none}
+use Rattle.wm_machine.proofs.Groups.{All-made_ready, frame-made_ready, is_any_run_reached, length-made_ready, next-made_ready, reached-made_ready, with_let_go-none}
 use Rattle.wm_collections.proofs.Lists.{All-any, All-from_filter, All-kept, All-map, All-of_one, All-stored, All-weaker, All-with2, AllLater-each, AllLater-few, AllLater-filter, AllLater-map, HasOne-weaker, find-none, find-stored, list_any-stored, list_any_after}
-use Rattle.wm_machine.proofs.Owed.{IsAnswered}
+use Rattle.wm_machine.proofs.Owed.{IsAnswered, IsLinedIn-quiet}
 use Rattle.wm_machine.proofs.Placings.{bytes_eq-refl}
 use Rattle.wm_machine.proofs.Updates.{update-reached}
 use Rattle.wm_machine.specs.Built.{AreAsked, AreAskedUnder}
-use Rattle.wm_machine.specs.Cancelled.{reaches_any_run}
-use Rattle.wm_machine.specs.Enqueued.{cancelled_by, carried_out, enqueued, made_ready, outcome_by, placed_after, plan_in, refusal_by, refusal_of, refusal_of_placing, stops_run, updated_by}
-use Rattle.wm_machine.specs.Frame.{untouched}
+use Rattle.wm_machine.specs.Enqueued.{carried_out, made_ready, outcome_by, placed_after, plan_in, refusal_by, refusal_of, refusal_of_placing, updated_by}
+use Rattle.wm_machine.specs.Frame.{untouched, IsLinedIn}
 use Rattle.wm_machine.specs.Group.{is_name, is_prior_of, leaves_of, members_of, numbers_in}
-use Rattle.wm_machine.specs.Narrow.{IsReached}
 use Rattle.wm_machine.specs.Plan as plan
 use Rattle.wm_machine.specs.Plan.{appending, id_mismatched, is_appending, is_lost, is_unfinished, is_unfit, mismatch, Placing, Plan, plan_of, replacing, unfit_work, updating}
-use Rattle.wm_machine.specs.Replied.{Outcome}
-use Rattle.wm_machine.specs.Step.{state_by}
 use Rattle.wm_machine.specs.Updated.{is_same_kind}
 use Rattle.wm_machine.specs.Valid.{Valid}
 use Rattle.wm_machine.specs.Types.{Command, Node, Period, Policy, Record, Refusal, State, UniqueName}
@@ -108,21 +103,21 @@ name_is_free s name =
     (λ work among named. among named) (λ work e among text has is. absurd (cc))
     (λ work e among text has is. true≢false (sym (among (named_member name text work has is)) ∙ e)) (member_among s.works name)
 
-reached-replaced : (s : State) (name : List ℕ) (works : List Node) → IsReached s → AreAccepted s name works (replacing (members_of s.works name))
-    → reaches_any_run (replacing (members_of s.works name)).cancel s.works s.runs ≡ false
-    → IsReached (carried_out (plan.Places (replacing (members_of s.works name))) s name works).state
-reached-replaced s name works reached accepted none =
+reached-replaced : (s : State) (name : List ℕ) (works : List Node) → Valid s → AreAccepted s name works (replacing (members_of s.works name))
+    → Valid (carried_out (plan.Places (replacing (members_of s.works name))) s name works).state
+reached-replaced s name works reached accepted =
     let placing = replacing (members_of s.works name) in
     let t = made_ready s placing in
     let checks = accepted.checks in
     let few = length-made_ready s placing in
     let room = checks.room in
-    reached-placed t (Some name) [] works (reached-made_ready s placing reached (not_yet_members s name reached.valid) none) accepted.asked.name_is
+    reached-placed t (Some name) [] works (reached-made_ready s placing reached (not_yet_members s name reached)) accepted.asked.name_is
     (placeable s t.works (Some name) placing works accepted.asked.asked checks (λ P all.
     All-made_ready (λ work. P work.request) (λ work. P work.request) s placing (λ work p. p) (λ work e p. p) (λ work e p. p) all) (record {
       records = All-weaker t.works (λ work other. All-any works (λ node text has is. absurd (other text has is))) (name_is_free s name);
       among = both_one_time (Some name) works accepted.kinds;
-    }) (CanFollow-none t.works works)) (omega (arith, few, room)) checks.numbers
+    }) (CanFollow-none t.works works)) (omega (arith, few, room))
+    (subst (λ n. n + length works ≤ 2 ^ 53) (sym (next-made_ready s placing)) checks.numbers)
 
 -- works can be appended where they and the members are one-time
 record CanAppend (s : State) (name : List ℕ) (works : List Node) : Type 0 where
@@ -155,16 +150,16 @@ follows-appended s name works valid can =
       alone = All-weaker works (λ node none period is. absurd (true≢false (sym (ap is_some is) ∙ ap is_some none))) can.batch;
     }
 
-reached-appended : (s : State) (name : List ℕ) (works : List Node) → IsReached s → AreAccepted s name works (appending (members_of s.works name))
-    → CanAppend s name works → IsReached (carried_out (plan.Places (appending (members_of s.works name))) s name works).state
+reached-appended : (s : State) (name : List ℕ) (works : List Node) → Valid s → AreAccepted s name works (appending (members_of s.works name))
+    → CanAppend s name works → Valid (carried_out (plan.Places (appending (members_of s.works name))) s name works).state
 reached-appended s name works reached accepted can =
     let placing = appending (members_of s.works name) in
     let checks = accepted.checks in
     let ready : made_ready s placing ≡ s = ap (λ (works : List Record). record s { works = works }) (with_let_go-none s.works) in
-    subst (λ (t : State). IsReached (placed_after t (Some name) placing.after works)) (sym ready)
+    subst (λ (t : State). Valid (placed_after t (Some name) placing.after works)) (sym ready)
     (reached-placed s (Some name) placing.after works reached accepted.asked.name_is
     (placeable s s.works (Some name) placing works accepted.asked.asked checks (λ P all. all) (shares-appended s name works can)
-    (follows-appended s name works reached.valid can)) checks.room checks.numbers)
+    (follows-appended s name works reached can)) checks.room checks.numbers)
 
 -- ---- a member is updated
 
@@ -181,8 +176,8 @@ both_periodic (Some period) None is too = absurd (true≢false too)
 both_periodic (Some period) (Some another) is too = refl
 
 reached-updated : (s : State) (member : Record) (works : List Node) (found : Option Node) → find is_periodic works ≡ found
-    → unfit_work found policy.Update works ≡ None → is_unfit policy.Update member ≡ false → AreAsked works → IsReached s
-    → HasOne (λ other. other ≡ member) s.works → IsReached (updated_by s member works).state
+    → unfit_work found policy.Update works ≡ None → is_unfit policy.Update member ≡ false → AreAsked works → Valid s
+    → HasOne (λ other. other ≡ member) s.works → Valid (updated_by s member works).state
 reached-updated s member [] found is fits unfit asked reached stored = reached
 reached-updated s member (work ∷ later) None is fits unfit asked reached stored = absurd (cc)
 reached-updated s member (work ∷ later) (Some periodic) is fits unfit asked reached stored =
@@ -194,16 +189,16 @@ reached-updated s member (work ∷ later) (Some periodic) is fits unfit asked re
 
 -- ---- each policy
 
--- what is owed for a plan: it keeps what holds of the states, where no check refuses the batch and no run would be stopped
+-- what is owed for a plan: it keeps what holds of the states, where no check refuses the batch
 abbrev IsCarriedOut : State → List ℕ → List Node → Option (List ℕ) → Plan → Type 0
 IsCarriedOut s name works mismatched plan =
-    refusal_by plan mismatched s works ≡ None → reaches_any_run (cancelled_by plan) s.works s.runs ≡ false → IsReached (carried_out plan s name works).state
+    refusal_by plan mismatched s works ≡ None → Valid (carried_out plan s name works).state
 
 none_mismatched : (id : Option (List ℕ)) → option_map KindMismatch id ≡ None → id ≡ None
 none_mismatched None none = refl
 none_mismatched (Some id) none = absurd (cc)
 
-module _ (s : State) (name : List ℕ) (works : List Node) (asked : AreAskedUnder name works) (reached : IsReached s) where
+module _ (s : State) (name : List ℕ) (works : List Node) (asked : AreAskedUnder name works) (reached : Valid s) where
   -- the works that have the name
   abbrev members : List Record
   members = members_of s.works name
@@ -224,11 +219,11 @@ module _ (s : State) (name : List ℕ) (works : List Node) (asked : AreAskedUnde
       )
 
   replaced : (by : Policy) → IsCarriedOut s name works (mismatch by members works) (plan.Places (replacing members))
-  replaced by none no_run = reached-replaced s name works reached (accepted (replacing members) by none).0 no_run
+  replaced by none = reached-replaced s name works reached (accepted (replacing members) by none).0
 
   appended : (by : Policy) → is_appending by ≡ true → ((work : Record) → is_unfit by work ≡ false → is_some work.request.period ≡ false)
       → IsCarriedOut s name works (mismatch by members works) (plan.Places (appending members))
-  appended by appends unfit none no_run =
+  appended by appends unfit none =
       let both = accepted (appending members) by none in
       let fits = id_mismatched-none (unfit_work (find is_periodic works) by works) by members both.1 in
       reached-appended s name works reached both.0 (record {
@@ -238,8 +233,8 @@ module _ (s : State) (name : List ℕ) (works : List Node) (asked : AreAskedUnde
 
   updated : (found : Option Record) → find is_unfinished members ≡ found
       → IsCarriedOut s name works (mismatch policy.Update members works) (updating found members)
-  updated None is none no_run = replaced policy.Update none no_run
-  updated (Some member) is none no_run =
+  updated None is none = replaced policy.Update none
+  updated (Some member) is none =
       let fits = id_mismatched-none (unfit_work (find is_periodic works) policy.Update works) policy.Update members
       (none_mismatched (mismatch policy.Update members works) none) in
       let stored = find-stored is_unfinished members member is in
@@ -250,7 +245,7 @@ module _ (s : State) (name : List ℕ) (works : List Node) (asked : AreAskedUnde
   pub each_policy : (by : Policy) → IsCarriedOut s name works (mismatch by members works) (plan_of by members)
   each_policy policy.Keep =
       cond_both (list_any is_unfinished members) plan.Keeps (plan.Places (replacing members))
-      (IsCarriedOut s name works (mismatch policy.Keep members works)) (λ e none no_run. reached) (λ e. replaced policy.Keep)
+      (IsCarriedOut s name works (mismatch policy.Keep members works)) (λ e none. reached) (λ e. replaced policy.Keep)
   each_policy policy.Replace = replaced policy.Replace
   each_policy policy.CancelAndReenqueue = replaced policy.CancelAndReenqueue
   each_policy policy.Append = appended policy.Append refl (λ work fit. fit)
@@ -262,50 +257,40 @@ module _ (s : State) (name : List ℕ) (works : List Node) (asked : AreAskedUnde
 
 -- ---- what is owed
 
--- no run is stopped where there is none
-pub no_run_stopped : (s : State) (named : Option UniqueName) (works : List Node) → s.runs ≡ [] → stops_run s named works ≡ false
-no_run_stopped s None works no_run = refl
-no_run_stopped s (Some unique) works no_run =
-    ap (λ b. b && not (is_some (refusal_of s (Some unique) works))) (no_run_reached (cancelled_by (plan_in s unique)) s.works s.runs no_run)
-
-not_stopped : (reaches : Bool) (found : Option Refusal) → (reaches && not (is_some found)) ≡ false → found ≡ None → reaches ≡ false
-not_stopped reaches found stops none = sym (and-true reaches) ∙ ap (λ o. reaches && not (is_some o)) (sym none) ∙ stops
-
-reached-named : (s : State) (unique : UniqueName) (works : List Node) (found : Option Refusal) → AreAskedUnder unique.name works → IsReached s
-    → refusal_of s (Some unique) works ≡ found → stops_run s (Some unique) works ≡ false → IsReached (outcome_by found s (Some unique) works).state
-reached-named s unique works (Some found) asked reached is stops = reached
-reached-named s unique works None asked reached is stops =
-    each_policy s unique.name works asked reached unique.policy is
-    (not_stopped (reaches_any_run (cancelled_by (plan_in s unique)) s.works s.runs) (refusal_of s (Some unique) works) stops is)
+reached-named : (s : State) (unique : UniqueName) (works : List Node) (found : Option Refusal) → AreAskedUnder unique.name works → Valid s
+    → refusal_of s (Some unique) works ≡ found → Valid (outcome_by found s (Some unique) works).state
+reached-named s unique works (Some found) asked reached is = reached
+reached-named s unique works None asked reached is = each_policy s unique.name works asked reached unique.policy is
 
 frame-updated : (s : State) (commands : List Command) (member : Record) (works : List Node)
     → untouched (updated_by s member works).state commands ≡ untouched s commands
 frame-updated s commands member [] = refl
 frame-updated s commands member (work ∷ works) = refl
 
-frame-carried_out : (s : State) (commands : List Command) (name : List ℕ) (works : List Node) (plan : Plan)
-    → untouched (carried_out plan s name works).state commands ≡ untouched s commands
-frame-carried_out s commands name works plan.Keeps = refl
-frame-carried_out s commands name works (plan.Updates member) = frame-updated s commands member works
-frame-carried_out s commands name works (plan.Places placing) = frame-placed (made_ready s placing) commands (Some name) placing.after works
+-- a batch that is placed stops the runs of what it cancels
+frame-carried_out : (s : State) (unique : UniqueName) (batch : BatchFields) (name : List ℕ) (works : List Node) (plan : Plan)
+    → let asked = command.Enqueue (Some unique) batch in IsLinedIn asked s (untouched (carried_out plan s name works).state (asked ∷ []))
+frame-carried_out s unique batch name works plan.Keeps = IsLinedIn-quiet (command.Enqueue (Some unique) batch) s _ refl
+frame-carried_out s unique batch name works (plan.Updates member) =
+    let asked = command.Enqueue (Some unique) batch in IsLinedIn-quiet asked s _ (frame-updated s (asked ∷ []) member works)
+frame-carried_out s unique batch name works (plan.Places placing) =
+    let asked = command.Enqueue (Some unique) batch in
+    record {
+      stops = is_any_run_reached placing.cancel s.works;
+      frame_is = frame-placed (made_ready s placing) (asked ∷ []) (Some name) placing.after works ∙ frame-made_ready s placing (asked ∷ []);
+    }
 
-frame-named : (s : State) (commands : List Command) (unique : UniqueName) (found : Option Refusal) (works : List Node)
-    → untouched (outcome_by found s (Some unique) works).state commands ≡ untouched s commands
-frame-named s commands unique (Some found) works = refl
-frame-named s commands unique None works = frame-carried_out s commands unique.name works (plan_in s unique)
+frame-named : (s : State) (unique : UniqueName) (batch : BatchFields) (found : Option Refusal) (works : List Node)
+    → let asked = command.Enqueue (Some unique) batch in IsLinedIn asked s (untouched (outcome_by found s (Some unique) works).state (asked ∷ []))
+frame-named s unique batch (Some found) works = IsLinedIn-quiet (command.Enqueue (Some unique) batch) s _ refl
+frame-named s unique batch None works = frame-carried_out s unique batch unique.name works (plan_in s unique)
 
 pub enqueue-named-answered : (s : State) (unique : UniqueName) (batch : BatchFields) → AreAskedUnder unique.name batch.works
     → IsAnswered s (command.Enqueue (Some unique) batch)
 enqueue-named-answered s unique batch asked =
-    let asked_for = command.Enqueue (Some unique) batch in
-    let stops = stops_run s (Some unique) batch.works in
-    let done = enqueued s (Some unique) batch.works in
     let refused = refusal_of s (Some unique) batch.works in
     record {
-      answered = λ rest. cond_both stops None (Some done) (λ (o : Option Outcome). IsSome o)
-          (λ e. absurd (true≢false (sym e ∙ no_run_stopped s (Some unique) batch.works rest.no_run))) (λ e. refl);
-      reached = λ reached. cond_both stops None (Some done) (λ (o : Option Outcome). IsReached (state_by s o)) (λ e. reached)
-          (λ e. reached-named s unique batch.works refused asked reached refl e);
-      frame = cond_both stops None (Some done) (λ (o : Option Outcome). untouched (state_by s o) (asked_for ∷ []) ≡ untouched s (asked_for ∷ []))
-          (λ e. refl) (λ e. frame-named s (asked_for ∷ []) unique refused batch.works);
+      answered = λ may. refl;
+      reached = λ valid. reached-named s unique batch.works refused asked valid refl;
+      frame = frame-named s unique batch refused batch.works;
     }

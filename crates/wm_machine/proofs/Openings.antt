@@ -5,12 +5,11 @@ use Rattle.wm_data.specs.declared.data.DataEntry.{DataEntry}
 use Rattle.wm_keeper.specs.declared.row.Row.{Row}
 use Rattle.wm_machine.proofs.Changes.{all_open, AreWorks-changed, IsChange, moves-kept, MovesTo}
 use Rattle.wm_machine.proofs.Records.{IsRecord-kept}
-use Rattle.wm_machine.proofs.Steps.{IsReached-after}
-use Rattle.wm_machine.specs.Narrow.{IsReached}
+use Rattle.wm_machine.proofs.Steps.{Valid-after}
 use Rattle.wm_machine.specs.Opened.{AreFresh, IsOfLog, next_number, Opened, opening_state, reopened, reopened_phase}
 use Rattle.wm_machine.specs.Replay.{Replay}
 use Rattle.wm_machine.specs.Step.{after}
-use Rattle.wm_machine.specs.Valid.{ArePriorSound, AreWorks, IsAttemptIn, IsOfKind, IsOutputIn, IsPeriodicPhase, IsProgressIn, IsRecord, MaySucceedOrHas}
+use Rattle.wm_machine.specs.Valid.{Valid, ArePriorSound, AreWorks, IsAttemptIn, IsOfKind, IsOutputIn, IsPeriodicPhase, IsProgressIn, IsRecord, MaySucceedOrHas}
 use Rattle.wm_machine.specs.declared.record.Phase.TheVariants as phase
 use Rattle.wm_machine.specs.Types.{Event, Instance, Period, Phase, Record, State}
 
@@ -77,28 +76,25 @@ none_runs (phase.Done how) is = absurd cc
 
 -- ---- the state
 
-pub reached-opened : (rows : List Row) (instances : List Instance) (first : State) → Opened rows instances first → IsReached first
+pub reached-opened : (rows : List Row) (instances : List Instance) (first : State) → Opened rows instances first → Valid first
 reached-opened rows instances first opened =
     let stored = opened.stored in
     let works = map reopened stored in
-    subst IsReached (sym opened.state) (record {
-      valid = record {
-        works = subst (λ n. AreWorks n works) (sym (next_number-reopened stored))
-            (AreWorks-changed (next_number stored) stored reopened opened.sound (IsChange-reopened (next_number stored) stored opened.sound));
-        runs = record {
-          running = All-map _ reopened stored (λ work is running. absurd (none_runs work.phase running)) opened.sound.records;
-          each = tt;
-          apart = tt;
-        };
-        instances = record {
-          out = All-weaker instances (λ instance is. is.out) opened.fresh.all;
-          few = opened.fresh.few;
-          numbered = opened.fresh.in_order;
-        };
-        few_observers = omega arith;
-        now = omega arith;
+    subst Valid (sym opened.state) (record {
+      works = subst (λ n. AreWorks n works) (sym (next_number-reopened stored))
+          (AreWorks-changed (next_number stored) stored reopened opened.sound (IsChange-reopened (next_number stored) stored opened.sound));
+      runs = record {
+        running = All-map _ reopened stored (λ work is running. absurd (none_runs work.phase running)) opened.sound.records;
+        each = tt;
+        apart = tt;
       };
-      narrow = record { runs = tt };
+      instances = record {
+        out = All-weaker instances (λ instance is. is.out) opened.fresh.all;
+        few = opened.fresh.few;
+        numbered = opened.fresh.in_order;
+      };
+      few_observers = omega arith;
+      now = omega arith;
     })
 
 -- what an empty store opens to
@@ -111,16 +107,16 @@ opened-nothing instances fresh = record {
   state = refl;
 }
 
-pub reached-opening : (instances : List Instance) → AreFresh instances → IsReached (opening_state [] instances)
+pub reached-opening : (instances : List Instance) → AreFresh instances → Valid (opening_state [] instances)
 reached-opening instances fresh = reached-opened [] instances (opening_state [] instances) (opened-nothing instances fresh)
 
 -- an opened state has no run
 pub rest-opened : {rows : List Row} {instances : List Instance} {first : State} → Opened rows instances first → first.runs ≡ []
 rest-opened opened = ap (λ (s : State). s.runs) opened.state
 
-pub reached-replayed : (first last : State) (log : List Event) → IsReached first → Replay first log last → IsReached last
-reached-replayed first last [] reached replays = subst IsReached (sym replays) reached
-reached-replayed first last (e ∷ log) reached replays = reached-replayed (after first e) last log (IsReached-after first e reached replays.0) replays.1
+pub reached-replayed : (first last : State) (log : List Event) → Valid first → Replay first log last → Valid last
+reached-replayed first last [] reached replays = subst Valid (sym replays) reached
+reached-replayed first last (e ∷ log) reached replays = reached-replayed (after first e) last log (Valid-after first e reached replays.0) replays.1
 
-pub reached-of_log : (s : State) → IsOfLog s → IsReached s
+pub reached-of_log : (s : State) → IsOfLog s → Valid s
 reached-of_log s is = reached-replayed is.first s is.log (reached-opened is.rows is.instances is.first is.opened) is.replay

@@ -5,10 +5,9 @@ use Rattle.std.proofs.lemmas.Bool.{and_from, and_parts, eq-eqb, false≢true, fa
 use Rattle.wm_collections.proofs.Lists.{All-filter, All-stored, All-weaker, All-with2, AllLater-filter, HasOne-filter, filter-few, list_any-stored}
 use Rattle.wm_machine.proofs.Runnings.{AreRuns-beside}
 use Rattle.wm_machine.specs.Closed.{is_open}
-use Rattle.wm_machine.specs.Narrow.{IsReached}
 use Rattle.wm_machine.specs.Pruned.{is_needed, removable}
 use Rattle.wm_collections.specs.Lists.{HasOne, is_among}
-use Rattle.wm_machine.specs.Valid.{ArePriorSound, HasSucceeded, IsPrerequisite, IsWorkOf}
+use Rattle.wm_machine.specs.Valid.{Valid, ArePriorSound, HasSucceeded, IsPrerequisite, IsWorkOf}
 use Rattle.wm_machine.specs.declared.record.How.TheVariants as how
 use Rattle.wm_machine.specs.Types.{Phase, Record, Run, State}
 use Rattle.wm_machine.specs.declared.record.Phase.TheVariants as phase
@@ -77,29 +76,25 @@ module _ (gone : Record → Bool) (works : List Record) (may : AreRemovable gone
 
 -- ---- the state
 
--- where removable records are removed, all that holds of the states that are reached still does
-pub reached-removed : (s : State) (gone : Record → Bool) → IsReached s → AreRemovable gone s.works → IsReached (record s { works = without_gone gone s.works })
-reached-removed s gone reached may =
-    let valid = reached.valid in
+-- where removable records are removed, all that holds of the states that are valid still does
+pub reached-removed : (s : State) (gone : Record → Bool) → Valid s → AreRemovable gone s.works → Valid (record s { works = without_gone gone s.works })
+reached-removed s gone valid may =
     let works = s.works in
     let left = without_gone gone works in
     record {
-      valid = record {
-        works = record {
-          first = valid.works.first;
-          fits = valid.works.fits;
-          numbers = stay_all _ gone works valid.works.numbers;
-          few = let few = valid.works.few in omega (arith, filter-few (λ work. not (gone work)) works, few);
-          records = stay_all _ gone works valid.works.records;
-          in_order = AllLater-filter _ (λ work. not (gone work)) works valid.works.in_order;
-          sound = stay_all _ gone works
-              (All-with2 works (λ work there sound. sound_then gone works may work.phase work.prior (needed_prior works work there) sound) (All-stored works)
-              valid.works.sound);
-        };
-        runs = AreRuns-beside s left valid (stay_all _ gone works valid.runs.running) (work_stays gone works may);
-        instances = valid.instances;
-        few_observers = valid.few_observers;
-        now = valid.now;
+      works = record {
+        first = valid.works.first;
+        fits = valid.works.fits;
+        numbers = stay_all _ gone works valid.works.numbers;
+        few = let few = valid.works.few in omega (arith, filter-few (λ work. not (gone work)) works, few);
+        records = stay_all _ gone works valid.works.records;
+        in_order = AllLater-filter _ (λ work. not (gone work)) works valid.works.in_order;
+        sound = stay_all _ gone works
+            (All-with2 works (λ work there sound. sound_then gone works may work.phase work.prior (needed_prior works work there) sound) (All-stored works)
+            valid.works.sound);
       };
-      narrow = record { runs = reached.narrow.runs };
+      runs = AreRuns-beside s left valid (stay_all _ gone works valid.runs.running) (work_stays gone works may);
+      instances = valid.instances;
+      few_observers = valid.few_observers;
+      now = valid.now;
     }

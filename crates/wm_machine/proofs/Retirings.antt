@@ -6,13 +6,12 @@ use Rattle.std.specs.Str.{bytes_eq}
 use Rattle.std.proofs.lemmas.List.{length-map}
 use Rattle.std.proofs.lemmas.Bool.{cases_Bool, cond-false, cond_both, true≢false}
 use Rattle.wm_collections.proofs.Lists.{All-map, All-weaker, HasOne-map, none_pass}
-use Rattle.wm_machine.proofs.Owed.{IsAnswered}
+use Rattle.wm_machine.proofs.Owed.{quiet_frame, IsAnswered, IsLinedIn-quiet}
 use Rattle.wm_machine.specs.First.{is_idle, is_live}
-use Rattle.wm_machine.specs.Frame.{lined_frame, untouched}
-use Rattle.wm_machine.specs.Narrow.{IsReached}
+use Rattle.wm_machine.specs.Frame.{untouched}
 use Rattle.wm_machine.specs.Replied.{Outcome, unchanged}
 use Rattle.wm_machine.specs.Retired.{made_retired, with_retired}
-use Rattle.wm_machine.specs.Valid.{AreNumberedInOrder, IsInstanceOf, IsOutForRun}
+use Rattle.wm_machine.specs.Valid.{Valid, AreNumberedInOrder, IsInstanceOf, IsOutForRun}
 use Rattle.wm_machine.specs.Types.{Instance, State}
 use Rattle.wm_machine.specs.declared.command.Command.TheVariants as command
 use Rattle.wm_machine.specs.declared.reply.Refusal.TheVariants.{NoSuchClass}
@@ -34,33 +33,29 @@ numbered-retired class first (instance ∷ instances) ordered = (
 )
 
 -- number and kind of an instance stay, and whether it is out
-reached-retired : (s : State) (class : List ℕ) → IsReached s → IsReached (record s { instances = with_retired class s.instances })
-reached-retired s class reached =
-    let valid = reached.valid in
+reached-retired : (s : State) (class : List ℕ) → Valid s → Valid (record s { instances = with_retired class s.instances })
+reached-retired s class valid =
     record {
-      valid = record {
-        works = valid.works;
-        runs = record {
-          running = valid.runs.running;
-          each = All-weaker s.runs (λ run is. record {
-            number = is.number;
-            turn = is.turn;
-            input = is.input;
-            work = is.work;
-            instance = HasOne-map _ (retired_in class) s.instances
-                (λ i of. retired_both (IsInstanceOf run) class i (record { number = of.number; kind = of.kind }) of) is.instance;
-          }) valid.runs.each;
-          apart = valid.runs.apart;
-        };
-        instances = record {
-          out = All-map _ (retired_in class) s.instances (λ i is. retired_both (IsOutForRun s.runs) class i is is) valid.instances.out;
-          few = subst (λ n. n ≤ 10000) (sym (length-map s.instances (retired_in class))) valid.instances.few;
-          numbered = numbered-retired class 0 s.instances valid.instances.numbered;
-        };
-        few_observers = valid.few_observers;
-        now = valid.now;
+      works = valid.works;
+      runs = record {
+        running = valid.runs.running;
+        each = All-weaker s.runs (λ run is. record {
+          number = is.number;
+          turn = is.turn;
+          input = is.input;
+          work = is.work;
+          instance = HasOne-map _ (retired_in class) s.instances
+              (λ i of. retired_both (IsInstanceOf run) class i (record { number = of.number; kind = of.kind }) of) is.instance;
+        }) valid.runs.each;
+        apart = valid.runs.apart;
       };
-      narrow = record { runs = reached.narrow.runs };
+      instances = record {
+        out = All-map _ (retired_in class) s.instances (λ i is. retired_both (IsOutForRun s.runs) class i is is) valid.instances.out;
+        few = subst (λ n. n ≤ 10000) (sym (length-map s.instances (retired_in class))) valid.instances.few;
+        numbered = numbered-retired class 0 s.instances valid.instances.numbered;
+      };
+      few_observers = valid.few_observers;
+      now = valid.now;
     }
 
 already : (retired : Bool) → not retired ≡ false → retired ≡ true
@@ -99,9 +94,9 @@ retire-answered s class =
     } in
     record {
       answered = λ rest. refl;
-      reached = λ reached. cond_both live done (unchanged s (reply.Refused NoSuchClass)) (λ o. IsReached o.state) (λ e. reached-retired s class reached)
+      reached = λ reached. cond_both live done (unchanged s (reply.Refused NoSuchClass)) (λ o. Valid o.state) (λ e. reached-retired s class reached)
           (λ e. reached);
-      frame = cond_both live done (unchanged s (reply.Refused NoSuchClass))
-          (λ o. untouched o.state (command.Retire class ∷ []) ≡ lined_frame s (command.Retire class)) (λ e. refl)
-          (λ dead. ap (λ i. record (untouched s (command.Retire class ∷ [])) { instances = i }) (sym (retired-dead class s.instances dead)));
+      frame = IsLinedIn-quiet (command.Retire class) s _ (cond_both live done (unchanged s (reply.Refused NoSuchClass))
+          (λ o. untouched o.state (command.Retire class ∷ []) ≡ quiet_frame s (command.Retire class)) (λ e. refl)
+          (λ dead. ap (λ i. record (untouched s (command.Retire class ∷ [])) { instances = i }) (sym (retired-dead class s.instances dead))));
     }

@@ -25,6 +25,7 @@ Continues _ = ⊥
 -- a run is over
 abbrev pub Closes : Role → Type 0
 Closes (role.Ends run gave) = Unit {0}
+Closes (role.Returns run) = Unit {0}
 Closes _ = ⊥
 
 -- where no run was unreturned, at most one is, and fewer works are left
@@ -51,7 +52,7 @@ opened role.Refuses s frame before left opens is leaves no_run = record {
 opened (role.Line asked) s frame before left opens is leaves no_run = absurd opens
 opened (role.GoesOn run gave) s frame before left opens is leaves no_run = absurd opens
 opened (role.Ends run gave) s frame before left opens is leaves no_run = absurd opens
-opened role.Other s frame before left opens is leaves no_run = absurd opens
+opened (role.Returns run) s frame before left opens is leaves no_run = absurd opens
 
 -- where one run was unreturned, none is, and no more works are left
 pub record IsClosed (role : Role) (s : State) (frame : Frame) (before left : ℕ) : Type 0 where
@@ -90,7 +91,12 @@ closed (role.Line asked) s frame before left run closes is leaves one = absurd c
 closed (role.Begins number instance) s frame before left run closes is leaves one = absurd closes
 closed role.Refuses s frame before left run closes is leaves one = absurd closes
 closed (role.GoesOn number gave) s frame before left run closes is leaves one = absurd closes
-closed role.Other s frame before left run closes is leaves one = absurd closes
+closed (role.Returns number) s frame before left run closes is leaves one = record {
+  silent = ap (λ (f : Frame). f.commands) is.frame_is;
+  turn = tt;
+  none = ap (λ (f : Frame). f.runs) is.frame_is ∙ none_left number run is.run s.runs one is.is_running;
+  no_more = leaves;
+}
 
 -- where one run was unreturned, it is at its next turn, and no more works are left
 pub record IsContinued (role : Role) (s : State) (frame : Frame) (run : Run) (before left : ℕ) : Type 0 where
@@ -111,4 +117,4 @@ continued (role.Line asked) s frame before left run goes is leaves one = absurd 
 continued (role.Begins number instance) s frame before left run goes is leaves one = absurd goes
 continued role.Refuses s frame before left run goes is leaves one = absurd goes
 continued (role.Ends number gave) s frame before left run goes is leaves one = absurd goes
-continued role.Other s frame before left run goes is leaves one = absurd goes
+continued (role.Returns number) s frame before left run goes is leaves one = absurd goes

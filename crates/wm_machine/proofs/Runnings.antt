@@ -3,11 +3,10 @@ use Rattle.std.proofs.Common.{◌≡◌, ◌⊎◌, ℕ, ◌+◌, ◌<◌, Bool,
 use Rattle.std.specs.List.{AllByRecursion}
 use Rattle.std.proofs.lemmas.Bool.{cases_Bool, cond-false, cond_both, eqb-true, eqb-false, ne_eqb, true≢false}
 use Rattle.wm_collections.specs.Lists.{AllLater, HasOne}
-use Rattle.wm_collections.proofs.Lists.{All-find, All-weaker, AllLater-weaker, HasOne-map, HasOne-map_with, HasOne-weaker, one_gives}
+use Rattle.wm_collections.proofs.Lists.{All-find, All-weaker, All-with2, AllLater-weaker, HasOne-map, HasOne-map_with, HasOne-weaker, one_gives}
 use Rattle.wm_machine.specs.First.{is_waiting}
-use Rattle.wm_machine.specs.Narrow.{IsNarrow}
 use Rattle.wm_machine.specs.Runs.{changed_work, made_out, run_numbered, with_out}
-use Rattle.wm_machine.specs.Valid.{AreApart, AreNumberedInOrder, AreRuns, IsBefore, IsCurrentOf, IsInstanceOf, IsValidRun, IsWorkOf, Valid}
+use Rattle.wm_machine.specs.Valid.{Valid, AreApart, AreNumberedInOrder, AreRuns, IsBefore, IsCurrentOf, IsInstanceOf, IsValidRun, IsWorkOf}
 use Rattle.wm_machine.specs.declared.record.Phase.TheVariants as phase
 use Rattle.wm_machine.specs.Types.{Instance, Period, Record, Run, State}
 
@@ -188,9 +187,13 @@ found_or_apart number run (first ∷ runs) found apart =
 pub found_valid : (s : State) (number : ℕ) (run : Run) → Valid s → run_numbered number s.runs ≡ Some run → IsValidRun s.works s.instances s.next_run run
 found_valid s number run valid found = All-find _ (λ r. eqb r.run number) s.runs run found valid.runs.each
 
--- and current
-pub found_narrow : (s : State) (number : ℕ) (run : Run) → IsNarrow s → run_numbered number s.runs ≡ Some run → run.current ≡ true
-found_narrow s number run narrow found = All-find _ (λ r. eqb r.run number) s.runs run found narrow.runs
+-- each run is this one, or apart from it
+pub each_or_apart : (runs : List Run) → AllLater AreApart runs → AllByRecursion (λ run. AllByRecursion (λ other. (other ≡ run) ⊎ AreApart run other) runs) runs
+each_or_apart [] apart = tt
+each_or_apart (run ∷ runs) apart = (
+  (inl refl, All-weaker runs (λ other a. inr a) apart.0),
+  All-with2 runs (λ other a all. (inr (apart_sym run other a), all)) apart.0 (each_or_apart runs apart.1),
+)
 
 -- runs stay valid beside other works, where a running work has its run and the work of a run is among them
 pub AreRuns-beside : (s : State) (works : List Record) → Valid s → AllByRecursion (λ w. w.phase ≡ phase.Running → HasOne (IsCurrentOf w.seq) s.runs) works

@@ -2,15 +2,15 @@
 use Rattle.std.proofs.Common.{◌≡◌, ℕ, ◌≤◌, Bool, true, false, List, [], ◌∷◌, ◌++◌, length, refl, sym, ◌∙◌, ap, subst, arith, inl, inr}
 use Rattle.std.specs.List.{AllByRecursion}
 use Rattle.std.proofs.lemmas.Bool.{cases_Bool, false≢true}
-use Rattle.wm_machine.proofs.Commands.{answered, reply_at_rest}
+use Rattle.wm_machine.proofs.Commands.{answered, reply_where_asked}
 use Rattle.wm_machine.proofs.Drains.{AreInTurn-append, commands_of-append, goes_on, Replay-append}
 use Rattle.wm_machine.proofs.Settles.{quiet-settled}
-use Rattle.wm_machine.proofs.Steps.{IsReached-after}
+use Rattle.wm_machine.proofs.Steps.{Valid-after}
 use Rattle.wm_machine.specs.Outcome.{IsAskable}
 use Rattle.wm_machine.specs.Frame.{Frame}
 use Rattle.wm_machine.specs.Log.{commands_of}
-use Rattle.wm_machine.specs.Narrow.{IsNarrow, IsReached}
 use Rattle.wm_machine.specs.Replay.{Replay}
+use Rattle.wm_machine.specs.Runs.{with_stopped}
 use Rattle.wm_machine.specs.Serial.{AreInOrder, AreInOrderBy, AreInTurn, BeginsByLine, BeginsSerial, drains_first, IsInTurn, MayGoOn}
 use Rattle.wm_machine.specs.Step.{after, Answers, Legal}
 use Rattle.wm_machine.specs.Valid.{Valid}
@@ -72,7 +72,7 @@ AreInOrder-nothing lines first = nothing-by (drains_first lines) first
 
 -- a log that has begun goes on
 begun : (lines left : List Command) (first now : State) (log : List Event) → AllByRecursion IsAskable left → lines ≡ commands_of log ++ left
-    → Replay first log now → IsReached now → length now.runs ≤ 1 → AreInOrder lines first log → MayGoOn lines log → BeginsSerial lines first log
+    → Replay first log now → Valid now → length now.runs ≤ 1 → AreInOrder lines first log → MayGoOn lines log → BeginsSerial lines first log
 begun lines left first now log askable whole replays reached few order may =
     let rest = goes_on left now askable reached few in record {
       rest = rest.log;
@@ -87,17 +87,17 @@ begun lines left first now log askable whole replays reached few order may =
 
 -- no event yet: the first line comes at once
 unbegun : (asked : Command) (lines : List Command) (first : State) → drains_first (asked ∷ lines) ≡ false → AllByRecursion IsAskable (asked ∷ lines)
-    → IsReached first → first.runs ≡ [] → BeginsSerial (asked ∷ lines) first []
+    → Valid first → first.runs ≡ [] → BeginsSerial (asked ∷ lines) first []
 unbegun asked lines first drains askable reached no_run =
     let owed = answered first asked askable.0 in
     let answer =
-    reply_at_rest first asked 0 askable.0
-    (record { no_run = no_run; settled = λ settles. absurd (false≢true (sym drains ∙ ap (λ a. drains_first (a ∷ lines)) settles)) }) in
+    reply_where_asked first asked 0 askable.0
+    (record { settled = λ settles. absurd (false≢true (sym drains ∙ ap (λ a. drains_first (a ∷ lines)) settles)) }) in
     let e = event.Command 0 asked answer.0 in
     let legal : Legal first e = answer.1 in
     let rest =
-    goes_on lines (after first e) askable.1 (IsReached-after first e reached legal)
-    (subst (λ (runs : List Run). length runs ≤ 1) (sym (ap (λ (f : Frame). f.runs) owed.frame ∙ no_run)) (omega arith)) in
+    goes_on lines (after first e) askable.1 (Valid-after first e reached legal)
+    (subst (λ (runs : List Run). length runs ≤ 1) (sym (ap (λ (f : Frame). f.runs) owed.frame.frame_is ∙ ap (with_stopped owed.frame.stops) no_run)) (omega arith)) in
     record {
       rest = e ∷ rest.log;
       last = rest.last;
@@ -110,17 +110,12 @@ unbegun asked lines first drains askable reached no_run =
     }
 
 -- a log in serial order with at most one unreturned run goes on to the log of a whole serial run
-goes-on : (lines left : List Command) (first now : State) (log : List Event) → AllByRecursion IsAskable left → lines ≡ commands_of log ++ left
-    → first.runs ≡ [] → Replay first log now → IsReached now → length now.runs ≤ 1 → AreInOrder lines first log → BeginsSerial lines first log
-goes-on lines left first now (e ∷ log) askable whole rest replays reached few order =
-    begun lines left first now (e ∷ log) askable whole replays reached few order tt
-goes-on [] left first now [] askable whole rest replays reached few order = begun [] left first now [] askable whole replays reached few order refl
-goes-on (asked ∷ lines) left first now [] askable whole rest replays reached few order = elim (cases_Bool (drains_first (asked ∷ lines))) [
-  | inl drains ↦ begun (asked ∷ lines) left first now [] askable whole replays reached few order drains
-  | inr at_once ↦ unbegun asked lines first at_once (subst (AllByRecursion IsAskable) (sym whole) askable) (subst IsReached replays reached) rest
-]
-
 pub BeginsSerial-goes-on : (lines left : List Command) (first now : State) (log : List Event) → AllByRecursion IsAskable left → lines ≡ commands_of log ++ left
-    → first.runs ≡ [] → Replay first log now → Valid now → IsNarrow now → length now.runs ≤ 1 → AreInOrder lines first log → BeginsSerial lines first log
-BeginsSerial-goes-on lines left first now log askable whole rest replays valid narrow few order =
-    goes-on lines left first now log askable whole rest replays (record { valid = valid; narrow = narrow }) few order
+    → first.runs ≡ [] → Replay first log now → Valid now → length now.runs ≤ 1 → AreInOrder lines first log → BeginsSerial lines first log
+BeginsSerial-goes-on lines left first now (e ∷ log) askable whole rest replays reached few order =
+    begun lines left first now (e ∷ log) askable whole replays reached few order tt
+BeginsSerial-goes-on [] left first now [] askable whole rest replays reached few order = begun [] left first now [] askable whole replays reached few order refl
+BeginsSerial-goes-on (asked ∷ lines) left first now [] askable whole rest replays reached few order = elim (cases_Bool (drains_first (asked ∷ lines))) [
+  | inl drains ↦ begun (asked ∷ lines) left first now [] askable whole replays reached few order drains
+  | inr at_once ↦ unbegun asked lines first at_once (subst (AllByRecursion IsAskable) (sym whole) askable) (subst Valid replays reached) rest
+]

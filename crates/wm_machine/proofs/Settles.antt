@@ -1,10 +1,10 @@
 -- What is owed for a line that settles, and what its reply tells.
 use Rattle.std.proofs.Common.{◌≡◌, List, [], ◌∷◌, Option, Some, None, IsSomeAnd, is_some, refl, ap, IsSome}
 use Rattle.std.proofs.lemmas.Bool.{false≢true}
-use Rattle.wm_machine.proofs.Owed.{IsAnswered}
+use Rattle.wm_machine.proofs.Owed.{IsAnswered, IsLinedIn-quiet}
 use Rattle.wm_machine.specs.First.{first_of}
 use Rattle.wm_machine.specs.Frame.{untouched}
-use Rattle.wm_machine.specs.Narrow.{IsReached}
+use Rattle.wm_machine.specs.Valid.{Valid}
 use Rattle.wm_machine.specs.Outcome.{outcome}
 use Rattle.wm_machine.specs.Quiet.{settled_by, IsQuiet}
 use Rattle.wm_machine.specs.Replied.{unchanged}
@@ -35,9 +35,10 @@ stays P s (Some work) runs p = p
 
 pub settle-answered : (s : State) → IsAnswered s command.Settle
 settle-answered s = record {
-  answered = λ rest. ap is_some (settled-is s (first_of s) s.runs (rest.settled refl) rest.no_run);
-  reached = λ reached. stays IsReached s (first_of s) s.runs reached;
-  frame = stays (λ t. untouched t (command.Settle ∷ []) ≡ untouched s (command.Settle ∷ [])) s (first_of s) s.runs refl;
+  answered = λ may.
+      let quiet = may.settled refl in ap is_some (settled-is s (first_of s) s.runs quiet.nothing_startable quiet.no_run);
+  reached = λ reached. stays Valid s (first_of s) s.runs reached;
+  frame = IsLinedIn-quiet command.Settle s _ (stays (λ t. untouched t (command.Settle ∷ []) ≡ untouched s (command.Settle ∷ [])) s (first_of s) s.runs refl);
 }
 
 -- and only there

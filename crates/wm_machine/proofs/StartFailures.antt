@@ -13,10 +13,9 @@ use Rattle.wm_machine.proofs.Waitings.{IsOldLeft, left-again, left-idle, left-on
 use Rattle.wm_machine.specs.Closed.{is_open}
 use Rattle.wm_machine.specs.Ends.{enqueued_again, period_of, with_start_failed}
 use Rattle.wm_machine.specs.First.{first_of, is_waiting}
-use Rattle.wm_machine.specs.Narrow.{IsReached}
 use Rattle.wm_machine.specs.Role as role
 use Rattle.wm_machine.specs.Step.{after, IsStartFailure}
-use Rattle.wm_machine.specs.Valid.{MaySucceedOrHas, Valid}
+use Rattle.wm_machine.specs.Valid.{Valid, MaySucceedOrHas}
 use Rattle.wm_machine.specs.Waiting.{is_left}
 use Rattle.wm_machine.specs.Types.{Cause, Period, Record, State}
 use Rattle.wm_machine.specs.declared.event.Event.TheVariants as event
@@ -118,12 +117,12 @@ module _ (s : State) (work : Record) (valid : Valid s) (first : first_of s ≡ S
   has_not_started None kind = fails kind
   has_not_started (Some period) kind = again period kind
 
-pub start_failed-kept : (s : State) (seq : ℕ) (cause : Cause) → IsReached s → IsStartFailure s seq cause
+pub start_failed-kept : (s : State) (seq : ℕ) (cause : Cause) → Valid s → IsStartFailure s seq cause
     → IsKept role.Refuses s (after s (event.StartFailed seq cause))
 start_failed-kept s seq cause reached legal =
     let work = legal.work in
     let change = not_started_in s work in
-    let has = has_not_started s work reached.valid legal.is_first (period_of work.seq s.works) (same_period work.seq s.works reached.valid.works.in_order) in
+    let has = has_not_started s work reached legal.is_first (period_of work.seq s.works) (same_period work.seq s.works reached.works.in_order) in
     rw (after_start_failed s seq cause legal) record {
       reached = reached-changed s change reached has.is_change has.keep;
       left = left_to_drain-started s work change legal.is_first has.is_change has.old has.gone;

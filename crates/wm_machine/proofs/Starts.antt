@@ -18,12 +18,11 @@ use Rattle.wm_machine.proofs.Waitings.{left-idle, left-one, left_to_drain-starte
 use Rattle.wm_machine.specs.First.{first_of, idle_instance, is_waiting}
 use Rattle.wm_machine.specs.Diaries.{Began}
 use Rattle.wm_machine.specs.Frame.{begun_frame, Frame, frame_of, frame_to, IsBegunIn}
-use Rattle.wm_machine.specs.Narrow.{IsReached}
 use Rattle.wm_machine.specs.Role as role
 use Rattle.wm_machine.specs.Runs.{run_on, start_on, started, with_out, with_start}
 use Rattle.wm_machine.specs.Step.{after, IsStart, start_of}
 use Rattle.wm_collections.specs.Lists.{HasOne}
-use Rattle.wm_machine.specs.Valid.{IsCurrentOf, IsInstanceOf, IsOutForRun, IsWorkOf, Valid}
+use Rattle.wm_machine.specs.Valid.{Valid, IsCurrentOf, IsInstanceOf, IsOutForRun, IsWorkOf}
 use Rattle.wm_machine.specs.Waiting.{is_left}
 use Rattle.wm_machine.specs.declared.event.Event.TheVariants as event
 use Rattle.wm_machine.specs.declared.record.Phase.TheVariants as phase
@@ -95,10 +94,9 @@ IsChange-started s work valid first =
     (open-waiting work.phase startable.waiting, met)) alone) (All-weaker s.works (λ other same e succeeded.
     waiting-succeeded work.phase startable.waiting (sym (ap (λ (w : Record). w.phase) (same e)) ∙ succeeded)) alone) (All-any s.works (λ other e. tt))
 
-reached-start : (s : State) (work : Record) (idle : Instance) (input : List DataEntry) → IsReached s → first_of s ≡ Some work
-    → idle_instance s.instances work.request.class ≡ Some idle → IsData input → IsReached (with_start s work idle input)
-reached-start s work idle input reached first found data_is =
-    let valid = reached.valid in
+reached-start : (s : State) (work : Record) (idle : Instance) (input : List DataEntry) → Valid s → first_of s ≡ Some work
+    → idle_instance s.instances work.request.class ≡ Some idle → IsData input → Valid (with_start s work idle input)
+reached-start s work idle input valid first found data_is =
     let stored = first_of-stored s work first in
     let waiting = first_of-waiting s work first in
     let alone = IsAlone-stored work s.works valid.works.in_order stored in
@@ -106,50 +104,47 @@ reached-start s work idle input reached first found data_is =
     let free = free_instance s idle valid (idle_instance-idle s.instances work.request.class idle found).is_in there in
     let run = run_on s work idle input in
     record {
-      valid = record {
-        works = AreWorks-changed s.next s.works (changed started work.seq) valid.works (IsChange-started s work valid first);
-        runs = record {
-          running = All-map _ (changed started work.seq) s.works (λ w has.
-              changed_both (λ c. c.phase ≡ phase.Running → HasOne (IsCurrentOf c.seq) (s.runs ++ run ∷ [])) started work.seq w
-              (λ e running. HasOne-last _ s.runs run (record { of = sym e; current = refl }))
-              (λ e running. HasOne-front _ s.runs (run ∷ []) (has running))) valid.runs.running;
-          each = All-push _ s.runs run (All-weaker s.runs (λ r is. let below = is.number in record {
-            number = omega arith;
-            turn = is.turn;
-            input = is.input;
-            work = λ current. old_work started work s.works r waiting alone (is.work current);
-            instance = same_instance true idle.number s.instances r is.instance;
-          }) valid.runs.each) (record {
-            number = omega arith;
-            turn = omega arith;
-            input = data_is;
-            work = λ current. changed_there (IsWorkOf run) started work s.works (record { seq = refl; running = refl; attempt = refl }) stored;
-            instance = made_there (IsInstanceOf run) true idle s.instances (record { number = refl; kind = refl }) there;
-          });
-          apart = AllLater-push _ s.runs run valid.runs.apart (All-with2 s.runs (λ r is differs. let below = is.number in record {
-            runs = λ e. absurd (omega arith);
-            works = λ current also. other_number work s.works r waiting alone (is.work current);
-            instances = eqb-false r.instance idle.number differs;
-          }) valid.runs.each free);
-        };
-        instances = record {
-          out = All-map _ (made true idle.number) s.instances (IsOutForRun-made s.runs run) valid.instances.out;
-          few = subst (λ n. n ≤ 10000) (sym (length-map s.instances (made true idle.number))) valid.instances.few;
-          numbered = AreNumberedInOrder-made true idle.number 0 s.instances valid.instances.numbered;
-        };
-        few_observers = valid.few_observers;
-        now = valid.now;
+      works = AreWorks-changed s.next s.works (changed started work.seq) valid.works (IsChange-started s work valid first);
+      runs = record {
+        running = All-map _ (changed started work.seq) s.works (λ w has.
+            changed_both (λ c. c.phase ≡ phase.Running → HasOne (IsCurrentOf c.seq) (s.runs ++ run ∷ [])) started work.seq w
+            (λ e running. HasOne-last _ s.runs run (record { of = sym e; current = refl }))
+            (λ e running. HasOne-front _ s.runs (run ∷ []) (has running))) valid.runs.running;
+        each = All-push _ s.runs run (All-weaker s.runs (λ r is. let below = is.number in record {
+          number = omega arith;
+          turn = is.turn;
+          input = is.input;
+          work = λ current. old_work started work s.works r waiting alone (is.work current);
+          instance = same_instance true idle.number s.instances r is.instance;
+        }) valid.runs.each) (record {
+          number = omega arith;
+          turn = omega arith;
+          input = data_is;
+          work = λ current. changed_there (IsWorkOf run) started work s.works (record { seq = refl; running = refl; attempt = refl }) stored;
+          instance = made_there (IsInstanceOf run) true idle s.instances (record { number = refl; kind = refl }) there;
+        });
+        apart = AllLater-push _ s.runs run valid.runs.apart (All-with2 s.runs (λ r is differs. let below = is.number in record {
+          runs = λ e. absurd (omega arith);
+          works = λ current also. other_number work s.works r waiting alone (is.work current);
+          instances = eqb-false r.instance idle.number differs;
+        }) valid.runs.each free);
       };
-      narrow = record { runs = All-push _ s.runs run reached.narrow.runs refl };
+      instances = record {
+        out = All-map _ (made true idle.number) s.instances (IsOutForRun-made s.runs run) valid.instances.out;
+        few = subst (λ n. n ≤ 10000) (sym (length-map s.instances (made true idle.number))) valid.instances.few;
+        numbered = AreNumberedInOrder-made true idle.number 0 s.instances valid.instances.numbered;
+      };
+      few_observers = valid.few_observers;
+      now = valid.now;
     }
 
-pub start-kept : (s : State) (run seq instance : ℕ) (input : List DataEntry) → IsReached s → IsStart s run seq instance input
+pub start-kept : (s : State) (run seq instance : ℕ) (input : List DataEntry) → Valid s → IsStart s run seq instance input
     → IsKept (role.Begins run instance) s (after s (event.Start run seq instance input))
 start-kept s run seq instance input reached legal =
     let stored = first_of-stored s legal.work legal.is_first in
-    let taken = input_of-data s legal.work input reached.valid.works.records stored legal.input_is in
+    let taken = input_of-data s legal.work input reached.works.records stored legal.input_is in
     let change = changed started legal.work.seq in
-    let is = IsChange-started s legal.work reached.valid legal.is_first in
+    let is = IsChange-started s legal.work reached legal.is_first in
     let idle = λ (w : Record). left-idle s.now (map change s.works) (started w) refl in
     let here : change legal.work ≡ started legal.work = ap (λ b. cond b (started legal.work) legal.work) (eq-eqb legal.work.seq legal.work.seq refl) in
     rw (after_start s run seq instance input legal) record {

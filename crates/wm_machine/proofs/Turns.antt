@@ -13,7 +13,6 @@ use Rattle.wm_machine.proofs.Runnings.{changed, changed_both, found_or_apart, fo
 use Rattle.wm_machine.proofs.Waitings.{left-idle, left-one, left_among-changed}
 use Rattle.wm_machine.specs.Diaries.{given_lines}
 use Rattle.wm_machine.specs.Frame.{frame_of, frame_to, IsTurnedIn}
-use Rattle.wm_machine.specs.Narrow.{IsReached}
 use Rattle.wm_machine.specs.Role as role
 use Rattle.wm_machine.specs.Role.{This}
 use Rattle.wm_machine.specs.Runs.{changed_work, run_numbered}
@@ -21,7 +20,7 @@ use Rattle.wm_machine.specs.Step.{after, IsTurn}
 use Rattle.wm_machine.specs.Turns.{telling, turn_of, turned, with_turn, with_turned}
 use Rattle.wm_machine.specs.First.{is_waiting}
 use Rattle.wm_collections.specs.Lists.{HasOne}
-use Rattle.wm_machine.specs.Valid.{AreApart, IsCurrentOf, IsInstanceOf, MaySucceedOrHas, IsOutForRun, IsValidRun, IsWorkOf, Valid}
+use Rattle.wm_machine.specs.Valid.{Valid, AreApart, IsCurrentOf, IsInstanceOf, MaySucceedOrHas, IsOutForRun, IsValidRun, IsWorkOf}
 use Rattle.wm_machine.specs.declared.event.Event.TheVariants as event
 use Rattle.wm_machine.specs.declared.record.How.TheVariants as how
 use Rattle.wm_machine.specs.declared.record.Phase.TheVariants as phase
@@ -146,45 +145,39 @@ IsValidRun-turned s run r progress early told is =
       instance = instance_of-turned r s.instances is.instance;
     }) (λ e. record { number = is.number; turn = is.turn; input = is.input; work = work; instance = is.instance })
 
-reached-turned : (s : State) (number : ℕ) (run : Run) (progress : Option (List DataEntry)) → IfSome progress IsData → run.turn < 999 → IsReached s
-    → run_numbered number s.runs ≡ Some run → run.current ≡ true → IsReached (with_turn s run progress)
-reached-turned s number run progress told early reached found current =
-    let valid = reached.valid in
+reached-turned : (s : State) (number : ℕ) (run : Run) (progress : Option (List DataEntry)) → IfSome progress IsData → run.turn < 999 → Valid s
+    → run_numbered number s.runs ≡ Some run → run.current ≡ true → Valid (with_turn s run progress)
+reached-turned s number run progress told early valid found current =
     let same : run.run ≡ number = eqb-true run.run number (find-passes (λ r. eqb r.run number) s.runs run found) in
     let is = IsChange-telling s run progress told valid (running_of s number run valid found current) in
     record {
-      valid = record {
-        works = AreWorks-changed s.next s.works (changed (telling progress) run.seq) valid.works is;
-        runs = record {
-          running = All-map _ (changed (telling progress) run.seq) s.works (λ w has. running_stays progress run.run run.seq s.runs w has) valid.runs.running;
-          each = All-map2 _ (turned_at run.run) s.runs (λ r told fine. IsValidRun-turned s run r progress early told fine)
-              (found_or_apart run.run run s.runs (subst (λ n. run_numbered n s.runs ≡ Some run) (sym same) found) valid.runs.apart) valid.runs.each;
-          apart = AllLater-map _ (turned_at run.run) s.runs (AreApart-turned run.run) valid.runs.apart;
-        };
-        instances = record {
-          out = All-weaker s.instances (IsOutForRun-turned run.run s.runs) valid.instances.out;
-          few = valid.instances.few;
-          numbered = valid.instances.numbered;
-        };
-        few_observers = valid.few_observers;
-        now = valid.now;
+      works = AreWorks-changed s.next s.works (changed (telling progress) run.seq) valid.works is;
+      runs = record {
+        running = All-map _ (changed (telling progress) run.seq) s.works (λ w has. running_stays progress run.run run.seq s.runs w has) valid.runs.running;
+        each = All-map2 _ (turned_at run.run) s.runs (λ r told fine. IsValidRun-turned s run r progress early told fine)
+            (found_or_apart run.run run s.runs (subst (λ n. run_numbered n s.runs ≡ Some run) (sym same) found) valid.runs.apart) valid.runs.each;
+        apart = AllLater-map _ (turned_at run.run) s.runs (AreApart-turned run.run) valid.runs.apart;
       };
-      narrow = record {
-        runs = All-map _ (turned_at run.run) s.runs (λ r is. turned_both (λ r. r.current ≡ true) run.run r (λ e. is) (λ e. is)) reached.narrow.runs;
+      instances = record {
+        out = All-weaker s.instances (IsOutForRun-turned run.run s.runs) valid.instances.out;
+        few = valid.instances.few;
+        numbered = valid.instances.numbered;
       };
+      few_observers = valid.few_observers;
+      now = valid.now;
     }
 
 -- ---- what it keeps
 
-pub turn-kept : (s : State) (number : ℕ) (progress : Option (List DataEntry)) → IsReached s → IsTurn s number progress
+pub turn-kept : (s : State) (number : ℕ) (progress : Option (List DataEntry)) → Valid s → IsTurn s number progress
     → IsKept (role.GoesOn number (More progress)) s (after s (event.Turn number progress))
 turn-kept s number progress reached legal =
     let report = legal.report in
     let run = report.run in
-    let taken = (found_valid s number run reached.valid report.is_running).input in
+    let taken = (found_valid s number run reached report.is_running).input in
     let told = gives_data run.kind run.input run.attempt run.turn (More progress) taken report.may_give in
-    let running = running_of s number run reached.valid report.is_running report.is_current in
-    let is = IsChange-telling s run progress told reached.valid running in
+    let running = running_of s number run reached report.is_running report.is_current in
+    let is = IsChange-telling s run progress told reached running in
     let then = map (changed (telling progress) run.seq) s.works in
     rw (after_turn s number progress legal) record {
       reached = reached-turned s number run progress told legal.turns_left reached report.is_running report.is_current;

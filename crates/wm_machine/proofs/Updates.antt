@@ -5,17 +5,16 @@ use Rattle.std.proofs.lemmas.Bool.{cond-true, cond_both, false≢true}
 use Rattle.wm_machine.proofs.Changes.{IsChange-still, IsSameRequest, KeepsRun, reached-changed}
 use Rattle.wm_machine.proofs.Endings.{KeepsRun-same}
 use Rattle.wm_collections.proofs.Lists.{All-any, All-weaker, find-stored, map-same}
-use Rattle.wm_machine.proofs.Owed.{IsAnswered}
+use Rattle.wm_machine.proofs.Owed.{IsAnswered, IsLinedIn-quiet}
 use Rattle.wm_machine.proofs.Records.{IsRecord-updated}
 use Rattle.wm_machine.proofs.Runnings.{changed, changed-same, changed_both, IsAlone-stored}
 use Rattle.wm_machine.specs.Cancelled.{work_with_id}
 use Rattle.wm_machine.specs.Closed.{is_open}
 use Rattle.wm_machine.specs.Frame.{untouched}
-use Rattle.wm_machine.specs.Narrow.{IsReached}
 use Rattle.wm_machine.specs.Replied.{Outcome, unchanged}
 use Rattle.wm_machine.specs.Updated.{is_same_kind, update_by, update_found, update_of, updated}
 use Rattle.wm_collections.specs.Lists.{HasOne}
-use Rattle.wm_machine.specs.Valid.{IsRecord}
+use Rattle.wm_machine.specs.Valid.{Valid, IsRecord}
 use Rattle.wm_machine.specs.Types.{Command, Period, Record, State}
 use Rattle.wm_machine.specs.declared.command.Command.TheVariants as command
 use Rattle.wm_machine.specs.declared.reply.Applied.TheVariants.{NotApplied}
@@ -59,11 +58,10 @@ change-same request seq work =
 
 -- ---- the state
 
--- an update of a record by a request of its kind keeps what holds of the states that are reached
+-- an update of a record by a request of its kind keeps what holds of the states that are valid
 pub update-reached : (s : State) (request : RequestFields) (work : Record) → IsRequest request
-    → is_same_kind request.period work.request.period ≡ true → IsReached s → HasOne (λ other. other ≡ work) s.works → IsReached (update_of s request work).state
-update-reached s request work asked same reached stored =
-    let valid = reached.valid in
+    → is_same_kind request.period work.request.period ≡ true → Valid s → HasOne (λ other. other ≡ work) s.works → Valid (update_of s request work).state
+update-reached s request work asked same valid stored =
     let seq = work.seq in
     let change = change_by request seq in
     let is =
@@ -77,8 +75,8 @@ update-reached s request work asked same reached stored =
     All-weaker s.works (λ other alone. changed-same (updated_in_kind request) (updated request) seq other
     (λ e. cond-true (is_same_kind request.period other.request.period) (updated request other) other
     (ap (λ (w : Record). is_same_kind request.period w.request.period) (alone e) ∙ same))) (IsAlone-stored work s.works valid.works.in_order stored) in
-    subst (λ works. IsReached (record s { works = works })) (map-same change (changed (updated request) seq) s.works each)
-    (reached-changed s change reached is keeps)
+    subst (λ works. Valid (record s { works = works })) (map-same change (changed (updated request) seq) s.works each)
+    (reached-changed s change valid is keeps)
 
 -- ---- what is owed
 
@@ -92,11 +90,11 @@ found_both P s request work one other finished =
     cond_both (is_open work.phase) (cond same (update_of s request work) refused) (unchanged s (reply.Updated NotApplied work.generation)) P
     (λ e. cond_both same (update_of s request work) refused P one (λ f. other)) (λ e. finished)
 
-reached-by : (s : State) (request : RequestFields) (found : Option Record) → IsRequest request → work_with_id s.works request.id ≡ found → IsReached s
-    → IsReached (update_by s request found).state
+reached-by : (s : State) (request : RequestFields) (found : Option Record) → IsRequest request → work_with_id s.works request.id ≡ found → Valid s
+    → Valid (update_by s request found).state
 reached-by s request None asked is reached = reached
 reached-by s request (Some work) asked is reached =
-    found_both (λ o. IsReached o.state) s request work
+    found_both (λ o. Valid o.state) s request work
     (λ same. update-reached s request work asked same reached (find-stored (λ w. bytes_eq w.request.id request.id) s.works work is)) reached reached
 
 frame-by : (s : State) (request : RequestFields) (found : Option Record) (commands : List Command)
@@ -108,5 +106,5 @@ pub update-answered : (s : State) (request : RequestFields) → IsRequest reques
 update-answered s request asked = record {
   answered = λ rest. refl;
   reached = λ reached. reached-by s request (work_with_id s.works request.id) asked refl reached;
-  frame = frame-by s request (work_with_id s.works request.id) (command.Update request ∷ []);
+  frame = IsLinedIn-quiet (command.Update request) s _ (frame-by s request (work_with_id s.works request.id) (command.Update request ∷ []));
 }

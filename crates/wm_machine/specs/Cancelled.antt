@@ -1,9 +1,10 @@
 -- Cancelling works: the one with an id, those with a tag or of a unique name, or all. After the guide's pages "Managing work" (cancel and stop
--- work) and "Chaining work"; that a finished work is left as it is, and what is counted, are this project's own choice.
-use Rattle.std.specs.Prelude.{ℕ, ◌==◌, ◌&&◌, Bool, true, List, filter, find, count_by, if◌then◌else◌, Option, Some, None}
+-- work) and "Chaining work"; that a finished work is left as it is, what is counted, and that a run which is stopped so is unreturned until it
+-- reports, are this project's own choice.
+use Rattle.std.specs.Prelude.{ℕ, ◌&&◌, Bool, true, List, filter, find, count_by, if◌then◌else◌, Option}
 use Rattle.std.specs.List.{list_any}
 use Rattle.std.specs.Str.{bytes_eq}
-use Rattle.wm_machine.specs.Closed.{is_open, is_reached, with_each_closed}
+use Rattle.wm_machine.specs.Closed.{is_open, is_reached, with_works_closed}
 use Rattle.wm_machine.specs.Group.{is_name, numbers_in}
 use Rattle.wm_machine.specs.Queried.{has_tag}
 use Rattle.wm_machine.specs.Replied.{Outcome, unchanged}
@@ -13,7 +14,6 @@ use Rattle.wm_machine.specs.declared.record.How.TheVariants as how
 use Rattle.wm_machine.specs.declared.record.Record.{Record}
 use Rattle.wm_machine.specs.declared.reply.Refusal.TheVariants.{NoSuchWork}
 use Rattle.wm_machine.specs.declared.reply.Reply.TheVariants as reply
-use Rattle.wm_machine.specs.declared.state.Run.{Run}
 use Rattle.wm_machine.specs.declared.state.State.{State}
 
 -- ---- the works that are meant
@@ -47,30 +47,17 @@ targeted target works = numbers_in (filter (is_cancellable target) works)
 abbrev pub count_reached : List ℕ → List Record → ℕ
 count_reached seqs works = count_by (λ work. list_any (λ seq. is_reached seq works work) seqs) works
 
--- whether a current run is of a record that is reached
-abbrev pub reaches_run : ℕ → List Record → List Run → Bool
-reaches_run seq works runs = list_any (λ run. run.current && list_any (λ work. work.seq == run.seq && is_reached seq works work) works) runs
-
--- whether one of these works reaches a record that a current run is of
-abbrev pub reaches_any_run : List ℕ → List Record → List Run → Bool
-reaches_any_run seqs works runs = list_any (λ seq. reaches_run seq works runs) seqs
-
 -- ---- the outcome
 
--- these works are cancelled, each with its unfinished descendants; none where a run would be stopped, which isn't built yet
-abbrev pub cancelled_each : State → List ℕ → Option Outcome
-cancelled_each s seqs =
-    if reaches_any_run seqs s.works s.runs then None
-    else Some (record {
-      reply = reply.Cancelled (count_reached seqs s.works);
-      state = record s { works = with_each_closed how.Cancelled seqs s.works };
-    })
+-- these works are cancelled, each with its unfinished descendants
+abbrev pub cancelled_each : State → List ℕ → Outcome
+cancelled_each s seqs = record { reply = reply.Cancelled (count_reached seqs s.works); state = with_works_closed how.Cancelled seqs s }
 
 -- the unfinished works that a target is for are cancelled; an id that no record has is refused
-abbrev pub cancelled : State → Target → Option Outcome
+abbrev pub cancelled : State → Target → Outcome
 cancelled s (target.Id id) =
     if is_stored s.works id then cancelled_each s (targeted (target.Id id) s.works)
-    else Some (unchanged s (reply.Refused (NoSuchWork id)))
+    else unchanged s (reply.Refused (NoSuchWork id))
 cancelled s (target.Tag tag) = cancelled_each s (targeted (target.Tag tag) s.works)
 cancelled s (target.Name name) = cancelled_each s (targeted (target.Name name) s.works)
 cancelled s target.All = cancelled_each s (targeted target.All s.works)

@@ -2,10 +2,13 @@
 use Rattle.std.specs.Prelude.{◌≡◌, ◌⊎◌, ◌↔◌, ℕ, ◌==◌, ◌&&◌, ◌||◌, Bool, true, false, List, [], ◌∷◌, map, reverse, if◌then◌else◌}
 use Rattle.std.specs.List.{list_any}
 use Rattle.wm_collections.specs.Lists.{HasOne, is_among}
+use Rattle.wm_machine.specs.Runs.{with_stopped}
 use Rattle.wm_machine.specs.declared.record.How.{How}
 use Rattle.wm_machine.specs.declared.record.Phase.{Phase}
 use Rattle.wm_machine.specs.declared.record.Phase.TheVariants as phase
 use Rattle.wm_machine.specs.declared.record.Record.{Record}
+use Rattle.wm_machine.specs.declared.state.Run.{Run}
+use Rattle.wm_machine.specs.declared.state.State.{State}
 
 -- The numbers of the descendants of a work among these records, which stand in descending number: the work itself, and each record that
 -- has a descendant as a prerequisite. Prerequisites have smaller numbers.
@@ -40,7 +43,17 @@ closed how work = record work { phase = phase.Done how; progress = [] }
 abbrev pub with_closed : How → ℕ → List Record → List Record
 with_closed how seq works = map (λ work. if is_reached seq works work then closed how work else work) works
 
--- the records, with these works closed one after another
-abbrev pub with_each_closed : How → List ℕ → List Record → List Record
-with_each_closed how [] works = works
-with_each_closed how (seq ∷ seqs) works = with_each_closed how seqs (with_closed how seq works)
+-- ---- a state
+
+-- whether a run is of a record that is reached
+abbrev pub is_run_reached : ℕ → List Record → Run → Bool
+is_run_reached seq works run = list_any (λ work. work.seq == run.seq && is_reached seq works work) works
+
+-- The state, with each unfinished descendant of a work finished in this way: no run of such a record is current any more.
+abbrev pub with_work_closed : How → ℕ → State → State
+with_work_closed how seq s = record s { works = with_closed how seq s.works; runs = with_stopped (is_run_reached seq s.works) s.runs }
+
+-- the state, with these works closed one after another
+abbrev pub with_works_closed : How → List ℕ → State → State
+with_works_closed how [] s = s
+with_works_closed how (seq ∷ seqs) s = with_works_closed how seqs (with_work_closed how seq s)

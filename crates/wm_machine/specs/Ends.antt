@@ -108,6 +108,14 @@ abbrev pub end_of : State → Option Run → End → State
 end_of s None end = s
 end_of s (Some run) end = with_end s run end
 
+-- a run that was stopped is away, and its worker is at its place again; nothing else changes
+abbrev pub with_return : State → Run → State
+with_return s run = record s { runs = other_runs run.run s.runs; instances = with_out false run.instance s.instances }
+
+abbrev pub returned_of : State → Option Run → State
+returned_of s None = s
+returned_of s (Some run) = with_return s run
+
 -- the work of this number couldn't start
 abbrev pub with_start_failed : State → ℕ → State
 with_start_failed s seq = record s { works = works_not_started s.now seq (period_of seq s.works) s.works }

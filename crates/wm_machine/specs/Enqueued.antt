@@ -6,8 +6,8 @@ use Rattle.std.specs.Prelude.{ℕ, ◌+◌, ◌^◌, ◌==◌, ◌&&◌, ◌||�
 use Rattle.std.specs.List.{list_any}
 use Rattle.std.specs.Str.{bytes_eq}
 use Rattle.wm_collections.specs.Lists.{is_among}
-use Rattle.wm_machine.specs.Cancelled.{is_stored, reaches_any_run}
-use Rattle.wm_machine.specs.Closed.{with_each_closed}
+use Rattle.wm_machine.specs.Cancelled.{is_stored}
+use Rattle.wm_machine.specs.Closed.{with_works_closed}
 use Rattle.wm_machine.specs.Group.{members_of, with_let_go}
 use Rattle.wm_machine.specs.Plan as plan
 use Rattle.wm_machine.specs.Plan.{mismatch, placed_freely, Placing, Plan, plan_of}
@@ -200,7 +200,9 @@ placing_in s name after works = record { reply = reply.Enqueued (new_numbers s.n
 
 -- the state once works are cancelled, one after another, and others are let go
 abbrev pub made_ready : State → Placing → State
-made_ready s placing = record s { works = with_let_go placing.let_go (with_each_closed how.Cancelled placing.cancel s.works) }
+made_ready s placing =
+    let cancelled = with_works_closed how.Cancelled placing.cancel s in
+    record cancelled { works = with_let_go placing.let_go cancelled.works }
 
 -- a member is updated by the first work of a batch, which isn't empty
 abbrev pub updated_by : State → Record → List Node → Outcome
@@ -221,16 +223,3 @@ outcome_by None s (Some unique) works = carried_out (plan_in s unique) s unique.
 -- the first check that holds gives the reply; where none does the batch is placed, or a member is updated
 abbrev pub enqueued : State → Option UniqueName → List Node → Outcome
 enqueued s named works = outcome_by (refusal_of s named works) s named works
-
--- ---- what isn't built yet
-
--- the numbers of the works that a plan cancels
-abbrev pub cancelled_by : Plan → List ℕ
-cancelled_by (plan.Places placing) = placing.cancel
-cancelled_by _ = []
-
--- whether an enqueue would stop a run
-abbrev pub stops_run : State → Option UniqueName → List Node → Bool
-stops_run s None works = false
-stops_run s (Some unique) works =
-    reaches_any_run (cancelled_by (plan_in s unique)) s.works s.runs && not (is_some (refusal_of s (Some unique) works))

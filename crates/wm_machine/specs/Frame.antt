@@ -1,11 +1,11 @@
 -- What an event makes of all but the records, by what it is to the runs.
-use Rattle.std.specs.Prelude.{◌≡◌, ℕ, ◌+◌, ◌==◌, true, false, List, [], ◌∷◌, ◌++◌, Some, if◌then◌else◌}
+use Rattle.std.specs.Prelude.{◌≡◌, ℕ, ◌+◌, ◌==◌, Bool, true, false, List, [], ◌∷◌, ◌++◌, Some, if◌then◌else◌}
 use Rattle.wm_machine.specs.Diaries.{event_lines, given_lines, DiaryLine, Began}
 use Rattle.wm_machine.specs.Log.{command_in}
 use Rattle.wm_machine.specs.Retired.{with_retired}
 use Rattle.wm_machine.specs.Role as role
 use Rattle.wm_machine.specs.Role.{Reported, Role, This}
-use Rattle.wm_machine.specs.Runs.{other_runs, run_numbered, with_out}
+use Rattle.wm_machine.specs.Runs.{other_runs, run_numbered, with_out, with_stopped}
 use Rattle.wm_machine.specs.Step.{after}
 use Rattle.wm_machine.specs.Turns.{with_turned}
 use Rattle.wm_machine.specs.declared.command.Command.{Command}
@@ -42,9 +42,10 @@ abbrev pub instances_after : Command → List Instance → List Instance
 instances_after (command.Retire class) instances = with_retired class instances
 instances_after _ instances = instances
 
--- the frame of a line
-abbrev pub lined_frame : State → Command → Frame
-lined_frame s asked = record (untouched s (asked ∷ [])) { instances = instances_after asked s.instances }
+-- the frame of a line that stops these runs
+abbrev pub lined_frame : State → Command → (Run → Bool) → Frame
+lined_frame s asked stops =
+    record (untouched s (asked ∷ [])) { runs = with_stopped stops s.runs; instances = instances_after asked s.instances }
 
 -- the frame in which this run begins, under these numbers of a run and an instance: the instance is out, and its worker writes that it began
 abbrev pub begun_frame : State → ℕ → ℕ → Run → Frame
@@ -76,6 +77,21 @@ ended_frame s run gave = record {
   lines = λ worker. given_lines worker (Some run) gave;
 }
 
+-- the frame in which this run, which was stopped, is away: its instance isn't out, and its worker writes nothing
+abbrev pub returned_frame : State → Run → Frame
+returned_frame s run = record {
+  commands = [];
+  runs = other_runs run.run s.runs;
+  instances = with_out false run.instance s.instances;
+  next_run = s.next_run;
+  lines = λ worker. [];
+}
+
+-- a line may stop runs, and leaves each as it is but for that
+pub record IsLinedIn (asked : Command) (s : State) (frame : Frame) : Type 0 where
+  pub stops : Run → Bool
+  pub frame_is : frame ≡ lined_frame s asked stops
+
 pub record IsBegunIn (number instance : ℕ) (s : State) (frame : Frame) : Type 0 where
   pub run : Run
   pub number_is : number ≡ run.run
@@ -93,11 +109,17 @@ pub record IsEndedIn (number : ℕ) (gave : Reported) (s : State) (frame : Frame
   pub is_running : run_numbered number s.runs ≡ Some run
   pub frame_is : frame ≡ ended_frame s run gave
 
+pub record IsReturnedIn (number : ℕ) (s : State) (frame : Frame) : Type 0 where
+  pub run : Run
+  pub is_running : run_numbered number s.runs ≡ Some run
+  pub is_stopped : run.current ≡ false
+  pub frame_is : frame ≡ returned_frame s run
+
 -- what an event of this role makes of a state
 abbrev pub IsFramed : Role → State → Frame → Type 0
-IsFramed (role.Line asked) s frame = frame ≡ lined_frame s asked
+IsFramed (role.Line asked) s frame = IsLinedIn asked s frame
 IsFramed (role.Begins run instance) s frame = IsBegunIn run instance s frame
 IsFramed role.Refuses s frame = frame ≡ untouched s []
 IsFramed (role.GoesOn run gave) s frame = IsTurnedIn run gave s frame
 IsFramed (role.Ends run gave) s frame = IsEndedIn run gave s frame
-IsFramed role.Other s frame = frame ≡ untouched s []
+IsFramed (role.Returns run) s frame = IsReturnedIn run s frame

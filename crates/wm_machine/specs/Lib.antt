@@ -12,7 +12,6 @@ pub mod Group
 pub mod Input
 pub mod Limits
 pub mod Log
-pub mod Narrow
 pub mod Observed
 pub mod Opened
 pub mod Outcome

@@ -1,9 +1,9 @@
 -- What a command does: the one reply to it in a state, and the state after it; and which commands may be asked. Each has its rule in a file
 -- of its own.
-use Rattle.std.specs.Prelude.{◌^◌, ◌<◌, if◌then◌else◌, Option, Some, None, IsSome}
+use Rattle.std.specs.Prelude.{◌^◌, ◌<◌, Option, Some, None, IsSome}
 use Rattle.wm_machine.specs.Built.{AreAsked, AreAskedUnder}
 use Rattle.wm_machine.specs.Cancelled.{cancelled}
-use Rattle.wm_machine.specs.Enqueued.{enqueued, stops_run}
+use Rattle.wm_machine.specs.Enqueued.{enqueued}
 use Rattle.wm_machine.specs.Observed.{observed}
 use Rattle.wm_machine.specs.Pruned.{pruned}
 use Rattle.wm_machine.specs.Queried.{answer_to}
@@ -22,11 +22,11 @@ use Rattle.wm_request.specs.Requests.{IsRequest}
 
 -- none where the command isn't legal in the state
 abbrev pub outcome : State → Command → Option Outcome
-outcome s (command.Enqueue named batch) = if stops_run s named batch.works then None else Some (enqueued s named batch.works)
-outcome s (command.Cancel target) = cancelled s target
+outcome s (command.Enqueue named batch) = Some (enqueued s named batch.works)
+outcome s (command.Cancel target) = Some (cancelled s target)
 outcome s (command.Update request) = Some (update s request)
 outcome s (command.Moment at) = Some (moved s at)
-outcome s (command.Conditions conditions) = conditioned s conditions
+outcome s (command.Conditions conditions) = Some (conditioned s conditions)
 outcome s command.Prune = Some (pruned s)
 outcome s (command.Query query) = Some (unchanged s (reply.Query (answer_to s query)))
 outcome s (command.Observe query) = Some (observed s query)
@@ -53,8 +53,8 @@ IsAskable command.Hush = Unit {0}
 IsAskable command.Summary = Unit {0}
 IsAskable (command.Faulty fault) = Unit {0}
 
--- A command is legal in a state: it is askable, and has an outcome there. Between runs each has, but for one that settles, which has one in a
--- quiet state alone.
+-- A command is legal in a state: it is askable, and has an outcome there. Each has, but for one that settles, which has one in a quiet state
+-- alone.
 pub record IsLegalLine (s : State) (asked : Command) : Type 0 where
   pub askable : IsAskable asked
   pub answered : IsSome (outcome s asked)

@@ -26,5 +26,5 @@ pub data Role : Type 0 where
   GoesOn : ℕ → Given → Role
   -- the run of this number is over, and its worker gave this
   Ends : ℕ → Reported → Role
-  -- none of these: the runs stay as they are
-  Other : Role
+  -- the run of this number, which was stopped, is away
+  Returns : ℕ → Role

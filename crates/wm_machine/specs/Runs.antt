@@ -1,6 +1,6 @@
 -- How a run begins, and which works can't start. After the guide's pages "Work states" and "Chaining work"; attempts that stand still, runs
 -- and instances are this project's own choice.
-use Rattle.std.specs.Prelude.{ℕ, ◌+◌, ◌==◌, Bool, true, not, List, [], ◌∷◌, ◌++◌, map, filter, find, min, if◌then◌else◌, Option, Some, None}
+use Rattle.std.specs.Prelude.{ℕ, ◌+◌, ◌==◌, Bool, true, false, not, List, [], ◌∷◌, ◌++◌, map, filter, find, min, if◌then◌else◌, Option, Some, None}
 use Rattle.wm_data.specs.declared.data.DataEntry.{DataEntry}
 use Rattle.wm_machine.specs.First.{is_live}
 use Rattle.wm_machine.specs.Input.{cause_in, input_of}
@@ -55,6 +55,14 @@ run_on s work instance input = record {
   turn = 0;
   current = true;
 }
+
+-- a run that isn't current any more: how it ends doesn't count
+abbrev pub stopped : Run → Run
+stopped run = record run { current = false }
+
+-- the runs, of which those that are meant aren't current any more
+abbrev pub with_stopped : (Run → Bool) → List Run → List Run
+with_stopped is_meant runs = map (λ run. if is_meant run then stopped run else run) runs
 
 -- the run of this number
 abbrev pub run_numbered : ℕ → List Run → Option Run

@@ -1,9 +1,9 @@
 -- The steps of the machine: which events are legal in a state, the state after them, and what they are to the runs.
--- Only the events that are built are legal. Each row is a rule of the machine, whose file says where it comes from.
-use Rattle.std.specs.Prelude.{◌≡◌, ℕ, ◌<◌, true, List, Option, Some, None, Ok, IsSomeAnd}
+-- Each row is a rule of the machine, whose file says where it comes from.
+use Rattle.std.specs.Prelude.{◌≡◌, ℕ, ◌<◌, true, false, List, Option, Some, None, Ok, IsSomeAnd}
 use Rattle.wm_data.specs.declared.data.DataEntry.{DataEntry}
 use Rattle.wm_machine.specs.Outcome.{IsAskable, outcome}
-use Rattle.wm_machine.specs.Ends.{end_of, given_by, with_start_failed}
+use Rattle.wm_machine.specs.Ends.{end_of, given_by, returned_of, with_start_failed}
 use Rattle.wm_machine.specs.First.{first_of, idle_instance}
 use Rattle.wm_machine.specs.Input.{input_of}
 use Rattle.wm_machine.specs.Replied.{Outcome}
@@ -82,6 +82,12 @@ pub record IsTimeout (s : State) (number : ℕ) : Type 0 where
 abbrev pub IsEnd : State → ℕ → End → Type 0
 IsEnd s number end = IsReport s number (given_by end)
 
+-- the run of this number is unreturned, and was stopped
+pub record IsLate (s : State) (number : ℕ) : Type 0 where
+  pub run : Run
+  pub is_running : run_numbered number s.runs ≡ Some run
+  pub is_stopped : run.current ≡ false
+
 -- the work that is first starts on the idle instance of its class, with this input
 abbrev pub start_of : State → Option Record → List DataEntry → State
 start_of s None input = s
@@ -97,7 +103,7 @@ Legal s (event.StartFailed seq cause) = IsStartFailure s seq cause
 Legal s (event.Turn run progress) = IsTurn s run progress
 Legal s (event.Finish run end) = IsEnd s run end
 Legal s (event.TimedOut run) = IsTimeout s run
-Legal s _ = ⊥
+Legal s (event.Late run) = IsLate s run
 
 -- the state that it gives
 abbrev pub after : State → Event → State
@@ -107,7 +113,7 @@ after s (event.StartFailed seq cause) = with_start_failed s seq
 after s (event.Turn run progress) = turn_of s (run_numbered run s.runs) progress
 after s (event.Finish run end) = end_of s (run_numbered run s.runs) end
 after s (event.TimedOut run) = end_of s (run_numbered run s.runs) Retry
-after s _ = s
+after s (event.Late run) = returned_of s (run_numbered run s.runs)
 
 -- what it is to the runs
 abbrev pub role_of : Event → Role
@@ -117,7 +123,7 @@ role_of (event.StartFailed seq cause) = role.Refuses
 role_of (event.Turn run progress) = role.GoesOn run (More progress)
 role_of (event.Finish run end) = role.Ends run (This (given_by end))
 role_of (event.TimedOut run) = role.Ends run SomeMore
-role_of _ = role.Other
+role_of (event.Late run) = role.Returns run
 
 -- one step of the machine
 abbrev pub Step : State → Event → State → Type 0

@@ -7,7 +7,6 @@ ghost use Rattle.wm_machine.specs.Enqueued.{enqueued, plan_in, refusal_of};
 ghost use Rattle.wm_machine.specs.Group.{is_name, members_of, AreAloneOrOneTime, IsApartFrom};
 ghost use Rattle.wm_machine.specs.Outcome.{IsAskable};
 ghost use Rattle.wm_machine.specs.Log.{commands_of};
-ghost use Rattle.wm_machine.specs.Narrow.{IsNarrow};
 ghost use Rattle.wm_machine.specs.Opened.{IsOfLog, Opened};
 ghost use Rattle.wm_machine.specs.Plan.{replacing, Places};
 ghost use Rattle.wm_machine.specs.Replay.{Replay};
@@ -28,20 +27,22 @@ ghost use Rattle.wm_keeper.specs.declared.row.Row.{Row};
 ghost use Rattle.wm_machine.specs.declared.state.Instance.{Instance};
 ghost use Rattle.wm_machine.specs.declared.state.State.{State};
 
-/// A state that a store opens to is valid, and narrow for now, and no run is unreturned in it. So is
-/// every state of a log that replays from there.
+/// A state that a store opens to is valid, and no run is unreturned in it. Every state of a log that
+/// replays from there is valid.
 pub fn an_opened_state_is_valid()
     ensures opened { (rows : List Row) (instances : List Instance) (first : State)
-        → Opened rows instances first → Valid first × IsNarrow first × (first.runs ≡ []) }
-    ensures of_log { (s : State) → IsOfLog s → Valid s × IsNarrow s }
+        → Opened rows instances first → Valid first × (first.runs ≡ []) }
+    ensures of_log { (s : State) → IsOfLog s → Valid s }
 {}
 
-/// Every step keeps what holds of every state that the machine reaches, and what is narrower for now.
+/// Every step keeps what holds of every state that the machine reaches.
 pub fn every_step_keeps_valid()
-    ensures valid { (s : State) (e : Event) → Valid s → IsNarrow s → Legal s e
-        → Valid (after s e) }
-    ensures narrow { (s : State) (e : Event) → Valid s → IsNarrow s → Legal s e
-        → IsNarrow (after s e) }
+    ensures { (s : State) (e : Event) → Valid s → Legal s e → Valid (after s e) }
+{}
+
+/// A report that comes too late changes no record.
+pub fn a_late_report_changes_no_record()
+    ensures { (s : State) (number : ℕ) → (after s (event.Late number)).works ≡ s.works }
 {}
 
 /// A log in serial order from a state without runs, with at most one run unreturned at its end, goes
@@ -50,7 +51,7 @@ pub fn every_step_keeps_valid()
 pub fn serial_order_goes_on()
     ensures from_rest { (lines left : List Command) (first now : State) (log : List Event)
         → AllByRecursion IsAskable left → lines ≡ commands_of log ++ left
-        → first.runs ≡ [] → Replay first log now → Valid now → IsNarrow now → length now.runs ≤ 1
+        → first.runs ≡ [] → Replay first log now → Valid now → length now.runs ≤ 1
         → AreInOrder lines first log → BeginsSerial lines first log }
     ensures from_opened { (lines left : List Command) (rows : List Row) (instances : List Instance)
         (first now : State) (log : List Event)
@@ -61,16 +62,17 @@ pub fn serial_order_goes_on()
 
 /// Each run that a log starts is reported once: its number is no other start's, no report of it
 /// precedes its start, at most one follows, and just one where there is nothing left to do in the end.
+/// The report comes too late, and counts for nothing, just where a line between the two stopped the
+/// run.
 pub fn each_run_is_reported_once()
     ensures from_valid { (first last : State) (before later : List Event) (run seq instance : ℕ) (input : List DataEntry)
-        → Valid first → IsNarrow first
-        → Replay first (before ++ event.Start run seq instance input ∷ later) last
-        → IsReportedOnce run before later last }
+        → Valid first → Replay first (before ++ event.Start run seq instance input ∷ later) last
+        → IsReportedOnce first run before (event.Start run seq instance input) later last }
     ensures from_opened { (rows : List Row) (instances : List Instance) (first last : State)
         (before later : List Event) (run seq instance : ℕ) (input : List DataEntry)
         → Opened rows instances first
         → Replay first (before ++ event.Start run seq instance input ∷ later) last
-        → IsReportedOnce run before later last }
+        → IsReportedOnce first run before (event.Start run seq instance input) later last }
 {}
 
 /// At each start of a log every prerequisite of its work had succeeded, and one-time work took what

@@ -9,7 +9,6 @@ use Rattle.wm_machine.proofs.Runnings.{WorksAscend-in_order}
 use Rattle.wm_machine.proofs.Steps.{Valid-after}
 use Rattle.wm_machine.specs.First.{has_succeeded, is_succeeded}
 use Rattle.wm_machine.specs.Input.{work_numbered}
-use Rattle.wm_machine.specs.Narrow.{IsReached}
 use Rattle.wm_machine.specs.Valid.{IsBefore, IsRecord, Valid}
 use Rattle.wm_machine.specs.declared.record.Record.{Record}
 use Rattle.wm_machine.specs.declared.state.State.{State}
@@ -40,15 +39,15 @@ succeeds-done : (found : Option Record) → succeeds found ≡ has_done found
 succeeds-done None = refl
 succeeds-done (Some work) = refl
 
-module _ (s : State) (change : StepChange) (reached : IsReached s) (step : IsStepOf s change) where
+module _ (s : State) (change : StepChange) (reached : Valid s) (step : IsStepOf s change) where
   abbrev t : State
   t = changed_state change s
 
   valid-after : Valid t
-  valid-after = subst Valid (sym step.state) (Valid-after s change.event reached.valid reached.narrow step.legal)
+  valid-after = subst Valid (sym step.state) (Valid-after s change.event reached step.legal)
 
   same_records : t.works ≡ filter_map (then_of change) s.works ++ change.placed
-  same_records = records-after s change reached.valid step.fits
+  same_records = records-after s change reached step.fits
 
   all_records : AllByRecursion IsRecord (filter_map (then_of change) s.works ++ change.placed)
   all_records = subst (AllByRecursion IsRecord) same_records valid-after.works.records
@@ -56,7 +55,7 @@ module _ (s : State) (change : StepChange) (reached : IsReached s) (step : IsSte
   -- each record is within its limits, and what is left of it
   pub old-records : AllByRecursion (StaysRecord change) s.works
   old-records =
-      All-with2 s.works (λ work before after. record { before = before; after = after }) reached.valid.works.records
+      All-with2 s.works (λ work before after. record { before = before; after = after }) reached.works.records
       (each-left IsRecord change s.works (All-front IsRecord (filter_map (then_of change) s.works) change.placed all_records))
 
   -- and so is each new one
@@ -73,7 +72,7 @@ module _ (s : State) (change : StepChange) (reached : IsReached s) (step : IsSte
       let same : work.seq ≡ number = eqb-true work.seq number (find-passes (λ (w : Record). eqb w.seq number) s.works work found) in
       let then : work_numbered work.seq t.works ≡ then_of change work =
       All-find (λ w. work_numbered w.seq t.works ≡ then_of change w) (λ (w : Record). eqb w.seq number) s.works work found
-      (numbered-after s change reached.valid step.fits) in
+      (numbered-after s change reached step.fits) in
       succeeds-done (then_of change work) ∙ ap has_done (sym then) ∙ ap (λ n. has_done (work_numbered n t.works)) same
       ∙ has_succeeded-numbered number t.works (WorksAscend-in_order t.works valid-after.works.in_order)
 

@@ -33,7 +33,7 @@ opened-again rows instances first opened =
     subst (λ (s : State). Opened (rows_of s) instances s) (sym opened.state) (record {
       stored = works;
       rows_are_theirs = refl;
-      sound = reached.valid.works;
+      sound = reached.works;
       fresh = opened.fresh;
       state = ap (λ (works : List Record). opening_state works instances) (sym (reopened-again opened.stored));
     })

@@ -5,7 +5,7 @@ use Rattle.wm_keeper.specs.declared.row.Change.{Change}
 use Rattle.wm_keeper.specs.declared.row.Row.{Row}
 use Rattle.wm_machine.proofs.Openings.{reached-opened}
 use Rattle.wm_machine.proofs.Runnings.{WorksAscend-in_order}
-use Rattle.wm_machine.specs.Narrow.{IsReached}
+use Rattle.wm_machine.specs.Valid.{Valid}
 use Rattle.wm_machine.specs.Opened.{AreFresh, opening_state, reopened}
 use Rattle.wm_machine.specs.declared.record.Record.{Record}
 use Rattle.wm_machine.specs.declared.state.Instance.{Instance}
@@ -30,5 +30,5 @@ reopened-sound rows stored works changes reading works_are changes_are =
 
 -- the state that rows open to is one that the machine reaches
 pub reached-reopened : (rows : List Row) (instances : List Instance) (works : List Record) (changes : List Change) → AreFresh instances
-    → AreReopened rows works changes → IsReached (opening_state works instances)
+    → AreReopened rows works changes → Valid (opening_state works instances)
 reached-reopened rows instances works changes fresh are = reached-opened rows instances (opening_state works instances) (are.opened instances fresh)

@@ -1,10 +1,9 @@
 //! What the rows of a store open to.
 ghost use Rattle.std.specs.Prelude.{◌≡◌, [], IfErr, IfOk, OnOk};
 ghost use Rattle.wm_keeper.specs.Keeper.{changed, AreOfDifferentNumbers};
-ghost use Rattle.wm_machine.specs.Narrow.{IsReached};
 ghost use Rattle.wm_machine.specs.Opened.{next_number, opening_state, AreFresh, Opened};
 ghost use Rattle.wm_machine.specs.Rows.{rows_of};
-ghost use Rattle.wm_machine.specs.Valid.{AreWorks};
+ghost use Rattle.wm_machine.specs.Valid.{AreWorks, Valid};
 ghost use Rattle.wm_opening.specs.Reopenings.{reopenings, AreReopened};
 ghost use Rattle.wm_rows.specs.Sound.{checked, AreSound, IsFaultOf};
 
@@ -71,7 +70,7 @@ fn states_of(
     works: Items<Record>,
     instances: Items<Instance>,
 ) -> Result<(State, View), AllocError>
-    requires { IsReached (opening_state works instances) }
+    requires { Valid (opening_state works instances) }
     ensures { IfOk result (λ both. (both.0 ≡ opening_state works instances) × (both.1 ≡ opening_state works instances)) }
 {
     let graph = graph_of(alloc, works.as_slice())?;

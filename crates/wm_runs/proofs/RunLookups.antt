@@ -1,17 +1,16 @@
 -- The work of a run, and the run of a number.
-use Rattle.std.proofs.Common.{◌≡◌, ℕ, ◌<◌, eqb, List, [], ◌∷◌, ◌++◌, find, slice_get, Option, Some, refl, ◌∙◌, ap, subst, arith, inl, inr}
+use Rattle.std.proofs.Common.{◌≡◌, ℕ, ◌<◌, true, eqb, List, [], ◌∷◌, ◌++◌, find, slice_get, Option, Some, refl, ◌∙◌, ap, subst, arith, inl, inr}
 use Rattle.std.specs.Prelude.{IsSomeAnd}
 use Rattle.std.specs.List.{AllByRecursion}
 use Rattle.std.proofs.lemmas.Bool.{cases_Bool, eq-eqb, eqb-true, ne_eqb}
 use Rattle.std.proofs.lemmas.Option.{none-some, same_Some}
 use Rattle.wm_collections.proofs.Lists.{find-passes, one_gives}
-use Rattle.wm_machine.proofs.Runnings.{found_narrow, found_valid, WorksAscend, WorksAscend-in_order}
+use Rattle.wm_machine.proofs.Runnings.{found_valid, WorksAscend, WorksAscend-in_order}
 use Rattle.wm_machine.specs.Input.{work_numbered}
-use Rattle.wm_machine.specs.Narrow.{IsReached}
 use Rattle.wm_machine.specs.Runs.{run_numbered}
 use Rattle.wm_machine.specs.Turns.{turned, with_turned}
 use Rattle.wm_collections.specs.Lists.{HasOne}
-use Rattle.wm_machine.specs.Valid.{IsWorkOf}
+use Rattle.wm_machine.specs.Valid.{IsWorkOf, Valid}
 use Rattle.wm_machine.specs.declared.record.Record.{Record}
 use Rattle.wm_machine.specs.declared.state.Run.{Run}
 use Rattle.wm_machine.specs.declared.state.State.{State}
@@ -29,22 +28,21 @@ find-work run (first ∷ works) ascend (inr one) =
     let miss = ne_eqb first.seq run.seq (λ e. absurd (omega arith)) in
     rw miss (find-work run works ascend.1 one)
 
--- the record of a run's work number is the run's work
-pub work-found : (s : State) (number : ℕ) (run : Run) → IsReached s → run_numbered number s.runs ≡ Some run
+-- the record of a current run's work number is the run's work
+pub work-found : (s : State) (number : ℕ) (run : Run) → Valid s → run_numbered number s.runs ≡ Some run → run.current ≡ true
     → IsSomeAnd (work_numbered run.seq s.works) (IsWorkOf run)
-work-found s number run reached found =
-    let valid = reached.valid in
-    find-work run s.works (WorksAscend-in_order s.works valid.works.in_order)
-    ((found_valid s number run valid found).work (found_narrow s number run reached.narrow found))
+work-found s number run valid found current =
+    find-work run s.works (WorksAscend-in_order s.works valid.works.in_order) ((found_valid s number run valid found).work current)
 
 -- and so is the one at the index of that number
-pub found-at : (s : State) (number i : ℕ) (run : Run) (work : Record) → IsReached s → run_numbered number s.runs ≡ Some run
+pub found-at : (s : State) (number i : ℕ) (run : Run) (work : Record) → Valid s → run_numbered number s.runs ≡ Some run → run.current ≡ true
     → slice_get s.works i ≡ Some work → work_numbered run.seq s.works ≡ slice_get s.works i → IsFoundRun s number i run work
-found-at s number i run work reached found at same = record {
-  reached = reached;
+found-at s number i run work valid found current at same = record {
+  valid = valid;
   found = found;
+  current = current;
   at = at;
-  of = subst (λ (o : Option Record). IsSomeAnd o (IsWorkOf run)) (same ∙ at) (work-found s number run reached found);
+  of = subst (λ (o : Option Record). IsSomeAnd o (IsWorkOf run)) (same ∙ at) (work-found s number run valid found current);
 }
 
 -- ---- runs

@@ -20,9 +20,10 @@ use Rattle.wm_runs.specs.Reports.{is_timeout, wants_more}
 use Rattle.wm_runs.specs.declared.starting.Claimed.{Claimed}
 use Rattle.wm_runs.specs.declared.starting.Claimed.TheVariants as claimed
 use Rattle.wm_runs.specs.declared.starting.Claiming.{Claiming}
-use Rattle.wm_steps.specs.StepChanges.{row_changes, IsStepOf}
+use Rattle.wm_steps.specs.StepChanges.{row_changes, setting, IsStepOf}
 use Rattle.wm_steps.specs.declared.change.RunChange.{RunChange}
 use Rattle.wm_steps.specs.declared.change.RunChange.TheVariants as runs
+use Rattle.wm_steps.specs.declared.change.SettingChange.TheVariants as set
 use Rattle.wm_steps.specs.declared.change.StepChange.{StepChange}
 use Rattle.wm_worker.specs.Answers.{given_of}
 use Rattle.wm_worker.specs.Told.{Report}
@@ -83,3 +84,12 @@ pub record IsTurning (s : State) (number : ℕ) (told : Report) (change : StepCh
   pub step : IsStepOf s change
   -- the run keeps what it took
   pub input : IsSomeAnd (run_numbered number (after s change.event).runs) (λ run. told.input ≡ run.input)
+
+-- ---- the return of a run that was stopped
+
+-- the step by which the run of this number, which was stopped, is away: nothing is stored, placed, removed or set by it
+pub record IsReturn (s : State) (number : ℕ) (change : StepChange) : Type 0 where
+  pub run : Run
+  pub found : run_numbered number s.runs ≡ Some run
+  pub change_is : change ≡ record (setting set.Unchanged (event.Late number)) { run = runs.End number run.instance }
+  pub step : IsStepOf s change

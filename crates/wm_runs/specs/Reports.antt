@@ -1,8 +1,7 @@
 -- Which report of a worker counts for a run, and whether the run goes on by it.
 use Rattle.std.specs.Prelude.{◌≡◌, ℕ, ◌&&◌, Bool, true, false, Option, Some, IsSome, IsSomeAnd, nat_lt, slice_get}
-use Rattle.wm_machine.specs.Narrow.{IsReached}
 use Rattle.wm_machine.specs.Runs.{run_numbered}
-use Rattle.wm_machine.specs.Valid.{IsWorkOf}
+use Rattle.wm_machine.specs.Valid.{IsWorkOf, Valid}
 use Rattle.wm_machine.specs.declared.event.Event.{Event}
 use Rattle.wm_machine.specs.declared.event.Event.TheVariants as event
 use Rattle.wm_machine.specs.declared.record.Record.{Record}
@@ -18,15 +17,21 @@ use Rattle.wm_worker.specs.declared.task.Task.{Task}
 abbrev pub task_in : Run → Task
 task_in run = record { run = run.run; attempt = run.attempt; input = run.input }
 
--- the run of this number in a state that the machine reaches, and its work, which stands at this index
+-- the run of this number in a valid state, which is current, and its work, which stands at this index
 pub record IsFoundRun (s : State) (number index : ℕ) (run : Run) (work : Record) : Type 0 where
-  pub reached : IsReached s
+  pub valid : Valid s
   pub found : run_numbered number s.runs ≡ Some run
+  pub current : run.current ≡ true
   pub at : slice_get s.works index ≡ Some work
   pub of : IsWorkOf run work
 
--- a report counts for a run: it is of its kind, about its task and its turn, and wasn't cut
+-- the run of this number is unreturned, and current, or not
+abbrev pub IsOut : State → ℕ → Bool → Type 0
+IsOut s number current = IsSomeAnd (run_numbered number s.runs) (λ run. run.current ≡ current)
+
+-- a report counts for a run: the run is current, and the report is of its kind, about its task and its turn, and wasn't cut
 pub record Counts (run : Run) (told : Report) : Type 0 where
+  pub current : run.current ≡ true
   pub about : IsReportOf run.kind (task_in run) run.turn told
   pub given : IsSome (given_of told.answer)
 

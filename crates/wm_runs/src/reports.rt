@@ -1,8 +1,8 @@
 //! Which run the report of a worker is about, and whether it counts.
-ghost use Rattle.std.specs.Prelude.{◌≡◌, ◌↔◌, IsSome, IsTrue};
+ghost use Rattle.std.specs.Prelude.{◌≡◌, ◌↔◌, false, true, IsSome, IsTrue};
 ghost use Rattle.std.specs.Option.{option_copied};
 ghost use Rattle.wm_machine.specs.Runs.{run_numbered};
-ghost use Rattle.wm_runs.specs.Reports.{goes_on, Counts, CountsIn, IsFoundRun};
+ghost use Rattle.wm_runs.specs.Reports.{goes_on, Counts, CountsIn, IsFoundRun, IsOut};
 ghost use Rattle.wm_worker.specs.Answers.{given_of};
 
 use wm_machine::{Record, Run, index_numbered};
@@ -27,9 +27,9 @@ pub fn run_numbered(runs: &[Run], number: u64) -> Option<&Run>
     runs.iter().find(|run| run.run == number)
 }
 
-/// The run of this number, which is out, with its work.
+/// The run of this number, which is out and current, with its work.
 pub fn found_run(view: &View, number: u64) -> FoundRun<'_>
-    requires { IsSome (run_numbered number view.now.runs) }
+    requires { IsOut view.now number true }
     ensures { IsFoundRun view.entry.now number result.index result.run.now result.work.now }
 {
     let works = view.state.works.as_slice();
@@ -57,7 +57,8 @@ fn is_given(answer: &Answer) -> bool
 fn counts(run: &Run, told: &Told) -> bool
     ensures { IsTrue result ↔ Counts run.entry.now told.now }
 {
-    told.kind() == run.kind
+    run.current
+        && told.kind() == run.kind
         && told.run() == run.run
         && told.attempt() == run.attempt
         && *told.input() == run.input
@@ -71,6 +72,16 @@ pub fn counts_in(view: &View, number: u64, told: &Told) -> bool
 {
     match run_numbered(view.state.runs.as_slice(), number) {
         Some(run) => counts(run, told),
+        None => false,
+    }
+}
+
+/// Whether the run of this number is out, and was stopped.
+pub fn is_stopped(view: &View, number: u64) -> bool
+    ensures { IsTrue result ↔ IsOut view.entry.now number false }
+{
+    match run_numbered(view.state.runs.as_slice(), number) {
+        Some(run) => !run.current,
         None => false,
     }
 }

@@ -1,5 +1,5 @@
 -- A book after a claim: what a start keeps, and one that fails.
-use Rattle.std.proofs.Common.{◌≡◌, ℕ, ◌+◌, true, List, [], ◌∷◌, ◌++◌, map, Option, Some, None, IsSomeAnd, option_map, refl, sym, ◌∙◌, ap, subst, arith}
+use Rattle.std.proofs.Common.{◌≡◌, ℕ, ◌+◌, true, false, List, [], ◌∷◌, ◌++◌, map, Option, Some, None, IsSomeAnd, option_map, refl, sym, ◌∙◌, ap, subst, arith}
 use Rattle.wm_bench.specs.Places.{changed_at, made_away, idle_at}
 use Rattle.wm_bench.specs.Seat.{Seat}
 use Rattle.wm_bench.specs.declared.place.Place.{Place}
@@ -39,7 +39,7 @@ use Rattle.wm_table.specs.declared.table.Claim.TheVariants as claim
 use Rattle.wm_table.specs.declared.table.Claim.{Claim}
 use Rattle.wm_worker.specs.Signal.{SignalState}
 use Rattle.wm_session.proofs.BookRolls.{exact-begun, out-with_out, without-new}
-use Rattle.wm_session.proofs.BookSteps.{IsTold, IsTold-roll, away_now, exact_now, reached, reached_after, BookInvariant-event}
+use Rattle.wm_session.proofs.BookSteps.{IsTold, IsTold-roll, away_now, exact_now, valid_after, BookInvariant-event}
 
 -- the worker at the place of a ticket's instance is of the ticket's kind
 ticket_kind : {B : Type 0} (kind_of : B → Kind) (worker : B) (s : State) (ticket : TicketState) (found : Option Run) (places : List (Place B)) → Valid s
@@ -121,7 +121,7 @@ module _ {K W B : Type 0} {run : Inputs} {tells : Tells K W B} where
       BookInvariant-event e old table places pending sink old.status kept going step refl told
       (ap (map (place_traits tells.kind_of)) are ∙ traits-taken tells.kind_of instance old.places ∙ kept.workers
       ∙ sym (traits-with_out true instance s.instances) ∙ ap (map instance_traits) (sym instances))
-      (AwayInvariant-from old.status new (reached_after e old new kept step).valid
+      (AwayInvariant-from old.status new (valid_after e old new kept step)
       (rw (roll, step.state) exact)
       (ap (map (λ place. is_away place.presence)) are
       ∙ away-changed (made_away tells.kind_of) true instance 0 old.places s.instances (away-taken tells.kind_of seat.worker instance old.places idle)
@@ -135,7 +135,7 @@ module _ {K W B : Type 0} {run : Inputs} {tells : Tells K W B} where
       → BookInvariant run tells old → old.status ≡ None
       → IsOneStep tells.store (event.Start ticket.task.run ticket.seq ticket.instance ticket.task.input) old.table table → IsTicketIn table.state ticket
       → table.roll ≡ old.table.roll ++ ticket_part ticket ∷ [] → place ≡ ticket.instance → Some seat ≡ option_map (λ worker. record { number = place; worker = worker }) (idle_at place old.places)
-      → places ≡ changed_at (made_away tells.kind_of) place old.places → signal ≡ record { run = ticket.task.run; never = true } → pending ≡ nothing
+      → places ≡ changed_at (made_away tells.kind_of) place old.places → signal ≡ record { run = ticket.task.run; never = false } → pending ≡ nothing
       → book.IsBegun tells.store tells.kind_of ticket seat signal old
       (record old { table = table; places = places; pending = pending; sink = sink })
   IsBegun-taken {old = old} table places pending sink ticket place seat signal kept going step ticket_in roll same taken are signal_is written =
@@ -149,13 +149,13 @@ module _ {K W B : Type 0} {run : Inputs} {tells : Tells K W B} where
         roll = roll;
         number = seated.1 ∙ same;
         kind = ticket_kind tells.kind_of seat.worker table.state ticket (run_numbered ticket.task.run table.state.runs) old.places
-            (reached_after start old (record old { table = table; places = places }) kept step).valid
+            (valid_after start old (record old { table = table; places = places }) kept step)
             (claimed_traits {M = Unit {0}} (claim.Run ticket) old table kept (record { step = step; ticket_in = ticket_in })) refl ticket_in there;
         worker = there;
         places = are ∙ ap (λ n. changed_at (made_away tells.kind_of) n old.places) same;
         signal_is = signal_is;
         left = refl;
-        fewer = rw step.state (kept_by old.table.state start (reached kept) step.legal).left;
+        fewer = rw step.state (kept_by old.table.state start kept.valid step.legal).left;
       }
 
   -- ---- a work that couldn't start
@@ -172,7 +172,7 @@ module _ {K W B : Type 0} {run : Inputs} {tells : Tells K W B} where
       let instances : table.state.instances ≡ old.table.state.instances = ap (λ (t : State). t.instances) step.state in
       BookInvariant-event (event.StartFailed seq cause) old table old.places pending sink old.status kept going step refl told
       (kept.workers ∙ ap (map instance_traits) (sym instances))
-      (AwayInvariant-from old.status new (reached_after (event.StartFailed seq cause) old new kept step).valid
+      (AwayInvariant-from old.status new (valid_after (event.StartFailed seq cause) old new kept step)
       (rw (roll, runs) (exact_now old going kept.away))
       (away_now old going kept.valid kept.away ∙ ap (map (λ instance. instance.out)) (sym instances)))
       no_fault
@@ -188,7 +188,7 @@ module _ {K W B : Type 0} {run : Inputs} {tells : Tells K W B} where
     places = refl;
     roll = roll;
     left = refl;
-    fewer = rw step.state (kept_by old.table.state (event.StartFailed seq cause) (reached kept) step.legal).left;
+    fewer = rw step.state (kept_by old.table.state (event.StartFailed seq cause) kept.valid step.legal).left;
   }
 
   -- ---- a claim that couldn't be told

@@ -14,7 +14,7 @@ use Rattle.wm_machine.specs.Step.{after, role_of, IsTurn, Legal}
 use Rattle.wm_machine.specs.Turns.{turned, with_turned}
 use Rattle.wm_machine.specs.Waiting.{left_to_drain, LeavesOf}
 use Rattle.wm_machine.specs.Log.{command_in, AreNumberedFrom}
-use Rattle.wm_machine.specs.Narrow.{IsReached}
+use Rattle.wm_machine.specs.Valid.{Valid}
 use Rattle.wm_machine.specs.Runs.{other_runs}
 use Rattle.wm_machine.specs.declared.event.Event.TheVariants as event
 
@@ -37,17 +37,17 @@ pub end_in_turn : (s : State) (number : ℕ) (gave : Reported) (e : Event) → r
 end_in_turn s number gave e ends = subst (λ r. IsTurnOf r s) (sym ends) tt
 
 -- it leaves no more to drain
-pub no_more_after_end : (s : State) (number : ℕ) (gave : Reported) (e : Event) → role_of e ≡ role.Ends number gave → IsReached s → Legal s e
+pub no_more_after_end : (s : State) (number : ℕ) (gave : Reported) (e : Event) → role_of e ≡ role.Ends number gave → Valid s → Legal s e
     → left_to_drain (after s e) ≤ left_to_drain s
-no_more_after_end s number gave e ends reached legal =
-    subst (λ r. LeavesOf r (left_to_drain s) (left_to_drain (after s e))) ends (kept_by s e reached legal).left
+no_more_after_end s number gave e ends valid legal =
+    subst (λ r. LeavesOf r (left_to_drain s) (left_to_drain (after s e))) ends (kept_by s e valid legal).left
 
 -- ---- an event by which a run goes on
 
 -- it leaves no more to drain
-pub no_more_after_turn : (s : State) (number : ℕ) (progress : Option (List DataEntry)) → IsReached s → IsTurn s number progress
+pub no_more_after_turn : (s : State) (number : ℕ) (progress : Option (List DataEntry)) → Valid s → IsTurn s number progress
     → left_to_drain (after s (event.Turn number progress)) ≤ left_to_drain s
-no_more_after_turn s number progress reached legal = (kept_by s (event.Turn number progress) reached legal).left
+no_more_after_turn s number progress valid legal = (kept_by s (event.Turn number progress) valid legal).left
 
 -- the others stay
 pub other_runs-turned : (number : ℕ) (runs : List Run) → other_runs number (with_turned number runs) ≡ other_runs number runs

@@ -7,18 +7,18 @@ use Rattle.wm_machine.proofs.Steps.{framed}
 use Rattle.wm_machine.specs.Outcome.{IsAskable}
 use Rattle.wm_machine.specs.Frame.{instances_after, Frame}
 use Rattle.wm_machine.specs.Log.{commands_of, AreNumberedFrom}
-use Rattle.wm_machine.specs.Narrow.{IsNarrow}
 use Rattle.wm_machine.specs.Replay.{Replay}
 use Rattle.wm_machine.specs.Rows.{rows_of}
+use Rattle.wm_machine.specs.Step.{after}
 use Rattle.wm_machine.specs.Valid.{Valid}
 use Rattle.wm_machine.specs.declared.command.Command.{Command}
 use Rattle.wm_machine.specs.declared.reply.Reply.{Reply}
-use Rattle.wm_machine.specs.declared.state.Run.{Run}
 use Rattle.wm_machine.specs.declared.state.State.{State}
 use Rattle.wm_machine.specs.declared.event.Event.TheVariants as event
 use Rattle.wm_session.proofs.PlacesAndInstances.{all_here}
 use Rattle.wm_session.proofs.RetiredPlaces.{away-after, workers-after}
 use Rattle.wm_session.proofs.BookParts.{AwayInvariant-from}
+use Rattle.wm_session.proofs.BookRolls.{exact-lined}
 use Rattle.wm_session.proofs.WrittenTexts.{TextsInvariant-unwritten}
 use Rattle.wm_session.specs.Bench.{instance_traits, place_traits, places_after, NoneAway}
 use Rattle.wm_session.specs.BookState.{BookState}
@@ -30,7 +30,7 @@ use Rattle.wm_session.specs.Tells.{Tells}
 use Rattle.wm_table.specs.Table.{IsOneStep}
 use Rattle.wm_table.specs.TableState.{TableState}
 use Rattle.wm_session.specs.declared.book.Stop.{Stop}
-use Rattle.wm_session.proofs.BookSteps.{IsTold, away_now, exact_now, reached_after, BookInvariant-step}
+use Rattle.wm_session.proofs.BookSteps.{IsTold, away_now, exact_now, valid_after, BookInvariant-step}
 
 module _ {K W B : Type 0} {run : Inputs} {tells : Tells K W B} where
   -- a line was executed, and its text told or not
@@ -50,9 +50,9 @@ module _ {K W B : Type 0} {run : Inputs} {tells : Tells K W B} where
       let number : old.line + 1 ≡ 1 + length (commands_of old.table.log) = ap (λ n. n + 1) kept.line ∙ omega arith in
       let before = old.table.state.instances in
       let instances : table.state.instances ≡ instances_after command before =
-      ap (λ (t : State). t.instances) step.state ∙ ap (λ (f : Frame). f.instances) (framed old.table.state e step.legal) in
-      let runs : table.state.runs ≡ old.table.state.runs =
-      ap (λ (t : State). t.runs) step.state ∙ ap (λ (f : Frame). f.runs) (framed old.table.state e step.legal) in
+      ap (λ (t : State). t.instances) step.state ∙ ap (λ (f : Frame). f.instances) (framed old.table.state e step.legal).frame_is in
+      let exact : ListsExactly (after old.table.state e).runs old.table.roll =
+      exact-lined old.table.state old.table.roll (old.line + 1) command reply step.legal (exact_now old going kept.away) in
       BookInvariant-step e old new kept (record {
         going = going;
         step = step;
@@ -64,8 +64,8 @@ module _ {K W B : Type 0} {run : Inputs} {tells : Tells K W B} where
       })
       (AreNumberedFrom-push 1 old.table.log (old.line + 1) command reply kept.numbered number)
       told
-      (AwayInvariant-from status new (reached_after e old new kept step).valid
-      (subst (ListsExactly table.state.runs) (sym roll) (subst (λ (runs : List Run). ListsExactly runs old.table.roll) (sym runs) (exact_now old going kept.away)))
+      (AwayInvariant-from status new (valid_after e old new kept step)
+      (rw (roll, step.state) exact)
       (rw (places_are, instances) (away-after tells.kind_of command old.places before (away_now old going kept.valid kept.away))))
 
 -- ---- the begin
@@ -74,19 +74,18 @@ pub BookInvariant-new : {K W B : Type 0} (run : Inputs) (tells : Tells K W B) (t
     (pending : PendingState) (sink : W)
     → table.log ≡ [] → left ≡ run.lines → pending ≡ nothing → table.roll ≡ [] → table.state.runs ≡ []
     → map (place_traits tells.kind_of) places ≡ map instance_traits table.state.instances → NoneAway places
-    → AllByRecursion (λ instance. instance.out ≡ false) table.state.instances → Valid table.state → IsNarrow table.state
+    → AllByRecursion (λ instance. instance.out ≡ false) table.state.instances → Valid table.state
     → 0 + length left < 2 ^ 32 → AllByRecursion IsAskable left
     → table.state ≡ table.first → tells.given sink ≡ run.written
     → run.store.faults ≤ (tells.store table.keeper).faults → run.sink_faults ≤ tells.sink_faults sink
     → (LeavesOnly run.rows run.store → LeavesOnly (rows_of table.state) (tells.store table.keeper))
     → BookInvariant run tells
     (record { table = table; places = places; left = left; line = 0; pending = pending; sink = sink; status = None })
-BookInvariant-new run tells table places left pending sink empty lines none none_out no_run workers idle all_in valid narrow few askable begun written
+BookInvariant-new run tells table places left pending sink empty lines none none_out no_run workers idle all_in valid few askable begun written
     keeper sink_later images =
     record {
       replay = subst (λ log. Replay table.first log table.state) (sym empty) begun;
       valid = valid;
-      narrow = narrow;
       lines = sym lines ∙ ap (λ log. commands_of log ++ left) (sym empty);
       askable = askable;
       numbered = subst (AreNumberedFrom 1) (sym empty) tt;

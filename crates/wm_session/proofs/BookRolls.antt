@@ -6,21 +6,22 @@ use Rattle.wm_bench.specs.Places.{changed_at, made_back, IsAwayAt, IsAwayIn}
 use Rattle.wm_bench.specs.declared.place.Place.{Place}
 use Rattle.wm_bench.specs.declared.place.Presence.{Presence}
 use Rattle.wm_bench.specs.declared.place.Presence.TheVariants.{Idle, Away, Gone}
-use Rattle.wm_collections.proofs.Lists.{any_passes, list_any-false, list_any-filter, list_any-one, map-same, map-twice, one_gives, All-any, All-filter, All-kept, All-map2, All-push, All-weaker, HasOne-front, HasOne-last, HasOne-weaker}
+use Rattle.wm_collections.proofs.Lists.{any_passes, list_any-false, list_any-filter, list_any-one, map-same, map-twice, one_gives, All-any, All-filter, All-kept, All-map, All-map2, All-push, All-weaker, HasOne-front, HasOne-last, HasOne-weaker}
 use Rattle.wm_collections.specs.Lists.{HasOne}
 use Rattle.wm_data.specs.declared.data.DataEntry.{DataEntry}
 use Rattle.wm_machine.proofs.Runnings.{found_or_apart, found_valid, IsFoundOrApart}
 use Rattle.wm_machine.proofs.Steps.{framed}
+use Rattle.wm_machine.proofs.Stops.{stopped_both, stopped_in}
 use Rattle.wm_machine.proofs.Turns.{turned_at, turned_both}
-use Rattle.wm_machine.specs.Frame.{frame_of, Frame, IsBegunIn, IsEndedIn, IsTurnedIn}
-use Rattle.wm_machine.specs.Role as role
-use Rattle.wm_machine.specs.Role.{Reported}
+use Rattle.wm_machine.specs.Frame.{frame_of, Frame, IsBegunIn, IsLinedIn, IsTurnedIn}
 use Rattle.wm_machine.specs.Runs.{other_runs, run_numbered, with_out}
 use Rattle.wm_machine.specs.Step.{after, role_of, Legal}
 use Rattle.wm_machine.specs.Turns.{turned, with_turned}
 use Rattle.wm_machine.specs.Valid.{AreNumberedInOrder, IsInstanceOf, Valid}
+use Rattle.wm_machine.specs.declared.command.Command.{Command}
 use Rattle.wm_machine.specs.declared.event.Event.{Event}
 use Rattle.wm_machine.specs.declared.event.Event.TheVariants as event
+use Rattle.wm_machine.specs.declared.reply.Reply.{Reply}
 use Rattle.wm_machine.specs.declared.state.Instance.{Instance}
 use Rattle.wm_machine.specs.declared.state.Run.{Run}
 use Rattle.wm_machine.specs.declared.state.State.{State}
@@ -31,9 +32,8 @@ use Rattle.wm_runs.proofs.RunLookups.{found-numbered, run_numbered-push, run_num
 use Rattle.wm_session.proofs.PlacesAndInstances.{away-changed, here-back, run-from, traits-back}
 use Rattle.wm_session.specs.Bench.{instance_traits, is_away, is_out_on, kind_at, place_traits, Traits}
 use Rattle.wm_session.specs.Invariant.{ListsExactly}
-use Rattle.wm_table.proofs.NoLines.{framed_end}
 use Rattle.wm_table.proofs.Parts.{none-without, out-after, out-standing, stands_in}
-use Rattle.wm_table.specs.Parts.{part_of, ticket_part, IsItOrApart, IsOffRoll, Stands, WasOut}
+use Rattle.wm_table.specs.Parts.{part_of, ticket_part, IsItOrApart, IsOffRoll, NoneOf, Stands, WasOut}
 use Rattle.wm_table.specs.Rolls.{given_again}
 use Rattle.wm_table.specs.Table.{IsTicketIn}
 use Rattle.wm_table.specs.TableState.{ticket_of, TicketState}
@@ -63,6 +63,25 @@ out-agrees s roll valid exact =
     (one_gives s.runs (λ run listed test. HasOne-weaker roll (λ part of. ap (λ (p : Part). eqb p.instance instance.number) of ∙ test) listed) exact.each
     (any_passes (λ (run : Run). eqb run.instance instance.number) s.runs on)))
     ∙ sym out) valid.instances.out)
+
+-- ---- a line
+
+part-stopped_in : (stops : Run → Bool) (run : Run) → part_of (stopped_in stops run) ≡ part_of run
+part-stopped_in stops run = stopped_both (λ (r : Run). part_of r ≡ part_of run) stops run (λ e. refl) (λ e. refl)
+
+-- a run that is stopped stays on the roll
+pub exact-lined : (s : State) (roll : List Part) (line : ℕ) (asked : Command) (answer : Reply) → Legal s (event.Command line asked answer)
+    → ListsExactly s.runs roll → ListsExactly (after s (event.Command line asked answer)).runs roll
+exact-lined s roll line asked answer legal exact =
+    let e = event.Command line asked answer in
+    let is : IsLinedIn asked s (frame_of s e) = framed s e legal in
+    let runs : (after s e).runs ≡ map (stopped_in is.stops) s.runs = ap (λ (f : Frame). f.runs) is.frame_is in
+    record {
+      of_runs = out-after s e roll legal tt exact.of_runs;
+      each = rw runs
+          (All-map (λ run. IsListed roll (part_of run)) (stopped_in is.stops) s.runs
+          (λ run listed. subst (IsListed roll) (sym (part-stopped_in is.stops run)) listed) exact.each);
+    }
 
 -- ---- a run begins
 
@@ -98,19 +117,18 @@ exact-begun s roll ticket valid legal there exact =
 
 -- ---- a run is over
 
-pub exact-ended : (s : State) (roll : List Part) (number : ℕ) (reported : Reported) (e : Event) → role_of e ≡ role.Ends number reported → Legal s e
-    → ListsExactly s.runs roll → ListsExactly (after s e).runs (without number roll)
-exact-ended s roll number reported e ends legal exact =
-    let is : IsEndedIn number reported s (frame_of s e) = framed_end s number reported e ends legal in
-    let runs : (after s e).runs ≡ other_runs is.run.run s.runs = ap (λ (f : Frame). f.runs) is.frame_is in
-    let its = found-numbered number s.runs is.run is.is_running in
+pub exact-left : (s : State) (roll : List Part) (number : ℕ) (e : Event) (run : Run) → Legal s e
+    → ((parts : List Part) → NoneOf number parts → IsOffRoll (role_of e) parts) → run_numbered number s.runs ≡ Some run
+    → (after s e).runs ≡ other_runs run.run s.runs → ListsExactly s.runs roll → ListsExactly (after s e).runs (without number roll)
+exact-left s roll number e run legal off is_running runs exact =
+    let its = found-numbered number s.runs run is_running in
     record {
-      of_runs = out-after s e (without number roll) legal (subst (λ r. IsOffRoll r (without number roll)) (sym ends) (none-without number roll))
+      of_runs = out-after s e (without number roll) legal (off (without number roll) (none-without number roll))
           (All-kept (λ part. HasOne (λ run. part_of run ≡ part) s.runs) (λ part. not (is_of number part)) roll exact.of_runs);
       each = rw runs
-          (All-filter (λ run. not (eqb run.run is.run.run)) s.runs
-          (λ run stays listed.
-          listed-without number roll (part_of run) (λ e. true≢false (sym stays ∙ ap not (eq-eqb run.run is.run.run (e ∙ sym its)))) listed) exact.each);
+          (All-filter (λ other. not (eqb other.run run.run)) s.runs
+          (λ other stays listed.
+          listed-without number roll (part_of other) (λ e. true≢false (sym stays ∙ ap not (eq-eqb other.run run.run (e ∙ sym its)))) listed) exact.each);
     }
 
 -- ---- a run goes on

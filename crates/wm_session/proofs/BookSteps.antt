@@ -5,10 +5,9 @@ use Rattle.std.specs.List.{AllByRecursion}
 use Rattle.wm_bench.specs.declared.place.Place.{Place}
 use Rattle.wm_machine.proofs.Logs.{commands_of-push}
 use Rattle.wm_texts.proofs.LogTexts.{log_text-last}
-use Rattle.wm_machine.proofs.Steps.{IsReached-after}
+use Rattle.wm_machine.proofs.Steps.{Valid-after}
 use Rattle.wm_machine.specs.Outcome.{IsAskable}
 use Rattle.wm_machine.specs.Log.{command_in, commands_of, AreNumberedFrom}
-use Rattle.wm_machine.specs.Narrow.{IsReached}
 use Rattle.wm_texts.specs.Texts.{last_text, log_text}
 use Rattle.wm_machine.specs.declared.command.Command.{Command}
 use Rattle.wm_machine.specs.declared.event.Event.{Event}
@@ -68,12 +67,9 @@ IsTold-roll run tells old table roll pending sink status told =
     record { texts = told.texts; all_told = told.all_told; later = told.later; cause = told.cause }
 
 module _ {K W B : Type 0} {run : Inputs} {tells : Tells K W B} where
-  pub reached : {book : BookState K W B} → BookInvariant run tells book → IsReached book.table.state
-  reached kept = record { valid = kept.valid; narrow = kept.narrow }
-
-  pub reached_after : (e : Event) (old new : BookState K W B) → BookInvariant run tells old → IsOneStep tells.store e old.table new.table
-      → IsReached new.table.state
-  reached_after e old new kept step = rw step.state (IsReached-after old.table.state e (reached kept) step.legal)
+  pub valid_after : (e : Event) (old new : BookState K W B) → BookInvariant run tells old → IsOneStep tells.store e old.table new.table
+      → Valid new.table.state
+  valid_after e old new kept step = rw step.state (Valid-after old.table.state e kept.valid step.legal)
 
   text_is : (e : Event) (old new : BookState K W B) → BookInvariant run tells old → IsOneStep tells.store e old.table new.table
       → log_text new.table.first new.table.log ≡ log_text old.table.first old.table.log ++ last_text new.table.first new.table.log
@@ -97,8 +93,7 @@ module _ {K W B : Type 0} {run : Inputs} {tells : Tells K W B} where
       rw (kept.all_told more.going) at kept.texts in
       record {
         replay = Replay-step tells.store e old.table new.table kept.replay step;
-        valid = (reached_after e old new kept step).valid;
-        narrow = (reached_after e old new kept step).narrow;
+        valid = valid_after e old new kept step;
         lines = LinesInvariant-from new.status run.lines (commands_of new.table.log) new.left
             (lines ∙ ap (λ (l : List Command). done ++ l) more.left ∙ sym (append_assoc done (command_in e) new.left) ∙ ap (λ (l : List Command). l ++ new.left)
             (sym commands));

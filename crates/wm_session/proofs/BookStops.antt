@@ -8,7 +8,6 @@ use Rattle.wm_bench.specs.declared.place.Place.{Place}
 use Rattle.wm_keeper.specs.Store.{Store}
 use Rattle.wm_machine.specs.Outcome.{IsAskable}
 use Rattle.wm_machine.specs.Log.{commands_of, AreNumberedFrom, HasPrefix}
-use Rattle.wm_machine.specs.Narrow.{IsNarrow}
 use Rattle.wm_texts.specs.Texts.{log_text}
 use Rattle.wm_machine.specs.Valid.{Valid}
 use Rattle.wm_machine.specs.declared.command.Command.{Command}
@@ -63,7 +62,6 @@ module _ {K W B : Type 0} {run : Inputs} {tells : Tells K W B} where
       record {
         replay = Replay-same tells.store old.table table kept.replay same;
         valid = subst Valid (sym same.state) kept.valid;
-        narrow = subst IsNarrow (sym same.state) kept.narrow;
         lines = subst (λ log. HasPrefix run.lines (commands_of log)) (sym same.log)
             (LinesInvariant-front old.status run.lines (commands_of old.table.log) old.left kept.lines);
         askable = askable;
@@ -186,7 +184,6 @@ module _ {K W B : Type 0} {run : Inputs} {tells : Tells K W B} where
       subst (λ t. BookInvariant run tells (record old { table = t; places = places })) (sym same) (record {
         replay = kept.replay;
         valid = kept.valid;
-        narrow = kept.narrow;
         lines = kept.lines;
         askable = kept.askable;
         numbered = kept.numbered;

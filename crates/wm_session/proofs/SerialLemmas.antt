@@ -1,8 +1,8 @@
 -- What the steps of a serial session make of its book.
-use Rattle.std.proofs.Common.{◌≡◌, ◌⊎◌, ℕ, ◌+◌, ◌<◌, ◌≤◌, Bool, true, List, [], ◌∷◌, ◌++◌, length, Option, Some, None, IsSome, Result, Ok, Err, refl, sym, ◌∙◌, ap, subst, inl, inr, arith}
+use Rattle.std.proofs.Common.{◌≡◌, ◌⊎◌, ℕ, ◌+◌, ◌<◌, ◌≤◌, Bool, true, false, List, [], ◌∷◌, ◌++◌, length, Option, Some, None, IsSome, IsSomeAnd, Result, Ok, Err, refl, sym, ◌∙◌, ap, subst, inl, inr, arith}
 use Rattle.std.specs.List.{AllByRecursion}
 use Rattle.std.specs.declared.alloc.AllocError.{AllocError}
-use Rattle.std.proofs.lemmas.Bool.{eq-eqb}
+use Rattle.std.proofs.lemmas.Bool.{eq-eqb, true≢false}
 use Rattle.wm_bench.specs.Places.{idle_at, changed_at, made_back, IsAwayAt}
 use Rattle.wm_bench.specs.Seat.{Seat}
 use Rattle.wm_bench.specs.declared.hand.Hand.{Hand}
@@ -11,22 +11,23 @@ use Rattle.wm_keeper.specs.Store.{Store}
 use Rattle.wm_machine.specs.declared.command.Command.{Command}
 use Rattle.wm_machine.specs.declared.event.Cause.{Cause}
 use Rattle.wm_machine.specs.declared.event.Event.{Event}
+use Rattle.wm_machine.specs.declared.state.Run.{Run}
 use Rattle.wm_machine.specs.declared.state.State.{State}
 use Rattle.wm_worker.specs.declared.kind.Kind.{Kind}
 use Rattle.wm_machine.proofs.Serials.{AreInOrder-first, AreInOrder-nothing, AreInOrder-push, BeginsSerial-goes-on}
 use Rattle.wm_machine.specs.Outcome.{IsAskable}
 use Rattle.wm_machine.specs.Frame.{Frame}
 use Rattle.wm_machine.specs.Log.{commands_of}
-use Rattle.wm_machine.specs.Narrow.{IsNarrow}
 use Rattle.wm_machine.specs.Quiet.{IsQuiet}
 use Rattle.wm_machine.specs.Replay.{Replay}
-use Rattle.wm_machine.specs.Runs.{other_runs, run_numbered}
+use Rattle.wm_machine.specs.Runs.{other_runs, run_numbered, run_on, with_stopped}
 use Rattle.wm_machine.specs.Serial.{AreInOrder, drains_first, IsInTurn, MayGoOn}
 use Rattle.wm_machine.specs.Turns.{turned, with_turned}
 use Rattle.wm_machine.specs.Valid.{Valid}
 use Rattle.wm_machine.specs.Waiting.{left_to_drain}
 use Rattle.wm_machine.specs.Step.{Legal}
 use Rattle.wm_machine.specs.declared.event.Event.TheVariants as event
+use Rattle.wm_machine.proofs.Starts.{after_start}
 use Rattle.wm_machine.proofs.Steps.{framed}
 use Rattle.wm_machine.proofs.Turns.{after_turn}
 use Rattle.wm_runs.proofs.RunLookups.{run_numbered-turned}
@@ -36,13 +37,14 @@ use Rattle.wm_session.proofs.BookParts.{claimed_step, Replay-same, Replay-step}
 use Rattle.wm_session.proofs.BoxLemmas.{no_longer, KeepBoxes-cut, KeepBoxes-given_up, KeepBoxes-last, KeepBoxes-same, KeepBoxes-silent, KeepBoxes-turned, KeepBoxesOut-later}
 use Rattle.wm_session.proofs.DiaryLemmas.{ticket-found, IsDiaryLater-same}
 use Rattle.wm_roll.specs.Parts.{without}
+use Rattle.wm_runs.specs.Reports.{IsOut}
 use Rattle.wm_roll.specs.declared.part.Part.{Part}
 use Rattle.wm_session.proofs.BookRolls.{taken_again, without-new}
 use Rattle.wm_session.proofs.HandLemmas.{IsAwayAt-taken, NoneAway-back}
 use Rattle.wm_table.specs.Parts.{ticket_part}
 use Rattle.wm_session.specs.Bench.{NoneAway}
 use Rattle.wm_session.proofs.RetiredPlaces.{idle_at-after, NoneAway-after}
-use Rattle.wm_session.specs.Book.{IsBegun, IsClaimStopped, IsFrontStopped, IsGivenBack, IsLineDone, IsReported, IsStartFailed, IsTurnUntold}
+use Rattle.wm_session.specs.Book.{IsBegun, IsClaimStopped, HasStopped, IsFrontStopped, IsLineDone, IsReported, IsStartFailed, IsTurnUntold}
 use Rattle.wm_session.specs.BookState.{BookState}
 use Rattle.wm_session.specs.Boxes.{IsDiaryLater}
 use Rattle.wm_session.specs.Drive.{HasWritten, IsCutShort, IsDriven, IsGivenUp, IsLastTurn, IsNoTurn, IsOtherTurn, IsUnderWay}
@@ -69,15 +71,24 @@ use Rattle.std.specs.Prelude.{map, option_to_list}
 
 -- ---- a turn is reported
 
+-- a run that is current wasn't stopped
+not_both : (found : Option Run) → IsSomeAnd found (λ run. run.current ≡ true) → IsSomeAnd found (λ run. run.current ≡ false) → ⊥
+not_both None current stopped = current
+not_both (Some run) current stopped = true≢false (sym current ∙ stopped)
+
+pub not_stopped : (s : State) (number : ℕ) → IsOut s number true → IsOut s number false → ⊥
+not_stopped s number current stopped = not_both (run_numbered number s.runs) current stopped
+
 module _ {K W B : Type 0} (store : K → Store) (kind_of : B → Kind) (diary_of : B → Option (List Entry)) (ticket : TicketState) (worker : B)
     (seat : Seat B) (number : seat.number ≡ ticket.instance) (old new : BookState K W B) where
   at_place : new.places ≡ changed_at (made_back kind_of seat.worker) seat.number old.places
       → new.places ≡ changed_at (made_back kind_of seat.worker) ticket.instance old.places
   at_place places = places ∙ ap (λ n. changed_at (made_back kind_of seat.worker) n old.places) number
 
-  given_up : IsDiaryLater (diary_of worker) (diary_of seat.worker) → IsGivenBack store kind_of ticket seat old new
+  given_up : IsDiaryLater (diary_of worker) (diary_of seat.worker) → HasStopped store old new → new.table.roll ≡ without ticket.task.run old.table.roll
+      → new.places ≡ changed_at (made_back kind_of seat.worker) seat.number old.places
       → IsGivenUp store kind_of diary_of ticket (diary_of worker) old new
-  given_up later given = record { back = seat.worker; diary_later = later; stopped = given.stopped; roll = given.roll; places = at_place given.places }
+  given_up later stopped roll places = record { back = seat.worker; diary_later = later; stopped = stopped; roll = roll; places = at_place places }
 
   -- what a worker has written down that gave this
   wrote : (gave : Given) (answered : Answer) → given_of answered ≡ Some gave
@@ -124,29 +135,34 @@ module _ {K W B : Type 0} (store : K → Store) (kind_of : B → Kind) (diary_of
     no_more = untold.no_more;
   }
 
-  -- once a worker's report is given, and the run doesn't go on, it is over, or the session has stopped early
-  pub IsNoTurn-reported : {M : Type 0} (told : Result Report AllocError) (result : After B M) → IsReported store kind_of ticket seat told result old new
+  -- once a worker's report is given, and the run, which wasn't stopped, doesn't go on, it is over, or the session has stopped early
+  pub IsNoTurn-reported : {M : Type 0} (told : Result Report AllocError) (result : After B M) → IsOut old.table.state ticket.task.run true
+      → IsReported store kind_of ticket seat told result old new
       → (result ≡ report.Over) ⊎ (result ≡ report.Stopped) → HasWritten diary_of ticket worker seat.worker told
       → IsNoTurn store kind_of diary_of ticket worker old new
-  IsNoTurn-reported (Ok told) report.Over done ends written =
+  IsNoTurn-reported (Ok told) report.Over current (inl late) ends written = absurd (not_stopped old.table.state ticket.task.run current late.returned.stopped)
+  IsNoTurn-reported (Ok told) report.Over current (inr done) ends written =
       inl (last_turn told done.timed_out done.goes_on.before done.ended done.roll done.places done.left done.no_more written)
-  IsNoTurn-reported (Ok told) (report.Go next kept) done (inl ends) written = absurd (cc)
-  IsNoTurn-reported (Ok told) (report.Go next kept) done (inr ends) written = absurd (cc)
-  IsNoTurn-reported (Ok told) (report.Again same kept) done (inl ends) written = absurd (cc)
-  IsNoTurn-reported (Ok told) (report.Again same kept) done (inr ends) written = absurd (cc)
-  IsNoTurn-reported (Ok told) report.Stopped done ends written =
+  IsNoTurn-reported (Ok told) (report.Go next kept) current done (inl ends) written = absurd (cc)
+  IsNoTurn-reported (Ok told) (report.Go next kept) current done (inr ends) written = absurd (cc)
+  IsNoTurn-reported (Ok told) (report.Again same kept) current done (inl ends) written = absurd (cc)
+  IsNoTurn-reported (Ok told) (report.Again same kept) current done (inr ends) written = absurd (cc)
+  IsNoTurn-reported (Ok told) report.Stopped current done ends written =
       elim done.how [
-        | inl stopped ↦
-            inr (inl (given_up (turn_entries ticket.task.run ticket.k told.answer, written)
-            (record { stopped = stopped; out = done.out; roll = done.roll; places = done.places })))
-        | inr untold ↦ elim untold [
-          | inl ended ↦ inl (last_turn told ended.timed_out ended.before ended.ended done.roll done.places ended.left ended.no_more written)
-          | inr turned ↦ inr (inr (cut_short told turned done.roll done.places (turn_entries ticket.task.run ticket.k told.answer, written)))
-        ]
+        | inl stopped ↦ inr (inl (given_up (turn_entries ticket.task.run ticket.k told.answer, written) stopped done.roll done.places))
+        | inr (inl late) ↦ absurd (not_stopped old.table.state ticket.task.run current late.returned.stopped)
+        | inr (inr (inl ended)) ↦ inl (last_turn told ended.timed_out ended.before ended.ended done.roll done.places ended.left ended.no_more written)
+        | inr (inr (inr turned)) ↦
+            inr (inr (cut_short told turned done.roll done.places (turn_entries ticket.task.run ticket.k told.answer, written)))
       ]
-  IsNoTurn-reported (Err refused) report.Stopped done ends written =
-      inr (inl (given_up (IsDiaryLater-same (diary_of worker) (diary_of seat.worker) written) done))
-  IsNoTurn-reported (Err refused) _ done ends written = absurd done
+  IsNoTurn-reported (Err refused) report.Over current late ends written = absurd (not_stopped old.table.state ticket.task.run current late.returned.stopped)
+  IsNoTurn-reported (Err refused) report.Stopped current done ends written =
+      elim done.how [
+        | inl stopped ↦ inr (inl (given_up (IsDiaryLater-same (diary_of worker) (diary_of seat.worker) written) stopped done.roll done.places))
+        | inr late ↦ absurd (not_stopped old.table.state ticket.task.run current late.returned.stopped)
+      ]
+  IsNoTurn-reported (Err refused) (report.Go next kept) current done ends written = absurd done
+  IsNoTurn-reported (Err refused) (report.Again same kept) current done ends written = absurd done
 
   -- the runs of a turn that was made
   turned_runs : (progress : Option (List DataEntry)) (step : IsOneStep store (event.Turn ticket.task.run progress) old.table new.table)
@@ -182,6 +198,7 @@ module _ {K W B : Type 0} (store : K → Store) (kind_of : B → Kind) (diary_of
         next_is = next_is;
         turns_left = omega arith;
         ticket_in = on.ticket_in;
+        current = subst (λ (o : Option Run). IsSomeAnd o (λ run. run.current ≡ true)) (sym found) its.is_current;
         number = ap (λ (s : Seat B). s.number) done.seat_is ∙ number;
         kind = ap (λ (s : Seat B). kind_of s.worker) done.seat_is ∙ kind;
         diary = ap (λ (s : Seat B). diary_of s.worker) done.seat_is ∙ wrote (More on.progress) told.answer on.told_is written;
@@ -282,9 +299,16 @@ IsUnderWay-begun {store = store} {kind_of = kind_of} {ticket = ticket} {seat = s
     let start = event.Start task.run ticket.seq ticket.instance task.input in
     let its = framed old.table.state start begun.step.legal in
     let one = begun_alone store old new rest begun.goes_on.before task.run ticket.seq ticket.instance task.input begun.step in
+    let s = old.table.state in
+    let on = begun.step.legal in
+    let its_run = run_on s on.work on.idle task.input in
+    let runs : new.table.state.runs ≡ its_run ∷ [] =
+    ap (λ (t : State). t.runs) (begun.step.state ∙ after_start s task.run ticket.seq ticket.instance task.input on)
+    ∙ ap (λ (runs : List Run). runs ++ its_run ∷ []) (rest.no_run begun.goes_on.before) in
     record {
       replay = Replay-step store start old.table new.table rest.replay begun.step;
       ticket_in = begun.ticket_in;
+      current = rw (runs, eq-eqb s.next_run task.run (sym on.run_is)) refl;
       alone = rw (one, eq-eqb its.run.run task.run (sym its.number_is)) refl;
       alone_out = ap (without ticket.task.run) (begun.roll ∙ ap (λ (roll : List Part). roll ++ ticket_part ticket ∷ []) rest.none_out)
           ∙ without-new ticket.task.run [] (ticket_part ticket) refl tt;
@@ -446,6 +470,7 @@ module _ {K W B : Type 0} {store : K → Store} {kind_of : B → Kind} {diary_of
       record {
         replay = Replay-step store (event.Turn number turned.progress) old.table new.table under_way.replay step;
         ticket_in = turned.ticket_in;
+        current = turned.current;
         alone = ap (λ (t : TicketState). other_runs t.task.run new.table.state.runs) turned.next_is
             ∙ ap (other_runs number) runs
             ∙ other_runs-turned number s.runs
@@ -477,9 +502,8 @@ module _ {K W B : Type 0} {store : K → Store} {kind_of : B → Kind} {diary_of
 module _ {K W B : Type 0} {store : K → Store} {kind_of : B → Kind} {old new : BookState K W B} (rest : IsBetweenRuns old) where
   line_none : old.status ≡ None → IsLineDone store kind_of old new → new.table.state.runs ≡ []
   line_none going done =
-      ap (λ (t : State). t.runs) done.step.state
-      ∙ ap (λ (f : Frame). f.runs) (framed old.table.state (event.Command (old.line + 1) done.command done.reply) done.step.legal)
-      ∙ rest.no_run going
+      let is = framed old.table.state (event.Command (old.line + 1) done.command done.reply) done.step.legal in
+      ap (λ (t : State). t.runs) done.step.state ∙ ap (λ (f : Frame). f.runs) is.frame_is ∙ ap (with_stopped is.stops) (rest.no_run going)
 
   -- a line was executed
   pub IsBetweenRuns-line : old.status ≡ None → IsLineDone store kind_of old new → IsBetweenRuns new
@@ -553,13 +577,13 @@ askable_left (asked ∷ done) left askable = askable_left done left askable.1
 
 -- a log in order is that of a serial run, once all is done, and else begins one
 pub IsSerialRun-order : (lines : List Command) (ended : Status) (first last : State) (log : List Event) → AllByRecursion IsAskable lines
-    → HasCommands lines ended log → first.runs ≡ [] → Replay first log last → Valid last → IsNarrow last → length last.runs ≤ 1
+    → HasCommands lines ended log → first.runs ≡ [] → Replay first log last → Valid last → length last.runs ≤ 1
     → AreInOrder lines first log
     → (ended ≡ status.Done → IsQuiet last) → IsSerialRun lines ended first log last
-IsSerialRun-order lines status.Done first last log askable commands from_rest replays valid narrow few order quiet =
+IsSerialRun-order lines status.Done first last log askable commands from_rest replays valid few order quiet =
     record { replay = replays; commands = commands.all refl; in_order = order; quiet = quiet refl }
-IsSerialRun-order lines _ first last log askable commands from_rest replays valid narrow few order quiet =
+IsSerialRun-order lines _ first last log askable commands from_rest replays valid few order quiet =
     let left = commands.front.0 in
     let whole = commands.front.1 in
     BeginsSerial-goes-on lines left first last log
-    (askable_left (commands_of log) left (subst (AllByRecursion IsAskable) whole askable)) whole from_rest replays valid narrow few order
+    (askable_left (commands_of log) left (subst (AllByRecursion IsAskable) whole askable)) whole from_rest replays valid few order

@@ -1,5 +1,5 @@
 -- What the calls of a book do.
-use Rattle.std.specs.Prelude.{◌≡◌, ◌≢◌, ◌⊎◌, ℕ, ◌+◌, ◌<◌, ◌≤◌, Bool, true, List, [], ◌∷◌, ◌++◌, Some, None, IsSome, Result, Ok, Err}
+use Rattle.std.specs.Prelude.{◌≡◌, ◌≢◌, ◌⊎◌, ℕ, ◌+◌, ◌<◌, ◌≤◌, Bool, false, List, [], ◌∷◌, ◌++◌, Some, None, IsSome, Result, Ok, Err}
 use Rattle.std.specs.declared.alloc.AllocError.{AllocError}
 use Rattle.wm_bench.specs.Places.{changed_at, idle_at, made_away, made_back}
 use Rattle.wm_bench.specs.Seat.{Seat}
@@ -19,11 +19,11 @@ use Rattle.wm_session.specs.BookState.{BookState}
 use Rattle.wm_session.specs.Pending.{nothing}
 use Rattle.wm_roll.specs.Parts.{without}
 use Rattle.wm_roll.specs.declared.part.Part.{Part}
-use Rattle.wm_runs.specs.Reports.{CountsIn}
+use Rattle.wm_runs.specs.Reports.{CountsIn, IsOut}
 use Rattle.wm_table.specs.Images.{IsLine, IsNoLine}
 use Rattle.wm_table.specs.Parts.{ticket_part, WasOut}
 use Rattle.wm_table.specs.Rolls.{given_again}
-use Rattle.wm_table.specs.Table.{HasGoneOn, IsClaimAnswer, IsFinished, IsOneStep, IsUntouched, IsTicketIn}
+use Rattle.wm_table.specs.Table.{HasGoneOn, IsClaimAnswer, IsFinished, IsOneStep, IsReturned, IsUntouched, IsTicketIn}
 use Rattle.wm_table.specs.TableState.{TicketState}
 use Rattle.wm_table.specs.declared.table.Claim.{Claim}
 use Rattle.wm_table.specs.declared.table.Claim.TheVariants as claim
@@ -56,10 +56,9 @@ abbrev pub SettlesNext : List Command → Type 0
 SettlesNext [] = ⊥
 SettlesNext (asked ∷ lines) = asked ≡ command.Settle
 
--- a line may come that is the next one: no run is unreturned, and where it settles there is nothing left to do
-pub record MayCome (lines : List Command) (s : State) : Type 0 where
-  pub no_run : s.runs ≡ []
-  pub settled : SettlesNext lines → IsQuiet s
+-- a line may come that is the next one: where it settles there is nothing left to do
+abbrev pub MayCome : List Command → State → Type 0
+MayCome lines s = SettlesNext lines → IsQuiet s
 
 -- the next line was executed, in one step, which leaves the roll, and a class that it retires is retired on the bench
 pub record IsLineDone {K W B : Type 0} (store : K → Store) (kind_of : B → Kind) (old new : BookState K W B) : Type 0 where
@@ -81,7 +80,7 @@ abbrev pub IsNextLine : ℕ → List Command → Event → Type 0
 IsNextLine line [] e = ⊥
 IsNextLine line (asked ∷ lines) e = IsLine (line + 1) asked e
 
--- a line is left, but it can't come yet
+-- a line is left, but it settles, and there is something left to do
 pub record MustWait (lines : List Command) (s : State) : Type 0 where
   pub some_left : lines ≢ []
   pub not_yet : MayCome lines s → ⊥
@@ -143,7 +142,7 @@ pub record IsBegun {K W B : Type 0} (store : K → Store) (kind_of : B → Kind)
   pub kind : kind_of seat.worker ≡ ticket.kind
   pub worker : idle_at ticket.instance old.places ≡ Some seat.worker
   pub places : new.places ≡ changed_at (made_away kind_of) ticket.instance old.places
-  pub signal_is : signal ≡ record { run = ticket.task.run; never = true }
+  pub signal_is : signal ≡ record { run = ticket.task.run; never = false }
   pub left : new.left ≡ old.left
   pub fewer : left_to_drain new.table.state < left_to_drain old.table.state
 
@@ -248,18 +247,39 @@ pub record IsEndUntold {K W B : Type 0} (store : K → Store) (ticket : TicketSt
   pub left : new.left ≡ old.left
   pub no_more : left_to_drain new.table.state ≤ left_to_drain old.table.state
 
--- what was told doesn't count for the run: ticket and seat come back as they were, and nothing changes
+-- the run, which was stopped, is over, it is off the roll and its worker is back, and no more works are left to drain
+pub record IsLateOver {K W B : Type 0} (store : K → Store) (kind_of : B → Kind) (ticket : TicketState) (seat : Seat B) (old new : BookState K W B)
+    : Type 0 where
+  pub goes_on : GoesOn old new
+  pub returned : IsReturned store ticket.task.run old.table new.table
+  pub out : WasOut old.table.state old.table.roll ticket
+  pub roll : new.table.roll ≡ without ticket.task.run old.table.roll
+  pub places : new.places ≡ changed_at (made_back kind_of seat.worker) seat.number old.places
+  pub left : new.left ≡ old.left
+  pub no_more : left_to_drain new.table.state ≤ left_to_drain old.table.state
+
+-- the run, which was stopped, is over, and the session stopped while that was told
+pub record IsLateUntold {K W B : Type 0} (store : K → Store) (ticket : TicketState) (old new : BookState K W B) : Type 0 where
+  pub before : old.status ≡ None
+  pub status : IsSome new.status
+  pub returned : IsReturned store ticket.task.run old.table new.table
+  pub left : new.left ≡ old.left
+  pub no_more : left_to_drain new.table.state ≤ left_to_drain old.table.state
+
+-- what was told doesn't count for the run, which wasn't stopped: ticket and seat come back as they were, and nothing changes
 pub record IsAskedAgain {K W B : Type 0} (ticket same : TicketState) (seat kept : Seat B) (told : Report) (old new : BookState K W B) : Type 0 where
   pub going : old.status ≡ None
+  pub not_stopped : IsOut old.table.state ticket.task.run false → ⊥
   pub not_counted : CountsIn old.table.state ticket.task.run told → ⊥
   pub ticket_is : same ≡ ticket
   pub seat_is : kept ≡ seat
   pub book_is : new ≡ old
 
--- the session has stopped early without an event of the run, or had before, the ticket was taken back, and the worker is back
+-- the session has stopped early without an event of the run, or with the one by which it is over that was stopped, or had stopped before; the run is
+-- off the roll, and the worker is back
 pub record IsGivenBack {K W B : Type 0} (store : K → Store) (kind_of : B → Kind) (ticket : TicketState) (seat : Seat B) (old new : BookState K W B)
     : Type 0 where
-  pub stopped : HasStopped store old new
+  pub how : HasStopped store old new ⊎ IsLateUntold store ticket old new
   pub out : WasOut old.table.state old.table.roll ticket
   pub roll : new.table.roll ≡ without ticket.task.run old.table.roll
   pub places : new.places ≡ changed_at (made_back kind_of seat.worker) seat.number old.places
@@ -268,18 +288,22 @@ pub record IsGivenBack {K W B : Type 0} (store : K → Store) (kind_of : B → K
 -- worker is back
 pub record IsReportStopped {K W B : Type 0} (store : K → Store) (kind_of : B → Kind) (ticket : TicketState) (seat : Seat B) (told : Report)
     (old new : BookState K W B) : Type 0 where
-  pub how : HasStopped store old new ⊎ (IsEndUntold store ticket told old new ⊎ IsTurnUntold store ticket told old new)
+  pub how : HasStopped store old new ⊎
+      (IsLateUntold store ticket old new ⊎ (IsEndUntold store ticket told old new ⊎ IsTurnUntold store ticket told old new))
   pub out : WasOut old.table.state old.table.roll ticket
   pub roll : new.table.roll ≡ without ticket.task.run old.table.roll
   pub places : new.places ≡ changed_at (made_back kind_of seat.worker) seat.number old.places
 
--- Go and Over where what was told counts, with its event; Again where it doesn't; Stopped where the session has stopped early, as it has where
--- memory was refused to the worker
+-- Go and Over where what was told counts, with its event; Over also where the run was stopped, whatever was told or refused; Again where it wasn't,
+-- and what was told doesn't count; Stopped where the session has stopped early, as it has where memory was refused to the worker of a run that wasn't
+-- stopped
 abbrev pub IsReported : {K W B M : Type 0} → (K → Store) → (B → Kind) → TicketState → Seat B → Result Report AllocError → After B M
     → BookState K W B → BookState K W B → Type 0
 IsReported store kind_of ticket seat (Ok told) (after.Go next kept) old new = IsTurnTold store ticket next seat kept told old new
-IsReported store kind_of ticket seat (Ok told) after.Over old new = IsOver store kind_of ticket seat told old new
+IsReported store kind_of ticket seat (Ok told) after.Over old new =
+    IsLateOver store kind_of ticket seat old new ⊎ IsOver store kind_of ticket seat told old new
 IsReported store kind_of ticket seat (Ok told) (after.Again same kept) old new = IsAskedAgain ticket same seat kept told old new
 IsReported store kind_of ticket seat (Ok told) after.Stopped old new = IsReportStopped store kind_of ticket seat told old new
+IsReported store kind_of ticket seat (Err refused) after.Over old new = IsLateOver store kind_of ticket seat old new
 IsReported store kind_of ticket seat (Err refused) after.Stopped old new = IsGivenBack store kind_of ticket seat old new
 IsReported store kind_of ticket seat (Err refused) _ old new = ⊥

@@ -1,5 +1,5 @@
 -- What driving a run to its end does.
-use Rattle.std.specs.Prelude.{◌≡◌, ◌⊎◌, ℕ, ◌+◌, ◌<◌, ◌≤◌, List, [], ◌∷◌, slice_get, Option, Some, None, IsSome, IsSomeAnd, Result, Ok, Err}
+use Rattle.std.specs.Prelude.{◌≡◌, ◌⊎◌, ℕ, ◌+◌, ◌<◌, ◌≤◌, true, List, [], ◌∷◌, slice_get, Option, Some, None, IsSome, IsSomeAnd, Result, Ok, Err}
 use Rattle.std.specs.declared.alloc.AllocError.{AllocError}
 use Rattle.wm_bench.specs.Places.{changed_at, made_back, IsAwayAt}
 use Rattle.wm_bench.specs.Seat.{Seat}
@@ -23,6 +23,7 @@ use Rattle.wm_session.specs.BookState.{BookState}
 use Rattle.wm_session.specs.Boxes.{IsDiaryLater, IsStartOn}
 use Rattle.wm_session.specs.BetweenRuns.{GoesInOrder, IsBetweenRuns, KeepBoxes}
 use Rattle.wm_roll.specs.Parts.{without}
+use Rattle.wm_runs.specs.Reports.{IsOut}
 use Rattle.wm_table.specs.Parts.{ticket_part}
 use Rattle.wm_table.specs.Rolls.{given_again}
 use Rattle.wm_table.specs.Table.{IsOneStep, IsTicketIn}
@@ -37,11 +38,12 @@ use Rattle.wm_worker.specs.declared.kind.Kind.{Kind}
 
 -- ---- a run under way
 
--- The run of a ticket is under way: the log replays, no other run is unreturned and no other ticket out, the worker of its instance is away, and
+-- The run of a ticket is under way: the log replays, the run is current, no other run is unreturned and no other ticket out, the worker of its instance is away, and
 -- once it is back none is.
 pub record IsUnderWay {K W B : Type 0} (kind_of : B → Kind) (ticket : TicketState) (book : BookState K W B) : Type 0 where
   pub replay : Replay book.table.first book.table.log book.table.state
   pub ticket_in : IsTicketIn book.table.state ticket
+  pub current : IsOut book.table.state ticket.task.run true
   pub alone : other_runs ticket.task.run book.table.state.runs ≡ []
   pub alone_out : without ticket.task.run book.table.roll ≡ []
   pub away : IsAwayAt ticket.instance ticket.kind book.places
@@ -118,6 +120,7 @@ pub record IsOtherTurn {K W B : Type 0} (store : K → Store) (kind_of : B → K
   pub next_is : next ≡ record ticket { k = ticket.k + 1 }
   pub turns_left : next.k < 1000
   pub ticket_in : IsTicketIn new.table.state next
+  pub current : IsOut new.table.state next.task.run true
   pub number : seat.number ≡ ticket.instance
   pub kind : kind_of seat.worker ≡ ticket.kind
   pub diary : diary_of seat.worker ≡ diary_with (Gave ticket.task.run ticket.k (given.More progress) ∷ []) (diary_of worker)

@@ -6,7 +6,6 @@ use Rattle.wm_bench.specs.declared.hand.Hand.{Hand}
 use Rattle.wm_faults.specs.Faults.{Failed}
 use Rattle.wm_keeper.specs.Store.{TellsOn}
 use Rattle.wm_machine.specs.Log.{commands_of, AreNumberedFrom, HasPrefix}
-use Rattle.wm_machine.specs.Narrow.{IsNarrow}
 use Rattle.wm_machine.specs.Opened.{opening_state, Opened}
 use Rattle.wm_machine.specs.Quiet.{IsQuiet}
 use Rattle.wm_machine.specs.Replay.{Replay}
@@ -103,7 +102,6 @@ pub record IsHandedBack {K W B : Type 0} (kind_of : B → Kind) (book : BookStat
   pub hands : ended.hands.items ≡ idle_hands book.places
   pub workers : map (place_traits kind_of) book.places ≡ map instance_traits ended.last.instances
   pub valid : Valid ended.last
-  pub narrow : IsNarrow ended.last
 
 -- What is pending when a book is over is written, whatever it had stopped for: how that write was answered, and what it left; all is written
 -- unless the sink failed or memory was refused, and the status is that of the stop, or of the answer.

@@ -3,7 +3,6 @@ use Rattle.std.specs.Prelude.{◌≡◌, ℕ, ◌+◌, ◌^◌, ◌<◌, ◌≤�
 use Rattle.std.specs.List.{AllByRecursion}
 use Rattle.wm_machine.specs.Outcome.{IsAskable}
 use Rattle.wm_machine.specs.Log.{commands_of, AreNumberedFrom, HasPrefix}
-use Rattle.wm_machine.specs.Narrow.{IsNarrow}
 use Rattle.wm_machine.specs.Replay.{Replay}
 use Rattle.wm_texts.specs.Texts.{log_text}
 use Rattle.wm_machine.specs.Valid.{Valid}
@@ -50,15 +49,14 @@ pub record AwayInvariant {K W B : Type 0} (status : Option Stop) (book : BookSta
   pub away : map (λ place. is_away place.presence) book.places ≡ map (is_out_on book.table.roll) book.table.state.instances
   pub listed : RollInvariant status book.table.state.runs book.table.roll
 
--- The facts of a book, of what its run was given, beside those that its table keeps: the log replays to the state now, which is valid, and narrow
--- for now; its commands are the lines up to the one that is next; the bytes written and pending are its text, and while the session goes on each
+-- The facts of a book, of what its run was given, beside those that its table keeps: the log replays to the state now, which is valid; its
+-- commands are the lines up to the one that is next; the bytes written and pending are its text, and while the session goes on each
 -- text is made; the workers are the instances, and those that are away
 -- have their parts on the roll, which lists the runs; the counts of faults haven't fallen, and have risen where a fault stopped the session; and where
 -- nothing was pending once the rows were loaded, a crash leaves the state's rows, or those of the event that was being committed.
 pub record BookInvariant {K W B : Type 0} (run : Inputs) (tells : Tells K W B) (book : BookState K W B) : Type 0 where
   pub replay : Replay book.table.first book.table.log book.table.state
   pub valid : Valid book.table.state
-  pub narrow : IsNarrow book.table.state
   pub lines : LinesInvariant book.status run.lines (commands_of book.table.log) book.left
   pub askable : AllByRecursion IsAskable book.left
   pub numbered : AreNumberedFrom 1 book.table.log

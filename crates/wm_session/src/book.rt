@@ -3,7 +3,6 @@
 ghost use Rattle.std.specs.Prelude.{◌≡◌, ◌≢◌, ◌↔◌, ◌^◌, ◌<◌, ◌≤◌, ◌+◌, [], None, Some, length, map, IsSome, IsNone, IsTrue, IfOk, IfErr, MatchBool, Ok, false};
 ghost use Rattle.std.specs.List.{AllByRecursion};
 ghost use Rattle.wm_machine.specs.Outcome.{IsAskable};
-ghost use Rattle.wm_machine.specs.Narrow.{IsNarrow};
 ghost use Rattle.wm_machine.specs.Quiet.{IsQuiet};
 ghost use Rattle.wm_machine.specs.Rows.{rows_of};
 ghost use Rattle.wm_machine.specs.Serial.{drains_first};
@@ -17,6 +16,7 @@ ghost use Rattle.wm_table.specs.Images.{LeavesOnly};
 
 use crate::ended::Ended;
 use crate::pending::Pending;
+use crate::signals::Signals;
 use crate::status::Status;
 use crate::steps::{execute, give_back, give_up, status_after};
 use crate::writing::WriteFault;
@@ -75,7 +75,7 @@ impl From<WriteFault> for Stop {
 pub enum Front {
     /// It was executed.
     Moved,
-    /// It can't come yet: a run is unreturned, or it settles and there is something left to do first.
+    /// It settles, and there is something left to do first.
     NotSettled,
     /// There is none.
     Ended,
@@ -107,22 +107,28 @@ pub enum After<B, M: Mark> {
     Stopped,
 }
 
+/// Whether a run began.
+fn has_begun<B, M: Mark>(job: &Job<B, M>) -> bool {
+    matches!(job, Job::Run(..))
+}
+
 /// That a session of this run was over when it was asked: only [`Book::over`] makes one.
 #[derive(Drop)]
 pub struct Over<M: Mark> {
     of: PhantomData<M>,
 }
 
-/// A session under way: the table with the bench, the lines that are left, what is still to be
-/// written and where, and why it ended early, where it did. Its type keeps the facts that a run's
-/// promises rest on (`specs/Invariant.antt`), of what its run was given: see [`Mark`]. A contract sees
-/// all that it holds.
+/// A session under way: the table with the bench, the lines that are left, the signals of the runs
+/// that are out, what is still to be written and where, and why it ended early, where it did. Its
+/// type keeps the facts that a run's promises rest on (`specs/Invariant.antt`), of what its run was
+/// given: see [`Mark`]. A contract sees all that it holds but the signals.
 pub struct Book<K: Keeper, W: Sink, B: Worker, M: Mark> {
     alloc: Global,
     table: Table<K, M>,
     bench: Bench<B>,
     left: VecDeque<Command>,
     line: u32,
+    signals: Signals,
     pending: Pending,
     sink: W,
     status: Option<Stop>,
@@ -160,7 +166,6 @@ impl<K: Keeper, W: Sink, B: Worker, M: Mark> Book<K, W, B, M> {
         requires none_away { NoneAway bench }
         requires all_in { AllByRecursion (λ instance. instance.out ≡ false) table.state.instances }
         requires valid { Valid table.state }
-        requires narrow { IsNarrow table.state }
         requires few { length lines < 2 ^ 32 }
         requires askable { AllByRecursion IsAskable lines }
 
@@ -186,6 +191,7 @@ impl<K: Keeper, W: Sink, B: Worker, M: Mark> Book<K, W, B, M> {
                 bench,
                 left: VecDeque::from_vec(lines.into_vec()),
                 line: 0,
+                signals: Signals::new(alloc),
                 pending,
                 sink,
                 status: None,
@@ -195,8 +201,8 @@ impl<K: Keeper, W: Sink, B: Worker, M: Mark> Book<K, W, B, M> {
         }
     }
 
-    /// Executes the next line, retires a class on the bench where it retires one, and writes the
-    /// reply. No line comes while a run is unreturned, and one that settles only where there is
+    /// Executes the next line, retires a class on the bench where it retires one, raises the signals of
+    /// the runs that it stopped, and writes the reply. A line that settles comes only where there is
     /// nothing left to do.
     pub fn front_step(&mut self) -> Front
         ensures { IsFronted K.store B.kind_of result self.old self.new }
@@ -214,6 +220,7 @@ impl<K: Keeper, W: Sink, B: Worker, M: Mark> Book<K, W, B, M> {
             self.status = Some(Stop::from(trouble));
             return Front::Stopped;
         }
+        self.signals.raise_stopped(&self.table);
         self.line += 1;
         match self
             .pending
@@ -227,13 +234,32 @@ impl<K: Keeper, W: Sink, B: Worker, M: Mark> Book<K, W, B, M> {
         }
     }
 
-    /// Starts the work that is first, tells it, and takes the worker of its instance from the bench.
+    /// Starts the work that is first, tells it, and takes the worker of its instance from the bench. The
+    /// run's signal is made before its event, and a share of it kept.
     pub fn claim(&mut self) -> Job<B, M>
         ensures { IsClaimed K.store B.kind_of result self.old self.new }
     {
         if self.status.is_some() {
             return Job::Stopped;
         }
+        let run = self.table.next_run();
+        let Ok(signal) = self.signals.add(self.alloc, run) else {
+            self.status = Some(Stop::Memory);
+            return Job::Stopped;
+        };
+        let job = self.start_first(signal);
+        if !has_begun(&job) {
+            self.signals.remove(run);
+        }
+        job
+    }
+
+    /// Starts the work that is first, while the session goes on, with the signal of the next run.
+    fn start_first(&mut self, signal: Signal) -> Job<B, M>
+        requires going { self.old.status ≡ None }
+        requires signal { signal ≡ record { run = self.old.table.state.next_run; never = false } }
+        ensures { IsClaimed K.store B.kind_of result self.old self.new }
+    {
         let claim = match self.table.claim() {
             Ok(Some(claim)) => claim,
             Ok(None) => return Job::None,
@@ -251,15 +277,16 @@ impl<K: Keeper, W: Sink, B: Worker, M: Mark> Book<K, W, B, M> {
                     let Some(seat) = self.bench.take(ticket.instance()) else {
                         unreachable!();
                     };
-                    let signal = Signal::never(ticket.task().run);
                     Job::Run(ticket, seat, signal)
                 }
                 Claim::Failed { seq: _, cause } => {
                     drop(cause);
+                    drop(signal);
                     Job::Failed
                 }
             },
             Err(fault) => {
+                drop(signal);
                 self.status = Some(Stop::from(fault));
                 give_up(&mut self.table, claim);
                 Job::Stopped
@@ -268,7 +295,8 @@ impl<K: Keeper, W: Sink, B: Worker, M: Mark> Book<K, W, B, M> {
     }
 
     /// Ends the turn of a run as its worker told, tells that, and puts the worker back where the run
-    /// is over. Where memory was refused to the worker, the session ends.
+    /// is over. A run that was stopped is over whatever the worker told, or was refused. Where memory was
+    /// refused to the worker of another, the session ends.
     pub fn report(
         &mut self,
         ticket: Ticket<M>,
@@ -286,7 +314,35 @@ impl<K: Keeper, W: Sink, B: Worker, M: Mark> Book<K, W, B, M> {
         }
         match told {
             Ok(told) => self.end_turn(ticket, seat, told),
-            Err(_) => {
+            Err(_) => self.end_refused(ticket, seat),
+        }
+    }
+
+    /// Ends a run whose worker was refused memory, while the session goes on: the run that was stopped
+    /// is over, and for another one the session ends.
+    fn end_refused(&mut self, ticket: Ticket<M>, seat: Seated<B>) -> After<B, M>
+        requires going { self.old.status ≡ None }
+        requires number { seat.number ≡ ticket.instance }
+        requires kind { B.kind_of seat.worker ≡ ticket.kind }
+        ensures { IsReported K.store B.kind_of ticket seat (Err _) result self.old self.new }
+    {
+        let run = ticket.task().run;
+        match self.table.late(ticket) {
+            Ok(()) => {
+                self.bench.give(seat);
+                self.signals.remove(run);
+                match self
+                    .pending
+                    .tell_last(self.alloc, &self.table, &mut self.sink)
+                {
+                    Ok(()) => After::Over,
+                    Err(fault) => {
+                        self.status = Some(Stop::from(fault));
+                        After::Stopped
+                    }
+                }
+            }
+            Err(ticket) => {
                 self.status = Some(Stop::Memory);
                 give_back(&mut self.table, &mut self.bench, ticket, seat);
                 After::Stopped
@@ -301,6 +357,7 @@ impl<K: Keeper, W: Sink, B: Worker, M: Mark> Book<K, W, B, M> {
         requires kind { B.kind_of seat.worker ≡ ticket.kind }
         ensures { IsReported K.store B.kind_of ticket seat (Ok told) result self.old self.new }
     {
+        let run = ticket.task().run;
         match self.table.turn(ticket, told) {
             TurnAnswer::Go(next) => {
                 match self
@@ -315,8 +372,9 @@ impl<K: Keeper, W: Sink, B: Worker, M: Mark> Book<K, W, B, M> {
                     }
                 }
             }
-            TurnAnswer::Finished | TurnAnswer::TimedOut => {
+            TurnAnswer::Finished | TurnAnswer::TimedOut | TurnAnswer::Late => {
                 self.bench.give(seat);
+                self.signals.remove(run);
                 match self
                     .pending
                     .tell_last(self.alloc, &self.table, &mut self.sink)
@@ -345,12 +403,11 @@ impl<K: Keeper, W: Sink, B: Worker, M: Mark> Book<K, W, B, M> {
         matches!(self.left.front(), Some(Command::Settle))
     }
 
-    /// Whether a line may come that is the next one: no run is unreturned, and where it settles there
-    /// is nothing left to do.
+    /// Whether a line may come that is the next one: where it settles there is nothing left to do.
     fn may_come(&self) -> bool
         ensures { IsTrue result ↔ MayCome self.now.left self.now.table.state }
     {
-        self.table.at_rest() && (!self.settles_next() || self.table.quiet())
+        !self.settles_next() || self.table.quiet()
     }
 
     /// Whether a line is left that can't come yet.
@@ -421,6 +478,7 @@ impl<K: Keeper, W: Sink, B: Worker, M: Mark> Book<K, W, B, M> {
             bench,
             left,
             line: _,
+            signals: _,
             mut pending,
             mut sink,
             status,

@@ -133,7 +133,9 @@ fn drive_first<K: Keeper, W: Sink, B: Worker, M: Mark, G: Gate>(
 {
     match book.claim() {
         Job::Run(ticket, seat, signal) => {
-            drive(alloc, book, gate, ticket, seat, &signal);
+            drop(signal);
+            let never = Signal::never(ticket.task().run);
+            drive(alloc, book, gate, ticket, seat, &never);
             Progress::Driven
         }
         Job::Failed => Progress::Driven,

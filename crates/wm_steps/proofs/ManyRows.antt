@@ -9,7 +9,6 @@ use Rattle.wm_collections.proofs.Lists.{All-unmap, All-weaker, All-with2, map-sa
 use Rattle.wm_machine.proofs.Runnings.{WorksAscend, WorksAscend-in_order}
 use Rattle.wm_machine.proofs.Steps.{Valid-after}
 use Rattle.wm_machine.specs.Limits.{FitsRow}
-use Rattle.wm_machine.specs.Narrow.{IsNarrow}
 use Rattle.wm_machine.specs.Step.{Legal, after}
 use Rattle.wm_machine.specs.Valid.{IsRecord, Valid}
 use Rattle.wm_machine.specs.declared.event.Event.{Event}
@@ -18,9 +17,11 @@ use Rattle.wm_machine.specs.declared.state.State.{State}
 use Rattle.wm_steps.proofs.StepFits.{unplaced}
 use Rattle.wm_steps.specs.Nodes.{KeepsNode}
 use Rattle.wm_steps.specs.Replacements.{at_index, or_same, replacements}
-use Rattle.wm_steps.specs.StepChanges.{changed_state, put_replaced, replacing_all, with_replaced, IsStepOf, KeepsPlace}
+use Rattle.wm_steps.specs.StepChanges.{changed_state, put_replaced, replacing_all, setting_with, with_replaced, IsStepOf, KeepsPlace}
 use Rattle.wm_steps.specs.declared.change.Replacement.{Replacement}
 use Rattle.wm_steps.specs.declared.change.RunChange.{RunChange}
+use Rattle.wm_steps.specs.declared.change.SettingChange.{SettingChange}
+use Rattle.wm_steps.specs.declared.change.SettingChange.TheVariants as settings
 
 -- a record after a change that may leave it
 abbrev pub after_change : (Record → Option Record) → Record → Record
@@ -131,17 +132,17 @@ replaced-apart change i (work ∷ works) keeps ascend =
 
 -- ---- the step
 
--- a legal event that changes the records so, and what its change says of the runs, is made by the change that replaces the touched ones
-pub replacing_all-step : (s t : State) (touch : Record → Option Record) (change : Record → Record) (run : RunChange) (e : Event) → Valid s → IsNarrow s
+-- a legal event that changes the records so, and what its change says of the runs and sets, is made by the change that replaces the touched ones
+pub setting_with-step : (to : SettingChange) (s t : State) (touch : Record → Option Record) (change : Record → Record) (run : RunChange) (e : Event) → Valid s
     → Legal s e → KeepNodes touch s.works → AllByRecursion (λ work. after_change touch work ≡ change work) s.works
-    → changed_state (replacing_all (replacements touch 0 s.works) run e) s
+    → changed_state (setting_with to (replacements touch 0 s.works) run e) s
     ≡ record t { works = with_replaced (replacements touch 0 s.works) s.works ++ []; next = t.next + 0 }
-    → after s e ≡ record t { works = map change s.works } → IsStepOf s (replacing_all (replacements touch 0 s.works) run e)
-replacing_all-step s t touch change run e valid narrow legal keeps agree made then =
+    → after s e ≡ record t { works = map change s.works } → IsStepOf s (setting_with to (replacements touch 0 s.works) run e)
+setting_with-step to s t touch change run e valid legal keeps agree made then =
     let replaced = replacements touch 0 s.works in
     let same = map-same (after_change touch) change s.works agree in
     let works_are : (after s e).works ≡ map (after_change touch) s.works = ap (λ (t : State). t.works) then ∙ sym same in
-    let records = subst (AllByRecursion IsRecord) works_are (Valid-after s e valid narrow legal).works.records in
+    let records = subst (AllByRecursion IsRecord) works_are (Valid-after s e valid legal).works.records in
     let rows_fit = All-weaker s.works (λ work is. is.fits) (All-unmap _ (after_change touch) s.works records) in
     record {
       fits = record {
@@ -159,3 +160,11 @@ replacing_all-step s t touch change run e valid narrow legal keeps agree made th
       legal = legal;
       state = made ∙ unplaced t (with_replaced replaced s.works) (map change s.works) (replaced-all touch s.works ∙ same) ∙ sym then;
     }
+
+-- and so where nothing is set
+pub replacing_all-step : (s t : State) (touch : Record → Option Record) (change : Record → Record) (run : RunChange) (e : Event) → Valid s
+    → Legal s e → KeepNodes touch s.works → AllByRecursion (λ work. after_change touch work ≡ change work) s.works
+    → changed_state (replacing_all (replacements touch 0 s.works) run e) s
+    ≡ record t { works = with_replaced (replacements touch 0 s.works) s.works ++ []; next = t.next + 0 }
+    → after s e ≡ record t { works = map change s.works } → IsStepOf s (replacing_all (replacements touch 0 s.works) run e)
+replacing_all-step s t touch change run e = setting_with-step settings.Unchanged s t touch change run e

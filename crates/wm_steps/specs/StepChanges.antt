@@ -8,10 +8,10 @@ use Rattle.wm_keeper.specs.declared.row.Change.TheVariants.{Put, Remove}
 use Rattle.wm_machine.specs.Limits.{FitsRow}
 use Rattle.wm_machine.specs.Retired.{with_retired}
 use Rattle.wm_machine.specs.Rows.{row_of}
-use Rattle.wm_machine.specs.Runs.{other_runs, with_out}
+use Rattle.wm_machine.specs.Runs.{other_runs, with_out, with_stopped}
 use Rattle.wm_machine.specs.Step.{Legal, after}
 use Rattle.wm_machine.specs.Turns.{with_turned}
-use Rattle.wm_collections.specs.Lists.{HasOne}
+use Rattle.wm_collections.specs.Lists.{HasOne, is_among}
 use Rattle.wm_machine.specs.declared.event.Event.{Event}
 use Rattle.wm_machine.specs.declared.record.Record.{Record}
 use Rattle.wm_machine.specs.declared.state.Instance.{Instance}
@@ -21,7 +21,7 @@ use Rattle.wm_machine.specs.declared.state.WorkQuery.{WorkQuery}
 use Rattle.wm_steps.specs.Nodes.{AreThere, KeepsNode}
 use Rattle.wm_steps.specs.declared.change.Replacement.{Replacement}
 use Rattle.wm_steps.specs.declared.change.RunChange.{RunChange}
-use Rattle.wm_steps.specs.declared.change.RunChange.TheVariants.{Unchanged, Begin, Turn, End}
+use Rattle.wm_steps.specs.declared.change.RunChange.TheVariants.{Unchanged, Begin, Turn, End, Stop}
 use Rattle.wm_steps.specs.declared.change.SettingChange.{SettingChange}
 use Rattle.wm_steps.specs.declared.change.SettingChange.TheVariants as set
 use Rattle.wm_steps.specs.declared.change.StepChange.{StepChange}
@@ -42,12 +42,13 @@ abbrev pub without : List ℕ → List Record → List Record
 without [] works = works
 without (number ∷ numbers) works = without numbers (other_works number works)
 
--- a run begins, goes on or is over
+-- a run begins, goes on or is over, or some are stopped
 abbrev pub runs_by : RunChange → List Run → List Run
 runs_by Unchanged runs = runs
 runs_by (Begin run) runs = runs ++ run ∷ []
 runs_by (Turn run) runs = with_turned run runs
 runs_by (End run instance) runs = other_runs run runs
+runs_by (Stop numbers) runs = with_stopped (λ run. is_among numbers run.run) runs
 
 -- the instance of a run that begins is out, and that of a run that is over is idle
 abbrev pub instances_by : RunChange → List Instance → List Instance
@@ -55,6 +56,7 @@ instances_by Unchanged instances = instances
 instances_by (Begin run) instances = with_out true run.instance instances
 instances_by (Turn run) instances = instances
 instances_by (End run instance) instances = with_out false instance instances
+instances_by (Stop numbers) instances = instances
 
 -- the number after those of the runs
 abbrev pub next_run_by : RunChange → ℕ → ℕ
@@ -62,6 +64,7 @@ next_run_by Unchanged next = next
 next_run_by (Begin run) next = next + 1
 next_run_by (Turn run) next = next
 next_run_by (End run instance) next = next
+next_run_by (Stop numbers) next = next
 
 -- the moment and the conditions, where they are set
 abbrev pub now_by : SettingChange → ℕ → ℕ
@@ -192,5 +195,10 @@ abbrev pub removing : List ℕ → Event → StepChange
 removing removed event = record (setting set.Unchanged event) { removed = removed }
 
 -- records are replaced, removed and placed
-abbrev pub placing : List Replacement → List ℕ → List Record → Event → StepChange
-placing replaced removed placed event = record (setting set.Unchanged event) { replaced = replaced; removed = removed; placed = placed }
+abbrev pub placing : List Replacement → List ℕ → List Record → RunChange → Event → StepChange
+placing replaced removed placed run event =
+    record (setting set.Unchanged event) { replaced = replaced; removed = removed; placed = placed; run = run }
+
+-- something is set, and several records are replaced
+abbrev pub setting_with : SettingChange → List Replacement → RunChange → Event → StepChange
+setting_with to replaced run event = record (setting to event) { replaced = replaced; run = run }

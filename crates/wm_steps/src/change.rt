@@ -1,6 +1,6 @@
 //! What a step is about to do.
 ghost use Rattle.std.specs.Prelude.{◌≡◌, IfOk};
-ghost use Rattle.wm_steps.specs.StepChanges.{keeping_row, placing, removing, replacing, replacing_all, setting};
+ghost use Rattle.wm_steps.specs.StepChanges.{keeping_row, placing, removing, replacing, replacing_all, setting, setting_with};
 
 use crate::joins::{both, one};
 use std::alloc::{AllocError, Global};
@@ -26,6 +26,8 @@ pub enum RunChange {
     Turn(u64),
     /// The run of this number is over, and this instance is idle.
     End { run: u64, instance: u32 },
+    /// The runs of these numbers are stopped: they aren't current any more.
+    Stop(Items<u64>),
 }
 
 /// What is set in a step: the moment, the conditions, which instances are retired, an observer, or
@@ -139,19 +141,38 @@ impl StepChange {
     }
 
     /// The change to these records in the places of others, without those of these numbers, and by
-    /// these records more. It takes no memory.
+    /// these records more, and of the runs. It takes no memory.
     pub fn placing(
         alloc: Global,
         replaced: Items<Replacement>,
         removed: Items<u64>,
         placed: Items<Record>,
+        run: RunChange,
         event: Event,
     ) -> StepChange
-        ensures { result ≡ placing replaced removed placed event }
+        ensures { result ≡ placing replaced removed placed run event }
     {
         let mut change = StepChange::removing(alloc, removed, event);
         change.replaced = replaced;
         change.placed = placed;
+        change.run = run;
+        change
+    }
+
+    /// The change by which something is set, to these records in the places of others, and of the
+    /// runs. It takes no memory.
+    pub fn setting_with(
+        alloc: Global,
+        to: SettingChange,
+        replaced: Items<Replacement>,
+        run: RunChange,
+        event: Event,
+    ) -> StepChange
+        ensures { result ≡ setting_with to replaced run event }
+    {
+        let mut change = StepChange::setting(alloc, to, event);
+        change.replaced = replaced;
+        change.run = run;
         change
     }
 }

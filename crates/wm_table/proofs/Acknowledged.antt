@@ -1,20 +1,21 @@
 -- The works of an enqueue that was answered stay until an event removes them.
-use Rattle.std.proofs.Common.{◌≡◌, ℕ, ◌&&◌, eqb, if◌then◌else◌, Bool, true, false, not, List, [], ◌∷◌, map, pos, Option, Some, None, IsSomeAnd, refl, sym, ap, subst, inl, inr}
+use Rattle.std.proofs.Common.{◌≡◌, ℕ, ◌&&◌, eqb, if◌then◌else◌, Bool, true, false, not, List, [], ◌∷◌, map, pos, Option, Some, None, refl, sym, ap, subst, inl, inr}
 use Rattle.std.specs.List.{list_any}
 use Rattle.std.proofs.lemmas.Bool.{eqb-true, eq-eqb}
 use Rattle.wm_collections.proofs.Lists.{any_passes, list_any-one, HasOne-front, HasOne-last, HasOne-map, HasOne-weaker}
 use Rattle.wm_collections.specs.Lists.{HasOne}
-use Rattle.wm_machine.specs.Enqueued.{carried_out, enqueued, new_numbers, new_record, outcome_by, placed_after, plan_in, prior_of, refusal_of, stops_run, with_work}
+use Rattle.wm_machine.specs.Enqueued.{carried_out, made_ready, new_numbers, new_record, outcome_by, placed_after, plan_in, prior_of, refusal_of, with_work}
 use Rattle.wm_machine.specs.Plan as plan
 use Rattle.wm_machine.specs.Plan.{Plan}
 use Rattle.wm_machine.specs.Replay.{Replay}
 use Rattle.wm_machine.specs.Replied.{Outcome}
 use Rattle.wm_machine.specs.Rows.{row_of, rows_of}
-use Rattle.wm_machine.specs.Step.{after, state_by}
+use Rattle.wm_machine.specs.Step.{after}
 use Rattle.wm_machine.specs.declared.command.Command.TheVariants as command
 use Rattle.wm_machine.specs.declared.command.UniqueName.{UniqueName}
 use Rattle.wm_machine.specs.declared.event.Event.{Event}
 use Rattle.wm_machine.specs.declared.event.Event.TheVariants as event
+use Rattle.wm_machine.specs.declared.record.How.TheVariants as how
 use Rattle.wm_machine.specs.declared.record.Record.{Record}
 use Rattle.wm_machine.specs.declared.reply.Refusal.{Refusal}
 use Rattle.wm_machine.specs.declared.reply.Reply.TheVariants as reply
@@ -60,7 +61,7 @@ carried-has number numbers (plan.Updates member) s name [] among is =
 carried-has number numbers (plan.Updates member) s name (work ∷ works) among is = absurd cc
 carried-has number numbers (plan.Places placing) s name works among is =
     placed-has number _ (Some name) placing.after works
-    (let same : numbers ≡ new_numbers s.next works = cc in subst (HasOne (λ one. one ≡ number)) same among)
+    (let same : numbers ≡ new_numbers (made_ready s placing).next works = cc is in subst (HasOne (λ one. one ≡ number)) same among)
 
 outcome-has : (number : ℕ) (numbers : List ℕ) (refused : Option Refusal) (s : State) (named : Option UniqueName) (works : List Node)
     → HasOne (λ one. one ≡ number) numbers → HasNumbers number numbers (outcome_by refused s named works)
@@ -68,13 +69,6 @@ outcome-has number numbers (Some found) s named works among is = absurd cc
 outcome-has number numbers None s None works among is =
     placed-has number s None [] works (let same : numbers ≡ new_numbers s.next works = cc in subst (HasOne (λ one. one ≡ number)) same among)
 outcome-has number numbers None s (Some unique) works among is = carried-has number numbers (plan_in s unique) s unique.name works among is
-
--- where the enqueue stops no run
-answered-has : (number : ℕ) (numbers : List ℕ) (s : State) (stops : Bool) (made : Outcome) → HasNumbers number numbers made
-    → IsSomeAnd (if stops then None else Some made) (λ outcome. reply.Enqueued numbers ≡ outcome.reply)
-    → HasRecord number (state_by s (if stops then None else Some made)).works
-answered-has number numbers s true made has is = absurd is
-answered-has number numbers s false made has is = has is
 
 -- ---- later events
 
@@ -107,7 +101,5 @@ pub acknowledged-kept : (s last : State) (line : ℕ) (named : Option UniqueName
     → HasRow number (rows_of last)
 acknowledged-kept s last line named batch numbers number later replays among none =
     let works = batch.works in
-    let has =
-    answered-has number numbers s (stops_run s named works) (enqueued s named works)
-    (outcome-has number numbers (refusal_of s named works) s named works among) replays.0.1 in
+    let has = outcome-has number numbers (refusal_of s named works) s named works among replays.0.1 in
     row-there number last.works (kept-log number _ last later replays.1 none (has-record number _ has))

@@ -3,6 +3,7 @@ pub mod Claims
 pub mod Images
 pub mod NoLines
 pub mod Parts
+pub mod Returns
 pub mod StepNodes
 pub mod StepRows
 pub mod TableSteps

@@ -8,11 +8,12 @@ use Rattle.wm_collections.specs.Lists.{AllLater, HasOne}
 use Rattle.wm_data.specs.declared.data.DataEntry.{DataEntry}
 use Rattle.wm_machine.proofs.Runnings.{found_or_apart, IsFoundOrApart}
 use Rattle.wm_machine.proofs.Steps.{framed}
+use Rattle.wm_machine.proofs.Stops.{stopped_both, stopped_in}
 use Rattle.wm_machine.proofs.Turns.{turned_at, turned_both}
 use Rattle.wm_machine.specs.Frame.{frame_of, Frame, IsFramed, IsTurnedIn}
 use Rattle.wm_machine.specs.Role as role
 use Rattle.wm_machine.specs.Role.{Role}
-use Rattle.wm_machine.specs.Runs.{run_numbered}
+use Rattle.wm_machine.specs.Runs.{other_runs, run_numbered}
 use Rattle.wm_machine.specs.Step.{after, role_of, Legal}
 use Rattle.wm_machine.specs.Turns.{turned, with_turned}
 use Rattle.wm_machine.specs.Valid.{AreApart, Valid}
@@ -102,8 +103,21 @@ stands_in s ticket is = standing_of ticket (run_numbered ticket.task.run s.runs)
 
 -- ---- an event
 
+-- the parts are those of the others, where none is of the run that is away
+out-without : (number : ℕ) (gone : Run) (runs : List Run) (parts : List Part) → run_numbered number runs ≡ Some gone → NoneOf number parts
+    → AreOut runs parts → AreOut (other_runs gone.run runs) parts
+out-without number gone runs parts found off out =
+    let its = found-numbered number runs gone found in
+    All-with2 parts (λ part other one.
+    HasOne-filter {A = λ run. Unit {0}} {P = λ run. part_of run ≡ part} (λ run. not (eqb run.run gone.run)) runs
+    (λ run any of. ap not (ne_eqb run.run gone.run (λ e. other (sym (ap (λ (p : Part). p.run) of) ∙ e ∙ its)))) (All-any runs (λ run. tt)) one) off out
+
 pub out-framed : (r : Role) (s : State) (f : Frame) (parts : List Part) → IsFramed r s f → IsOffRoll r parts → AreOut s.runs parts → AreOut f.runs parts
-out-framed (role.Line asked) s f parts is off out = subst (λ (runs : List Run). AreOut runs parts) (sym (ap (λ (f : Frame). f.runs) is)) out
+out-framed (role.Line asked) s f parts is off out =
+    rw (ap (λ (f : Frame). f.runs) is.frame_is)
+    (All-weaker parts (λ part one.
+    HasOne-map (λ run. part_of run ≡ part) (stopped_in is.stops) s.runs
+    (λ run of. stopped_both (λ (r : Run). part_of r ≡ part) is.stops run (λ e. of) (λ e. of)) one) out)
 out-framed (role.Begins number instance) s f parts is off out =
     rw (ap (λ (f : Frame). f.runs) is.frame_is)
     (All-weaker parts (λ part one. HasOne-front (λ run. part_of run ≡ part) s.runs (is.run ∷ []) one) out)
@@ -114,12 +128,9 @@ out-framed (role.GoesOn number gave) s f parts is off out =
     HasOne-map (λ run. part_of run ≡ part) (turned_at is.run.run) s.runs
     (λ run of. turned_both (λ (r : Run). part_of r ≡ part) is.run.run run (λ e. of) (λ e. of)) one) out)
 out-framed (role.Ends number reported) s f parts is off out =
-    let its = found-numbered number s.runs is.run is.is_running in
-    rw (ap (λ (f : Frame). f.runs) is.frame_is)
-    (All-with2 parts (λ part other one.
-    HasOne-filter {A = λ run. Unit {0}} {P = λ run. part_of run ≡ part} (λ run. not (eqb run.run is.run.run)) s.runs
-    (λ run any of. ap not (ne_eqb run.run is.run.run (λ e. other (sym (ap (λ (p : Part). p.run) of) ∙ e ∙ its)))) (All-any s.runs (λ run. tt)) one) off out)
-out-framed role.Other s f parts is off out = subst (λ (runs : List Run). AreOut runs parts) (sym (ap (λ (f : Frame). f.runs) is)) out
+    rw (ap (λ (f : Frame). f.runs) is.frame_is) (out-without number is.run s.runs parts is.is_running off out)
+out-framed (role.Returns number) s f parts is off out =
+    rw (ap (λ (f : Frame). f.runs) is.frame_is) (out-without number is.run s.runs parts is.is_running off out)
 
 -- each part is still that of a run after an event, where the part of a run that it ends is off the roll
 pub out-after : (s : State) (e : Event) (parts : List Part) → Legal s e → IsOffRoll (role_of e) parts → AreOut s.runs parts → AreOut (after s e).runs parts

@@ -14,6 +14,7 @@ use Rattle.wm_graph.specs.Nodes.{HasNode, NamesNodes, NodeFields}
 use Rattle.wm_keeper.specs.Keeper.{changed_number, AreOfDifferentNumbers}
 use Rattle.wm_keeper.specs.declared.row.Change.{Change}
 use Rattle.wm_keeper.specs.declared.row.Row.{Row}
+use Rattle.wm_machine.proofs.Steps.{Valid-after}
 use Rattle.wm_machine.specs.declared.record.Phase.{Phase}
 use Rattle.wm_machine.specs.declared.record.Record.{Record}
 use Rattle.wm_machine.specs.declared.state.State.{State}
@@ -26,7 +27,8 @@ use Rattle.wm_machine.specs.declared.record.How.TheVariants as how
 use Rattle.wm_machine.specs.declared.record.Phase.TheVariants as phase
 use Rattle.wm_steps.proofs.Nodes.{nodes-there}
 use Rattle.wm_steps.specs.Nodes.{is_there, node_of, nodes_of, AreThere, KeepsNode}
-use Rattle.wm_steps.specs.StepChanges.{changed_state, other_works, put_replaced, put_work, remove_numbered, with_replaced, without, HaveNextNumbers, Fits, KeepsPlace, KeepsRow, NameEarlier}
+use Rattle.wm_steps.specs.StepChanges.{changed_state, other_works, put_replaced, put_work, remove_numbered, with_replaced, without, HaveNextNumbers, Fits, IsStepOf, KeepsPlace, KeepsRow, NameEarlier}
+use Rattle.wm_steps.specs.Views.{IsViewed}
 use Rattle.wm_steps.specs.declared.change.Replacement.{Replacement}
 use Rattle.wm_steps.specs.declared.change.StepChange.{StepChange}
 use Rattle.wm_steps.proofs.ReplacedRecords.{keeps_number, next-above, other_works-above, WorksAscend-set}
@@ -528,3 +530,11 @@ module _ (s : State) (change : StepChange) (valid : Valid s) (fits : Fits s chan
       ap (λ (nodes : List NodeFields). without_all change.removed (with_followed change.replaced nodes)) (sym is_told.nodes)
       ∙ ap (without_all change.removed) (nodes-replaced change.replaced told places apart.0 is_told.ascend)
       ∙ nodes-removed change.removed (with_replaced change.replaced told) ∙ ap nodes_of front
+
+-- what is made of a view is one again
+pub viewed-step : (s made : State) (graph made_graph : List NodeFields) (change : StepChange) → IsViewed s graph → IsStepOf s change
+    → made ≡ changed_state change s → made_graph ≡ nodes_of (changed_state change s).works → IsViewed made made_graph
+viewed-step s made graph made_graph change viewed is made_is graph_is = record {
+  valid = subst Valid (sym (made_is ∙ is.state)) (Valid-after s change.event viewed.valid is.legal);
+  graph_is = graph_is ∙ ap (λ (t : State). nodes_of t.works) (sym made_is);
+}

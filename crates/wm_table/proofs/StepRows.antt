@@ -1,5 +1,5 @@
 -- The rows that a step changes are those of the state that it gives, and so its change is one step of the machine.
-use Rattle.std.proofs.Common.{◌≡◌, ℕ, zero, suc, ◌+◌, ◌^◌, ◌<◌, ◌≤◌, Bool, not, eqb, pos, List, [], ◌∷◌, ◌++◌, append_assoc, length, map, set, slice_get, Option, Some, None, option_map, refl, sym, ◌∙◌, ap, subst, arith, inl, inr}
+use Rattle.std.proofs.Common.{◌≡◌, ℕ, zero, suc, ◌+◌, ◌^◌, ◌<◌, ◌≤◌, Bool, not, eqb, pos, List, [], ◌∷◌, ◌++◌, append_assoc, length, length-append, map, set, slice_get, Option, Some, None, option_map, refl, sym, ◌∙◌, ap, subst, arith, inl, inr}
 use Rattle.std.specs.List.{AllByRecursion}
 use Rattle.std.proofs.lemmas.Bool.{cases_order, eq-eqb, ne_eqb}
 use Rattle.std.proofs.lemmas.Int.{ints}
@@ -13,17 +13,23 @@ use Rattle.wm_keeper.specs.Store.{changed_rows, IsAtMost, Store}
 use Rattle.wm_keeper.specs.declared.row.Change.{Change}
 use Rattle.wm_keeper.specs.declared.row.Row.{Row}
 use Rattle.wm_machine.specs.declared.record.Record.{Record}
+use Rattle.wm_machine.specs.declared.state.Run.{Run}
 use Rattle.wm_machine.specs.declared.state.State.{State}
-use Rattle.wm_collections.proofs.Lists.{All-kept, All-push, All-weaker, AllLater-filter, one_gives}
+use Rattle.wm_collections.specs.Lists.{is_among}
+use Rattle.wm_collections.proofs.Lists.{All-kept, All-push, All-weaker, AllLater-filter, filter-few, one_gives}
 use Rattle.wm_machine.proofs.Runnings.{WorksAscend, WorksAscend-in_order}
 use Rattle.wm_machine.proofs.Rows.{rows_below}
+use Rattle.wm_machine.proofs.Stops.{stopped_in}
+use Rattle.wm_machine.proofs.Turns.{turned_at}
 use Rattle.wm_machine.specs.Rows.{row_of, rows_of}
 use Rattle.wm_machine.specs.Valid.{Valid}
 use Rattle.wm_steps.proofs.ReplacedRecords.{keeps_number, number-kept, other_works-above, seqs-set, still_keep, All-seq, All-set, KeepsNumber, WorksAscend-set}
-use Rattle.wm_steps.specs.StepChanges.{changed_state, next_run_by, other_works, put_replaced, put_work, remove_numbered, row_changes, seqs_of, with_replaced, without, HaveNextNumbers, Fits, KeepsPlace, KeepsRow}
+use Rattle.wm_steps.specs.StepChanges.{changed_state, next_run_by, other_works, put_replaced, put_work, remove_numbered, row_changes, runs_by, seqs_of, with_replaced, without, HaveNextNumbers, Fits, KeepsPlace, KeepsRow}
+use Rattle.wm_table.specs.Returns.{new_runs}
 use Rattle.wm_table.specs.Table.{HoldsRowsOf}
 use Rattle.wm_steps.specs.declared.change.Replacement.{Replacement}
-use Rattle.wm_steps.specs.declared.change.RunChange.TheVariants.{Unchanged, Begin, Turn, End}
+use Rattle.wm_steps.specs.declared.change.RunChange.{RunChange}
+use Rattle.wm_steps.specs.declared.change.RunChange.TheVariants.{Unchanged, Begin, Turn, End, Stop}
 use Rattle.wm_steps.specs.declared.change.StepChange.{StepChange}
 
 -- ---- a record that takes the place of one of its number
@@ -168,7 +174,26 @@ next_run-changed s change = elim change.run as (λ run. next_run_by run s.next_r
   | Begin run ↦ omega arith
   | Turn run ↦ omega arith
   | End run instance ↦ omega arith
+  | Stop numbers ↦ omega arith
 ]
+
+-- and adds none otherwise: the runs after it are so many more at most
+pub runs-changed : (s : State) (change : StepChange) → length (changed_state change s).runs ≤ length s.runs + new_runs change.run
+runs-changed s change = elim change.run as (λ run. length (runs_by run s.runs) ≤ length s.runs + new_runs run) [
+  | Unchanged ↦ omega arith
+  | Begin run ↦ omega (arith, length-append s.runs (run ∷ []))
+  | Turn run ↦ omega (arith, length-map s.runs (turned_at run))
+  | End run instance ↦ omega (arith, filter-few (λ (r : Run). not (eqb r.run run)) s.runs)
+  | Stop numbers ↦ omega (arith, length-map s.runs (stopped_in (λ run. is_among numbers run.run)))
+]
+
+-- one at most
+pub new_runs-few : (run : RunChange) → new_runs run ≤ 1
+new_runs-few Unchanged = omega arith
+new_runs-few (Begin run) = omega arith
+new_runs-few (Turn run) = omega arith
+new_runs-few (End run instance) = omega arith
+new_runs-few (Stop numbers) = omega arith
 
 -- ---- what is within
 

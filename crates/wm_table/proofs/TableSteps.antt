@@ -1,5 +1,5 @@
 -- What the calls of the table make is one step, and what a table keeps is kept by one step.
-use Rattle.std.proofs.Common.{◌≡◌, ℕ, zero, suc, ◌+◌, ◌-◌, ◌<◌, ◌≤◌, Bool, true, false, not, List, [], ◌∷◌, ◌++◌, length, length-append, slice_get, Option, Some, None, refl, sym, ◌∙◌, ap, subst, arith, inl, inr}
+use Rattle.std.proofs.Common.{◌≡◌, ℕ, zero, suc, ◌+◌, ◌-◌, ◌<◌, ◌≤◌, Bool, true, false, not, List, [], ◌∷◌, ◌++◌, length, length-append, slice_get, Option, Some, None, Vec, Global, refl, sym, ◌∙◌, ap, subst, arith, inl, inr}
 use Rattle.std.specs.Prelude.{◌↔◌, is_some, IsTrue, MatchOption}
 use Rattle.std.proofs.lemmas.Bool.{true≢false}
 use Rattle.std.proofs.lemmas.Option.{none-some}
@@ -13,6 +13,7 @@ use Rattle.wm_machine.proofs.Openings.{reached-opened, reached-replayed}
 use Rattle.wm_machine.specs.First.{first_of}
 use Rattle.wm_machine.specs.Opened.{Opened}
 use Rattle.wm_machine.specs.Quiet.{IsQuiet}
+use Rattle.wm_machine.specs.Replay.{Replay}
 use Rattle.wm_machine.specs.Rows.{rows_of}
 use Rattle.wm_observe.proofs.NoteLaws.{last_notes-push}
 use Rattle.wm_observe.specs.Notes.{last_notes, notes_between}
@@ -28,7 +29,7 @@ use Rattle.wm_table.proofs.Parts.{out-after}
 use Rattle.wm_table.specs.Images.{LeavesBefore, LeavesOnly}
 use Rattle.wm_table.specs.Inputs.{Inputs}
 use Rattle.wm_table.specs.Parts.{AreOut, IsOffRoll}
-use Rattle.wm_table.specs.Table.{HoldsRowsOf, IsOneStep, TableInvariant, IsUntouched}
+use Rattle.wm_table.specs.Table.{HasRoom, HoldsRowsOf, IsOneStep, TableInvariant, IsUntouched}
 use Rattle.wm_table.specs.TableState.{TableState}
 
 -- ---- the last of a list
@@ -44,22 +45,24 @@ slice_get-last (x ∷ y ∷ xs) =
 -- ---- what a table keeps
 
 -- what a table keeps when it begins
-pub kept-opening : (run : Inputs) (first s : State) (log : List Event) (notes : List Note) (store : Store) (roll : RollView)
-    → Opened run.rows run.instances first → s ≡ first → log ≡ [] → notes ≡ [] → HoldsRowsOf first store
+pub kept-opening : (run : Inputs) (first s : State) (log : Vec Event Global) (notes : List Note) (store : Store) (roll : RollView)
+    → Opened run.rows run.instances first → s ≡ first → log.items ≡ [] → notes ≡ [] → HoldsRowsOf first store
     → TellsOn run.store store → roll.table_id ≡ run.roll → roll.parts ≡ [] → TableInvariant run first s log notes store roll
 kept-opening run first s log notes store roll opened s_is log_is notes_is held tells_on own none =
-    let next_run : first.next_run ≡ 1 = ap (λ (t : State). t.next_run) opened.state in
-    rw (s_is, log_is, notes_is)
-    (record {
+    let next_run : s.next_run ≡ 1 = ap (λ (t : State). t.next_run) (s_is ∙ opened.state) in
+    let no_run : length s.runs ≡ 0 = ap (λ (t : State). length t.runs) (s_is ∙ opened.state) in
+    let none_yet : length log.items ≡ 0 = ap length log_is in
+    record {
       opened = opened;
-      replay = refl;
-      notes_are = refl;
-      rows = held;
+      replay = rw (s_is, log_is) refl;
+      notes_are = notes_is ∙ ap (last_notes first) (sym log_is);
+      rows = subst (λ (s : State). HoldsRowsOf s store) (sym s_is) held;
       tells_on = tells_on;
-      few_runs = omega (arith, next_run);
+      few_runs = omega (arith, next_run, none_yet);
+      room = omega (arith, no_run, none_yet);
       own = own;
-      out = subst (AreOut first.runs) (sym none) tt;
-    })
+      out = subst (AreOut s.runs) (sym none) tt;
+    }
 
 -- what is made by carrying out the change of a step is one step
 pub made-step : {K : Type 0} (store : K → Store) (old : TableState K) (change : StepChange) (state : State) (log : List Event) (keeper : K) (roll : List Part)
@@ -110,50 +113,55 @@ IsUntouched-as store may also old new weaker same = record {
   ];
 }
 
-module _ {K : Type 0} (run : Inputs) (store : K → Store) (old new : TableState K) (roll : RollView) where
+module _ {K : Type 0} (run : Inputs) (store : K → Store) (old new : TableState K) (before_log log : Vec Event Global)
+    (before_is : before_log.items ≡ old.log) (log_is : log.items ≡ new.log) (roll : RollView) where
   -- a step that begins one run at most, with what is told of it
-  pub kept-step : (e : Event) (before told : List Note) → TableInvariant run old.first old.state old.log before (store old.keeper) roll
+  pub kept-step : (e : Event) (before told : List Note) → TableInvariant run old.first old.state before_log before (store old.keeper) roll
       → IsOneStep store e old new → told ≡ notes_between old.state new.state → new.state.next_run ≤ old.state.next_run + 1
-      → TellsOn (store old.keeper) (store new.keeper) → IsOffRoll (role_of e) roll.parts
-      → TableInvariant run new.first new.state new.log told (store new.keeper) roll
-  kept-step e before told kept step told_is more tells_on off =
-      let longer : length new.log ≡ length old.log + 1 = ap length step.appended ∙ length-append old.log (e ∷ []) in
-      let few : new.state.next_run ≤ length new.log + 1 = omega (arith, kept.few_runs) in
+      → HasRoom log new.state.runs → TellsOn (store old.keeper) (store new.keeper) → IsOffRoll (role_of e) roll.parts
+      → TableInvariant run new.first new.state log told (store new.keeper) roll
+  kept-step e before told kept step told_is more room tells_on off =
+      let longer : length log.items ≡ length before_log.items + 1 =
+      ap length (log_is ∙ step.appended) ∙ length-append old.log (e ∷ []) ∙ ap (λ (log : List Event). length log + 1) (sym before_is) in
+      let replay = subst (λ (log : List Event). Replay old.first log old.state) before_is kept.replay in
       record {
         opened = subst (Opened run.rows run.instances) (sym step.first) kept.opened;
-        replay = rw (step.first, step.state, step.appended) (Replay-push old.first old.log old.state e kept.replay step.legal);
+        replay = rw (step.first, step.state, log_is ∙ step.appended) (Replay-push old.first old.log old.state e replay step.legal);
         notes_are = told_is
             ∙ ap (notes_between old.state) step.state
-            ∙ sym (last_notes-push old.first old.log old.state e kept.replay)
-            ∙ ap (last_notes old.first) (sym step.appended)
-            ∙ ap (λ s. last_notes s new.log) (sym step.first);
+            ∙ sym (last_notes-push old.first old.log old.state e replay)
+            ∙ ap (last_notes old.first) (sym (log_is ∙ step.appended))
+            ∙ ap (λ s. last_notes s log.items) (sym step.first);
         rows = step.rows;
         tells_on = TellsOn-then run.store (store old.keeper) (store new.keeper) kept.tells_on tells_on;
-        few_runs = few;
+        few_runs = omega (arith, kept.few_runs, longer, more);
+        room = room;
         own = kept.own;
         out = subst (λ (s : State). AreOut s.runs roll.parts) (sym step.state) (out-after old.state e roll.parts step.legal off kept.out);
       }
 
-  pub kept-untouched : (may_be : Event → Type 0) (notes : List Note) → TableInvariant run old.first old.state old.log notes (store old.keeper) roll
-      → IsUntouched store may_be old new → TellsOn (store old.keeper) (store new.keeper)
-      → TableInvariant run new.first new.state new.log notes (store new.keeper) roll
-  kept-untouched may_be notes kept same tells_on =
+  pub kept-untouched : (may_be : Event → Type 0) (notes : List Note) → TableInvariant run old.first old.state before_log notes (store old.keeper) roll
+      → IsUntouched store may_be old new → HasRoom log new.state.runs → TellsOn (store old.keeper) (store new.keeper)
+      → TableInvariant run new.first new.state log notes (store new.keeper) roll
+  kept-untouched may_be notes kept same room tells_on =
       let rows : HoldsRowsOf old.state (store new.keeper) =
       IfSome-still (λ rows. rows ≡ rows_of old.state) (store old.keeper).rows (store new.keeper).rows kept.rows same.rows in
-      rw (same.first, same.state, same.log)
-      (record {
-        opened = kept.opened;
-        replay = kept.replay;
-        notes_are = kept.notes_are;
-        rows = rows;
+      let logs : log.items ≡ before_log.items = log_is ∙ same.log ∙ sym before_is in
+      let longer : length log.items ≡ length before_log.items = ap length logs in
+      record {
+        opened = subst (Opened run.rows run.instances) (sym same.first) kept.opened;
+        replay = rw (same.first, same.state, logs) kept.replay;
+        notes_are = kept.notes_are ∙ ap (last_notes old.first) (sym logs) ∙ ap (λ s. last_notes s log.items) (sym same.first);
+        rows = subst (λ (s : State). HoldsRowsOf s (store new.keeper)) (sym same.state) rows;
         tells_on = TellsOn-then run.store (store old.keeper) (store new.keeper) kept.tells_on tells_on;
-        few_runs = kept.few_runs;
+        few_runs = subst (λ (s : State). s.next_run ≤ length log.items + 1) (sym same.state) (omega (arith, kept.few_runs, longer));
+        room = room;
         own = kept.own;
-        out = kept.out;
-      })
+        out = subst (λ (s : State). AreOut s.runs roll.parts) (sym same.state) kept.out;
+      }
 
 -- the same with other parts on the roll, each that of a run
-pub kept-roll : (run : Inputs) (first s : State) (log : List Event) (notes : List Note) (store : Store) (roll now : RollView)
+pub kept-roll : (run : Inputs) (first s : State) (log : Vec Event Global) (notes : List Note) (store : Store) (roll now : RollView)
     → TableInvariant run first s log notes store roll → now.table_id ≡ roll.table_id → AreOut s.runs now.parts
     → TableInvariant run first s log notes store now
 kept-roll run first s log notes store roll now kept same out = record {
@@ -163,15 +171,16 @@ kept-roll run first s log notes store roll now kept same out = record {
   rows = kept.rows;
   tells_on = kept.tells_on;
   few_runs = kept.few_runs;
+  room = kept.room;
   own = same ∙ kept.own;
   out = out;
 }
 
 -- the state is one that the machine reaches
-pub valid-kept : (run : Inputs) (first s : State) (log : List Event) (notes : List Note) (store : Store) (roll : RollView)
+pub valid-kept : (run : Inputs) (first s : State) (log : Vec Event Global) (notes : List Note) (store : Store) (roll : RollView)
     → TableInvariant run first s log notes store roll → Valid s
 valid-kept run first s log notes store roll kept =
-    (reached-replayed first s log (reached-opened run.rows run.instances first kept.opened) kept.replay).valid
+    reached-replayed first s log.items (reached-opened run.rows run.instances first kept.opened) kept.replay
 
 -- ---- rest
 

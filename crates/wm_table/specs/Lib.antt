@@ -4,6 +4,7 @@ pub mod Following
 pub mod Images
 pub mod Inputs
 pub mod Parts
+pub mod Returns
 pub mod Rolls
 pub mod Table
 pub mod TableState

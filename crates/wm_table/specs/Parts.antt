@@ -31,9 +31,10 @@ NoneOf number parts = AllByRecursion (λ part. part.run ≢ number) parts
 abbrev pub AreOut : List Run → List Part → Type 0
 AreOut runs parts = AllByRecursion (λ part. HasOne (λ run. part_of run ≡ part) runs) parts
 
--- the run of an event that ends one isn't on the roll
+-- the run of an event by which one is away isn't on the roll
 abbrev pub IsOffRoll : Role → List Part → Type 0
 IsOffRoll (role.Ends number reported) parts = NoneOf number parts
+IsOffRoll (role.Returns number) parts = NoneOf number parts
 IsOffRoll _ parts = Unit {0}
 
 -- the ticket's run stands in the state, on the ticket's instance and of its kind

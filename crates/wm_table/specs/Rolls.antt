@@ -32,12 +32,13 @@ IsRollClaimed _ old new = new ≡ old
 abbrev pub given_again : Part → List Part → List Part
 given_again part parts = without part.run parts ++ part ∷ []
 
--- the part of a run that is over is off the roll; that of one that goes on, or whose report met trouble, was taken and given again; and a report
+-- the part of a run that is over, or was stopped, is off the roll; that of one that goes on, or whose report met trouble, was taken and given again; and a report
 -- that doesn't count leaves it
 abbrev pub IsRollTurned : {M : Type 0} → TicketState → TurnAnswer M → List Part → List Part → Type 0
 IsRollTurned ticket (turn.Go next) old new = new ≡ given_again (ticket_part ticket) old
 IsRollTurned ticket turn.Finished old new = new ≡ without ticket.task.run old
 IsRollTurned ticket turn.TimedOut old new = new ≡ without ticket.task.run old
+IsRollTurned ticket turn.Late old new = new ≡ without ticket.task.run old
 IsRollTurned ticket (turn.Again back) old new = new ≡ old
 IsRollTurned ticket (turn.Refused back report why) old new = new ≡ given_again (ticket_part ticket) old
 

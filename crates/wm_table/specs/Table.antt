@@ -1,5 +1,6 @@
 -- What the calls of the table do to the state, its log and the rows held.
-use Rattle.std.specs.Prelude.{◌≡◌, ◌⊎◌, ℕ, ℤ, ◌+◌, ◌≤◌, Bool, true, false, if◌then◌else◌, List, [], ◌∷◌, ◌++◌, length, Option, Some, None, IsSomeAnd, IfSome, IsSome, Result, Ok, Err}
+use Rattle.std.specs.Prelude.{◌≡◌, ◌⊎◌, ℕ, ℤ, ◌+◌, ◌≤◌, Bool, true, false, if◌then◌else◌, List, [], ◌∷◌, ◌++◌, length, Option, Some, None, IsSomeAnd, IfSome, IsSome, Result, Ok, Err, Vec, vec_capacity}
+use Rattle.std.specs.declared.alloc.Global.{Global}
 use Rattle.wm_data.specs.declared.data.DataEntry.{DataEntry}
 use Rattle.wm_faults.specs.Faults as faults
 use Rattle.wm_keeper.specs.Store.{Store, IsAtMost, TellsOn}
@@ -15,11 +16,13 @@ use Rattle.wm_machine.specs.Step.{Legal, after, role_of}
 use Rattle.wm_machine.specs.declared.event.Event.{Event}
 use Rattle.wm_machine.specs.declared.event.Event.TheVariants as event
 use Rattle.wm_machine.specs.declared.state.Instance.{Instance}
+use Rattle.wm_machine.specs.declared.state.Run.{Run}
 use Rattle.wm_machine.specs.declared.state.State.{State}
 use Rattle.wm_observe.specs.Notes.{last_notes}
 use Rattle.wm_observe.specs.declared.note.Note.{Note}
+use Rattle.wm_roll.specs.Parts.{without}
 use Rattle.wm_roll.specs.Views.{RollView}
-use Rattle.wm_runs.specs.Reports.{is_timeout, CountsIn}
+use Rattle.wm_runs.specs.Reports.{is_timeout, CountsIn, IsOut}
 use Rattle.wm_runs.specs.declared.starting.Claimed.{Claimed}
 use Rattle.wm_runs.specs.declared.starting.Claimed.TheVariants as claimed
 use Rattle.wm_rows.specs.Sound.{checked, AreSound}
@@ -28,7 +31,7 @@ use Rattle.wm_rows.specs.declared.fault.RowFault.TheVariants as row
 use Rattle.wm_rows.specs.declared.fault.RowFault.TheVariants.{BadRow, Unsound}
 use Rattle.wm_table.specs.Images.{IsNoLine, LeavesOnly, WouldLeave, WouldOpen}
 use Rattle.wm_table.specs.Inputs.{Inputs}
-use Rattle.wm_table.specs.Parts.{AreOut}
+use Rattle.wm_table.specs.Parts.{AreOut, WasOut}
 use Rattle.wm_table.specs.TableState.{TableState, TicketState, ticket_of}
 use Rattle.wm_table.specs.declared.table.BeginFault.{BeginFault}
 use Rattle.wm_table.specs.declared.table.BeginFault.TheVariants as begin
@@ -193,8 +196,15 @@ pub record HasGoneOn {K : Type 0} (store : K → Store) (ticket : TicketState) (
   pub same_run : next.task.run ≡ ticket.task.run
   pub ticket_in : IsTicketIn new.state next
 
--- the report doesn't count: the ticket is given back, and nothing has changed
+-- the run of this number, which was stopped, is away, by an event of which the keeper learns nothing
+pub record IsReturned {K : Type 0} (store : K → Store) (number : ℕ) (old new : TableState K) : Type 0 where
+  pub stopped : IsOut old.state number false
+  pub step : IsOneStep store (event.Late number) old new
+  pub keeper : new.keeper ≡ old.keeper
+
+-- the report doesn't count, and the run wasn't stopped: the ticket is given back, and nothing has changed
 pub record IsTurnKept {K : Type 0} (ticket : TicketState) (told : Report) (back : TicketState) (old new : TableState K) : Type 0 where
+  pub goes_on : IsOut old.state ticket.task.run false → ⊥
   pub counts_not : CountsIn old.state ticket.task.run told → ⊥
   pub same_ticket : back ≡ ticket
   pub same : new ≡ old
@@ -207,11 +217,13 @@ pub record IsTurnRefused {K : Type 0} (store : K → Store) (ticket : TicketStat
   pub same_report : report ≡ told
   pub untouched : IsUntouched store IsNoLine old new
 
--- Go, Finished or TimedOut where the report counts, with its event; Again where it doesn't; Refused where it counts and there is trouble
+-- Go, Finished or TimedOut where the report counts, with its event; Late where the run was stopped, whatever it says; Again where it doesn't count;
+-- Refused where it counts and there is trouble
 abbrev pub IsTurnAnswer : {K M : Type 0} → (K → Store) → TicketState → Report → TurnAnswer M → TableState K → TableState K → Type 0
 IsTurnAnswer store ticket told (turn.Go next) old new = HasGoneOn store ticket told next old new
 IsTurnAnswer store ticket told turn.Finished old new = IsTurnOver store ticket told false old new
 IsTurnAnswer store ticket told turn.TimedOut old new = IsTurnOver store ticket told true old new
+IsTurnAnswer store ticket told turn.Late old new = IsReturned store ticket.task.run old new
 IsTurnAnswer store ticket told (turn.Again back) old new = IsTurnKept ticket told back old new
 IsTurnAnswer store ticket told (turn.Refused back report why) old new = IsTurnRefused store ticket told back report old new
 
@@ -223,17 +235,40 @@ is_refused_for_keeper _ = false
 abbrev pub TurnCause : {M : Type 0} → TurnAnswer M → ℕ → ℕ → Type 0
 TurnCause answer before now = faults.HasCause (is_refused_for_keeper answer) before now
 
+-- a ticket came back late: its run was stopped, and is away
+pub record IsLate {K : Type 0} (store : K → Store) (ticket : TicketState) (old new : TableState K) : Type 0 where
+  pub returned : IsReturned store ticket.task.run old new
+  pub out : WasOut old.state old.roll ticket
+  pub roll : new.roll ≡ without ticket.task.run old.roll
+
+-- its run wasn't stopped: it is given back, and nothing has changed
+pub record IsNotLate {K : Type 0} (ticket back : TicketState) (old new : TableState K) : Type 0 where
+  pub goes_on : IsOut old.state ticket.task.run false → ⊥
+  pub same_ticket : back ≡ ticket
+  pub same : new ≡ old
+
+-- Ok where the run was stopped, with its event; the ticket where it wasn't
+abbrev pub IsLateAnswer : {K M : Type 0} → (K → Store) → TicketState → Result M TicketState → TableState K → TableState K → Type 0
+IsLateAnswer store ticket (Ok done) old new = IsLate store ticket old new
+IsLateAnswer store ticket (Err back) old new = IsNotLate ticket back old new
+
 -- ---- what a table keeps
 
+-- a log has room for an event more of each of these runs
+abbrev pub HasRoom : Vec Event Global → List Run → Type 0
+HasRoom log runs = length log.items + length runs ≤ vec_capacity log
+
 -- of what the run was given: the first state is the one that its rows open to, the log replays from there to the state now, whose rows are held in
--- the store that was loaded, and the notes are those of its last event; the roll is the run's, and each part on it is that of a run of the state
-pub record TableInvariant (run : Inputs) (first state : State) (log : List Event) (notes : List Note) (store : Store) (roll : RollView)
+-- the store that was loaded, and the notes are those of its last event; there is room in the log for the return of each run, so that it takes no
+-- memory; the roll is the run's, and each part on it is that of a run of the state
+pub record TableInvariant (run : Inputs) (first state : State) (log : Vec Event Global) (notes : List Note) (store : Store) (roll : RollView)
     : Type 0 where
   pub opened : Opened run.rows run.instances first
-  pub replay : Replay first log state
-  pub notes_are : notes ≡ last_notes first log
+  pub replay : Replay first log.items state
+  pub notes_are : notes ≡ last_notes first log.items
   pub rows : HoldsRowsOf state store
   pub tells_on : TellsOn run.store store
-  pub few_runs : state.next_run ≤ length log + 1
+  pub few_runs : state.next_run ≤ length log.items + 1
+  pub room : HasRoom log state.runs
   pub own : roll.table_id ≡ run.roll
   pub out : AreOut state.runs roll.parts

@@ -3,7 +3,6 @@ ghost use Rattle.std.specs.Prelude.{◌≡◌, ◌≢◌, ◌↔◌, ◌++◌, �
 ghost use Rattle.std.specs.Option.{option_copied};
 ghost use Rattle.wm_collections.specs.Lists.{last_of};
 ghost use Rattle.wm_machine.specs.Outcome.{IsLegalLine};
-ghost use Rattle.wm_machine.specs.Narrow.{IsNarrow};
 ghost use Rattle.wm_keeper.specs.Store.{IsAtMost, TellsOn};
 ghost use Rattle.wm_machine.specs.Opened.{AreFresh, Opened};
 ghost use Rattle.wm_machine.specs.Quiet.{IsQuiet};
@@ -14,10 +13,10 @@ ghost use Rattle.wm_observe.specs.Notes.{last_notes};
 ghost use Rattle.wm_machine.specs.declared.event.Event.TheVariants as event;
 ghost use Rattle.wm_rows.specs.Sound.{AreSound};
 ghost use Rattle.wm_steps.specs.StepChanges.{row_changes, IsStepOf};
-ghost use Rattle.wm_commands.specs.Builds.{ChangesNoRow, ChangesRows};
-ghost use Rattle.wm_runs.specs.Reports.{goes_on, CountsIn};
+ghost use Rattle.wm_settings.specs.Builds.{ChangesNoRow, ChangesRows};
+ghost use Rattle.wm_runs.specs.Reports.{goes_on, CountsIn, IsOut};
 ghost use Rattle.wm_table.specs.Images.{IsLine, IsNoLine};
-ghost use Rattle.wm_table.specs.Table.{BeginCause, HasClaimed, HoldsRowsOf, IsClaim, IsBeginFault, IsClaimAnswer, IsFinished, IsOneStep, IsTicketIn, IsTurnAnswer, IsTurned, IsUntouched, LeavesOpened, LeavesUnopened, TroubleCause, TurnCause};
+ghost use Rattle.wm_table.specs.Table.{BeginCause, HasClaimed, HoldsRowsOf, IsClaim, IsBeginFault, IsClaimAnswer, IsFinished, IsLateAnswer, IsOneStep, IsReturned, IsTurnAnswer, IsTurned, IsUntouched, LeavesOpened, LeavesUnopened, TroubleCause, TurnCause};
 ghost use Rattle.wm_table.specs.Parts.{IsOffRoll, NoneOf, Stands, ticket_part, WasOut};
 ghost use Rattle.wm_table.specs.Rolls.{IsNewOn, IsRollClaimed, IsRollReturned, IsRollTurned, roll_after, WasOutWhereTaken};
 ghost use Rattle.wm_machine.specs.Step.{role_of};
@@ -29,7 +28,7 @@ mod row_changes;
 pub mod ticket;
 
 use crate::mark::Mark;
-use crate::table::carry::{carry_out, commit};
+use crate::table::carry::{carry_out, carry_return, commit};
 use std::alloc::{AllocError, Global};
 use std::marker::{Model, PhantomData};
 use ticket::{Held, Ticket, held_for};
@@ -42,7 +41,9 @@ use wm_opening::{Opening, open};
 use wm_query::first_index;
 use wm_roll::Roll;
 use wm_rows::RowFault;
-use wm_runs::{Claimed, Claiming, Ending, claim_first, counts_in, finish, goes_on, next_turn};
+use wm_runs::{
+    Claimed, Claiming, Ending, claim_first, counts_in, finish, goes_on, is_stopped, next_turn,
+};
 use wm_steps::{StepChange, View};
 use wm_worker::Told;
 
@@ -142,6 +143,8 @@ pub enum TurnAnswer<M: Mark> {
     Finished,
     /// It is over, since its worker wanted one more turn after the last.
     TimedOut,
+    /// It was stopped, so the report comes too late: the run is over, and nothing else has changed.
+    Late,
     /// The report isn't one on the run's turn: nothing has changed, and the ticket is as it was.
     Again(Ticket<M>),
     /// There was trouble: nothing has changed.
@@ -169,12 +172,13 @@ pub struct TableEnd<K> {
 ///
 /// Each call makes at most one event. It takes all its memory first, then commits the rows that
 /// change, and changes the state last: so nothing can fail after a commit, and where there is
-/// trouble nothing has changed.
+/// trouble nothing has changed. Only the return of a run that was stopped takes none: its type keeps that
+/// the log has room for one event more of each run.
 pub struct Table<K: Keeper, M: Mark> {
     alloc: Global,
     first: State,
     view: View,
-    log: Items<Event>,
+    log: Vec<Event>,
     notes: Items<Note>,
     keeper: K,
     roll: Roll,
@@ -188,7 +192,7 @@ impl<K: Keeper, M: Mark> Model for Table<K, M> {
 
     ghost use Rattle.wm_table.specs.Table.{TableInvariant};
 
-    ghost view = { λ t. record { first = t.first; state = t.view; log = t.log; keeper = t.keeper; roll = t.roll.parts } };
+    ghost view = { λ t. record { first = t.first; state = t.view; log = t.log.items; keeper = t.keeper; roll = t.roll.parts } };
 
     ghost invariant = { λ t. TableInvariant M.inputs t.first t.view t.log t.notes (K.store t.keeper) t.roll };
 }
@@ -243,7 +247,7 @@ impl<K: Keeper, M: Mark> Table<K, M> {
                 alloc,
                 first,
                 view,
-                log: Items::new(alloc),
+                log: Vec::new(alloc),
                 notes: Items::new(alloc),
                 keeper,
                 roll,
@@ -299,14 +303,20 @@ impl<K: Keeper, M: Mark> Table<K, M> {
     }
 
     /// Ends the turn of a run as its worker told, in one event: the run goes on, or is over and off
-    /// the roll. Where it goes on, the keeper isn't called. Where the report isn't on the run's turn,
-    /// or the worker was cut, nothing changes.
+    /// the roll. Where it goes on, the keeper isn't called. Where the run was stopped, the report comes
+    /// too late, whatever it says: the run is over, which takes no memory and doesn't call the keeper.
+    /// Where it wasn't, and the report isn't on its turn, or the worker was cut, nothing changes.
     pub fn turn(&mut self, ticket: Ticket<M>, told: Told) -> TurnAnswer<M>
         ensures answer { IsTurnAnswer K.store ticket told result self.old self.new }
         ensures cause { TurnCause result (K.store self.old.keeper).faults (K.store self.new.keeper).faults }
         ensures roll { IsRollTurned ticket result self.old.roll self.new.roll }
         ensures out { WasOutWhereTaken self.old.state self.old.roll ticket result }
     {
+        if is_stopped(&self.view, ticket.task().run) {
+            drop(told);
+            self.return_stopped(ticket);
+            return TurnAnswer::Late;
+        }
         if !counts_in(&self.view, ticket.task().run, &told) {
             drop(told);
             return TurnAnswer::Again(ticket);
@@ -317,6 +327,19 @@ impl<K: Keeper, M: Mark> Table<K, M> {
         } else {
             self.end_run(held, told)
         }
+    }
+
+    /// Takes the ticket of a run that was stopped, in one event: the run is over, and off the roll, and
+    /// nothing else changes. The ticket comes back exactly where its run wasn't stopped. It takes no
+    /// memory, and the keeper isn't called.
+    pub fn late(&mut self, ticket: Ticket<M>) -> Result<(), Ticket<M>>
+        ensures { IsLateAnswer K.store ticket result self.old self.new }
+    {
+        if !is_stopped(&self.view, ticket.task().run) {
+            return Err(ticket);
+        }
+        self.return_stopped(ticket);
+        Ok(())
     }
 
     /// Takes a ticket without an event, after a trouble that ends the session. Its run stays in the
@@ -341,6 +364,20 @@ impl<K: Keeper, M: Mark> Table<K, M> {
         ensures { IsTrue result ↔ (self.now.state.runs ≡ []) }
     {
         self.view.state.runs.is_empty()
+    }
+
+    /// Whether the run of this number is unreturned, and was stopped. It takes no memory.
+    pub fn stopped(&self, run: u64) -> bool
+        ensures { IsTrue result ↔ IsOut self.now.state run false }
+    {
+        is_stopped(&self.view, run)
+    }
+
+    /// The number of the next run. It takes no memory.
+    pub fn next_run(&self) -> u64
+        ensures { result ≡ self.now.state.next_run }
+    {
+        self.view.state.next_run
     }
 
     /// Whether only summaries are written.
@@ -382,7 +419,6 @@ impl<K: Keeper, M: Mark> Table<K, M> {
         ensures keeper { result.keeper ≡ self.keeper }
         ensures replay { Replay result.first result.log result.last }
         ensures valid { Valid result.last }
-        ensures narrow { IsNarrow result.last }
         ensures opened { Opened M.inputs.rows M.inputs.instances result.first }
         ensures rows { HoldsRowsOf result.last (K.store result.keeper) }
         ensures tells_on { TellsOn M.inputs.store (K.store result.keeper) }
@@ -401,7 +437,7 @@ impl<K: Keeper, M: Mark> Table<K, M> {
         TableEnd {
             first,
             last: state,
-            log,
+            log: Items::from_vec(log),
             keeper,
         }
     }
@@ -454,6 +490,31 @@ impl<K: Keeper, M: Mark> Table<K, M> {
         let Ticket { held, token, of: _ } = ticket;
         self.roll.take(token);
         held
+    }
+
+    /// Takes the ticket of a run that was stopped: the run is over, and off the roll. It takes no memory.
+    fn return_stopped(&mut self, ticket: Ticket<M>)
+        requires stopped { IsOut self.old.state ticket.task.run false }
+        ensures returned { IsReturned K.store ticket.task.run self.old self.new }
+        ensures out { WasOut self.old.state self.old.roll ticket }
+        ensures roll { self.new.roll ≡ without ticket.task.run self.old.roll }
+    {
+        let held = self.take(ticket);
+        let number = held.task.run;
+        drop(held);
+        self.make_return(number);
+    }
+
+    /// Makes the step by which the run of this number, which was stopped and is off the roll, is over. It
+    /// takes no memory.
+    fn make_return(&mut self, number: u64)
+        requires stopped { IsOut self.old.state number false }
+        requires off { NoneOf number self.old.roll }
+        ensures returned { IsReturned K.store number self.old self.new }
+        ensures roll { self.new.roll ≡ self.old.roll }
+    {
+        carry_return(self.alloc, &mut self.view, &mut self.log, number);
+        self.notes = Items::new(self.alloc);
     }
 
     /// Ends the turn of a run that is off the roll, for which the report counts, and which goes on.

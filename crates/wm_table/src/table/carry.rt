@@ -1,28 +1,33 @@
 //! How the change of a step is carried out: first all that takes memory, then the commit of the
 //! rows, and the state last.
-ghost use Rattle.std.specs.Prelude.{◌≡◌, ◌≢◌, ◌+◌, ◌^◌, ◌<◌, ◌≤◌, ◌∷◌, ◌++◌, [], length, map, take, vec_len, vec_capacity, Err, OnOk, OnErr};
+ghost use Rattle.std.specs.Prelude.{◌≡◌, ◌≢◌, ◌+◌, ◌^◌, ◌<◌, ◌≤◌, ◌∷◌, ◌++◌, [], length, map, take, vec_len, vec_capacity, false, Err, OnOk, OnErr};
 ghost use Rattle.std.specs.List.{AllByRecursion};
+ghost use Rattle.wm_collections.specs.Lists.{is_among};
 ghost use Rattle.wm_keeper.specs.Keeper.{AreOfDifferentNumbers};
 ghost use Rattle.wm_keeper.specs.Store.{changed_rows, IsAtMost, TellsOn};
 ghost use Rattle.wm_machine.specs.Limits.{FitsRow};
 ghost use Rattle.wm_machine.specs.Retired.{with_retired};
 ghost use Rattle.wm_machine.specs.Rows.{rows_of};
-ghost use Rattle.wm_machine.specs.Runs.{other_runs, with_out};
+ghost use Rattle.wm_machine.specs.Runs.{other_runs, with_out, with_stopped};
 ghost use Rattle.wm_machine.specs.Turns.{with_turned};
 ghost use Rattle.wm_steps.specs.StepChanges.{changed_state, instances_by, new_observers, next_run_by, observers_by, other_works, row_changes, runs_by, set_by, with_replaced, without, IsStepOf};
+ghost use Rattle.wm_machine.specs.declared.event.Event.TheVariants as event;
+ghost use Rattle.wm_runs.specs.Reports.{IsOut};
 ghost use Rattle.wm_table.specs.Following.{placed_node, AreAddable};
 ghost use Rattle.wm_table.specs.Images.{KeepsImages, LeavesBefore, LeavesOnly, MakesImages};
-ghost use Rattle.wm_table.specs.Table.{HoldsRowsOf, TroubleCause};
+ghost use Rattle.wm_table.specs.Returns.{new_runs, IsReturnMade};
+ghost use Rattle.wm_table.specs.Table.{HasRoom, HoldsRowsOf, TroubleCause};
 
 use crate::table::Trouble;
 use crate::table::follow::{add_nodes, change_nodes};
 use crate::table::row_changes::row_changes;
 use std::alloc::{AllocError, Global};
 use std::mem;
-use wm_collections::{Items, Text};
+use wm_collections::{Items, Text, is_among};
 use wm_graph::Graph;
 use wm_keeper::{Change, Keeper};
 use wm_machine::{Event, Instance, Record, Run, State, WorkQuery};
+use wm_runs::returned;
 use wm_steps::{Replacement, RunChange, SettingChange, StepChange, View};
 
 /// The lists that a step adds to, while their room counts.
@@ -36,37 +41,38 @@ struct Lists {
 
 impl Lists {
     /// Takes the lists out of a state and its log.
-    fn take(alloc: Global, state: &mut State, log: &mut Items<Event>) -> Lists
+    fn take(alloc: Global, state: &mut State, log: &mut Vec<Event>) -> Lists
         ensures works { result.works.items ≡ state.old.works }
         ensures runs { result.runs.items ≡ state.old.runs }
         ensures observers { result.observers.items ≡ state.old.observers }
-        ensures log { result.log.items ≡ log.old }
+        ensures log { result.log ≡ log.old }
         ensures state { state.new ≡ record state.old { works = []; runs = []; observers = [] } }
     {
         Lists {
             works: mem::replace(&mut state.works, Items::new(alloc)).into_vec(),
             runs: mem::replace(&mut state.runs, Items::new(alloc)).into_vec(),
             observers: mem::replace(&mut state.observers, Items::new(alloc)).into_vec(),
-            log: mem::replace(log, Items::new(alloc)).into_vec(),
+            log: mem::replace(log, Vec::new(alloc)),
         }
     }
 
     /// Puts the lists back.
-    fn put_back(self, state: &mut State, log: &mut Items<Event>)
+    fn put_back(self, state: &mut State, log: &mut Vec<Event>)
         ensures state { state.new ≡ record state.old {
           works = self.works.items;
           runs = self.runs.items;
           observers = self.observers.items;
         } }
-        ensures log { log.new ≡ self.log.items }
+        ensures log { log.new ≡ self.log }
     {
         state.works = Items::from_vec(self.works);
         state.runs = Items::from_vec(self.runs);
         state.observers = Items::from_vec(self.observers);
-        *log = Items::from_vec(self.log);
+        *log = self.log;
     }
 
-    /// Makes room for so many works and so many observers, for a run and for an event.
+    /// Makes room for so many works and so many observers, for a run, for an event, and for an event
+    /// more of each run, also of one that begins.
     fn reserve(&mut self, works: usize, observers: usize) -> Result<(), AllocError>
         ensures works { self.new.works.items ≡ self.old.works.items }
         ensures runs { self.new.runs.items ≡ self.old.runs.items }
@@ -75,12 +81,14 @@ impl Lists {
         ensures works_room { OnOk result (vec_len self.new.works + works ≤ vec_capacity self.new.works) }
         ensures run_room { OnOk result (vec_len self.new.runs < vec_capacity self.new.runs) }
         ensures observer_room { OnOk result (vec_len self.new.observers + observers ≤ vec_capacity self.new.observers) }
-        ensures log_room { OnOk result (vec_len self.new.log < vec_capacity self.new.log) }
+        ensures log_len { vec_len self.new.log ≡ vec_len self.old.log }
+        ensures log_capacity { vec_capacity self.old.log ≤ vec_capacity self.new.log }
+        ensures log_room { OnOk result (vec_len self.new.log + (vec_len self.new.runs + 2) ≤ vec_capacity self.new.log) }
     {
         self.works.reserve(works)?;
         self.runs.reserve(1)?;
         self.observers.reserve(observers)?;
-        self.log.reserve(1)
+        self.log.reserve(self.runs.len() + 2)
     }
 
     /// Makes the change, for which there is room.
@@ -91,7 +99,7 @@ impl Lists {
         requires next { state.old.next + length change.placed ≤ 2 ^ 53 }
         requires few_runs { state.old.next_run ≤ vec_len self.old.log + 1 }
         requires works_room { vec_len self.old.works + length change.placed ≤ vec_capacity self.old.works }
-        requires run_room { vec_len self.old.runs < vec_capacity self.old.runs }
+        requires run_room { vec_len self.old.runs + new_runs change.run ≤ vec_capacity self.old.runs }
         requires observer_room { vec_len self.old.observers + new_observers change.setting ≤ vec_capacity self.old.observers }
         requires log_room { vec_len self.old.log < vec_capacity self.old.log }
         ensures works { self.new.works.items
@@ -99,6 +107,8 @@ impl Lists {
         ensures runs { self.new.runs.items ≡ runs_by change.run self.old.runs.items }
         ensures observers { self.new.observers.items ≡ observers_by change.setting self.old.observers.items }
         ensures log { self.new.log.items ≡ self.old.log.items ++ change.event ∷ [] }
+        ensures log_len { vec_len self.new.log ≡ vec_len self.old.log + 1 }
+        ensures log_capacity { vec_capacity self.new.log ≡ vec_capacity self.old.log }
         ensures state { state.new ≡ record (set_by change.setting (record state.old {
           instances = instances_by change.run state.old.instances;
           next = state.old.next + length change.placed;
@@ -177,7 +187,7 @@ fn append<T: Drop>(values: &mut Vec<T>, more: Items<T>)
     values.append(&mut more).unwrap();
 }
 
-/// Changes the runs and their instances. There is room for a run.
+/// Changes the runs and their instances. There is room for a run that begins.
 fn change_runs(
     alloc: Global,
     runs: &mut Vec<Run>,
@@ -185,7 +195,7 @@ fn change_runs(
     change: RunChange,
     next_run: u64,
 )
-    requires room { vec_len runs.old < vec_capacity runs.old }
+    requires room { vec_len runs.old + new_runs change ≤ vec_capacity runs.old }
     requires turns { AllByRecursion (λ run. run.turn ≤ 999) runs.old.items }
     requires next { next_run ≡ state.old.next_run + 1 }
     ensures runs { runs.new.items ≡ runs_by change runs.old.items }
@@ -206,6 +216,7 @@ fn change_runs(
             remove_run(runs, run);
             set_out(alloc, &mut state.instances, instance, false);
         }
+        RunChange::Stop(numbers) => stop_runs(runs.as_mut_slice(), numbers.as_slice()),
     }
 }
 
@@ -272,6 +283,17 @@ fn turn_run(runs: &mut [Run], number: u64)
     }
 }
 
+/// Has the runs of these numbers stopped. It takes no memory.
+fn stop_runs(runs: &mut [Run], numbers: &[u64])
+    ensures { runs.new ≡ with_stopped (λ run. is_among numbers.now run.run) runs.old }
+{
+    for run in runs.iter_mut() {
+        if is_among(numbers, run.run) {
+            run.current = false;
+        }
+    }
+}
+
 /// Takes the run of this number out.
 fn remove_run(runs: &mut Vec<Run>, number: u64)
     ensures { runs.new.items ≡ other_runs number runs.old.items }
@@ -334,11 +356,13 @@ fn store<K: Keeper>(
     ensures runs { lists.new.runs.items ≡ lists.old.runs.items }
     ensures observers { lists.new.observers.items ≡ lists.old.observers.items }
     ensures log { lists.new.log.items ≡ lists.old.log.items }
+    ensures log_len { vec_len lists.new.log ≡ vec_len lists.old.log }
+    ensures log_capacity { vec_capacity lists.old.log ≤ vec_capacity lists.new.log }
     ensures works_room { OnOk result (vec_len lists.new.works + length change.now.placed ≤ vec_capacity lists.new.works) }
     ensures run_room { OnOk result (vec_len lists.new.runs < vec_capacity lists.new.runs) }
     ensures observer_room { OnOk result (vec_len lists.new.observers + new_observers change.now.setting
         ≤ vec_capacity lists.new.observers) }
-    ensures log_room { OnOk result (vec_len lists.new.log < vec_capacity lists.new.log) }
+    ensures log_room { OnOk result (vec_len lists.new.log + (vec_len lists.new.runs + 2) ≤ vec_capacity lists.new.log) }
     ensures nodes { OnOk result (graph.new ≡ graph.old ++ map placed_node change.now.placed) }
     ensures first_nodes { take (length graph.old) graph.new ≡ graph.old }
     ensures ok { OnOk result (IsAtMost (changed_rows (row_changes change.now) (K.store keeper.old)) (K.store keeper.new).rows) }
@@ -361,18 +385,20 @@ fn store<K: Keeper>(
 pub fn carry_out<K: Keeper>(
     alloc: Global,
     view: &mut View,
-    log: &mut Items<Event>,
+    log: &mut Vec<Event>,
     keeper: &mut K,
     change: StepChange,
 ) -> Result<(), Trouble>
     requires step { IsStepOf view.old change }
     requires rows { HoldsRowsOf view.old (K.store keeper.old) }
-    requires few_runs { view.old.next_run ≤ length log.old + 1 }
+    requires few_runs { view.old.next_run ≤ length log.old.items + 1 }
+    requires room { HasRoom log.old view.old.runs }
     ensures view { OnOk result (view.new ≡ changed_state change view.old) }
-    ensures log { OnOk result (log.new ≡ log.old ++ change.event ∷ []) }
+    ensures log { OnOk result (log.new.items ≡ log.old.items ++ change.event ∷ []) }
+    ensures room { HasRoom log.new view.new.runs }
     ensures rows { OnOk result (HoldsRowsOf view.new (K.store keeper.new)) }
     ensures view_err { OnErr result (view.new ≡ view.old) }
-    ensures log_err { OnErr result (log.new ≡ log.old) }
+    ensures log_err { OnErr result (log.new.items ≡ log.old.items) }
     ensures rows_err { OnErr result (IsAtMost (K.store keeper.old).rows (K.store keeper.new).rows) }
     ensures images { OnOk result (LeavesOnly (rows_of view.old) (K.store keeper.old)
         → LeavesOnly (rows_of view.new) (K.store keeper.new)) }
@@ -399,4 +425,20 @@ pub fn carry_out<K: Keeper>(
             Err(trouble)
         }
     }
+}
+
+/// Carries the return of the run of this number out, which was stopped: its event is appended, for
+/// which there is room, and the view is changed. It takes no memory.
+pub fn carry_return(alloc: Global, view: &mut View, log: &mut Vec<Event>, number: u64)
+    requires stopped { IsOut view.old number false }
+    requires few_runs { view.old.next_run ≤ length log.old.items + 1 }
+    requires room { HasRoom log.old view.old.runs }
+    ensures step { IsReturnMade number view.old view.new }
+    ensures log { log.new.items ≡ log.old.items ++ event.Late number ∷ [] }
+    ensures room { HasRoom log.new view.new.runs }
+{
+    let change = returned(alloc, view, number);
+    let mut lists = Lists::take(alloc, &mut view.state, log);
+    lists.change(alloc, &mut view.state, change);
+    lists.put_back(&mut view.state, log);
 }

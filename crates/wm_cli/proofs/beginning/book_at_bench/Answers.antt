@@ -5,7 +5,6 @@ use Rattle.wm_cli.proofs.Hands.{all_in, idle_hands-places, traits-places}
 use Rattle.wm_cli.proofs.RunEnds.{IsEnd-at_once}
 use Rattle.wm_cli.specs.Ended.{IsEndedAtOnce}
 use Rattle.wm_machine.proofs.Openings.{reached-opened, rest-opened}
-use Rattle.wm_machine.specs.Narrow.{IsNarrow}
 use Rattle.wm_machine.specs.Outcome.{IsAskable}
 use Rattle.wm_machine.specs.Valid.{Valid}
 use Rattle.wm_machine.specs.declared.state.Instance.{Instance}
@@ -36,13 +35,7 @@ pub new-requires-clause-valid : goal.new-requires-clause-valid
 new-requires-clause-valid g c =
     let begun = c.requires.begun in
     let run = g.M.Mark.inputs in
-    subst Valid (sym begun.state) (reached-opened run.rows run.instances c.args.table.first begun.opened).valid
-
-pub new-requires-clause-narrow : goal.new-requires-clause-narrow
-new-requires-clause-narrow g c =
-    let begun = c.requires.begun in
-    let run = g.M.Mark.inputs in
-    subst IsNarrow (sym begun.state) (reached-opened run.rows run.instances c.args.table.first begun.opened).narrow
+    subst Valid (sym begun.state) (reached-opened run.rows run.instances c.args.table.first begun.opened)
 
 pub new-requires-clause-all_in : goal.new-requires-clause-all_in
 new-requires-clause-all_in g c =

@@ -49,11 +49,11 @@ returns-in-Ok-clause-serial g c alone =
 
 -- each run is reported once
 pub returns-in_default-clause-reports : goal.returns-in_default-clause-reports
-returns-in_default-clause-reports g c = AreReportedOnce-nothing c.before_begin.result.log c.before_begin.result.last c.before_begin.ensures.log
+returns-in_default-clause-reports g c = AreReportedOnce-nothing c.before_begin.result.first c.before_begin.result.log c.before_begin.result.last c.before_begin.ensures.log
 
 pub returns-in-Err-clause-reports : goal.returns-in-Err-clause-reports
 returns-in-Err-clause-reports g c =
-    let ended = c.before_begin-in-Err.result in AreReportedOnce-nothing ended.log ended.last c.before_begin-in-Err.ensures.log
+    let ended = c.before_begin-in-Err.result in AreReportedOnce-nothing ended.first ended.log ended.last c.before_begin-in-Err.ensures.log
 
 pub returns-in-Ok-clause-reports : goal.returns-in-Ok-clause-reports
 returns-in-Ok-clause-reports g c =

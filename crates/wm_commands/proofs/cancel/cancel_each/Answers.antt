@@ -1,13 +1,13 @@
 -- The step of a cancel: works are closed with their unfinished descendants.
-use Rattle.std.proofs.Common.{◌≡◌, ◌||◌, ℕ, ◌+◌, Bool, true, false, cond, List, [], ◌∷◌, filter, length, map, rules, Option, Some, None, refl, sym, ◌∙◌, ap, arith, inl, inr, IsSome, subst}
+use Rattle.std.proofs.Common.{◌≡◌, ◌||◌, ℕ, ◌+◌, Bool, true, false, cond, List, [], ◌∷◌, filter, length, map, rules, Option, Some, None, refl, sym, ◌∙◌, ap, arith, inl, inr}
 use Rattle.std.specs.List.{AllByRecursion, list_any}
 use Rattle.std.specs.Prelude.{◌⊎◌, ◌≢◌, count_by, is_some}
 use Rattle.std.proofs.lemmas.Bool.{and_parts, false≢true}
-use Rattle.wm_commands.proofs.ClearingSteps.{clearing_alone-step}
-use Rattle.wm_commands.proofs.Clearings.{any_reached, cancelled-each, none-replaced, reached-none}
-use Rattle.wm_commands.proofs.Executions.{Answers-outcome, rows-change}
-use Rattle.wm_commands.specs.Builds.{IsExecuted}
-use Rattle.wm_commands.specs.Cleared.{becomes_cancelled, cancelled_in, cancelling, cleared, cleared_by, replaced_by_clearing, stays, with_cleared}
+use Rattle.wm_commands.proofs.ClearingSteps.{clearing_alone-step, StopsAlone-stopped}
+use Rattle.wm_commands.proofs.Clearings.{any_reached, cancelled-state, none-replaced, reached-none}
+use Rattle.wm_settings.proofs.Executions.{Answers-outcome, rows-change}
+use Rattle.wm_settings.specs.Builds.{IsExecuted}
+use Rattle.wm_commands.specs.Cleared.{becomes_cancelled, cancelled_in, cancelling, cleared, cleared_by, cleared_state, is_run_among, replaced_by_clearing, stays, stopped_by}
 use Rattle.wm_commands.specs.declared.clearing.Clearing.{Clearing}
 use Rattle.wm_keeper.specs.declared.row.Row.{Row}
 use Rattle.wm_machine.specs.declared.command.Target.{Target}
@@ -15,15 +15,14 @@ use Rattle.wm_machine.specs.declared.event.Event.{Event}
 use Rattle.wm_machine.specs.declared.record.Phase.{Phase}
 use Rattle.wm_machine.specs.declared.record.Record.{Record}
 use Rattle.wm_machine.specs.declared.state.State.{State}
-use Rattle.wm_machine.proofs.Groups.{closed_by, each_closed-at_once}
+use Rattle.wm_machine.proofs.Groups.{closed_by, works_closed-at_once}
 use Rattle.wm_collections.proofs.Lists.{All-any, All-filter, All-stored, count-cons, filter-all, map-same, weight}
-use Rattle.wm_commands.proofs.Outcomes.{some-of}
-use Rattle.wm_machine.specs.Cancelled.{cancelled_each, count_reached, is_cancellable, is_for, reaches_any_run, targeted}
-use Rattle.wm_machine.specs.Closed.{closed, is_open, is_reached, with_each_closed}
+use Rattle.wm_machine.specs.Cancelled.{cancelled_each, count_reached, is_cancellable, is_for, targeted}
+use Rattle.wm_machine.specs.Closed.{closed, is_open, is_reached, with_works_closed}
 use Rattle.wm_machine.specs.Group.{numbers_in}
-use Rattle.wm_machine.specs.Outcome.{outcome, IsLegalLine}
-use Rattle.wm_machine.specs.Replied.{Outcome}
+use Rattle.wm_machine.specs.Outcome.{outcome}
 use Rattle.wm_machine.specs.Rows.{phase_code, row_of, rows_of}
+use Rattle.wm_machine.specs.Runs.{with_stopped}
 use Rattle.wm_machine.specs.Step.{after, state_by}
 use Rattle.wm_collections.specs.Lists.{HasOne}
 use Rattle.wm_machine.specs.Valid.{Valid}
@@ -38,7 +37,8 @@ use Rattle.wm_steps.specs.Nodes.{nodes_of, reached_from}
 use Rattle.wm_steps.specs.Replacements.{at_index, replacements}
 use Rattle.wm_steps.specs.StepChanges.{replacing_all, row_changes}
 use Rattle.wm_steps.specs.declared.change.Replacement.{Replacement}
-use Rattle.wm_steps.specs.declared.change.RunChange.TheVariants.{Unchanged}
+use Rattle.wm_steps.specs.declared.change.RunChange.{RunChange}
+use Rattle.wm_steps.specs.declared.change.RunChange.TheVariants.{Stop}
 use Rattle.wm_commands.proofs.cancel.cancel_each.Goals as goal
 
 -- ---- how many are touched
@@ -90,11 +90,13 @@ count-replaced : (seqs : List ℕ) (works : List Record) → length (replaced_by
 count-replaced seqs works = touched-count (any_reaches seqs works) (cleared_by (cancelling_from seqs works)) 0 works (touched-cancelling seqs works)
 
 -- and it closes just those
-cancelling-closes : (seqs : List ℕ) (works : List Record) → with_each_closed how.Cancelled seqs works ≡ with_cleared (cancelling_from seqs works) works
-cancelling-closes seqs works =
-    let clearing = cancelling_from seqs works in
-    cancelled-each seqs works ∙ map-same (cancelled_in clearing.cancelled) (cleared clearing) works (All-any works (λ w. refl))
-    ∙ ap (map (cleared clearing)) (sym (filter-all (stays []) works (λ w. refl)))
+cancelling-closes : (seqs : List ℕ) (s : State) → Valid s → with_works_closed how.Cancelled seqs s ≡ cleared_state (cancelling_from seqs s.works) s
+cancelling-closes seqs s valid =
+    let clearing = cancelling_from seqs s.works in
+    cancelled-state seqs s valid
+    ∙ ap (λ (works : List Record). record s { works = works; runs = with_stopped (is_run_among clearing.cancelled) s.runs })
+    (map-same (cancelled_in clearing.cancelled) (cleared clearing) s.works (All-any s.works (λ w. refl))
+    ∙ ap (map (cleared clearing)) (sym (filter-all (stays []) s.works (λ w. refl))))
 
 -- ---- the rows
 
@@ -106,11 +108,10 @@ open_code (phase.Done how) unfinished same = absurd (false≢true unfinished)
 
 -- the row of an unfinished record that is reached changes
 reached_row-changes : (seqs : List ℕ) (work : Record) (works : List Record) → HasOne (λ other. other ≡ work) works → is_open work.phase ≡ true
-    → any_reaches seqs works work ≡ true → map row_of (with_each_closed how.Cancelled seqs works) ≢ map row_of works
+    → any_reaches seqs works work ≡ true → map row_of (map (closed_by how.Cancelled seqs works) works) ≢ map row_of works
 reached_row-changes seqs work works stored unfinished reached same =
     rows-change (closed_by how.Cancelled seqs works) work works stored (λ row. open_code work.phase unfinished
-    (ap (λ b. phase_code (cond b (closed how.Cancelled work) work).phase) (sym reached) ∙ ap (λ (r : Row). r.phase) row))
-    (ap (map row_of) (sym (each_closed-at_once how.Cancelled seqs works)) ∙ same)
+    (ap (λ b. phase_code (cond b (closed how.Cancelled work) work).phase) (sym reached) ∙ ap (λ (r : Row). r.phase) row)) same
 
 -- where none is meant, none takes the place of another
 none_replaced : (works : List Record) → replaced_by_cancel [] works ≡ []
@@ -128,7 +129,7 @@ all_meant target works =
 
 -- where there is a work that is meant, its row changes
 meant_row-changes : (works found : List Record) (work : Record) → IsMeant works work
-    → map row_of (with_each_closed how.Cancelled (numbers_in (work ∷ found)) works) ≢ map row_of works
+    → map row_of (map (closed_by how.Cancelled (numbers_in (work ∷ found)) works) works) ≢ map row_of works
 meant_row-changes works found work is =
     reached_row-changes (numbers_in (work ∷ found)) work works is.stored is.unfinished
     (ap (λ b. b || any_reaches (numbers_in found) works work) (itself_reached work works is.stored is.unfinished))
@@ -138,42 +139,39 @@ meant_row-changes works found work is =
 abbrev cancel_event : ℕ → Target → ℕ → Event
 cancel_event line target count = event.Command line (command.Cancel target) (reply.Cancelled count)
 
-abbrev cancel_outcome : State → List ℕ → Outcome
-cancel_outcome s seqs = record {
-  reply = reply.Cancelled (count_reached seqs s.works);
-  state = record s { works = with_each_closed how.Cancelled seqs s.works };
-}
-
--- where it has an outcome, the works are closed
-outcome-is : (s : State) (seqs : List ℕ) → IsSome (cancelled_each s seqs) → cancelled_each s seqs ≡ Some (cancel_outcome s seqs)
-outcome-is s seqs some = some-of (reaches_any_run seqs s.works s.runs) (cancel_outcome s seqs) some
+-- the change of the runs
+abbrev stops_by_cancel : List ℕ → State → RunChange
+stops_by_cancel seqs s = Stop (stopped_by (cancelling_from seqs s.works).cancelled s.runs)
 
 -- rows change, or there is none to change
-rows-cancelled : (s : State) (target : Target) (e : Event) (found : List Record) → filter (is_cancellable target) s.works ≡ found
-    → AllByRecursion (IsMeant s.works) found → after s e ≡ record s { works = with_each_closed how.Cancelled (numbers_in found) s.works }
-    → (rows_of (after s e) ≢ rows_of s) ⊎ (row_changes (replacing_all (replaced_by_cancel (numbers_in found) s.works) Unchanged e) ≡ [])
-rows-cancelled s target e [] is meant after-is = inr (ap (λ replaced. row_changes (replacing_all replaced Unchanged e)) (none_replaced s.works))
-rows-cancelled s target e (work ∷ found) is meant after-is = inl (λ same. meant_row-changes s.works found work meant.0 (ap rows_of (sym after-is) ∙ same))
+rows-cancelled : (s : State) (target : Target) (run : RunChange) (e : Event) (found : List Record) → filter (is_cancellable target) s.works ≡ found
+    → AllByRecursion (IsMeant s.works) found → after s e ≡ with_works_closed how.Cancelled (numbers_in found) s
+    → (rows_of (after s e) ≢ rows_of s) ⊎ (row_changes (replacing_all (replaced_by_cancel (numbers_in found) s.works) run e) ≡ [])
+rows-cancelled s target run e [] is meant after-is = inr (ap (λ replaced. row_changes (replacing_all replaced run e)) (none_replaced s.works))
+rows-cancelled s target run e (work ∷ found) is meant after-is =
+    inl (λ same. meant_row-changes s.works found work meant.0
+    (ap (map row_of) (sym (works_closed-at_once how.Cancelled (numbers_in (work ∷ found)) s)) ∙ ap rows_of (sym after-is) ∙ same))
 
-cancelling-executed : (s : State) (line : ℕ) (target : Target) → Valid s → IsLegalLine s (command.Cancel target)
-    → outcome s (command.Cancel target) ≡ cancelled_each s (targeted target s.works) → IsExecuted s line (command.Cancel target) (record {
-      change = replacing_all (replaced_by_cancel (targeted target s.works) s.works) Unchanged
+cancelling-executed : (s : State) (line : ℕ) (target : Target) → Valid s
+    → outcome s (command.Cancel target) ≡ Some (cancelled_each s (targeted target s.works)) → IsExecuted s line (command.Cancel target) (record {
+      change = replacing_all (replaced_by_cancel (targeted target s.works) s.works) (stops_by_cancel (targeted target s.works) s)
           (cancel_event line target (length (replaced_by_cancel (targeted target s.works) s.works)));
       reply = reply.Cancelled (length (replaced_by_cancel (targeted target s.works) s.works));
     })
-cancelling-executed s line target valid can accepted =
+cancelling-executed s line target valid is =
     let seqs = targeted target s.works in
+    let clearing = cancelling_from seqs s.works in
     let count = length (replaced_by_cancel seqs s.works) in
+    let run = stops_by_cancel seqs s in
     let e = cancel_event line target count in
-    let is = accepted ∙ outcome-is s seqs (subst IsSome accepted can.answered) in
-    let after-is : after s e ≡ record s { works = with_each_closed how.Cancelled seqs s.works } = ap (state_by s) is in
+    let after-is : after s e ≡ with_works_closed how.Cancelled seqs s = ap (state_by s) is in
     record {
       event = refl;
       step =
-          clearing_alone-step s (cancelling_from seqs s.works) e valid (record { there = tt; ascend = tt })
-          (tt, Answers-outcome s (command.Cancel target) (reply.Cancelled count) (cancel_outcome s seqs) is (ap reply.Cancelled (count-replaced seqs s.works)))
-          (after-is ∙ ap (λ (works : List Record). record s { works = works }) (cancelling-closes seqs s.works));
-      rows = rows-cancelled s target e (filter (is_cancellable target) s.works) refl (all_meant target s.works) after-is;
+          clearing_alone-step s clearing run e valid (record { there = tt; ascend = tt }) (StopsAlone-stopped clearing s valid)
+          (tt, Answers-outcome s (command.Cancel target) (reply.Cancelled count) (cancelled_each s seqs) is (ap reply.Cancelled (count-replaced seqs s.works)))
+          (after-is ∙ cancelling-closes seqs s valid);
+      rows = rows-cancelled s target run e (filter (is_cancellable target) s.works) refl (all_meant target s.works) after-is;
     }
 
 pub returns : goal.returns
@@ -185,5 +183,5 @@ returns c =
     let replaced = replaced_by_cancel seqs s.works in
     let reached = reached-view _ s _ c.view.view_is c.view.invariant in
     let count : c.len-count.result ≡ length replaced = search rules in
-    let change : c.replacing_all-change.result ≡ replacing_all replaced Unchanged (cancel_event line target (length replaced)) = search rules in
-    rw (change, count) (cancelling-executed s line target reached.valid c.requires.legal c.requires.accepted)
+    let change : c.replacing_all-change.result ≡ replacing_all replaced (stops_by_cancel seqs s) (cancel_event line target (length replaced)) = search rules in
+    rw (change, count) (cancelling-executed s line target reached c.requires.accepted)

@@ -9,4 +9,4 @@ unreachable-requires c =
     let s = c.args.view.now in
     let reached = reached-view _ s _ c.view.view_is c.view.invariant in
     let none : work_numbered c.args.number s.works ≡ None = search rules in
-    member-there s c.args.unique.now c.args.number c.requires.planned reached.valid none
+    member-there s c.args.unique.now c.args.number c.requires.planned reached none

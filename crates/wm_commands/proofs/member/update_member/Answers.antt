@@ -2,7 +2,8 @@ use Rattle.std.proofs.Common.{◌≡◌, slice_get, Some, rules}
 use Rattle.std.specs.Prelude.{IsSomeAnd}
 use Rattle.std.proofs.lemmas.Result.{IfOk-weaker}
 use Rattle.wm_commands.proofs.MemberUpdates.{member-executed}
-use Rattle.wm_commands.specs.Builds.{IsExecuted, IsUpdating}
+use Rattle.wm_commands.specs.Builds.{IsUpdating}
+use Rattle.wm_settings.specs.Builds.{IsExecuted}
 use Rattle.wm_machine.specs.Plan.{first_of_batch}
 use Rattle.wm_machine.specs.Valid.{IsRecord}
 use Rattle.wm_machine.specs.declared.command.Command.TheVariants as command
@@ -15,7 +16,7 @@ update_of-requires c =
     let s = c.args.view.now in
     let reached = reached-view _ s _ c.view.view_is c.view.invariant in
     let at : slice_get s.works c.member_index-index.result ≡ Some c.at-work.result.now = search rules in
-    (All-at IsRecord s.works c.member_index-index.result c.at-work.result.now reached.valid.works.records at).fits
+    (All-at IsRecord s.works c.member_index-index.result c.at-work.result.now reached.works.records at).fits
 
 pub returns : goal.returns
 returns c =
@@ -33,5 +34,5 @@ returns c =
     let at : slice_get s.works index ≡ Some work = search rules in
     let first : IsSomeAnd (first_of_batch batch.works) (λ node. request ≡ node.request) = search rules in
     IfOk-weaker c.update_of.result (IsUpdating line asked index work request) (IsExecuted s line asked) (λ executed is.
-    member-executed s line unique batch c.args.number index work request executed reached.valid c.requires.asked c.requires.planned
+    member-executed s line unique batch c.args.number index work request executed reached c.requires.asked c.requires.planned
     c.requires.fits at c.member_index-index.ensures.found is first) (rw (named, works) at c.update_of.ensures)

@@ -6,6 +6,7 @@ use Rattle.wm_machine.specs.declared.event.Event.TheVariants as event
 use Rattle.wm_machine.specs.declared.reply.Reply.TheVariants as reply
 use Rattle.wm_steps.proofs.Views.{reached-view}
 use Rattle.wm_steps.specs.StepChanges.{placing, seqs_of}
+use Rattle.wm_steps.specs.declared.change.RunChange.TheVariants.{Stop}
 use Rattle.wm_unique.specs.Plans.{placing_by}
 use Rattle.wm_commands.proofs.placement.place.Goals as goal
 
@@ -22,6 +23,7 @@ returns c =
     let batch : c.in_ok-named-2.batch ≡ c.args.batch = search rules in
     let change : c.placing-change.result
     ≡ placing c.in_ok-named-2.placement.replaced c.in_ok-named-2.placement.removed c.in_ok-named-2.placement.placed
+    (Stop c.in_ok-named-2.placement.stopped)
     (event.Command c.args.line (command.Enqueue c.args.named c.args.batch) (reply.Enqueued (seqs_of c.in_ok-named-2.placement.placed))) =
     search (rules, logged, named, batch) in
     rw (change, told, placement)

@@ -1,5 +1,5 @@
 use Rattle.std.proofs.Common.{◌≡◌, refl, rules}
-use Rattle.wm_commands.specs.Cleared.{cleared_state, clearing_of, replaced_by_clearing}
+use Rattle.wm_commands.specs.Cleared.{cleared_state, clearing_of, replaced_by_clearing, stopped_by}
 use Rattle.wm_commands.specs.Placed.{name_in, placed_records}
 use Rattle.wm_commands.proofs.placement.placement_of.Goals as goal
 
@@ -12,4 +12,5 @@ returns c =
     let placed : c.in_ok-placed.placed
     ≡ placed_records (cleared_state c.in_ok-clearing.clearing s) c.in_ok-name.name plan.after c.args.works.now = search rules in
     let replaced : c.in_ok-replaced.replaced ≡ replaced_by_clearing c.in_ok-clearing.clearing s.works = search rules in
-    rw (replaced, placed, name, clearing) refl
+    let stopped : c.in_ok-stopped.stopped ≡ stopped_by c.in_ok-clearing.clearing.cancelled s.runs = search rules in
+    rw (stopped, replaced, placed, name, clearing) refl

@@ -5,10 +5,11 @@ use Rattle.std.proofs.lemmas.List.{length-map}
 use Rattle.std.proofs.lemmas.List.Filters.{length-filter_both}
 use Rattle.std.proofs.lemmas.List.Sums.{length-filter}
 use Rattle.wm_collections.specs.Lists.{AllLater}
-use Rattle.wm_commands.proofs.ClearingSteps.{clearing_alone-step, passing-stored}
+use Rattle.wm_commands.proofs.ClearingSteps.{clearing_alone-step, passing-stored, StopsAlone-none}
 use Rattle.wm_commands.proofs.Clearings.{cleared-in_place, none-replaced, stays-passing, without-stays}
-use Rattle.wm_commands.specs.Builds.{ChangesRows, IsExecuted}
+use Rattle.wm_settings.specs.Builds.{ChangesRows, IsExecuted}
 use Rattle.wm_commands.specs.Cleared.{pruning, with_cleared}
+use Rattle.wm_machine.proofs.Stops.{with_stopped-none}
 use Rattle.wm_machine.specs.Group.{numbers_in}
 use Rattle.wm_machine.specs.Pruned.{removable}
 use Rattle.wm_machine.specs.Rows.{row_of}
@@ -16,13 +17,14 @@ use Rattle.wm_machine.specs.Valid.{IsBefore, Valid}
 use Rattle.wm_machine.specs.declared.command.Command.TheVariants as command
 use Rattle.wm_machine.specs.declared.event.Event.{Event}
 use Rattle.wm_machine.specs.declared.record.Record.{Record}
-use Rattle.wm_machine.specs.declared.state.State.{State}
+use Rattle.wm_machine.specs.declared.state.Run.{Run}
 use Rattle.wm_machine.specs.declared.event.Event.TheVariants as event
 use Rattle.wm_machine.specs.declared.reply.Reply.TheVariants as reply
 use Rattle.wm_machine.specs.declared.state.State.{State}
 use Rattle.wm_steps.proofs.Views.{reached-view}
 use Rattle.wm_steps.specs.StepChanges.{placing, removing, row_changes, with_replaced, without, IsStepOf}
 use Rattle.wm_steps.specs.declared.change.Replacement.{Replacement}
+use Rattle.wm_steps.specs.declared.change.RunChange.TheVariants.{Unchanged}
 use Rattle.wm_commands.proofs.prune.execute.Goals as goal
 
 -- ---- the records that stay
@@ -79,10 +81,11 @@ pruning-executed s line valid =
     record {
       event = refl;
       step =
-          subst (λ (replaced : List Replacement). IsStepOf s (placing replaced removed [] e)) (none-replaced removed 0 s.works)
-          (clearing_alone-step s (pruning removed) e valid (passing-stored test s.works valid.works.in_order)
+          subst (λ (replaced : List Replacement). IsStepOf s (placing replaced removed [] Unchanged e)) (none-replaced removed 0 s.works)
+          (clearing_alone-step s (pruning removed) Unchanged e valid (passing-stored test s.works valid.works.in_order) (StopsAlone-none removed s)
           (tt, ap reply.Pruned (count-removed test s.works))
-          (ap (λ (works : List Record). record s { works = works }) (sym (staying test s.works valid.works.in_order))));
+          (ap (λ (works : List Record). record s { works = works }) (sym (staying test s.works valid.works.in_order))
+          ∙ ap (λ (runs : List Run). record s { works = with_cleared (pruning removed) s.works; runs = runs }) (sym (with_stopped-none s.runs))));
       rows = rows-removed s e (filter test s.works) refl;
     }
 
@@ -94,4 +97,4 @@ returns c =
     let reached = reached-view _ s _ c.view.view_is c.view.invariant in
     let count : c.len-count.result ≡ length numbers = search rules in
     let change : c.removing-change.result ≡ removing numbers (prune_event line s.works) = search rules in
-    rw (change, count) (pruning-executed s line reached.valid)
+    rw (change, count) (pruning-executed s line reached)

@@ -1,7 +1,8 @@
 use Rattle.std.proofs.Common.{◌≡◌, true, slice_get, rules, Some, ◌∙◌}
 use Rattle.std.proofs.lemmas.Result.{IfOk-weaker}
 use Rattle.wm_commands.proofs.Updating.{updated-is, updating-executed}
-use Rattle.wm_commands.specs.Builds.{IsExecuted, IsUpdating}
+use Rattle.wm_commands.specs.Builds.{IsUpdating}
+use Rattle.wm_settings.specs.Builds.{IsExecuted}
 use Rattle.wm_machine.specs.Closed.{is_open}
 use Rattle.wm_machine.specs.Updated.{is_same_kind}
 use Rattle.wm_machine.specs.Valid.{IsRecord}
@@ -15,7 +16,7 @@ update_of-requires c =
     let s = c.args.view.now in
     let reached = reached-view _ s _ c.view.view_is c.view.invariant in
     let at : slice_get s.works c.args.index ≡ Some c.at-work.result.now = search rules in
-    (All-at IsRecord s.works c.args.index c.at-work.result.now reached.valid.works.records at).fits
+    (All-at IsRecord s.works c.args.index c.at-work.result.now reached.works.records at).fits
 
 pub returns-in_ok-request : goal.returns-in_ok-request
 returns-in_ok-request c =
@@ -32,5 +33,5 @@ returns-in_ok-request c =
     let kept : c.in_ok-request.request ≡ request = search rules in
     let outcome-is = updated-is s request work (c.requires.found ∙ at) unfinished kind in
     IfOk-weaker c.update_of.result (IsUpdating c.args.line asked index work request) (IsExecuted s c.args.line asked) (λ executed is.
-    updating-executed s c.args.line asked index work request executed reached.valid at c.requires.asked kind c.requires.asked outcome-is is)
+    updating-executed s c.args.line asked index work request executed reached at c.requires.asked kind c.requires.asked outcome-is is)
     (rw (logged, kept) at c.update_of.ensures)

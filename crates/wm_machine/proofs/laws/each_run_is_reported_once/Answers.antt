@@ -7,5 +7,4 @@ returns-clause-from_valid c = reported_once
 
 pub returns-clause-from_opened : goal.returns-clause-from_opened
 returns-clause-from_opened c rows instances first last before later run seq instance input opened replays =
-    let reached = reached-opened rows instances first opened in
-    reported_once first last before later run seq instance input reached.valid reached.narrow replays
+    reported_once first last before later run seq instance input (reached-opened rows instances first opened) replays

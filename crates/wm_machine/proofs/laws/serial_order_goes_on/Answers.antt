@@ -7,5 +7,5 @@ returns-clause-from_rest c = BeginsSerial-goes-on
 
 pub returns-clause-from_opened : goal.returns-clause-from_opened
 returns-clause-from_opened c lines left rows instances first now log askable whole opened replays few order =
-    let reached = reached-replayed first now log (reached-opened rows instances first opened) replays in
-    BeginsSerial-goes-on lines left first now log askable whole (rest-opened opened) replays reached.valid reached.narrow few order
+    BeginsSerial-goes-on lines left first now log askable whole (rest-opened opened) replays
+    (reached-replayed first now log (reached-opened rows instances first opened) replays) few order

@@ -11,4 +11,4 @@ returns c =
     let reached = reached-view _ s _ c.view.view_is c.view.invariant in
     let observers : c.as_slice-observers.result.now ≡ s.observers = search rules in
     let pairs : c.as_slice.result.now ≡ compared_pairs change s = search rules in
-    rw (observers, pairs, compared-told s change reached.valid c.requires.fits) at c.notes.ensures
+    rw (observers, pairs, compared-told s change reached c.requires.fits) at c.notes.ensures

@@ -10,15 +10,14 @@ use Rattle.wm_machine.specs.declared.state.State.{State}
 use Rattle.wm_machine.proofs.Changes.{OfNumber}
 use Rattle.wm_machine.proofs.Endings.{end_by, end_in, same_period}
 use Rattle.wm_machine.proofs.Finishes.{after_finish, after_timed_out}
-use Rattle.wm_machine.proofs.Runnings.{found_narrow, found_valid}
+use Rattle.wm_machine.proofs.Runnings.{found_valid}
 use Rattle.wm_machine.specs.Closed.{is_open}
 use Rattle.wm_machine.specs.Ends.{ended_as, given_by, period_of, retried}
-use Rattle.wm_machine.specs.Narrow.{IsReached}
 use Rattle.wm_machine.specs.Role.{SomeMore, This}
 use Rattle.wm_machine.specs.Role as role
 use Rattle.wm_machine.specs.Runs.{other_runs, run_numbered, with_out}
 use Rattle.wm_machine.specs.Step.{IsEnd, IsReport, IsTimeout}
-use Rattle.wm_machine.specs.Valid.{IsWorkOf}
+use Rattle.wm_machine.specs.Valid.{IsWorkOf, Valid}
 use Rattle.wm_machine.specs.declared.event.End.TheVariants.{Retry}
 use Rattle.wm_machine.specs.declared.event.Event.TheVariants as event
 use Rattle.wm_runs.proofs.Reaching.{change-keeps, end-agree, ended-same}
@@ -56,11 +55,10 @@ may-report s number i told run work gave is told_is =
     may-give run told gave (counted s number told run is.counts is.is_found.found) is.allowed told_is
 
 -- the end of a run changes just what is touched: its work and those that it reaches
-ends-agree : (s : State) (i : ℕ) (run : Run) (work : Record) (end : End) → IsReached s → slice_get s.works i ≡ Some work → IsWorkOf run work
+ends-agree : (s : State) (i : ℕ) (run : Run) (work : Record) (end : End) → Valid s → slice_get s.works i ≡ Some work → IsWorkOf run work
     → AllByRecursion (λ w. after_change (change_by (ended_as work.request.period s.now end work)
     (end_reach work.request.period s.now work.seq end (nodes_of s.works))) w ≡ end_in s run end w) s.works
-ends-agree s i run work end reached at of =
-    let valid = reached.valid in
+ends-agree s i run work end valid at of =
     let period : work.request.period ≡ period_of run.seq s.works =
     All-at (OfNumber run.seq (λ w. w.request.period ≡ period_of run.seq s.works)) s.works i work (same_period run.seq s.works valid.works.in_order) at of.seq in
     let agree =
@@ -70,23 +68,23 @@ ends-agree s i run work end reached at of =
     (subst (λ kind. AllByRecursion (λ w. after_change touch w ≡ end_by s.now work.seq kind end s.works w) s.works) period agree)
 
 -- each record keeps its node where a run of a work ends
-run-keeps : (s : State) (i : ℕ) (run : Run) (work itself : Record) (to : Reach) → IsReached s → slice_get s.works i ≡ Some work → IsWorkOf run work
+run-keeps : (s : State) (i : ℕ) (run : Run) (work itself : Record) (to : Reach) → Valid s → slice_get s.works i ≡ Some work → IsWorkOf run work
     → itself.seq ≡ work.seq → itself.prior ≡ work.prior → KeepNodes (change_by itself to) s.works
 run-keeps s i run work itself to reached at of seq prior =
-    change-keeps itself work to s.works reached.valid.works.in_order (stored-at s.works i work at) (ap is_open of.running) seq prior
+    change-keeps itself work to s.works reached.works.in_order (stored-at s.works i work at) (ap is_open of.running) seq prior
 
 -- the run is over by this end
 finish-step : (s : State) (number i : ℕ) (told : Report) (run : Run) (work : Record) (end : End) → IsReported s number i told run work
     → given_of told.answer ≡ Some (given_by end)
     → IsFinish s number told false (replacing_all (replaced_by_end s work end) (over run) (event.Finish run.run end))
 finish-step s number i told run work end is told_is =
-    let valid = is.is_found.reached.valid in
+    let valid = is.is_found.valid in
     let named = found-numbered number s.runs run is.is_found.found in
     let may = may-report s number i told run work (given_by end) is told_is in
     let legal : IsEnd s run.run end = record {
       run = run;
       is_running = ap (λ n. run_numbered n s.runs) named ∙ is.is_found.found;
-      is_current = found_narrow s number run is.is_found.reached.narrow is.is_found.found;
+      is_current = is.is_found.current;
       may_give = may;
     } in
     let gone : State = record s { runs = other_runs run.run s.runs; instances = with_out false run.instance s.instances } in
@@ -101,9 +99,9 @@ finish-step s number i told run work end is told_is =
       ends = ap (λ n. role.Ends n (This (given_by end))) named;
       how = refl;
       step =
-          replacing_all-step s gone (change_by itself to) (end_in s run end) (over run) (event.Finish run.run end) valid is.is_found.reached.narrow legal
-          (run-keeps s i run work itself to is.is_found.reached is.is_found.at is.is_found.of same.0 same.1)
-          (ends-agree s i run work end is.is_found.reached is.is_found.at is.is_found.of) refl
+          replacing_all-step s gone (change_by itself to) (end_in s run end) (over run) (event.Finish run.run end) valid legal
+          (run-keeps s i run work itself to is.is_found.valid is.is_found.at is.is_found.of same.0 same.1)
+          (ends-agree s i run work end is.is_found.valid is.is_found.at is.is_found.of) refl
           (after_finish s run.run end legal);
     }
 
@@ -119,7 +117,7 @@ timeout-step : (s : State) (number i : ℕ) (told : Report) (run : Run) (work : 
     → IsReported s number i told run work → goes_on told ≡ false → given_of told.answer ≡ Some (More progress)
     → IsFinish s number told true (replacing_all (replaced_by (retried s.now work) reach.Stays s.works) (over run) (event.TimedOut run.run))
 timeout-step s number i told run work progress is stays told_is =
-    let valid = is.is_found.reached.valid in
+    let valid = is.is_found.valid in
     let named = found-numbered number s.runs run is.is_found.found in
     let turn : told.k ≡ run.turn = (counted s number told run is.counts is.is_found.found).about.same_turn in
     let most : run.turn ≤ 999 = (found_valid s number run valid is.is_found.found).turn in
@@ -127,7 +125,7 @@ timeout-step s number i told run work progress is stays told_is =
     let report : IsReport s run.run (More progress) = record {
       run = run;
       is_running = ap (λ n. run_numbered n s.runs) named ∙ is.is_found.found;
-      is_current = found_narrow s number run is.is_found.reached.narrow is.is_found.found;
+      is_current = is.is_found.current;
       may_give = may-report s number i told run work (More progress) is told_is;
     } in
     let legal : IsTimeout s run.run = record { progress = progress; report = report; none_left = omega arith } in
@@ -141,9 +139,9 @@ timeout-step s number i told run work progress is stays told_is =
       ends = ap (λ n. role.Ends n SomeMore) named;
       how = refl;
       step =
-          replacing_all-step s gone touch (end_in s run Retry) (over run) (event.TimedOut run.run) valid is.is_found.reached.narrow legal
-          (run-keeps s i run work (retried s.now work) reach.Stays is.is_found.reached is.is_found.at is.is_found.of refl refl)
-          (ends-agree s i run work Retry is.is_found.reached is.is_found.at is.is_found.of) refl
+          replacing_all-step s gone touch (end_in s run Retry) (over run) (event.TimedOut run.run) valid legal
+          (run-keeps s i run work (retried s.now work) reach.Stays is.is_found.valid is.is_found.at is.is_found.of refl refl)
+          (ends-agree s i run work Retry is.is_found.valid is.is_found.at is.is_found.of) refl
           (after_timed_out s run.run legal);
     }
 
@@ -160,7 +158,7 @@ finish_by-requires c =
     let s = c.args.view.now in
     let found = c.found_run.ensures in
     let work = c.found_run.result.work.now in
-    unmarked-open work s.works found.reached.valid.works.in_order (stored-at s.works c.found_run.result.index work found.at) (ap is_open found.of.running)
+    unmarked-open work s.works found.valid.works.in_order (stored-at s.works c.found_run.result.index work found.at) (ap is_open found.of.running)
 
 pub returns-in-Some : goal.returns-in-Some
 returns-in-Some c =

@@ -1,9 +1,10 @@
-use Rattle.std.proofs.Common.{◌≡◌, Option, Some, None, slice_get, rules, subst}
+use Rattle.std.proofs.Common.{◌≡◌, true, Option, Some, None, slice_get, rules, subst}
 use Rattle.std.specs.Prelude.{IsSomeAnd}
 use Rattle.wm_machine.specs.Input.{work_numbered}
 use Rattle.wm_machine.specs.Runs.{run_numbered}
 use Rattle.wm_machine.specs.declared.record.Record.{Record}
 use Rattle.wm_machine.specs.Valid.{IsWorkOf}
+use Rattle.wm_machine.specs.declared.state.Run.{Run}
 use Rattle.wm_runs.proofs.RunLookups.{found-at, work-found}
 use Rattle.wm_steps.proofs.Views.{reached-view}
 use Rattle.wm_runs.proofs.reports.found_run.Goals as goal
@@ -15,7 +16,8 @@ unreachable-requires-in_default-index_numbered c =
     let run = c.in-Some.run'.now in
     let found : run_numbered c.args.number s.runs ≡ Some run = search rules in
     let none : work_numbered run.seq s.works ≡ None = search rules in
-    subst (λ (o : Option Record). IsSomeAnd o (IsWorkOf run)) none (work-found s c.args.number run reached found)
+    subst (λ (o : Option Record). IsSomeAnd o (IsWorkOf run)) none
+    (work-found s c.args.number run reached found (subst (λ (found : Option Run). IsSomeAnd found (λ run. run.current ≡ true)) found c.requires))
 
 pub returns : goal.returns
 returns c =
@@ -28,4 +30,5 @@ returns c =
     let found : run_numbered number s.runs ≡ Some run = search rules in
     let there : slice_get s.works index ≡ Some work = search rules in
     let same : work_numbered run.seq s.works ≡ slice_get s.works index = search rules in
-    found-at s number index run work reached found there same
+    let current = subst (λ (found : Option Run). IsSomeAnd found (λ run. run.current ≡ true)) found c.requires in
+    found-at s number index run work reached found current there same

@@ -6,7 +6,6 @@ use Rattle.wm_machine.proofs.Firsts.{first_of-stored, first_of-waiting}
 use Rattle.wm_machine.proofs.StartFailures.{after_start_failed, not_started_in}
 use Rattle.wm_machine.specs.Ends.{not_started, period_of}
 use Rattle.wm_machine.specs.First.{first_of}
-use Rattle.wm_machine.specs.Narrow.{IsNarrow}
 use Rattle.wm_machine.specs.Runs.{start_refusal}
 use Rattle.wm_machine.specs.Step.{IsStartFailure}
 use Rattle.wm_machine.specs.Valid.{Valid}
@@ -27,12 +26,12 @@ use Rattle.wm_steps.specs.declared.change.RunChange.TheVariants.{Unchanged}
 use Rattle.wm_runs.proofs.starting.fail.Goals as goal
 
 -- the work can't start, for this cause
-failure-claims : (s : State) (work : Record) (cause : Cause) → Valid s → IsNarrow s → first_of s ≡ Some work → start_refusal s work ≡ Some cause
+failure-claims : (s : State) (work : Record) (cause : Cause) → Valid s → first_of s ≡ Some work → start_refusal s work ≡ Some cause
     → IsClaiming s (record {
       change = replacing_all (replaced_by_no_start s work) Unchanged (event.StartFailed work.seq cause);
       claimed = claimed.Failed work.seq cause;
     })
-failure-claims s work cause valid narrow first refused =
+failure-claims s work cause valid first refused =
     let legal : IsStartFailure s work.seq cause = record { work = work; is_first = first; refused = refused; seq_is = refl } in
     let stored = first_of-stored s work first in
     let itself = not_started s.now work in
@@ -44,7 +43,7 @@ failure-claims s work cause valid narrow first refused =
     let agree = no_start-agree work.request.period s.now work s.works valid.works.in_order stored unfinished in
     record {
       step =
-          replacing_all-step s s touch (not_started_in s work) Unchanged (event.StartFailed work.seq cause) valid narrow legal
+          replacing_all-step s s touch (not_started_in s work) Unchanged (event.StartFailed work.seq cause) valid legal
           (change-keeps itself work to s.works valid.works.in_order stored unfinished same.0 same.1)
           (subst (λ kind. AllByRecursion (λ w. after_change touch w ≡ not_started_by s.now work.seq kind s.works w) s.works) period agree) refl
           (after_start_failed s work.seq cause legal);
@@ -66,4 +65,4 @@ returns c =
     let cause_is : c.in_ok-cause-2.cause ≡ cause = search rules in
     let change_is : c.replacing_all-change.result ≡ replacing_all (replaced_by_no_start s work) Unchanged (event.StartFailed work.seq cause) = search rules in
     rw (change_is, cause_is)
-    (failure-claims s work cause reached.valid reached.narrow c.requires.first c.requires.refused)
+    (failure-claims s work cause reached c.requires.first c.requires.refused)

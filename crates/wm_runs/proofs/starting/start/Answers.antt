@@ -13,7 +13,6 @@ use Rattle.wm_machine.proofs.Records.{IsRecord-started}
 use Rattle.wm_machine.proofs.Starts.{after_start}
 use Rattle.wm_machine.specs.First.{idle_instance}
 use Rattle.wm_machine.specs.Input.{input_of}
-use Rattle.wm_machine.specs.Narrow.{IsNarrow}
 use Rattle.wm_machine.specs.Runs.{run_on, started, with_start}
 use Rattle.wm_machine.specs.Step.{IsStart}
 use Rattle.wm_machine.specs.Valid.{IsRecord, Valid}
@@ -44,12 +43,12 @@ begun s work idle input valid =
     (sym (run_numbered-push s.next_run s.runs run below refl)) (refl, refl)
 
 -- the work starts on an instance
-start-claims : (s : State) (i : ℕ) (work : Record) (idle : Instance) (input : List DataEntry) → Valid s → IsNarrow s → IsFirstAt s i work
+start-claims : (s : State) (i : ℕ) (work : Record) (idle : Instance) (input : List DataEntry) → Valid s → IsFirstAt s i work
     → idle_instance s.instances work.request.class ≡ Some idle → input_of s work ≡ Ok input → IsClaiming s (record {
       change = replacing i (started work) (Begin (run_on s work idle input)) (start_event s work idle input);
       claimed = claimed.Run s.next_run input;
     })
-start-claims s i work idle input valid narrow first is_idle takes =
+start-claims s i work idle input valid first is_idle takes =
     let run = run_on s work idle input in
     let legal : IsStart s s.next_run work.seq idle.number input = record {
       work = work;
@@ -87,4 +86,4 @@ returns c =
     let claimed_is : c.in_ok-claimed.claimed ≡ claimed.Run s.next_run input = search rules in
     let change_is : c.in_ok-claimed.change ≡ replacing c.args.index (started work) (Begin run) (start_event s work idle input) = search rules in
     rw (change_is, claimed_is)
-    (start-claims s c.args.index work idle input reached.valid reached.narrow c.requires.first c.requires.idle c.requires.input)
+    (start-claims s c.args.index work idle input reached c.requires.first c.requires.idle c.requires.input)

@@ -6,7 +6,6 @@ use Rattle.wm_data.specs.declared.data.DataEntry.{DataEntry}
 use Rattle.wm_machine.specs.declared.record.Record.{Record}
 use Rattle.wm_machine.specs.declared.state.Run.{Run}
 use Rattle.wm_machine.specs.declared.state.State.{State}
-use Rattle.wm_machine.proofs.Runnings.{found_narrow}
 use Rattle.wm_machine.proofs.Turns.{after_turn}
 use Rattle.wm_machine.specs.Rows.{row_of}
 use Rattle.wm_machine.specs.Runs.{changed_work, run_numbered}
@@ -48,7 +47,7 @@ turn-step s number i told run work progress counts allowed goes is told_is =
       report = record {
         run = run;
         is_running = found;
-        is_current = found_narrow s number run is.reached.narrow found;
+        is_current = is.current;
         may_give = may-give run told (More progress) counts_here allowed told_is;
       };
       turns_left = subst (λ k. k < 999) counts_here.about.same_turn left;
@@ -62,7 +61,7 @@ turn-step s number i told run work progress counts allowed goes is told_is =
       event_is = refl;
       rows = refl;
       step =
-          keeping_row-step s gone i work change (Turn run.run) (event.Turn number progress) is.reached.valid is.at (row-telling progress work) legal refl
+          keeping_row-step s gone i work change (Turn run.run) (event.Turn number progress) is.valid is.at (row-telling progress work) legal refl
           (then ∙ ap (λ n. record gone { works = changed_work change n s.works }) (sym is.of.seq));
       input =
           subst (λ (found : Option Run). IsSomeAnd found (λ r. told.input ≡ r.input))

@@ -1,7 +1,7 @@
-use Rattle.std.proofs.Common.{◌≡◌, ℕ, [], ◌∷◌, ◌∙◌, ap, refl, subst, rules}
+use Rattle.std.proofs.Common.{◌≡◌, ℕ, [], ◌∷◌, ◌∙◌, ap, inl, inr, refl, subst, rules}
 use Rattle.wm_bench.specs.Places.{changed_at, made_back}
 use Rattle.wm_session.proofs.DiaryLemmas.{IsDiaryLater-same}
-use Rattle.wm_session.proofs.SerialLemmas.{IsDriven-begun, IsDriven-given_up}
+use Rattle.wm_session.proofs.SerialLemmas.{not_stopped, IsDriven-begun, IsDriven-given_up}
 use Rattle.wm_session.specs.Drive.{IsDriven}
 use Rattle.wm_worker.specs.Diary.{diary_with}
 use Rattle.wm_worker.specs.declared.answer.Entry.TheVariants.{Begun}
@@ -24,13 +24,18 @@ returns-in-Stopped g c =
     let diary_of = g.B.Worker.diary_of in
     let seat = c.begin.new.self in
     let has = diary_of c.args.seat.worker in
-    let stopped = c.in-Stopped.ensures in
-    IsDriven-given_up diary_of has (diary_with (Begun c.args.ticket.task.run ∷ []) has) c.requires.under_way
-    (record {
-      back = seat.worker;
-      diary_later = IsDiaryLater-same has (diary_of seat.worker) c.in-Err.ensures.diary_err;
-      stopped = stopped.stopped;
-      roll = stopped.roll;
-      places = stopped.places
-          ∙ ap (λ n. changed_at (made_back g.B.Worker.kind_of seat.worker) n c.args.book.now.places) (c.begin.ensures.number ∙ c.requires.number);
-    })
+    let given = c.in-Stopped.ensures in
+    elim given.how [
+      | inl stopped ↦
+          IsDriven-given_up diary_of has (diary_with (Begun c.args.ticket.task.run ∷ []) has) c.requires.under_way
+          (record {
+            back = seat.worker;
+            diary_later = IsDiaryLater-same has (diary_of seat.worker) c.in-Err.ensures.diary_err;
+            stopped = stopped;
+            roll = given.roll;
+            places = given.places
+                ∙ ap (λ n. changed_at (made_back g.B.Worker.kind_of seat.worker) n c.args.book.now.places) (c.begin.ensures.number ∙ c.requires.number);
+          })
+      | inr late ↦
+          absurd (not_stopped c.args.book.now.table.state c.args.ticket.task.run c.requires.under_way.current late.returned.stopped)
+    ]

@@ -78,11 +78,8 @@ returns-in-Ended g c =
           }
     ]
 
--- no run is unreturned before a line, and nothing is left to do before one that settles
+-- nothing is left to do before a line that settles
 pub unreachable-requires : goal.unreachable-requires
 unreachable-requires g c =
     let is = c.in-NotSettled.ensures in
-    absurd (is.waits.not_yet (record {
-      no_run = c.lines.invariant.rest.no_run is.going;
-      settled = λ settles. c.lines.invariant.quiet is.going (drains-settles c.lines.book.left settles);
-    }))
+    absurd (is.waits.not_yet (λ settles. c.lines.invariant.quiet is.going (drains-settles c.lines.book.left settles)))

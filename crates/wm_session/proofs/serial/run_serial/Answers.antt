@@ -43,5 +43,5 @@ returns-clause-serial g c begins =
           (EachBack-all (HasTold diary_of book.table.first log) given kind_of book.places last.last numbered none back.workers
           (AtPlace-weaker given book.places (λ number had now is. is.told (c.finish.ensures.done done)) boxes));
       serial = IsSerialRun-order lines last.status last.first last.last last.log c.requires.askable session.commands (rw back.first order.from_rest)
-          session.replay back.valid back.narrow (rw back.last order.few_runs) in_order (λ done. rw back.last (executed.quiet (c.finish.ensures.done done)));
+          session.replay back.valid (rw back.last order.few_runs) in_order (λ done. rw back.last (executed.quiet (c.finish.ensures.done done)));
     }

@@ -13,4 +13,4 @@ pub returns-in-Over : goal.returns-in-Over
 returns-in-Over g c =
     let told = c.turn-told in
     IsNoTurn-reported g.K.Keeper.store g.B.Worker.kind_of g.B.Worker.diary_of c.args.ticket c.args.seat.worker told.new.seat
-    (told.ensures.number ∙ c.requires.number) c.args.book.now c.report.new.self told.result c.report.result c.report.ensures c.in-Over.is told.ensures.written
+    (told.ensures.number ∙ c.requires.number) c.args.book.now c.report.new.self told.result c.report.result c.requires.under_way.current c.report.ensures c.in-Over.is told.ensures.written

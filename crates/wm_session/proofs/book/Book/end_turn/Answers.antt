@@ -1,11 +1,11 @@
-use Rattle.std.proofs.Common.{◌≡◌, None, Some, inl, inr, map, ap, subst, sym, ◌∙◌}
+use Rattle.std.proofs.Common.{◌≡◌, None, Some, inr, map, ap, subst, sym, ◌∙◌}
 use Rattle.wm_machine.specs.declared.state.State.{State}
 use Rattle.wm_roll.specs.Parts.{without}
 use Rattle.wm_session.proofs.BookRolls.{away-out, given_back, taken_again}
 use Rattle.wm_session.specs.Bench.{is_out_on}
 use Rattle.wm_table.specs.TableState.{TableState, TicketState}
 use Rattle.wm_session.proofs.BookSteps.{IsTold-all, IsTold-cut}
-use Rattle.wm_session.proofs.BookReports.{ended_out, ended_roll, turned_instances, BookInvariant-over, BookInvariant-turn_untold, BookInvariant-turned, IsEndUntold-ended, IsOver-ended, IsTurnTold-made, IsTurnUntold-made}
+use Rattle.wm_session.proofs.BookReports.{over_out, over_roll, turned_instances, unfaulted_over, BookInvariant-over, BookInvariant-turn_untold, BookInvariant-turned, HasLeft-by, IsOver-told, IsOverUntold-told, IsTurnTold-made, IsTurnUntold-made}
 use Rattle.wm_session.proofs.BookStops.{BookInvariant-refused, IsReportStopped-refused}
 use Rattle.wm_session.proofs.book.Book.end_turn.Goals as goal
 
@@ -68,9 +68,9 @@ returns-in-Err g c =
     let back = c.give_back in
     let going = subst (λ book. book.status ≡ None) (sym c.self.view_is) c.requires.going in
     rw (← c.self.view_is) (record {
-      how = inr (inr (IsTurnUntold-made c.turn.new.self back.new.table back.new.bench told.self told.sink
+      how = inr (inr (inr (IsTurnUntold-made c.turn.new.self back.new.table back.new.bench told.self told.sink
           (without c.in-Go.next.task.run c.turn.new.self.roll) c.from.result c.args.ticket c.in-Go.next c.args.told c.self.invariant going
-          c.in-Go.ensures.answer back.ensures.table));
+          c.in-Go.ensures.answer back.ensures.table)));
       out = c.in-Go.ensures.out;
       roll = ap (λ (t : TableState g.row.K.Denot). t.roll) back.ensures.table
           ∙ (λ j. without (c.in-Go.ensures.answer.same_run j) (c.in-Go.ensures.roll j))
@@ -84,7 +84,7 @@ pub give-requires : goal.give-requires
 give-requires g c =
     let i = c.self.inside in
     let kept = c.self.invariant in
-    let out = ended_out i.table.state i.table.roll c.args.ticket c.turn.result c.in-Finished.is c.turn.ensures.out in
+    let out = over_out i.table.state i.table.roll c.args.ticket c.turn.result c.in-Finished.is c.turn.ensures.out in
     away-out g.B.Worker.kind_of i.table.state i.table.roll c.args.ticket c.args.seat.number c.args.seat.worker i.bench kept.valid kept.workers kept.away.away
     c.requires.number c.requires.kind out
 
@@ -94,14 +94,18 @@ invariant_of-self-in-Ok-tell_last g c =
     let told = c.tell_last-in-Finished.new in
     let table = c.turn.new.self in
     let going = subst (λ book. book.status ≡ None) (sym c.self.view_is) c.requires.going in
-    let out = ended_out c.self.inside.table.state c.self.inside.table.roll c.args.ticket c.turn.result c.in-Finished.is c.turn.ensures.out in
-    let roll = ended_roll c.args.ticket c.turn.result c.self.inside.table.roll table.roll c.in-Finished.is c.turn.ensures.roll in
+    let out = over_out c.self.inside.table.state c.self.inside.table.roll c.args.ticket c.turn.result c.in-Finished.is c.turn.ensures.out in
+    let roll = over_roll c.args.ticket c.turn.result c.self.inside.table.roll table.roll c.in-Finished.is c.turn.ensures.roll in
     let kept = c.self.invariant in
     let away =
     away-out g.B.Worker.kind_of c.self.inside.table.state c.self.inside.table.roll c.args.ticket seat.number seat.worker c.self.inside.bench kept.valid
     kept.workers kept.away.away c.requires.number c.requires.kind out in
-    BookInvariant-over table c.give.new.self told.self told.sink c.self.inside.status c.args.ticket seat.number c.args.told seat.worker
-    c.turn.result c.self.invariant going out.stands c.requires.number away c.give.ensures c.in-Finished.is c.turn.ensures.answer c.turn.ensures.cause roll
+    let left =
+    HasLeft-by g.K.Keeper.store c.args.ticket c.args.told c.turn.result c.self.inside.table table kept.valid c.in-Finished.is c.turn.ensures.answer in
+    BookInvariant-over table c.give.new.self told.self told.sink c.self.inside.status c.args.ticket seat.number seat.worker c.self.invariant going out.stands
+    c.requires.number away c.give.ensures left
+    (unfaulted_over c.turn.result (g.K.Keeper.store c.self.inside.table.keeper).faults (g.K.Keeper.store table.keeper).faults c.in-Finished.is
+    c.turn.ensures.cause) roll
     (IsTold-all table told.self told.sink going c.in-Ok-tell_last.ensures.told c.in-Ok-tell_last.ensures.all c.in-Ok-tell_last.ensures.cause)
 
 pub invariant_of-self-in-Err-tell_last : goal.invariant_of-self-in-Err-tell_last
@@ -112,35 +116,39 @@ invariant_of-self-in-Err-tell_last g c =
     let refused = c.in-Err-tell_last in
     let stop = c.from-in-Err-tell_last in
     let going = subst (λ book. book.status ≡ None) (sym c.self.view_is) c.requires.going in
-    let out = ended_out c.self.inside.table.state c.self.inside.table.roll c.args.ticket c.turn.result c.in-Finished.is c.turn.ensures.out in
-    let roll = ended_roll c.args.ticket c.turn.result c.self.inside.table.roll table.roll c.in-Finished.is c.turn.ensures.roll in
+    let out = over_out c.self.inside.table.state c.self.inside.table.roll c.args.ticket c.turn.result c.in-Finished.is c.turn.ensures.out in
+    let roll = over_roll c.args.ticket c.turn.result c.self.inside.table.roll table.roll c.in-Finished.is c.turn.ensures.roll in
     let kept = c.self.invariant in
     let away =
     away-out g.B.Worker.kind_of c.self.inside.table.state c.self.inside.table.roll c.args.ticket seat.number seat.worker c.self.inside.bench kept.valid
     kept.workers kept.away.away c.requires.number c.requires.kind out in
-    BookInvariant-over table c.give.new.self told.self told.sink (Some stop.result) c.args.ticket seat.number c.args.told seat.worker
-    c.turn.result c.self.invariant going out.stands c.requires.number away c.give.ensures c.in-Finished.is c.turn.ensures.answer c.turn.ensures.cause roll
+    let left =
+    HasLeft-by g.K.Keeper.store c.args.ticket c.args.told c.turn.result c.self.inside.table table kept.valid c.in-Finished.is c.turn.ensures.answer in
+    BookInvariant-over table c.give.new.self told.self told.sink (Some stop.result) c.args.ticket seat.number seat.worker c.self.invariant going out.stands
+    c.requires.number away c.give.ensures left
+    (unfaulted_over c.turn.result (g.K.Keeper.store c.self.inside.table.keeper).faults (g.K.Keeper.store table.keeper).faults c.in-Finished.is
+    c.turn.ensures.cause) roll
     (IsTold-cut table told.self told.sink refused.fault stop.result c.self.invariant refused.ensures.told refused.ensures.cause stop.ensures)
 
 pub returns-in-Ok-tell_last : goal.returns-in-Ok-tell_last
 returns-in-Ok-tell_last g c =
     let told = c.tell_last-in-Finished.new in
     let going = subst (λ book. book.status ≡ None) (sym c.self.view_is) c.requires.going in
-    let out = ended_out c.self.inside.table.state c.self.inside.table.roll c.args.ticket c.turn.result c.in-Finished.is c.turn.ensures.out in
-    let roll = ended_roll c.args.ticket c.turn.result c.self.inside.table.roll c.turn.new.self.roll c.in-Finished.is c.turn.ensures.roll in
+    let out = over_out c.self.inside.table.state c.self.inside.table.roll c.args.ticket c.turn.result c.in-Finished.is c.turn.ensures.out in
+    let roll = over_roll c.args.ticket c.turn.result c.self.inside.table.roll c.turn.new.self.roll c.in-Finished.is c.turn.ensures.roll in
     rw (← c.self.view_is)
-    (IsOver-ended c.turn.new.self c.give.new.self told.self told.sink c.args.ticket c.args.seat c.args.told c.turn.result c.self.invariant going
+    (IsOver-told c.turn.new.self c.give.new.self told.self told.sink c.args.ticket c.args.seat c.args.told c.turn.result c.self.invariant going
     c.in-Finished.is c.turn.ensures.answer out roll c.give.ensures c.in-Ok-tell_last.ensures.all)
 
 pub returns-in-Err-tell_last : goal.returns-in-Err-tell_last
 returns-in-Err-tell_last g c =
     let told = c.tell_last-in-Finished.new in
     let going = subst (λ book. book.status ≡ None) (sym c.self.view_is) c.requires.going in
-    let out = ended_out c.self.inside.table.state c.self.inside.table.roll c.args.ticket c.turn.result c.in-Finished.is c.turn.ensures.out in
-    let roll = ended_roll c.args.ticket c.turn.result c.self.inside.table.roll c.turn.new.self.roll c.in-Finished.is c.turn.ensures.roll in
+    let out = over_out c.self.inside.table.state c.self.inside.table.roll c.args.ticket c.turn.result c.in-Finished.is c.turn.ensures.out in
+    let roll = over_roll c.args.ticket c.turn.result c.self.inside.table.roll c.turn.new.self.roll c.in-Finished.is c.turn.ensures.roll in
     rw (← c.self.view_is) (record {
-      how = inr (inl (IsEndUntold-ended c.turn.new.self c.give.new.self told.self told.sink c.from-in-Err-tell_last.result c.args.ticket
-          c.args.told c.turn.result c.self.invariant going c.in-Finished.is c.turn.ensures.answer));
+      how = inr (IsOverUntold-told c.turn.new.self c.give.new.self told.self told.sink c.from-in-Err-tell_last.result c.args.ticket
+          c.args.told c.turn.result c.self.invariant going c.in-Finished.is c.turn.ensures.answer);
       out = out;
       roll = roll;
       places = c.give.ensures;

@@ -1,6 +1,6 @@
 use Rattle.std.proofs.Common.{◌≡◌, ◌≢◌, [], ◌∷◌, Some, rules, sym, subst}
 use Rattle.std.specs.List.{AllByRecursion}
-use Rattle.wm_machine.proofs.Commands.{legal_line-at_rest}
+use Rattle.wm_machine.proofs.Commands.{legal_line-asked}
 use Rattle.wm_machine.specs.Outcome.{IsAskable}
 use Rattle.wm_session.specs.Book.{MayCome, SettlesNext}
 use Rattle.wm_session.proofs.BookSteps.{IsTold-all, IsTold-cut}
@@ -8,7 +8,7 @@ use Rattle.wm_session.proofs.BookLines.{BookInvariant-line}
 use Rattle.wm_session.proofs.BookStops.{BookInvariant-line_refused, IsFrontStopped-refused, IsFrontStopped-untold}
 use Rattle.wm_session.proofs.book.Book.front_step.Goals as goal
 
--- the next line is legal: no run is unreturned, and where it settles nothing is startable
+-- the next line is legal: where it settles there is nothing left to do
 pub execute-requires : goal.execute-requires
 execute-requires g c =
     let s = c.self.inside.table.state in
@@ -17,8 +17,7 @@ execute-requires g c =
     let askable = subst (AllByRecursion IsAskable) items c.self.invariant.askable in
     let may : left ≢ [] → MayCome left s = search rules in
     let comes = may (λ none. absurd cc) in
-    legal_line-at_rest s c.in-Some.command askable.0
-    (record { no_run = comes.no_run; settled = λ settles. (comes.settled (subst SettlesNext (sym items) settles)).nothing_startable })
+    legal_line-asked s c.in-Some.command askable.0 (record { settled = λ settles. comes (subst SettlesNext (sym items) settles) })
 
 pub invariant_of-self-in-Ok : goal.invariant_of-self-in-Ok
 invariant_of-self-in-Ok g c =

@@ -13,5 +13,5 @@ invariant_of-result g c =
     BookInvariant-new g.M.Mark.inputs
     (tells_of g.K.Keeper.store g.W.Sink.given g.W.Sink.faults g.B.Worker.kind_of g.B.Worker.diary_of) c.args.table c.args.bench
     c.from_vec.result.items c.in-Ok.pending c.args.sink asked.log
-    (left ∙ asked.lines) c.in-Ok.ensures asked.none_out asked.no_run asked.workers asked.none_away asked.all_in asked.valid asked.narrow few
+    (left ∙ asked.lines) c.in-Ok.ensures asked.none_out asked.no_run asked.workers asked.none_away asked.all_in asked.valid few
     (subst (AllByRecursion IsAskable) (sym left) asked.askable) asked.begun asked.written asked.keeper_faults asked.sink_faults asked.images

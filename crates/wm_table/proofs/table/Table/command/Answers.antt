@@ -1,5 +1,5 @@
 use Rattle.std.proofs.Common.{◌≡◌}
-use Rattle.wm_commands.proofs.Executions.{no-row-changes}
+use Rattle.wm_settings.proofs.Executions.{no-row-changes}
 use Rattle.wm_table.proofs.table.Table.command.Goals as goal
 
 pub returns-in-Ok-clause-untouched_keeper : goal.returns-in-Ok-clause-untouched_keeper

@@ -24,38 +24,40 @@ carry_out-requires-clause-step g c =
 pub invariant_of-self : goal.invariant_of-self
 invariant_of-self g c =
     let i = c.self.inside in
-    let old : TableState g.row.K.Denot = record { first = i.first; state = i.view; log = i.log; keeper = i.keeper; roll = i.roll.parts } in
+    let old : TableState g.row.K.Denot = record { first = i.first; state = i.view; log = i.log.items; keeper = i.keeper; roll = i.roll.parts } in
     let state_is : c.args.self.now.state ≡ i.view = cc in
     let is : IsStepOf i.view c.args.change = subst (λ (s : State). IsStepOf s c.args.change) state_is c.requires.step in
     let refused = c.in_err-carry_out.ensures in
     kept-untouched g.M.Mark.inputs g.K.Keeper.store old
-    (record { first = i.first; state = c.carry_out.new.view; log = c.carry_out.new.log; keeper = c.carry_out.new.keeper; roll = i.roll.parts }) i.roll
+    (record { first = i.first; state = c.carry_out.new.view; log = c.carry_out.new.log.items; keeper = c.carry_out.new.keeper; roll = i.roll.parts })
+    i.log c.carry_out.new.log refl refl i.roll
     (λ e. e ≡ c.args.change.event) i.notes c.self.invariant
-    (refused-step g.K.Keeper.store old c.args.change c.carry_out.new.view c.carry_out.new.log c.carry_out.new.keeper i.roll.parts is refused.view_err refused.log_err
+    (refused-step g.K.Keeper.store old c.args.change c.carry_out.new.view c.carry_out.new.log.items c.carry_out.new.keeper i.roll.parts is refused.view_err refused.log_err
     refused.rows_err refused.images_err)
-    c.carry_out.ensures.tells_on
+    c.carry_out.ensures.room c.carry_out.ensures.tells_on
 
 pub invariant_of-self-2 : goal.invariant_of-self-2
 invariant_of-self-2 g c =
     let i = c.self.inside in
-    let old : TableState g.row.K.Denot = record { first = i.first; state = i.view; log = i.log; keeper = i.keeper; roll = i.roll.parts } in
+    let old : TableState g.row.K.Denot = record { first = i.first; state = i.view; log = i.log.items; keeper = i.keeper; roll = i.roll.parts } in
     let new : TableState g.row.K.Denot =
-    record { first = i.first; state = c.carry_out.new.view; log = c.carry_out.new.log; keeper = c.carry_out.new.keeper; roll = i.roll.parts } in
+    record { first = i.first; state = c.carry_out.new.view; log = c.carry_out.new.log.items; keeper = c.carry_out.new.keeper; roll = i.roll.parts } in
     let state_is : c.args.self.now.state ≡ i.view = ap (λ (t : TableState g.row.K.Denot). t.state) (sym c.self.view_is) in
     let is : IsStepOf i.view c.args.change = subst (λ (s : State). IsStepOf s c.args.change) state_is c.requires.step in
     let done = c.in_ok-carry_out.ensures in
-    kept-step g.M.Mark.inputs g.K.Keeper.store old new i.roll c.args.change.event i.notes c.in_ok-notes.notes c.self.invariant
+    kept-step g.M.Mark.inputs g.K.Keeper.store old new i.log c.carry_out.new.log refl refl i.roll c.args.change.event i.notes c.in_ok-notes.notes c.self.invariant
     (made-step g.K.Keeper.store old c.args.change new.state new.log new.keeper new.roll is done.view done.log done.rows done.images)
     (c.in_ok-notes.ensures ∙ ap (notes_between i.view) (sym done.view))
-    (subst (λ (s : State). s.next_run ≤ i.view.next_run + 1) (sym done.view) (next_run-changed i.view c.args.change)) c.carry_out.ensures.tells_on
+    (subst (λ (s : State). s.next_run ≤ i.view.next_run + 1) (sym done.view) (next_run-changed i.view c.args.change))
+    c.carry_out.ensures.room c.carry_out.ensures.tells_on
     (subst (λ (t : TableState g.row.K.Denot). IsOffRoll (role_of c.args.change.event) t.roll) (sym c.self.view_is) c.requires.off)
 
 pub returns-clause-ok : goal.returns-clause-ok
 returns-clause-ok g c =
     let i = c.self.inside in
-    let old : TableState g.row.K.Denot = record { first = i.first; state = i.view; log = i.log; keeper = i.keeper; roll = i.roll.parts } in
+    let old : TableState g.row.K.Denot = record { first = i.first; state = i.view; log = i.log.items; keeper = i.keeper; roll = i.roll.parts } in
     let new : TableState g.row.K.Denot =
-    record { first = i.first; state = c.carry_out.new.view; log = c.carry_out.new.log; keeper = c.carry_out.new.keeper; roll = i.roll.parts } in
+    record { first = i.first; state = c.carry_out.new.view; log = c.carry_out.new.log.items; keeper = c.carry_out.new.keeper; roll = i.roll.parts } in
     let state_is : c.args.self.now.state ≡ i.view = ap (λ (t : TableState g.row.K.Denot). t.state) (sym c.self.view_is) in
     let is : IsStepOf i.view c.args.change = subst (λ (s : State). IsStepOf s c.args.change) state_is c.requires.step in
     let done = c.in_ok-carry_out.ensures in

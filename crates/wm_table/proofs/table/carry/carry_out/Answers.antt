@@ -1,22 +1,19 @@
-use Rattle.std.proofs.Common.{◌≡◌, ◌<◌, ◌≤◌, List, ◌++◌, length, map, vec_len, rules, sym, ◌∙◌, ap, subst}
+use Rattle.std.proofs.Common.{◌≡◌, ◌+◌, ◌<◌, ◌≤◌, List, ◌++◌, arith, length, map, vec_capacity, vec_len, rules, sym, ◌∙◌, ap, subst}
 use Rattle.std.specs.List.{AllByRecursion}
 use Rattle.wm_graph.specs.Nodes.{HasNode, NamesNodes, NodeFields}
-use Rattle.wm_machine.proofs.Steps.{IsNarrow-after, Valid-after}
-use Rattle.wm_machine.specs.Narrow.{IsNarrow}
 use Rattle.wm_machine.specs.Rows.{rows_of}
-use Rattle.wm_machine.specs.Step.{after}
 use Rattle.wm_machine.specs.Valid.{Valid}
 use Rattle.wm_machine.specs.declared.state.Run.{Run}
 use Rattle.wm_machine.specs.declared.state.State.{State}
 use Rattle.wm_steps.specs.Nodes.{nodes_of}
 use Rattle.wm_steps.specs.StepChanges.{changed_state, Fits, IsStepOf}
-use Rattle.wm_steps.specs.Views.{IsViewed}
 use Rattle.wm_steps.specs.declared.change.StepChange.{StepChange}
 use Rattle.wm_table.proofs.Images.{images-kept, images-made}
-use Rattle.wm_table.proofs.StepNodes.{step-addable, step-grown, step-nodes, step-removed, step-replaced}
-use Rattle.wm_table.proofs.StepRows.{removed_fit, replaced_within, rows-made, told_within, turns_left}
+use Rattle.wm_table.proofs.StepNodes.{step-addable, step-grown, step-nodes, step-removed, step-replaced, viewed-step}
+use Rattle.wm_table.proofs.StepRows.{removed_fit, replaced_within, rows-made, told_within, turns_left, new_runs-few, runs-changed}
 use Rattle.wm_table.specs.Following.{nodes_by, placed_node, AreAddable}
 use Rattle.wm_table.specs.Images.{LeavesBefore, LeavesOnly}
+use Rattle.wm_table.specs.Returns.{new_runs}
 use Rattle.wm_table.specs.Table.{HoldsRowsOf}
 use Rattle.wm_table.proofs.table.carry.carry_out.Goals as goal
 
@@ -29,17 +26,6 @@ grown-nodes s change old new valid fits old_is new_is =
 -- the step of the value is one of the fields
 step-inside : (s now : State) (change : StepChange) → s ≡ now → IsStepOf now change → IsStepOf s change
 step-inside s now change same is = subst (λ (t : State). IsStepOf t change) (sym same) is
-
--- what is made of a view is one again
-viewed-step : (s made : State) (graph made_graph : List NodeFields) (change : StepChange) → IsViewed s graph → IsStepOf s change
-    → made ≡ changed_state change s → made_graph ≡ nodes_of (changed_state change s).works → IsViewed made made_graph
-viewed-step s made graph made_graph change viewed is made_is graph_is =
-    let then : made ≡ after s change.event = made_is ∙ is.state in
-    record {
-      valid = subst Valid (sym then) (Valid-after s change.event viewed.valid viewed.narrow is.legal);
-      narrow = subst IsNarrow (sym then) (IsNarrow-after s change.event viewed.valid viewed.narrow is.legal);
-      graph_is = graph_is ∙ ap (λ (t : State). nodes_of t.works) (sym made_is);
-    }
 
 pub store-requires-clause-addable : goal.store-requires-clause-addable
 store-requires-clause-addable g c =
@@ -92,6 +78,9 @@ change-requires-clause-turns g c =
     let runs : c.store.new.lists.runs.items ≡ s.runs = search rules in
     subst (λ (runs : List Run). AllByRecursion (λ run. run.turn ≤ 999) runs) (sym runs) (turns_left s c.view.invariant.valid)
 
+pub change-requires-clause-run_room : goal.change-requires-clause-run_room
+change-requires-clause-run_room g c = omega (arith, c.in-Ok.ensures.run_room, new_runs-few c.args.change.run)
+
 pub invariant_of-view : goal.invariant_of-view
 invariant_of-view g c =
     let s = c.view.inside.state in
@@ -101,6 +90,28 @@ invariant_of-view g c =
     let made_is : c.put_back.new.state ≡ changed_state change s = search rules in
     viewed-step s c.put_back.new.state c.view.inside.graph c.change_nodes.new.graph change c.view.invariant is made_is
     (c.change_nodes.ensures ∙ ap (nodes_by change) all ∙ step-nodes s change c.view.invariant.valid is.fits)
+
+pub returns-in-Ok-clause-room : goal.returns-in-Ok-clause-room
+returns-in-Ok-clause-room g c =
+    let s = c.view.inside.state in
+    let change = c.args.change in
+    let made_is : c.put_back.new.state ≡ changed_state change s = search rules in
+    let more : length c.put_back.new.state.runs ≤ length s.runs + new_runs change.run =
+    subst (λ (t : State). length t.runs ≤ length s.runs + new_runs change.run) (sym made_is) (runs-changed s change) in
+    let runs : vec_len c.store.new.lists.runs ≡ length s.runs = search rules in
+    let events : length c.put_back.new.log.items ≡ vec_len c.store.new.lists.log + 1 = search rules in
+    let room : vec_capacity c.put_back.new.log ≡ vec_capacity c.store.new.lists.log = search rules in
+    omega (arith, c.in-Ok.ensures.log_room, new_runs-few change.run, more, runs, events, room)
+
+pub returns-in-Err-clause-room : goal.returns-in-Err-clause-room
+returns-in-Err-clause-room g c =
+    let runs : c.put_back-in-Err.new.state.runs ≡ c.view.inside.state.runs = search rules in
+    let events : c.put_back-in-Err.new.log.items ≡ c.args.log.now.items = search rules in
+    let room : vec_capacity c.args.log.now ≤ vec_capacity c.put_back-in-Err.new.log = search rules in
+    let was = ap (λ (t : State). length t.runs) c.view.view_is in
+    let same_runs = ap length runs in
+    let same_events = ap length events in
+    omega (arith, c.requires.room, was, same_runs, same_events, room)
 
 pub returns-in-Ok-clause-rows : goal.returns-in-Ok-clause-rows
 returns-in-Ok-clause-rows g c =

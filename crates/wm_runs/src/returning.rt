@@ -1,0 +1,27 @@
+//! How a run comes back that was stopped.
+ghost use Rattle.std.specs.Prelude.{false};
+ghost use Rattle.wm_runs.specs.Builds.{IsReturn};
+ghost use Rattle.wm_runs.specs.Reports.{IsOut};
+
+use crate::reports::run_numbered;
+use std::alloc::Global;
+use wm_machine::Event;
+use wm_steps::{RunChange, SettingChange, StepChange, View};
+
+/// The return of the run of this number, which is out and was stopped: it is over, and its instance
+/// idle, and nothing else changes. It takes no memory.
+pub fn returned(alloc: Global, view: &View, number: u64) -> StepChange
+    requires { IsOut view.now number false }
+    ensures { IsReturn view.entry.now number result }
+{
+    let Some(run) = run_numbered(view.state.runs.as_slice(), number) else {
+        unreachable!();
+    };
+    let event = Event::Late { run: number };
+    let mut change = StepChange::setting(alloc, SettingChange::Unchanged, event);
+    change.run = RunChange::End {
+        run: number,
+        instance: run.instance,
+    };
+    change
+}

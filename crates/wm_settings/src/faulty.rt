@@ -1,0 +1,22 @@
+//! A line that has a fault is refused.
+ghost use Rattle.std.specs.Prelude.{IfOk};
+ghost use Rattle.wm_settings.specs.Builds.{IsExecuted};
+
+use crate::executed::Executed;
+use std::alloc::{AllocError, Global};
+use wm_machine::{Command, LineFault, Refusal, Reply};
+use wm_steps::{View, copied};
+
+/// What a line that has a fault comes to, in every state.
+pub fn execute(
+    alloc: Global,
+    view: &View,
+    line: u32,
+    fault: LineFault,
+) -> Result<Executed, AllocError>
+    ensures { IfOk result (IsExecuted view.entry.now line (Command.Faulty fault)) }
+{
+    let (fault, found, _) = copied(alloc, fault, ())?;
+    let reply = Reply::Refused(Refusal::Line(found));
+    Executed::answering(alloc, view, line, Command::Faulty(fault), reply)
+}

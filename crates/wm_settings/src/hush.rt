@@ -1,0 +1,16 @@
+//! From a hush on only summaries are written.
+ghost use Rattle.std.specs.Prelude.{IfOk};
+ghost use Rattle.wm_settings.specs.Builds.{IsExecuted};
+
+use crate::executed::Executed;
+use std::alloc::{AllocError, Global};
+use wm_machine::{Command, Reply};
+use wm_steps::{SettingChange, View};
+
+/// What a hush comes to.
+pub fn execute(alloc: Global, view: &View, line: u32) -> Result<Executed, AllocError>
+    ensures { IfOk result (IsExecuted view.entry.now line Command.Hush) }
+{
+    let to = SettingChange::Hush;
+    Executed::setting(alloc, view, line, Command::Hush, Reply::Hushed, to)
+}

@@ -1,0 +1,23 @@
+//! A query is answered by what is told of the works that match.
+ghost use Rattle.std.specs.Prelude.{IfOk};
+ghost use Rattle.wm_settings.specs.Builds.{IsExecuted};
+
+use crate::executed::Executed;
+use std::alloc::{AllocError, Global};
+use wm_machine::{Command, Reply, WorkQuery};
+use wm_query::answer_to;
+use wm_steps::View;
+
+/// What a query comes to.
+pub fn execute(
+    alloc: Global,
+    view: &View,
+    line: u32,
+    query: WorkQuery,
+) -> Result<Executed, AllocError>
+    ensures { IfOk result (IsExecuted view.entry.now line (Command.Query query)) }
+{
+    let works = answer_to(alloc, &view.state, &query)?;
+    let reply = Reply::Query(works);
+    Executed::answering(alloc, view, line, Command::Query(query), reply)
+}
