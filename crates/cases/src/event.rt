@@ -48,7 +48,7 @@ pub fn event_words(alloc: Global, event: &Event) -> Result<String, AllocError> {
             format!(in alloc; "end of run {run}: {end}")
         }
         Event::TimedOut { run } => format!(in alloc; "time-out of run {run}"),
-        _ => String::from_str(alloc, "an event that isn't built"),
+        Event::Late { run } => format!(in alloc; "late report of run {run}"),
     }
 }
 

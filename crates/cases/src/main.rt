@@ -8,6 +8,7 @@
 #![tactic(auto)]
 
 mod event;
+mod holds;
 mod outcome;
 mod part;
 mod reader;

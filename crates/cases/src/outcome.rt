@@ -3,6 +3,7 @@ ghost use Rattle.std.specs.Prelude.{◌≤◌, vec_len};
 ghost use Rattle.wm_bench.specs.Places.{most_hands};
 
 use crate::event::event_words;
+use crate::holds::Holds;
 use crate::part::{Failing, Part};
 use crate::row::row_text;
 use std::alloc::{AllocError, Global};
@@ -14,7 +15,6 @@ use wm_collections::{Replica, Text};
 use wm_io::{MemorySink, MemorySource};
 use wm_keeper::{Change, Keeper, MemoryKeeper, Row, SureKeeper};
 use wm_machine::Event;
-use wm_pool::OpenGate;
 use wm_stock::{AnyStock, STOCK_WORKERS};
 use wm_worker::Worker;
 
@@ -99,6 +99,7 @@ fn tell_run_of<R: Threads + Wait + Sync, B: Worker + Send>(
     let mut source = source_of(alloc, part, failing)?;
     let sink = MemorySink::new(part.moves, Vec::from_slice(alloc, &failing.sink)?);
     let keeper = keeper_of(alloc, store, failing)?;
+    let holds = Holds::of(alloc, &part.holds)?;
     let ended = wm_cli::run(
         rt,
         alloc,
@@ -107,8 +108,11 @@ fn tell_run_of<R: Threads + Wait + Sync, B: Worker + Send>(
         &mut source,
         sink,
         keeper,
-        &OpenGate,
+        &holds,
     );
+    if holds.missed() {
+        told.push_str("missed\n")?;
+    }
     tell_ended(alloc, told, &ended)?;
     Ok(SureKeeper::new(ended.keeper.into_rows()))
 }
@@ -145,8 +149,8 @@ fn keeper_of(
     }
 }
 
-/// Tells how a run ended: its status, whether the table was begun, the events of its log, the rows
-/// kept, and the bytes written.
+/// Tells how a run ended: its status, whether the table was begun, the events of its log, the classes
+/// that have no worker any more, the rows kept, and the bytes written.
 fn tell_ended<B: Worker>(
     alloc: Global,
     told: &mut String,
@@ -158,7 +162,10 @@ fn tell_ended<B: Worker>(
     } else {
         "not begun\n"
     })?;
-    tell_events(alloc, told, ended.log.as_slice())?;
+    let log = ended.log.as_slice();
+    tell_events(alloc, told, log, false)?;
+    tell_events(alloc, told, log, true)?;
+    tell_gone(told, &ended.hands)?;
     for row in ended.keeper.rows() {
         let text = row_text(alloc, row)?;
         tell_line(told, "row ", text.as_str())?;
@@ -166,12 +173,20 @@ fn tell_ended<B: Worker>(
     tell_bytes(alloc, told, ended.sink.bytes())
 }
 
-/// Tells the events of a log. Of those with the same words one after another the first alone is
-/// told, with their number.
-fn tell_events(alloc: Global, told: &mut String, log: &[Event]) -> Result<(), AllocError> {
+/// Tells the events of a log that are late reports, or those that aren't. Of events with the same words
+/// one after another the first alone is told, with their number.
+fn tell_events(
+    alloc: Global,
+    told: &mut String,
+    log: &[Event],
+    late: bool,
+) -> Result<(), AllocError> {
     let mut words = String::new(alloc);
     let mut times: u64 = 0;
     for event in log {
+        if matches!(event, Event::Late { .. }) != late {
+            continue;
+        }
         let next = event_words(alloc, event)?;
         if next != words {
             tell_event(alloc, told, words.as_str(), times)?;
@@ -194,6 +209,16 @@ fn tell_event(alloc: Global, told: &mut String, words: &str, times: u64) -> Resu
             format!(in alloc; "{words}, {times} times")?.as_str(),
         ),
     }
+}
+
+/// Tells the classes of the program's workers of which none came back.
+fn tell_gone<B: Worker>(told: &mut String, hands: &[Hand<B>]) -> Result<(), AllocError> {
+    for class in ["Echo", "Sum", "FailUntil", "RetryUntil", "Count", "Wait"] {
+        if !hands.iter().any(|hand| hand.class.as_str() == class) {
+            tell_line(told, "gone ", class)?;
+        }
+    }
+    Ok(())
 }
 
 /// A status with its code, and its text where it has one.

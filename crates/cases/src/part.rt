@@ -1,6 +1,7 @@
 //! What a case asks for.
 ghost use Rattle.std.specs.Prelude.{◌<◌};
 
+use crate::holds::Hold;
 use std::alloc::{AllocError, Global};
 use wm_keeper::Row;
 
@@ -43,6 +44,8 @@ pub struct Part {
     pub moves: usize,
     /// The choices of failing calls; where there is none, no call fails.
     pub failing: Vec<Failing>,
+    /// Where threads are held.
+    pub holds: Vec<Hold>,
     pub script: Vec<u8>,
     ghost some_move: { 0 < moves },
 }
@@ -58,6 +61,7 @@ impl Part {
             words: vec![in alloc; store, demo]?,
             moves: ALL_BYTES,
             failing: Vec::new(alloc),
+            holds: Vec::new(alloc),
             script: Vec::new(alloc),
         })
     }

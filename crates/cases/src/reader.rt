@@ -1,6 +1,7 @@
 //! Reads a case file.
 ghost use Rattle.std.specs.Prelude.{◌<◌};
 
+use crate::holds::{Hold, Place};
 use crate::part::{Failing, Part};
 use crate::row::read_row;
 use serde_json::Value;
@@ -22,6 +23,8 @@ pub enum LineFault {
     Moves,
     #[error("calls fail by the names source, sink and keeper, each with numbers from 1")]
     Fails,
+    #[error("a point is held until another one: `line N`, or `turn K of run R`")]
+    Hold,
     #[error("a text stands so many times as `N times | TEXT` or `N times > TEXT`")]
     Times,
     #[error("bytes are pairs of hexadecimal digits")]
@@ -98,6 +101,10 @@ fn read_more(alloc: Global, part: &mut Part, word: &str, rest: &str) -> Result<(
         "fails" => {
             let failing = read_failing(alloc, rest)?;
             part.failing.push(failing)?;
+        }
+        "hold" => {
+            let hold = read_hold(rest).ok_or(LineFault::Hold)?;
+            part.holds.push(hold)?;
         }
         "hex" => {
             let bytes = hex::decode(alloc, rest).map_err(|_| LineFault::Hex)?;
@@ -188,6 +195,31 @@ fn add_call(failing: &mut Failing, object: Option<Object>, call: u32) -> Result<
         None => return Err(LineFault::Fails),
     }
     Ok(())
+}
+
+/// That a point is held until another one; none where it is out of form.
+fn read_hold(rest: &str) -> Option<Hold> {
+    let (held, until) = rest.split_once(" until ")?;
+    Some(Hold {
+        held: read_place(held)?,
+        until: read_place(until)?,
+    })
+}
+
+/// A point as it is named, as `line 3` or `turn 0 of run 1`.
+fn read_place(words: &str) -> Option<Place> {
+    let (word, rest) = words.split_once(' ')?;
+    match word {
+        "line" => Some(Place::Line(rest.parse().ok()?)),
+        "turn" => {
+            let (k, run) = rest.split_once(" of run ")?;
+            Some(Place::Turn {
+                run: run.parse().ok()?,
+                k: k.parse().ok()?,
+            })
+        }
+        _ => None,
+    }
 }
 
 /// Appends a text, after `|` with a line feed and after `>` without.

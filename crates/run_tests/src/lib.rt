@@ -9,5 +9,3 @@ mod runs;
 mod stores;
 #[cfg(test)]
 mod table;
-#[cfg(test)]
-mod threads;

@@ -34,7 +34,7 @@ fn answer_of_works(alloc: Global, call: &str, row: &Value) -> Result<Value, RowF
         "batch" => chains::batch(alloc, row),
         "chain" => chains::combined(alloc, row),
         "turn" => workers::turn(alloc, row),
-        "started" | "ended" | "timed out" | "not started" | "closed" | "freed" => {
+        "started" | "ended" | "timed out" | "stopped" | "not started" | "closed" | "freed" => {
             records::change(alloc, row)
         }
         "row" => records::row(alloc, row),

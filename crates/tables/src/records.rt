@@ -1,5 +1,5 @@
-//! How one record changes where a run of its work begins, ends, or can't begin, where it is closed
-//! and where it becomes free, of `wm_lifecycle`, and the row of a record, of `wm_rows`.
+//! How one record changes where a run of its work begins, ends, is stopped, or can't begin, where it is
+//! closed and where it becomes free, of `wm_lifecycle`, and the row of a record, of `wm_rows`.
 ghost use Rattle.std.specs.Prelude.{◌≡◌, true, ◌^◌, ◌<◌, All};
 ghost use Rattle.wm_machine.specs.Limits.{FitsRow};
 
@@ -14,7 +14,7 @@ use std::alloc::{AllocError, Global};
 use wm_collections::{Items, Text};
 use wm_data::Data;
 use wm_keeper::Row;
-use wm_lifecycle::{closed, ended, freed, not_started, started, timed_out};
+use wm_lifecycle::{closed, ended, freed, not_started, started, stopped, timed_out};
 use wm_machine::{End, How, Phase, Record};
 use wm_request::Request;
 use wm_rows::to_row;
@@ -125,6 +125,7 @@ fn after_end(alloc: Global, row: &Value, work: &Record) -> Result<Record, RowFau
 fn changed(alloc: Global, row: &Value, work: &Record) -> Result<Record, RowFault> {
     match text(row, "call")? {
         "started" => unless_refused(started(alloc, work)),
+        "stopped" => unless_refused(stopped(alloc, work)),
         "ended" => after_end(alloc, row, work),
         "timed out" => unless_refused(timed_out(alloc, work, number(row, "now")?)),
         "not started" => unless_refused(not_started(alloc, work, number(row, "now")?)),

@@ -15,9 +15,10 @@ use wm_io::{StdSink, StdSource};
 use wm_keeper::SureKeeper;
 use wm_pool::{Gate, Point};
 use wm_stock::Count;
+use wm_worker::Worker;
 
-/// How often a run looks whether all others have come.
-const MOST_POLLS: u32 = 1_000_000;
+/// How often a thread that waits looks whether it may go on.
+pub(crate) const MOST_POLLS: u32 = 1_000_000;
 
 /// Where some runs meet: each is held at its turn 0 until all have come there, for a limited number
 /// of polls.
@@ -79,7 +80,7 @@ impl Gate for Meeting {
 }
 
 /// The words of a run with so many workers.
-fn words(alloc: Global, workers: &str) -> Result<Vec<String>, AllocError> {
+pub(crate) fn words(alloc: Global, workers: &str) -> Result<Vec<String>, AllocError> {
     let mut words = Vec::new(alloc);
     for word in ["--store", "a", "--workers", workers] {
         words.push(String::from_str(alloc, word)?)?;
@@ -99,14 +100,14 @@ fn counts(alloc: Global) -> Result<Vec<Hand<Count>>, AllocError>
     Ok(hands)
 }
 
-/// How a run of a script ends with these words and workers, which meet there, and what it writes.
-fn run_at<R: Threads + Wait + Sync>(
+/// How a run of a script ends with these words, workers and gate, and what it writes.
+pub(crate) fn run_at<R: Threads + Wait + Sync, B: Worker + Send, G: Gate + Sync>(
     rt: &R,
     alloc: Global,
     words: &[String],
-    hands: Vec<Hand<Count>>,
+    hands: Vec<Hand<B>>,
     script: &str,
-    meeting: &Meeting,
+    gate: &G,
 ) -> (Status, Vec<u8>)
     requires { vec_len hands ≤ most_hands }
 {
@@ -114,7 +115,7 @@ fn run_at<R: Threads + Wait + Sync>(
     let mut source = StdSource::new(script.as_bytes());
     let sink = StdSink::new(&mut written);
     let keeper = SureKeeper::new(Vec::new(alloc));
-    let ended = run(rt, alloc, words, hands, &mut source, sink, keeper, meeting);
+    let ended = run(rt, alloc, words, hands, &mut source, sink, keeper, gate);
     let status = ended.status;
     drop(ended);
     (status, written)

@@ -1,0 +1,207 @@
+//! Runs with one worker thread whose worker looks at its signal, which a gate of the test holds.
+ghost use Rattle.std.specs.Prelude.{◌≤◌, vec_len, IfOk};
+ghost use Rattle.wm_bench.specs.Places.{most_hands};
+
+use crate::threads::{MOST_POLLS, run_at, words};
+use part_tests::hands::add_hand;
+use std::alloc::{AllocError, Global};
+use std::process::Abort;
+use std::sync::atomic::{AtomicBool, AtomicU64, Ordering};
+use std::test::Fail;
+use std::thread;
+use wm_bench::Hand;
+use wm_cli::Status;
+use wm_data::{Data, DataBuilder, Value};
+use wm_pool::{Gate, Point};
+use wm_stock::Wait;
+use wm_worker::{Answer, Entry, Kind, Signal, Task, Told, Worker};
+
+/// More turns than any run of these tests takes: a worker whose signal is raised from the start is cut
+/// in each of them.
+const TOO_MANY_TURNS: u64 = 2_000;
+
+/// What the gate and the worker of a run tell each other. The third line is held until a run has come
+/// to its first turn.
+#[derive(Drop)]
+struct Watch<'a, R> {
+    rt: &'a R,
+    /// Whether a run has come to its first turn.
+    began: AtomicBool,
+    /// Whether a worker that looks needn't wait any more.
+    passed: AtomicBool,
+    /// The run whose signal a worker saw raised, 0 where none did.
+    seen: AtomicU64,
+    turns: AtomicU64,
+}
+
+impl<'a, R: Abort> Watch<'a, R> {
+    /// Of a run that hasn't begun. Its worker waits for the fourth line, where it is to.
+    fn of(rt: &'a R, waits: bool) -> Watch<'a, R> {
+        Watch {
+            rt,
+            began: AtomicBool::new(false),
+            passed: AtomicBool::new(!waits),
+            seen: AtomicU64::new(0),
+            turns: AtomicU64::new(0),
+        }
+    }
+
+    /// Waits until this is so.
+    fn wait_for(&self, fact: &AtomicBool) {
+        let rt = self.rt;
+        for _i in 0..MOST_POLLS {
+            if fact.load(Ordering::SeqCst) {
+                return;
+            }
+            thread::yield_now();
+        }
+        panic!(rt; "a thread waited in vain");
+    }
+
+    /// Counts a turn.
+    fn count(&self) {
+        let rt = self.rt;
+        let before = self.turns.fetch_add(1, Ordering::SeqCst);
+        assert!(rt; before < TOO_MANY_TURNS, "turns without an end");
+    }
+}
+
+impl<'a, R: Abort> Gate for Watch<'a, R> {
+    fn at(&self, point: Point) {
+        match point {
+            Point::Turn { .. } => {
+                self.count();
+                self.began.store(true, Ordering::SeqCst);
+            }
+            Point::Front { line: 3 } => self.wait_for(&self.began),
+            Point::Front { line: 4 } => self.passed.store(true, Ordering::SeqCst),
+            Point::Front { .. } => {}
+        }
+    }
+}
+
+/// Waits in its first turn until it needn't any more, looks at its signal once, and gives a number.
+#[derive(Drop)]
+struct Look<'a, R> {
+    watch: &'a Watch<'a, R>,
+}
+
+impl<'a, R: Abort> Worker for Look<'a, R> {
+    ghost use Rattle.std.specs.Prelude.{None};
+    ghost use Rattle.wm_worker.specs.declared.kind.Kind.TheVariants as kind;
+
+    ghost kind_of = { λ _. kind.Custom };
+
+    ghost diary_of = { λ _. None };
+
+    fn kind(&self) -> Kind {
+        Kind::Custom
+    }
+
+    /// It writes nothing down.
+    fn diary(&self) -> Option<&[Entry]> {
+        None
+    }
+
+    /// There is nothing to make ready.
+    fn begin(&mut self, _alloc: Global, _task: &Task) -> Result<(), AllocError> {
+        Ok(())
+    }
+
+    fn turn(
+        &mut self,
+        alloc: Global,
+        task: &Task,
+        k: u32,
+        signal: &Signal,
+    ) -> Result<Told, AllocError> {
+        self.watch.wait_for(&self.watch.passed);
+        if let Some(raised) = signal.poll() {
+            self.watch.seen.store(raised.run(), Ordering::SeqCst);
+        }
+        let output = nine(alloc)?;
+        Told::new(alloc, Kind::Custom, task, k, Answer::Success(output))
+    }
+}
+
+/// Data of one number.
+fn nine(alloc: Global) -> Result<Data, AllocError> {
+    let mut builder = DataBuilder::new(alloc);
+    match builder.put(String::from_str(alloc, "a")?, Value::Int(9)) {
+        Ok(()) => builder.build().map_err(|_| AllocError),
+        Err(_) => Err(AllocError),
+    }
+}
+
+/// One worker.
+fn one_hand<B: Drop>(alloc: Global, class: &str, worker: B) -> Result<Vec<Hand<B>>, AllocError>
+    ensures { IfOk result (λ hands. vec_len hands ≤ most_hands) }
+{
+    let mut hands = Vec::new(alloc);
+    add_hand(alloc, &mut hands, class, worker)?;
+    Ok(hands)
+}
+
+const STOPPED: &str = r#"{"cmd":"conditions","connected":true}
+{"cmd":"enqueue","works":[{"class":"Look","id":"00000000-0000-0000-0000-000000000001","constraints":{"network":"CONNECTED"}}]}
+{"cmd":"conditions"}
+{"cmd":"conditions"}
+{"cmd":"settle"}
+{"cmd":"query"}
+"#;
+
+const STOPPED_REPLIES: &str = r#"{"line":1,"ok":"conditions","stopped":0}
+{"line":2,"ok":"enqueued","works":[1]}
+{"line":3,"ok":"conditions","stopped":1}
+{"line":4,"ok":"conditions","stopped":0}
+{"line":5,"ok":"settled"}
+{"line":6,"ok":"query","works":[{"attempt":1,"due":0,"generation":0,"id":"00000000-0000-0000-0000-000000000001","output":{},"progress":{},"seq":1,"state":"ENQUEUED","tags":[]}]}
+"#;
+
+const KEPT: &str =
+    r#"{"cmd":"enqueue","works":[{"class":"Look","id":"00000000-0000-0000-0000-000000000001"}]}
+{"cmd":"settle"}
+{"cmd":"query"}
+"#;
+
+const KEPT_REPLIES: &str = r#"{"line":1,"ok":"enqueued","works":[1]}
+{"line":2,"ok":"settled"}
+{"line":3,"ok":"query","works":[{"attempt":1,"generation":0,"id":"00000000-0000-0000-0000-000000000001","output":{"a":{"int":9}},"progress":{},"seq":1,"state":"SUCCEEDED","tags":[]}]}
+"#;
+
+const WAITS: &str =
+    r#"{"cmd":"enqueue","works":[{"class":"Wait","id":"00000000-0000-0000-0000-000000000001"}]}
+{"cmd":"settle"}
+{"cmd":"query"}
+"#;
+
+const WAITS_REPLIES: &str = r#"{"line":1,"ok":"enqueued","works":[1]}
+{"line":2,"ok":"settled"}
+{"line":3,"ok":"query","works":[{"attempt":1,"due":30000,"generation":0,"id":"00000000-0000-0000-0000-000000000001","output":{},"progress":{},"seq":1,"state":"ENQUEUED","tags":[]}]}
+"#;
+
+/// What a worker of a program's own answers is kept, but where its run was stopped: then it sees its
+/// signal, and the work waits. The signal of a run that isn't stopped isn't raised, so that one that
+/// only waits has no turn left in the end.
+#[test]
+fn a_worker_sees_whether_its_run_was_stopped(rt: HostRuntime) -> Result<(), Fail> {
+    let alloc = rt.alloc();
+    let words = words(alloc, "1")?;
+    for (waits, script, replies, seen) in [
+        (true, STOPPED, STOPPED_REPLIES, 1),
+        (false, KEPT, KEPT_REPLIES, 0),
+    ] {
+        let watch = Watch::of(&rt, waits);
+        let hands = one_hand(alloc, "Look", Look { watch: &watch })?;
+        let (status, written) = run_at(&rt, alloc, &words, hands, script, &watch);
+        assert_eq!(rt; status, Status::Done);
+        assert_eq!(rt; written.as_slice(), replies.as_bytes());
+        assert_eq!(rt; watch.seen.load(Ordering::SeqCst), seen);
+    }
+    let watch = Watch::of(&rt, false);
+    let hands = one_hand(alloc, "Wait", Wait::new())?;
+    let (status, written) = run_at(&rt, alloc, &words, hands, WAITS, &watch);
+    assert_eq!(rt; status, Status::Done);
+    assert_eq!(rt; written.as_slice(), WAITS_REPLIES.as_bytes());
+    Ok(())
+}
