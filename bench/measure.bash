@@ -16,11 +16,11 @@ run_anew() {
   run "$@"
 }
 
-# Prints how many milliseconds the best of five runs of a script takes, by `work` or by the program that is
-# named.
+# Prints how many milliseconds the best of five runs of a script takes, or of as many as `$times` says, by
+# `work` or by the program that is named.
 milliseconds() {
   local best=0 start now program=${2:-$root/crates/work/out/work}
-  for _ in 1 2 3 4 5; do
+  for _ in $(seq "${times:-5}"); do
     start=$(date +%s%N)
     run_anew "$1" "$program"
     now=$((($(date +%s%N) - start) / 1000))

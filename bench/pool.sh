@@ -2,17 +2,16 @@
 # Measures what worker threads cost and gain, without workers and with one, two and four:
 #
 # - 2,000 works (or as many as are asked for) of class Count, of 50 turns each, which take next to no time;
-# - a tenth as many works of class Busy, of 5 turns each, which take a processor a millisecond or so, by the
-#   program `busy_worker`, which has four workers of that class and a store in memory.
+# - as many works of class Busy, of as many turns, which take a processor a millisecond or so, by the program
+#   `busy_worker`, which has four workers of that class and a store in memory.
 #
-# Prints the time of each until all works have succeeded, the best of five, and its ratio to that without
-# workers.
+# Prints the time of each until all works have succeeded, of Count the best of five and of Busy, which takes
+# some four minutes, that of one run, and its ratio to that without workers.
 set -euo pipefail
 # A run that goes wrong ends the script also where its time is asked for.
 shopt -s inherit_errexit
 source "$(dirname "${BASH_SOURCE[0]}")/measure.bash"
-declare -A works=([Count]=${1:-2000}) turns=([Count]=50 [Busy]=5)
-works[Busy]=$((works[Count] / 10))
+declare -A works=([Count]=${1:-2000} [Busy]=${1:-2000}) turns=([Count]=50 [Busy]=50)
 busy=$root/crates/busy_worker/out/busy_worker
 
 # Prints a script of the works of a class, in which as many as may be stand in a line.
@@ -52,4 +51,4 @@ measure() {
 measure Count "$root/crates/work/out/work"
 # Proves and builds the other program where it is outdated.
 (cd "$root/crates/busy_worker" && rt run -- --store build < /dev/null) > "$work/build.log" 2>&1 || { cat "$work/build.log" >&2 && exit 9; }
-measure Busy "$busy"
+times=1 measure Busy "$busy"
