@@ -19,18 +19,19 @@ use wm_machine::{Cause, Command, How, Instance, Kind, Phase, Record, Reply, Targ
 use wm_request::{Batch, Builder, Node, Request};
 use wm_roll::Roll;
 use wm_steps::{both, one};
+use wm_stock::{Count, Echo};
 use wm_table::{Claim, Mark, Table, TableEnd, Ticket, Trouble, TurnAnswer};
-use wm_worker::{Answer, Task, Told};
+use wm_worker::{Signal, Task, Told, Worker};
 
-/// One idle Echo.
-fn one_echo(alloc: Global) -> Result<Items<Instance>, AllocError>
+/// One idle worker of this kind, of class Echo.
+fn one_worker(alloc: Global, kind: Kind) -> Result<Items<Instance>, AllocError>
     ensures { IfOk result AreFresh }
 {
     let mut instances = Items::new(alloc);
     instances.push(Instance {
         number: 0,
         class: Text::from_str(alloc, "Echo")?,
-        kind: Kind::Echo,
+        kind,
         out: false,
         retired: false,
     })?;
@@ -86,7 +87,7 @@ fn enqueue(alloc: Global, merger: Merger, count: usize) -> Result<Command, Alloc
     })
 }
 
-/// What an Echo reports on.
+/// What a worker reports on: an Echo, or a Count where it is another run.
 #[derive(Clone, Copy)]
 enum Subject {
     /// Its task.
@@ -99,7 +100,15 @@ enum Subject {
     CancelledTask,
 }
 
-/// The run that an Echo with this task reports on.
+/// The kind of the worker that reports.
+fn kind_of(subject: Subject) -> Kind {
+    match subject {
+        Subject::NextRun => Kind::Count,
+        _ => Kind::Echo,
+    }
+}
+
+/// The run that a worker with this task reports on.
 fn run_told(task: &Task, subject: Subject) -> u64 {
     match subject {
         Subject::NextRun => task.run.wrapping_add(1),
@@ -107,7 +116,7 @@ fn run_told(task: &Task, subject: Subject) -> u64 {
     }
 }
 
-/// The input that an Echo with this task reports on.
+/// The input that a worker with this task reports on.
 fn input_told(alloc: Global, task: &Task, subject: Subject) -> Result<Data, AllocError> {
     match subject {
         Subject::NoInput => Ok(Data::empty(alloc)),
@@ -115,7 +124,7 @@ fn input_told(alloc: Global, task: &Task, subject: Subject) -> Result<Data, Allo
     }
 }
 
-/// The task that an Echo with this task reports on.
+/// The task that a worker with this task reports on.
 fn task_told(alloc: Global, task: &Task, subject: Subject) -> Result<Task, AllocError> {
     Ok(Task {
         run: run_told(task, subject),
@@ -124,16 +133,19 @@ fn task_told(alloc: Global, task: &Task, subject: Subject) -> Result<Task, Alloc
     })
 }
 
-/// What an Echo tells of a task.
-fn echo_of(alloc: Global, task: &Task) -> Result<Told, AllocError> {
-    let output = task.input.replica(alloc)?;
-    Told::new(alloc, Kind::Echo, task, 0, Answer::Success(output))
+/// What a worker of the kind that reports tells of the first turn of a task.
+fn told_of(alloc: Global, task: &Task, subject: Subject) -> Result<Told, AllocError> {
+    let never = Signal::never(task.run);
+    match subject {
+        Subject::NextRun => Count::new().turn(alloc, task, 0, &never),
+        _ => Echo::new().turn(alloc, task, 0, &never),
+    }
 }
 
-/// What an Echo with this task tells.
-fn echoed(alloc: Global, task: &Task, subject: Subject) -> Result<Told, AllocError> {
+/// What the worker with this task tells.
+fn told(alloc: Global, task: &Task, subject: Subject) -> Result<Told, AllocError> {
     let task = task_told(alloc, task, subject)?;
-    let told = echo_of(alloc, &task);
+    let told = told_of(alloc, &task, subject);
     drop(task);
     told
 }
@@ -237,7 +249,7 @@ fn run<M: Mark>(
     if let Subject::CancelledTask = subject {
         drop(table.command(2, Command::Cancel(Target::All)));
     }
-    let told = echoed(alloc, ticket.task(), subject);
+    let told = told(alloc, ticket.task(), subject);
     let outcome = report(table, ticket, told);
     if first { outcome } else { Outcome::AnotherRun }
 }
@@ -370,7 +382,7 @@ fn outcome_at(
 ) -> Result<(Outcome, String, usize, bool), AllocError> {
     let command = enqueue(alloc, Merger::Overwriting, 1)?;
     let (command, failing) = beside(command, alone(alloc, failing))?;
-    let (command, instances) = beside(command, one_echo(alloc))?;
+    let (command, instances) = beside(command, one_worker(alloc, kind_of(subject)))?;
     let (command, roll) = beside(command, Roll::new(alloc))?;
     outcome_on::<Brand>(alloc, command, failing, instances, roll, subject)
 }
@@ -536,7 +548,7 @@ fn started_on<M: Mark>(
 /// work is then.
 fn started(alloc: Global, merger: Merger, count: usize) -> Result<String, AllocError> {
     let command = enqueue(alloc, merger, count)?;
-    let (command, instances) = beside(command, one_echo(alloc))?;
+    let (command, instances) = beside(command, one_worker(alloc, Kind::Echo))?;
     let (command, roll) = beside(command, Roll::new(alloc))?;
     started_on::<Brand>(alloc, command, instances, roll)
 }
