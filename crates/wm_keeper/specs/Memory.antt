@@ -1,5 +1,5 @@
 -- What a `MemoryKeeper` holds, and what a call does to it.
-use Rattle.std.specs.Prelude.{◌≡◌, ◌==◌, ℕ, ◌+◌, ◌-◌, ◌^◌, min, Bool, List, Option, Some, if◌then◌else◌}
+use Rattle.std.specs.Prelude.{◌≡◌, ◌==◌, ℕ, ◌+◌, ◌-◌, ◌^◌, min, Bool, false, List, Option, Some, if◌then◌else◌}
 use Rattle.std.specs.List.{list_any}
 use Rattle.wm_keeper.specs.Store.{Store}
 use Rattle.wm_keeper.specs.declared.row.Row.{Row}
@@ -26,6 +26,6 @@ pub record CountsCall (before after : MemoryState) : Type 0 where
   pub calls : after.calls ≡ next_call before
   pub faults : after.faults ≡ (if fails_next before then min (before.faults + 1) (2 ^ 64 - 1) else before.faults)
 
--- it tells all that it holds, and a crash leaves just that
+-- it tells all that it holds, a crash leaves just that, and it is never lost
 abbrev pub store_of : MemoryState → Store
-store_of keeper = record { rows = Some keeper.rows; images = λ image. image ≡ keeper.rows; name = keeper.name; faults = keeper.faults }
+store_of keeper = record { rows = Some keeper.rows; images = λ image. image ≡ keeper.rows; name = keeper.name; faults = keeper.faults; is_lost = false }

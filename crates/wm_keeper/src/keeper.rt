@@ -27,20 +27,22 @@ impl From<AllocError> for KeepFault {
 /// `specs/Store.antt`.
 pub trait Keeper {
     ghost use Rattle.wm_keeper.specs.Keeper.{Ascends, AreOfDifferentNumbers, KeepCause};
-    ghost use Rattle.wm_keeper.specs.Store.{Store, IsAtMost, IsCommitted, IsLoaded, IsNotCommitted, IsStoreKept};
+    ghost use Rattle.wm_keeper.specs.Store.{Store, IsAtMost, IsCommitted, IsLoaded, IsNotCommitted, IsStoreKept, KeepsTelling};
 
     /// What it shows: the rows that it holds, what a crash now may leave, the name that it was last
-    /// loaded with, and its count of faults.
+    /// loaded with, its count of faults, and whether it is lost. Rows that were told are told after
+    /// each call, unless it is lost then.
     ghost store: { Self → Store };
 
     /// The rows held, in ascending number: those of the store of this name, none where it is new.
-    /// A keeper may stop telling in this very call, and then nothing is said of what it answers.
+    /// A keeper may be lost in this very call, and then nothing is said of what it answers.
     fn load(&mut self, name: &str) -> Result<Vec<Row>, KeepFault>
         ensures rows { IfOk result (λ rows. IsLoaded rows.items (store self.old) (store self.new)) }
         ensures ascending { IfSome (store self.old).rows Ascends }
         ensures kept { IsStoreKept (store self.old) (store self.new) }
         ensures name { OnOk result (IsAtMost (Some name.now) (store self.new).name) }
         ensures same_name { OnErr result (IsAtMost (store self.old).name (store self.new).name) }
+        ensures telling { KeepsTelling (store self.old) (store self.new) }
         ensures cause { KeepCause result (store self.old).faults (store self.new).faults };
 
     /// Makes the changes, all or none. No number occurs in two of them.
@@ -49,5 +51,6 @@ pub trait Keeper {
         ensures ok { OnOk result (IsCommitted changes.now (store self.old) (store self.new)) }
         ensures err { OnErr result (IsNotCommitted changes.now (store self.old) (store self.new)) }
         ensures same_name { IsAtMost (store self.old).name (store self.new).name }
+        ensures telling { KeepsTelling (store self.old) (store self.new) }
         ensures cause { KeepCause result (store self.old).faults (store self.new).faults };
 }
