@@ -7,8 +7,8 @@ use Rattle.sqlite_trees.specs.View.{is_int}
 use Rattle.sqlite_trees.specs.declared.store.Store.{Ghosts}
 use Rattle.sqlite_value.specs.Order.{Row as Cells, column}
 use Rattle.std.specs.List.{AllByRecursion}
-use Rattle.std.proofs.Common.{◌≡◌, ◌≢◌, Bool, true, false, List, [], ◌∷◌, map, Option, Some, None, IfSome, IsTrue, refl, sym, ap, ◌∙◌, subst, inl, inr, true≢false}
-use Rattle.wm_keeper.specs.Store.{Store, IsAtMost, IsStoreKept}
+use Rattle.std.proofs.Common.{◌≡◌, ◌≢◌, ◌⊎◌, ℕ, Bool, true, false, not, List, [], ◌∷◌, map, Option, Some, None, IfSome, IsSome, IsTrue, refl, sym, ap, ◌∙◌, subst, inl, inr, true≢false}
+use Rattle.wm_keeper.specs.Store.{Store, IsAtMost, IsStoreKept, KeepsTelling}
 use Rattle.wm_keeper.specs.declared.row.Row.{Row}
 use Rattle.wm_keeper.proofs.Stores.{IsAtMost-then}
 use Rattle.wm_keeper.specs.Keeper.{Ascends}
@@ -17,7 +17,7 @@ use Rattle.wm_sqlite.specs.Held.{held_in, row_in, row_of, IsListed}
 use Rattle.wm_sqlite.specs.Resting.{Rests, RestsEmpty, WasOpen}
 use Rattle.wm_sqlite.specs.Standing.{ShowsTable}
 use Rattle.wm_sqlite.specs.Table.{read_row, shown_row}
-use Rattle.wm_sqlite.specs.Told.{looked_at, told_of, while_open, AreShown, AreThere, IsLookedAt, Knows, LeavesTable}
+use Rattle.wm_sqlite.specs.Told.{looked_at, told_of, while_open, AreShown, AreThere, IsKnownStill, IsLookedAt, Knows, LeavesTable}
 use Rattle.wm_sqlite.specs.declared.standing.Standing.{Standing}
 use Rattle.wm_sqlite.specs.declared.standing.Standing.TheVariants.{Unknown, Missing, Found, Read}
 
@@ -185,3 +185,35 @@ IsStoreKept-then before between now one two = record {
   rows = IsAtMost-then before.rows between.rows now.rows one.rows two.rows;
   images = λ image left. one.images image (two.images image left);
 }
+
+-- ---- a keeper goes on telling
+
+-- an open store tells, and one that is shut is lost
+open-or-shut : (up : Bool) (rows : List Row) → IsSome (while_open up rows) ⊎ IsTrue (not up)
+open-or-shut true rows = inl refl
+open-or-shut false rows = inr refl
+
+shut-still : (before now : Bool) → (IsTrue now → IsTrue before) → IsTrue (not before) → IsTrue (not now)
+shut-still before false was shut = refl
+shut-still true true was shut = shut
+shut-still false true was shut = was refl
+
+-- where what was known is known still, rows are told still while the connection is open
+pub keeps-known : (before now : Standing) (s t : State) (n m : ℕ) → IsKnownStill before now → (IsTrue t.is_open → IsTrue s.is_open)
+    → KeepsTelling (told_of before s n) (told_of now t m)
+keeps-known before Unknown s t n m known was = record {
+  rows = λ told. let unknown : before ≡ Unknown = known refl in absurd (true≢false (sym (subst (λ one. IsSome (told_of one s n).rows) unknown told)));
+  lost = shut-still s.is_open t.is_open was;
+}
+keeps-known before Missing s t n m known was =
+    record { rows = λ told. open-or-shut t.is_open []; lost = shut-still s.is_open t.is_open was }
+keeps-known before Found s t n m known was =
+    record { rows = λ told. open-or-shut t.is_open (held_in (t.now.trees 0)); lost = shut-still s.is_open t.is_open was }
+keeps-known before Read s t n m known was =
+    record { rows = λ told. open-or-shut t.is_open (held_in (t.now.trees 0)); lost = shut-still s.is_open t.is_open was }
+
+pub looked-still : (before mid : Standing) → IsKnownStill before mid → IsKnownStill before (looked_at mid)
+looked-still before Unknown known is = known is
+looked-still before Missing known is = known is
+looked-still before Found known is = absurd cc
+looked-still before Read known is = known is

@@ -1,7 +1,7 @@
 -- What contracts see of the keepers of this crate, and what they show of it.
 use Rattle.sqlite.specs.Held.{Held, held_code}
 use Rattle.std.specs.Coded.{Coded, code_by, coded×, coded_ℕ}
-use Rattle.std.specs.Prelude.{ℕ, Bool, Option, None, Some, refl}
+use Rattle.std.specs.Prelude.{ℕ, Bool, true, Option, None, Some, refl}
 use Rattle.wm_keeper.specs.Store.{Store}
 use Rattle.wm_sqlite.specs.contracts.standing.Standing as standing
 use Rattle.wm_sqlite.specs.declared.standing.Standing.{Standing}
@@ -23,9 +23,9 @@ pub record FileState : Type 0 where
   pub is_open : Bool
   pub faults : ℕ
 
--- it tells neither rows nor what a crash may leave nor a name, and shows its count of faults alone
+-- it tells neither rows nor what a crash may leave nor a name, and shows its count of faults alone: it is lost from the beginning
 abbrev pub silent_store : ℕ → Store
-silent_store faults = record { rows = None; images = λ image. ⊥; name = None; faults = faults }
+silent_store faults = record { rows = None; images = λ image. ⊥; name = None; faults = faults; is_lost = true }
 
 -- how many faults the keeper over the open file has met, none where no file is open
 abbrev pub faults_of : {A : Type 0} → Option (SqliteState A) → ℕ

@@ -4,7 +4,7 @@ use Rattle.sqlite.specs.State.{State, HasCleanDisk}
 use Rattle.sqlite_trees.specs.Tree.{Trees}
 use Rattle.sqlite_trees.specs.declared.store.Store.{Ghosts}
 use Rattle.sqlite_value.specs.Order.{Row as Cells}
-use Rattle.std.specs.Prelude.{◌≡◌, ◌≢◌, ◌⊎◌, ℕ, Bool, true, false, List, [], Option, None, Some, IsTrue}
+use Rattle.std.specs.Prelude.{◌≡◌, ◌≢◌, ◌⊎◌, ℕ, Bool, true, false, not, List, [], Option, None, Some, IsTrue}
 use Rattle.wm_keeper.specs.Store.{Store}
 use Rattle.wm_keeper.specs.declared.row.Row.{Row}
 use Rattle.wm_sqlite.specs.Held.{held_in, IsListed}
@@ -41,9 +41,9 @@ images_told Missing s image = HasCleanDisk s × (image ≡ [])
 images_told Found s image = LeavesTable s image
 images_told Read s image = LeavesTable s image
 
--- what is told of what a connection shows, beside a count of faults. No name is told
+-- What is told of what a connection shows, beside a count of faults. No name is told. It is lost once the connection is shut.
 abbrev pub told_of : Standing → State → ℕ → Store
-told_of standing s faults = record { rows = rows_told standing s; images = images_told standing s; name = None; faults = faults }
+told_of standing s faults = record { rows = rows_told standing s; images = images_told standing s; name = None; faults = faults; is_lost = not s.is_open }
 
 -- what is known from the schema alone, exactly where no transaction is open
 abbrev pub IsSeenAs : Standing → State → Type 0
@@ -56,6 +56,10 @@ IsSeenAs Read s = ⊥
 abbrev pub looked_at : Standing → Standing
 looked_at Found = Read
 looked_at standing = standing
+
+-- what was known to be there, or missing, is known still
+abbrev pub IsKnownStill : Standing → Standing → Type 0
+IsKnownStill before now = now ≡ Unknown → before ≡ Unknown
 
 -- a table was looked at: its rows were read, or nothing is known of it
 abbrev pub IsLookedAt : Standing → Type 0

@@ -15,8 +15,10 @@ use wm_keeper::{Change, KeepFault, Keeper, Row};
 /// missing. A contract sees the connection, what the keeper knows of the table and its count of
 /// faults.
 ///
-/// It tells its rows, and what a crash now may leave, while the disk returned what was written and
-/// the database has nothing besides the table. Otherwise it works, and tells its count alone.
+/// It tells its rows while the connection is open, and what a crash now may leave as long as the disk
+/// returned what was written, if the database had nothing besides the table when it was adopted, and
+/// no transaction was open. Otherwise it works, and tells its count alone. It is lost once the
+/// connection is shut.
 ///
 /// A fault is a statement or a column that is refused for another cause than memory, a table `work`
 /// of another form, or one whose numbers don't rise when it is read by number. It is counted once a
@@ -50,7 +52,7 @@ impl<A: Alter> Model for SqliteKeeper<A> {
 impl<A: Alter> SqliteKeeper<A> {
     ghost use Rattle.std.specs.Prelude.{IsTrue, OnOk, OnErr};
     ghost use Rattle.wm_keeper.specs.Keeper.{AreOfDifferentNumbers};
-    ghost use Rattle.wm_keeper.specs.Store.{IsCommitted, IsLoaded, IsNotCommitted, IsSettled, IsStoreKept};
+    ghost use Rattle.wm_keeper.specs.Store.{IsCommitted, IsLoaded, IsNotCommitted, IsSettled, IsStoreKept, KeepsTelling};
     ghost use Rattle.wm_sqlite.specs.Told.{store_of, IsLookedAt, IsSeenAs};
     ghost use Rattle.sqlite.specs.Held.{state};
 
@@ -82,6 +84,7 @@ impl<A: Alter> SqliteKeeper<A> {
     fn load_rows(&mut self) -> Result<Vec<Row>, Refusal>
         ensures faults { self.new.faults ≡ self.old.faults }
         ensures kept { IsStoreKept (store_of A.Store self.old) (store_of A.Store self.new) }
+        ensures telling { KeepsTelling (store_of A.Store self.old) (store_of A.Store self.new) }
         ensures rows { IfOk result (λ rows. IsLoaded rows.items (store_of A.Store self.old) (store_of A.Store self.new)) }
         ensures looked { OnOk result (IsLookedAt self.new.standing) }
     {
@@ -95,6 +98,7 @@ impl<A: Alter> SqliteKeeper<A> {
     fn allocator(&mut self, changes: &[Change]) -> Result<Global, Refusal>
         ensures faults { self.new.faults ≡ self.old.faults }
         ensures kept { IsStoreKept (store_of A.Store self.old) (store_of A.Store self.new) }
+        ensures telling { KeepsTelling (store_of A.Store self.old) (store_of A.Store self.new) }
         ensures looked { OnOk result (IsLookedAt self.new.standing) }
     {
         match self.alloc {
@@ -110,6 +114,7 @@ impl<A: Alter> SqliteKeeper<A> {
     fn change_table(&mut self, changes: &[Change]) -> Result<(), Refusal>
         requires { AreOfDifferentNumbers changes.now }
         ensures faults { self.new.faults ≡ self.old.faults }
+        ensures telling { KeepsTelling (store_of A.Store self.old) (store_of A.Store self.new) }
         ensures ok { OnOk result (IsCommitted changes.now (store_of A.Store self.old) (store_of A.Store self.new)) }
         ensures err { OnErr result (IsNotCommitted changes.now (store_of A.Store self.old) (store_of A.Store self.new)) }
     {

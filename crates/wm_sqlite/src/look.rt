@@ -3,8 +3,9 @@ ghost use Rattle.sqlite.specs.Held.{state};
 ghost use Rattle.sqlite.specs.State.{HasCleanDisk};
 ghost use Rattle.std.specs.Prelude.{◌≡◌, ◌≢◌, false, IfOk, IfSome, IsTrue, OnOk};
 ghost use Rattle.wm_keeper.specs.Store.{IsStoreKept};
+ghost use Rattle.wm_sqlite.specs.Resting.{WasOpen};
 ghost use Rattle.wm_sqlite.specs.Standing.{ShowsTable};
-ghost use Rattle.wm_sqlite.specs.Told.{rows_told, told_of, AreShown, AreThere, IsLookedAt, IsSeenAs, Knows};
+ghost use Rattle.wm_sqlite.specs.Told.{rows_told, told_of, AreShown, AreThere, IsKnownStill, IsLookedAt, IsSeenAs, Knows};
 
 use crate::form::{has_work_table, is_blank, is_of_work_alone};
 use crate::numbers::do_ascend;
@@ -43,6 +44,8 @@ pub(crate) fn read_rows<A: Alter>(
     ensures knows { Knows A.Store standing.new connection.new }
     ensures kept { IsStoreKept (told_of standing.old (state A.Store connection.old) 0)
         (told_of standing.new (state A.Store connection.new) 0) }
+    ensures known { IsKnownStill standing.old standing.new }
+    ensures was_open { WasOpen A.Store connection.old connection.new }
     ensures rows { HasCleanDisk (state A.Store connection.new) → IfOk result (λ rows.
         IfSome (rows_told standing.old (state A.Store connection.old)) (λ held. rows.items ≡ held)) }
     ensures looked { OnOk result (IsLookedAt standing.new) }
@@ -65,6 +68,8 @@ fn show_rows<A: Alter>(
     ensures knows { Knows A.Store standing.new connection.new }
     ensures kept { IsStoreKept (told_of standing.old (state A.Store connection.old) 0)
         (told_of standing.new (state A.Store connection.new) 0) }
+    ensures known { IsKnownStill standing.old standing.new }
+    ensures was_open { WasOpen A.Store connection.old connection.new }
     ensures held { HasCleanDisk (state A.Store connection.new) → IfOk result (λ shown.
         IfSome (rows_told standing.old (state A.Store connection.old)) (λ held. AreShown held shown.items)) }
     ensures shown { HasCleanDisk (state A.Store connection.new) → IfOk result (λ shown.
@@ -90,6 +95,8 @@ fn make_table<A: Alter>(
     ensures knows { Knows A.Store standing.new connection.new }
     ensures kept { IsStoreKept (told_of standing.old (state A.Store connection.old) 0)
         (told_of standing.new (state A.Store connection.new) 0) }
+    ensures known { IsKnownStill standing.old standing.new }
+    ensures was_open { WasOpen A.Store connection.old connection.new }
     ensures there { OnOk result (standing.new ≢ Standing.Missing) }
     ensures held { HasCleanDisk (state A.Store connection.new) → OnOk result (
         IfSome (rows_told standing.old (state A.Store connection.old)) (AreThere A.Store connection.new)) }
@@ -108,7 +115,8 @@ fn make_table<A: Alter>(
 /// Makes the table where there is none of its name. One of another form is refused.
 fn make_beside<A: Alter>(connection: &mut Connection<A>) -> Result<(), Refusal>
     requires { connection.old.in_transaction ≡ false }
-    ensures { connection.new.in_transaction ≡ false }
+    ensures mode { connection.new.in_transaction ≡ false }
+    ensures was_open { WasOpen A.Store connection.old connection.new }
 {
     make_work_table(connection)?;
     if has_work_table(connection.schema()) {

@@ -2,7 +2,7 @@ use Rattle.sqlite.specs.Held.{state}
 use Rattle.std.proofs.Common.{◌≡◌, map, rules}
 use Rattle.wm_keeper.specs.Keeper.{Ascends}
 use Rattle.wm_sqlite.proofs.Rests.{open-clean}
-use Rattle.wm_sqlite.proofs.Tellings.{looked-known, read-held, read-told}
+use Rattle.wm_sqlite.proofs.Tellings.{looked-known, looked-still, read-held, read-told}
 use Rattle.wm_sqlite.specs.Held.{row_of}
 use Rattle.wm_sqlite.specs.Table.{read_row}
 use Rattle.wm_sqlite.specs.Told.{rows_told}
@@ -28,3 +28,6 @@ returns-clause-rows g c clean =
     let ascend : Ascends rows = search rules in
     read-told (rows_told c.args.standing.now (state g.A.Store c.args.connection.now)) shown rows (c.in_ok-shown.ensures.held clean)
     (rw c.as_slice.ensures.value at c.in_ok-rows.ensures.numbered) (rw c.as_slice.ensures.value at c.in_ok-rows.ensures.rows) ascend
+
+pub returns-clause-known : goal.returns-clause-known
+returns-clause-known g c = rw c.looked_at.ensures (looked-still c.args.standing.now c.show_rows.new.standing c.show_rows.ensures.known)

@@ -40,3 +40,8 @@ returns-clause-shown g c clean =
 
 pub returns-clause-there : goal.returns-clause-there
 returns-clause-there g c = on_ok c.refused.result c.in_ok-make_table.ensures.there
+
+pub returns-clause-was_open : goal.returns-clause-was_open
+returns-clause-was_open g c clean up =
+    let read = c.read_work_table.ensures in
+    c.make_table.ensures.was_open (was-clean read.survives.clean clean) (read.was_open clean up)

@@ -1,6 +1,7 @@
 use Rattle.sqlite.specs.Held.{state}
 use Rattle.wm_sqlite.proofs.Commits.{loaded-told}
 use Rattle.wm_sqlite.proofs.Rests.{open-clean}
+use Rattle.wm_sqlite.proofs.Tellings.{keeps-known}
 use Rattle.wm_sqlite.proofs.keeper.SqliteKeeper.load_rows.Goals as goal
 
 pub returns-clause-rows : goal.returns-clause-rows
@@ -10,3 +11,19 @@ returns-clause-rows g c =
     rw (← c.self.view_is)
     (loaded-told i.standing c.read_rows.new.standing (state g.A.Store i.connection) (state g.A.Store new) i.faults i.faults c.in_ok-rows.rows.items
     (open-clean _ _ (g.met.A.Store.shut_if_dirty new.store)) c.in_ok-rows.ensures.rows c.read_rows.ensures.kept)
+
+pub returns-in_err-rows-clause-telling : goal.returns-in_err-rows-clause-telling
+returns-in_err-rows-clause-telling g c =
+    let i = c.self.inside in
+    let new = c.read_rows.new.connection in
+    rw (← c.self.view_is)
+    (keeps-known i.standing c.read_rows.new.standing (state g.A.Store i.connection) (state g.A.Store new) i.faults i.faults c.read_rows.ensures.known
+    (λ up. c.read_rows.ensures.was_open (open-clean _ _ (g.met.A.Store.shut_if_dirty new.store) up) up))
+
+pub returns-clause-telling : goal.returns-clause-telling
+returns-clause-telling g c =
+    let i = c.self.inside in
+    let new = c.read_rows.new.connection in
+    rw (← c.self.view_is)
+    (keeps-known i.standing c.read_rows.new.standing (state g.A.Store i.connection) (state g.A.Store new) i.faults i.faults c.read_rows.ensures.known
+    (λ up. c.read_rows.ensures.was_open (open-clean _ _ (g.met.A.Store.shut_if_dirty new.store) up) up))
