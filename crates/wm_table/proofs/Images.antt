@@ -93,4 +93,4 @@ pub unopened-same : {K : Type 0} (store : K → Store) (rows : List Row) (instan
     → LeavesUnopened store rows instances keeper (keeper, begin_fault_of fault)
 unopened-same store rows instances keeper (row.BadRow seq) = refl
 unopened-same store rows instances keeper (row.Unsound seq) = refl
-unopened-same store rows instances keeper row.Memory = λ image left. inl left
+unopened-same store rows instances keeper row.Memory = refl

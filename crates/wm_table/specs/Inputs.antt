@@ -1,5 +1,5 @@
 -- The inputs of one run, by which whoever holds a part of the run knows what it is a part of.
-use Rattle.std.specs.Prelude.{ℕ, List, [], Option, None}
+use Rattle.std.specs.Prelude.{ℕ, true, List, [], Option, None}
 use Rattle.atomic_table.specs.Seated.{TableId}
 use Rattle.wm_keeper.specs.Store.{Store}
 use Rattle.wm_keeper.specs.declared.row.Row.{Row}
@@ -25,7 +25,7 @@ no_roll = record { words = 0; slots = 0; views_name = 0; atom = 0; block = 0; of
 abbrev pub no_inputs : Inputs
 no_inputs = record {
   rows = [];
-  store = record { rows = None; images = λ image. ⊥; name = None; faults = 0 };
+  store = record { rows = None; images = λ image. ⊥; name = None; faults = 0; is_lost = true };
   instances = [];
   lines = [];
   written = None;

@@ -1,5 +1,5 @@
 -- What the calls of the table do to the state, its log and the rows held.
-use Rattle.std.specs.Prelude.{◌≡◌, ◌⊎◌, ℕ, ℤ, ◌+◌, ◌≤◌, Bool, true, false, if◌then◌else◌, List, [], ◌∷◌, ◌++◌, length, Option, Some, None, IsSomeAnd, IfSome, IsSome, Result, Ok, Err, Vec, vec_capacity}
+use Rattle.std.specs.Prelude.{◌≡◌, ◌⊎◌, ℕ, ℤ, ◌+◌, ◌≤◌, Bool, true, false, if◌then◌else◌, List, [], ◌∷◌, ◌++◌, length, Option, Some, None, IsSomeAnd, IfSome, IsSome, MatchBool, Result, Ok, Err, Vec, vec_capacity}
 use Rattle.std.specs.declared.alloc.Global.{Global}
 use Rattle.wm_data.specs.declared.data.DataEntry.{DataEntry}
 use Rattle.wm_faults.specs.Faults as faults
@@ -93,13 +93,20 @@ begin_fault_of row.Memory = begin.Memory
 
 abbrev pub begin_trouble_of : Trouble → BeginFault
 begin_trouble_of trouble.KeeperFault = begin.KeeperFault
-begin_trouble_of trouble.Memory = begin.Memory
+begin_trouble_of trouble.Memory = begin.CommitMemory
 
 -- `Bad` names the first row with a fault, and says whether it is out of form; the keeper isn't asked to commit unless the rows are sound
 abbrev pub IsBeginFault : List Row → BeginFault → Type 0
 IsBeginFault rows (begin.Bad seq bad_row) = checked rows ≡ Err (row_fault seq bad_row)
 IsBeginFault rows begin.KeeperFault = AreSound rows
+IsBeginFault rows begin.CommitMemory = AreSound rows
 IsBeginFault rows begin.Memory = Unit {0}
+
+-- whether the opening was being committed
+abbrev pub is_at_commit : BeginFault → Bool
+is_at_commit begin.KeeperFault = true
+is_at_commit begin.CommitMemory = true
+is_at_commit _ = false
 
 abbrev pub is_refused_by_keeper : {T K : Type 0} → Result T (K × BeginFault) → Bool
 is_refused_by_keeper (Err (keeper, begin.KeeperFault)) = true
@@ -118,11 +125,15 @@ BeginCause store keeper result = faults.HasCause (is_refused_by_keeper result) (
 abbrev pub LeavesOpened : {K : Type 0} → (K → Store) → List Row → K → TableState K → Type 0
 LeavesOpened store rows keeper table = LeavesOnly rows (store keeper) → LeavesOnly (rows_of table.first) (store table.keeper)
 
--- where it wasn't, a crash leaves what it could leave before, or, where rows were told, what the opening would have left, which was being committed
-abbrev pub LeavesUnopened : {K : Type 0} → (K → Store) → List Row → List Instance → K → K × BeginFault → Type 0
-LeavesUnopened store rows instances keeper (now, begin.Bad seq bad_row) = now ≡ keeper
-LeavesUnopened store rows instances keeper (now, _) =
+-- a crash leaves what it could leave before, or, where rows were told, what the opening would have left
+abbrev pub MayLeaveOpening : {K : Type 0} → (K → Store) → List Row → List Instance → K → K → Type 0
+MayLeaveOpening store rows instances keeper now =
     (image : List Row) → (store now).images image → (store keeper).images image ⊎ (IsSome (store keeper).rows × WouldOpen rows instances image)
+
+-- where it wasn't, the keeper is as it was, unless the opening was being committed
+abbrev pub LeavesUnopened : {K : Type 0} → (K → Store) → List Row → List Instance → K → K × BeginFault → Type 0
+LeavesUnopened store rows instances keeper refused =
+    MatchBool (is_at_commit refused.1) (MayLeaveOpening store rows instances keeper refused.0) (refused.0 ≡ keeper)
 
 -- ---- claim
 

@@ -86,8 +86,21 @@ pub enum BeginFault {
     KeeperFault,
     /// The store has a row that can't be opened: its number, and whether the row is out of form.
     Bad { seq: i64, bad_row: bool },
-    /// Memory was refused.
+    /// Memory was refused, before the commit.
     Memory,
+    /// Memory was refused to the commit.
+    CommitMemory,
+}
+
+impl BeginFault {
+    ghost use Rattle.wm_table.specs.Table.{is_at_commit};
+
+    /// Whether the opening was being committed: a crash may then leave what it would have left.
+    pub fn is_at_commit(self) -> bool
+        ensures { result ≡ is_at_commit self }
+    {
+        matches!(self, BeginFault::KeeperFault | BeginFault::CommitMemory)
+    }
 }
 
 impl From<RowFault> for BeginFault {
@@ -115,7 +128,7 @@ impl From<Trouble> for BeginFault {
     fn from(trouble: Trouble) -> BeginFault {
         match trouble {
             Trouble::KeeperFault => BeginFault::KeeperFault,
-            Trouble::Memory => BeginFault::Memory,
+            Trouble::Memory => BeginFault::CommitMemory,
         }
     }
 }
@@ -202,8 +215,8 @@ impl<K: Keeper, M: Mark> Table<K, M> {
     /// rows that change by that are committed at once, and nothing is where none does.
     ///
     /// A refusal gives the keeper back. It is `Bad` exactly where the rows aren't sound, with the first
-    /// one that has a fault; `KeeperFault` or `Memory` where the commit is refused, after which the
-    /// rows held are as they were; or `Memory` before it.
+    /// one that has a fault; `KeeperFault` or `CommitMemory` where the commit is refused, after which
+    /// the rows held are as they were; or `Memory` before it, after which the keeper is as it was.
     pub fn begin(
         alloc: Global,
         keeper: K,
@@ -229,6 +242,7 @@ impl<K: Keeper, M: Mark> Table<K, M> {
         ensures images { IfOk result (LeavesOpened K.store rows.items keeper) }
         ensures bad { IfErr result (λ refused. IsBeginFault rows.items refused.1) }
         ensures kept { IfErr result (λ refused. IsAtMost (K.store keeper).rows (K.store refused.0).rows) }
+        ensures tells_on_err { IfErr result (λ refused. TellsOn (K.store keeper) (K.store refused.0)) }
         ensures images_err { IfErr result (LeavesUnopened K.store rows.items instances keeper) }
         ensures cause { BeginCause K.store keeper result }
     {

@@ -10,7 +10,7 @@ use Rattle.wm_table.proofs.table.Table.begin.Goals as goal
 -- the commit of an opening is refused where the rows are sound
 refused : (rows : List Row) (trouble : Trouble) → AreSound rows → IsBeginFault rows (begin_trouble_of trouble)
 refused rows KeeperFault sound = sound
-refused rows Memory sound = tt
+refused rows Memory sound = sound
 
 pub returns-clause-bad : goal.returns-clause-bad
 returns-clause-bad g c =

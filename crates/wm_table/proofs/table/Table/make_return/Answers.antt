@@ -21,7 +21,7 @@ invariant_of-self g c =
     kept-step g.M.Mark.inputs store old new i.log log refl refl i.roll (event.Late number) i.notes c.new.result c.self.invariant
     (return-step store number old new made refl c.carry_return.ensures.log refl c.self.invariant.rows)
     (c.new.ensures ∙ return-told number i.view new.state valid made) (return-begins number i.view new.state made) c.carry_return.ensures.room
-    (TellsOn-same (store i.keeper) (store i.keeper) refl refl)
+    (TellsOn-same (store i.keeper) (store i.keeper) refl (λ image left. left) refl refl)
     (subst (λ (t : TableState g.row.K.Denot). NoneOf number t.roll) (sym c.self.view_is) c.requires.off)
 
 pub returns-clause-returned : goal.returns-clause-returned
