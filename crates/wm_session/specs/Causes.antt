@@ -18,6 +18,7 @@ abbrev pub status_by_begin : BeginFault → Status
 status_by_begin (begin.Bad seq bad_row) = status.BadStore seq bad_row
 status_by_begin begin.KeeperFault = status.KeeperFault
 status_by_begin begin.Memory = status.Memory
+status_by_begin begin.CommitMemory = status.Memory
 
 abbrev pub status_by_stop : Stop → Status
 status_by_stop stop.KeeperFault = status.KeeperFault

@@ -1,5 +1,5 @@
 -- How a session ends: what its log, its last state, the bytes given and the workers handed back are.
-use Rattle.std.specs.Prelude.{◌≡◌, ℕ, true, false, not, List, [], map, filter, Option, Result, OnOk, Vec}
+use Rattle.std.specs.Prelude.{◌≡◌, ℕ, Bool, true, false, not, List, [], map, filter, Option, Result, OnOk, Vec}
 use Rattle.std.specs.declared.alloc.Global.{Global}
 use Rattle.wm_bench.specs.Places.{idle_hands}
 use Rattle.wm_bench.specs.declared.hand.Hand.{Hand}
@@ -84,6 +84,7 @@ AreBoxesBack diary_of given log last hands = EachBack (IsBoxAfter diary_of log) 
 pub record IsSessionEnd {K W B : Type 0} (tells : Tells K W B) (run : Inputs) (ended : Ended K W B) : Type 0 where
   pub status_is : IsSessionStatus ended.status
   pub began : ended.began ≡ true
+  pub at_opening : ended.at_opening ≡ false
   pub opened : Opened run.rows run.instances ended.first
   pub replay : Replay ended.first ended.log ended.last
   pub commands : HasCommands run.lines ended.status ended.log
@@ -127,10 +128,12 @@ pub record IsSerialEnd {K W B : Type 0} (tells : Tells K W B) (run : Inputs) (gi
   pub diaries : ended.status ≡ status.Done → HaveTold tells.diary_of given ended.first ended.log ended.last ended.hands.items
   pub serial : IsSerialRun run.lines ended.status ended.first ended.log ended.last
 
--- a run that ended with this status before its table was begun: nothing has happened, and keeper, sink and workers are these
-pub record IsUnbegun {K W B : Type 0} (why : Status) (keeper : K) (sink : W) (hands : Vec (Hand B) Global) (ended : Ended K W B) : Type 0 where
+-- a run that ended with this status before its table was begun, at the commit of its opening or not: nothing has happened, and keeper, sink and
+-- workers are these
+pub record IsUnbegun {K W B : Type 0} (why : Status) (at_opening : Bool) (keeper : K) (sink : W) (hands : Vec (Hand B) Global) (ended : Ended K W B) : Type 0 where
   pub status_is : ended.status ≡ why
   pub began : ended.began ≡ false
+  pub opening : ended.at_opening ≡ at_opening
   pub first : ended.first ≡ opening_state [] []
   pub log : ended.log ≡ []
   pub last : ended.last ≡ opening_state [] []

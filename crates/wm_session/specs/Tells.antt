@@ -52,4 +52,5 @@ pub record AreInputs {K W B : Type 0} (tells : Tells K W B) (run : Inputs) (keep
   pub told : (tells.store keeper).rows ≡ run.store.rows
   pub name : (tells.store keeper).name ≡ run.store.name
   pub faults : (tells.store keeper).faults ≡ run.store.faults
+  pub lost : (tells.store keeper).is_lost ≡ run.store.is_lost
   pub roll_is : roll ≡ run.roll

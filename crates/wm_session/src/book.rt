@@ -496,6 +496,7 @@ impl<K: Keeper, W: Sink, B: Worker, M: Mark> Book<K, W, B, M> {
         Ended {
             status,
             began: true,
+            at_opening: false,
             first,
             log,
             last,

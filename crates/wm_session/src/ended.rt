@@ -1,3 +1,4 @@
+ghost use Rattle.std.specs.Prelude.{false};
 ghost use Rattle.wm_session.specs.Ended.{IsUnbegun};
 
 use crate::status::Status;
@@ -15,6 +16,9 @@ pub struct Ended<K, W, B = Box<dyn Worker + Send>> {
     pub status: Status,
     /// Whether the store was opened and the table begun.
     pub began: bool,
+    /// Whether the table wasn't begun since the commit of its opening was refused: a crash may then
+    /// leave what that would have left.
+    pub at_opening: bool,
     /// The state that the store opened to; that of an empty store without workers where the table
     /// wasn't begun.
     pub first: State,
@@ -37,11 +41,26 @@ impl<K, W, B> Ended<K, W, B> {
         sink: W,
         hands: Vec<Hand<B>>,
     ) -> Ended<K, W, B>
-        ensures { IsUnbegun status keeper sink hands result }
+        ensures { IsUnbegun status false keeper sink hands result }
+    {
+        Ended::unbegun(alloc, status, false, keeper, sink, hands)
+    }
+
+    /// The same, or one that ended at the commit of its opening.
+    pub fn unbegun(
+        alloc: Global,
+        status: Status,
+        at_opening: bool,
+        keeper: K,
+        sink: W,
+        hands: Vec<Hand<B>>,
+    ) -> Ended<K, W, B>
+        ensures { IsUnbegun status at_opening keeper sink hands result }
     {
         Ended {
             status,
             began: false,
+            at_opening,
             first: opening_state(alloc, Items::new(alloc)),
             log: Items::new(alloc),
             last: opening_state(alloc, Items::new(alloc)),

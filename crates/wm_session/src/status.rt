@@ -49,7 +49,7 @@ impl From<BeginFault> for Status {
         match fault {
             BeginFault::Bad { seq, bad_row } => Status::BadStore { seq, bad_row },
             BeginFault::KeeperFault => Status::KeeperFault,
-            BeginFault::Memory => Status::Memory,
+            BeginFault::Memory | BeginFault::CommitMemory => Status::Memory,
         }
     }
 }

@@ -21,6 +21,7 @@ returns-clause-session g c =
     record {
       status_is = IsSessionStatus-ends stop wrote.result ended ends;
       began = refl;
+      at_opening = refl;
       opened = last.ensures.opened;
       replay = last.ensures.replay;
       commands = HasCommands-kept ended last.result.log kept last.ensures.log ends.stopped
