@@ -12,9 +12,9 @@ use Rattle.wm_cli.specs.Causes.{IsBadStore, IsOpeningStatus, IsUnlessMemory, Sto
 use Rattle.wm_cli.specs.Ended.{AreHandsOf, AreRowsKept, HasNotBegun, HasReplayed, IsBegunBy, IsEndedAtOnce, IsOpenedFrom, IsReplayed, IsRunEnd}
 use Rattle.wm_cli.specs.Images.{IsHeldAlone, RunImages, UnbegunImages}
 use Rattle.wm_faults.specs.Faults.{Failed}
-use Rattle.wm_keeper.proofs.Stores.{IsAtMost-then, IsSome-at_most}
+use Rattle.wm_keeper.proofs.Stores.{GoesOn-loaded, GoesOn-same, GoesOn-then, IsAtMost-then}
 use Rattle.wm_keeper.specs.Keeper.{KeepCause}
-use Rattle.wm_keeper.specs.Store.{Store, told_before, IsAtMost, IsLoaded, IsStoreKept}
+use Rattle.wm_keeper.specs.Store.{Store, told_before, GoesOn, IsAtMost, IsLoaded, IsStoreKept, KeepsTelling}
 use Rattle.wm_keeper.specs.declared.keeper.KeepFault.{KeepFault}
 use Rattle.wm_keeper.specs.declared.keeper.KeepFault.TheVariants as keep
 use Rattle.wm_keeper.specs.declared.row.Row.{Row}
@@ -36,7 +36,7 @@ use Rattle.wm_session.specs.declared.ended.Ended.{Ended}
 use Rattle.wm_session.specs.declared.status.Status.{Status}
 use Rattle.wm_session.specs.declared.status.Status.TheVariants as status
 use Rattle.wm_table.specs.Inputs.{Inputs}
-use Rattle.wm_table.specs.Table.{row_fault, BeginCause, IsBeginFault}
+use Rattle.wm_table.specs.Table.{is_at_commit, row_fault, BeginCause, IsBeginFault}
 use Rattle.wm_table.specs.TableState.{TableState}
 use Rattle.wm_table.specs.declared.table.BeginFault.{BeginFault}
 use Rattle.wm_table.specs.declared.table.BeginFault.TheVariants as begin
@@ -64,6 +64,7 @@ IsEnd-at_once tells run hands table sink back ended at begun askable are written
         session = record {
           status_is = subst IsSessionStatus (sym at.status_is) tt;
           began = at.began;
+          at_opening = at.at_opening;
           opened = opened;
           replay = subst (λ log. Replay ended.first log ended.last) (sym none) last;
           commands = HasCommands-nothing run.lines ended.status ended.log none (λ done. absurd (early done));
@@ -129,18 +130,23 @@ pub IsRunEnd-begun : {K W B : Type 0} (tells : Tells K W B) (run : Inputs) (work
     → IsBookEnd tells run ended → (workers ≡ 0 → IsSerialEnd tells run hands ended) → run.lines ≡ commands → run.instances ≡ instances_from tells.kind_of 0 hands
     → run.written ≡ tells.given sink → run.sink_faults ≡ tells.sink_faults sink → run.store.faults ≡ (tells.store keeper).faults
     → run.store.rows ≡ (tells.store keeper).rows → run.store.name ≡ (tells.store keeper).name
-    → ((image : List Row) → run.store.images image → (tells.store keeper).images image) → AreSound run.rows
+    → ((image : List Row) → run.store.images image → (tells.store keeper).images image) → run.store.is_lost ≡ (tells.store keeper).is_lost
+    → AreSound run.rows
     → IsRunEnd tells workers commands hands (tells.store keeper).name (Some run.rows) (Some run.rows) keeper sink ended
-IsRunEnd-begun tells run workers commands hands keeper sink ended over serial lines are written sink_faults faults told name images sound =
+IsRunEnd-begun tells run workers commands hands keeper sink ended over serial lines are written sink_faults faults told name images lost sound =
     let session = over.session in
     let instances = instances_from tells.kind_of 0 hands in
     let replayed : HasReplayed (Some run.rows) instances ended.first ended.log ended.last = record {
       opened = record { rows = run.rows; told = refl; opened = subst (λ all. Opened run.rows all ended.first) are session.opened };
       replay = session.replay;
     } in
+    let is_replayed : IsReplayed (Some run.rows) instances ended.began ended.first ended.log ended.last =
+    subst (λ began. IsReplayed (Some run.rows) instances began ended.first ended.log ended.last) (sym session.began) replayed in
     record {
-      replay = subst (λ began. IsReplayed (Some run.rows) instances began ended.first ended.log ended.last) (sym session.began) replayed;
+      replay = is_replayed;
+      replay_left = λ image left. is_replayed;
       begun = session_begun ended.status ended.began session.status_is session.began;
+      at_opening = λ opening. let clash : false ≡ true = sym session.at_opening ∙ opening in absurd (cc);
       not_begun_keeps = λ unbegun. let clash : true ≡ false = sym session.began ∙ unbegun in absurd (cc);
       rows = subst (λ began. AreRowsKept began ended.last (tells.store keeper) (tells.store ended.keeper)) (sym session.began) session.rows;
       store_is = λ began. subst (λ n. IsAtMost n (tells.store ended.keeper).name) name session.tells_on.name;
@@ -155,15 +161,17 @@ IsRunEnd-begun tells run workers commands hands keeper sink ended over serial li
       keeper_fault = λ is. subst (λ n. Failed n (tells.store ended.keeper).faults) faults (session.keeper_fault is);
       sink_fault = λ is. subst (λ n. Failed n (tells.sink_faults ended.sink)) sink_faults (session.sink_fault is);
       images = λ alone.
-          subst (λ began. RunImages began ended.status commands (Some run.rows) instances ended.last ended.log (tells.store ended.keeper)) (sym session.began)
+          subst
+          (λ began. RunImages began ended.at_opening ended.status commands (Some run.rows) instances ended.last ended.log (tells.store ended.keeper))
+          (sym session.began)
           (subst (λ all. EndImages ended.status all ended.last ended.log (tells.store ended.keeper)) lines
           (session.images (λ image left. leaves-only run.rows (tells.store keeper) alone image (images image left))));
       bad_store = session_store ended.status (Some run.rows) session.status_is;
       unsound = λ rows seq bad_row stored refused no_fault.
           let same : run.rows ≡ rows = cc in
           absurd (none_refused rows (row_fault seq bad_row) (subst AreSound same sound) refused);
-      tells_on = subst (λ rows. IfSome (tells.store ended.keeper).rows (λ last. IsSome rows)) told session.tells_on.rows;
-      leaves = λ unbegun. let clash : true ≡ false = sym session.began ∙ unbegun in absurd (cc);
+      goes_on = GoesOn-then (tells.store keeper) run.store (tells.store ended.keeper) (GoesOn-same (tells.store keeper) run.store told images lost)
+          session.tells_on.goes_on;
     }
 
 -- so does one that ended before its first line, as a serial run
@@ -172,11 +180,12 @@ pub IsRunEnd-early : {T K W B : Type 0} (tells : Tells K W B) (run : Inputs) (co
     → IfErr result (IsEndedBeforeLines tells run hands) → run.lines ≡ commands → run.instances ≡ instances_from tells.kind_of 0 hands
     → run.written ≡ tells.given sink → run.sink_faults ≡ tells.sink_faults sink → run.store.faults ≡ (tells.store keeper).faults
     → run.store.rows ≡ (tells.store keeper).rows → run.store.name ≡ (tells.store keeper).name
-    → ((image : List Row) → run.store.images image → (tells.store keeper).images image) → AreSound run.rows
+    → ((image : List Row) → run.store.images image → (tells.store keeper).images image) → run.store.is_lost ≡ (tells.store keeper).is_lost
+    → AreSound run.rows
     → IfErr result (IsRunEnd tells 0 commands hands (tells.store keeper).name (Some run.rows) (Some run.rows) keeper sink)
-IsRunEnd-early tells run commands hands keeper sink (Ok begun) early lines are written sink_faults faults told name images sound = tt
-IsRunEnd-early tells run commands hands keeper sink (Err ended) early lines are written sink_faults faults told name images sound =
-    IsRunEnd-begun tells run 0 commands hands keeper sink ended early.end (λ alone. early.serial) lines are written sink_faults faults told name images sound
+IsRunEnd-early tells run commands hands keeper sink (Ok begun) early lines are written sink_faults faults told name images lost sound = tt
+IsRunEnd-early tells run commands hands keeper sink (Err ended) early lines are written sink_faults faults told name images lost sound =
+    IsRunEnd-begun tells run 0 commands hands keeper sink ended early.end (λ alone. early.serial) lines are written sink_faults faults told name images lost sound
 
 -- the end of a serial run is one with any number of worker threads
 pub IsRunEnd-threads : {K W B : Type 0} (tells : Tells K W B) (workers : ℕ) (commands : List Command) (hands : List (Hand B)) (name : Option (List ℕ))
@@ -185,7 +194,9 @@ pub IsRunEnd-threads : {K W B : Type 0} (tells : Tells K W B) (workers : ℕ) (c
 IsRunEnd-threads tells workers commands hands name held before keeper sink ended is =
     record {
       replay = is.replay;
+      replay_left = is.replay_left;
       begun = is.begun;
+      at_opening = is.at_opening;
       not_begun_keeps = is.not_begun_keeps;
       rows = is.rows;
       store_is = is.store_is;
@@ -202,8 +213,7 @@ IsRunEnd-threads tells workers commands hands name held before keeper sink ended
       images = is.images;
       bad_store = is.bad_store;
       unsound = is.unsound;
-      tells_on = is.tells_on;
-      leaves = is.leaves;
+      goes_on = is.goes_on;
     }
 
 -- ---- a run whose table wasn't begun
@@ -224,8 +234,16 @@ pub EarlyCause-begin : {K : Type 0} (store : K → Store) (keeper : K) (rows : L
     → BeginCause store keeper (Err refused)
     → EarlyCause (status_by_begin refused.1) (store keeper).faults (store refused.0).faults (Some rows)
 EarlyCause-begin store keeper rows (now, begin.Memory) is cause = tt
+EarlyCause-begin store keeper rows (now, begin.CommitMemory) is cause = tt
 EarlyCause-begin store keeper rows (now, begin.KeeperFault) is cause = cause
 EarlyCause-begin store keeper rows (now, begin.Bad seq bad_row) is cause = record { rows = rows; told = refl; refused = is }
+
+-- a commit of the opening is refused by the keeper or for want of memory
+pub at_opening-begin : (fault : BeginFault) → is_at_commit fault ≡ true → (status_by_begin fault ≡ status.KeeperFault) ⊎ (status_by_begin fault ≡ status.Memory)
+at_opening-begin begin.KeeperFault is = inl refl
+at_opening-begin begin.CommitMemory is = inr refl
+at_opening-begin begin.Memory is = inr refl
+at_opening-begin (begin.Bad seq bad_row) is = absurd (cc)
 
 -- one fault is of one number and of one kind
 same_fault : (seq other : ℤ) (bad_row bad_other : Bool) → row_fault seq bad_row ≡ row_fault other bad_other
@@ -291,14 +309,15 @@ is_early status.SourceFault before now held cause = absurd cause
 is_early (status.ScriptTooLong limit) before now held cause = absurd cause
 
 -- a run that ended before its table was begun, with its keeper as it was told before
-pub IsRunEnd-unbegun : {K W B : Type 0} (tells : Tells K W B) (workers : ℕ) (commands : List Command) (why : Status) (hands : Vec (Hand B) Global)
-    (name : Option (List ℕ)) (held before : Option (List Row)) (keeper now : K) (sink : W) (ended : Ended K W B)
-    → IsUnbegun why now sink hands ended → AllByRecursion IsAskable commands → IsAtMost (tells.store keeper).rows (tells.store now).rows
+pub IsRunEnd-unbegun : {K W B : Type 0} (tells : Tells K W B) (workers : ℕ) (commands : List Command) (why : Status) (at_opening : Bool)
+    (hands : Vec (Hand B) Global) (name : Option (List ℕ)) (held before : Option (List Row)) (keeper now : K) (sink : W) (ended : Ended K W B)
+    → IsUnbegun why at_opening now sink hands ended → AllByRecursion IsAskable commands → IsAtMost (tells.store keeper).rows (tells.store now).rows
     → EarlyCause why (tells.store keeper).faults (tells.store now).faults held
-    → (IsHeldAlone before (tells.store keeper) → UnbegunImages why before (instances_from tells.kind_of 0 hands.items) (tells.store now))
-    → ((image : List Row) → (tells.store now).images image → (tells.store keeper).images image ⊎ IsSome (tells.store keeper).rows)
+    → (at_opening ≡ true → (why ≡ status.KeeperFault) ⊎ (why ≡ status.Memory))
+    → (IsHeldAlone before (tells.store keeper) → UnbegunImages at_opening before (instances_from tells.kind_of 0 hands.items) (tells.store now))
+    → GoesOn (tells.store keeper) (tells.store now)
     → IsRunEnd tells workers commands hands.items name held before keeper sink ended
-IsRunEnd-unbegun tells workers commands why hands name held before keeper now sink ended unbegun askable same cause images leaves =
+IsRunEnd-unbegun tells workers commands why at_opening hands name held before keeper now sink ended unbegun askable same cause refused images goes_on =
     let earlier = (tells.store keeper).faults in
     let faults : (tells.store ended.keeper).faults ≡ (tells.store now).faults = ap (λ keeper. (tells.store keeper).faults) unbegun.keeper_is in
     let is =
@@ -308,7 +327,11 @@ IsRunEnd-unbegun tells workers commands why hands name held before keeper now si
     let nothing : HasNotBegun ended.first ended.log ended.last = record { first_is = unbegun.first; last_is = unbegun.last; no_event = unbegun.log } in
     record {
       replay = subst (λ began. IsReplayed held (instances_from tells.kind_of 0 hands.items) began ended.first ended.log ended.last) (sym unbegun.began) nothing;
+      replay_left = λ image left.
+          subst (λ began. IsReplayed before (instances_from tells.kind_of 0 hands.items) began ended.first ended.log ended.last) (sym unbegun.began) nothing;
       begun = is.begun ended.began unbegun.began;
+      at_opening = λ opening.
+          (unbegun.began, subst (λ s. (s ≡ status.KeeperFault) ⊎ (s ≡ status.Memory)) (sym unbegun.status_is) (refused (sym unbegun.opening ∙ opening)));
       not_begun_keeps = λ same. unbegun.sink_is;
       rows = subst (λ began. AreRowsKept began ended.last (tells.store keeper) (tells.store ended.keeper)) (sym unbegun.began)
           (subst (λ keeper_is. IsAtMost (tells.store keeper).rows (tells.store keeper_is).rows) (sym unbegun.keeper_is) same);
@@ -324,11 +347,10 @@ IsRunEnd-unbegun tells workers commands why hands name held before keeper now si
       opened = is.opened;
       keeper_fault = is.keeper_fault;
       sink_fault = λ fault. absurd (is.no_sink_fault fault);
-      images = λ alone. rw (unbegun.began, unbegun.status_is, unbegun.keeper_is) (images alone);
+      images = λ alone. rw (unbegun.began, unbegun.opening, unbegun.keeper_is) (images alone);
       bad_store = is.bad_store;
       unsound = is.unsound;
-      tells_on = rw unbegun.keeper_is (IsSome-at_most (tells.store keeper).rows (tells.store now).rows same);
-      leaves = λ same image. rw unbegun.keeper_is (leaves image);
+      goes_on = subst (λ keeper_is. GoesOn (tells.store keeper) (tells.store keeper_is)) (sym unbegun.keeper_is) goes_on;
     }
 
 -- ---- a run whose rows were loaded
@@ -368,10 +390,10 @@ loaded_told None loaded (Some told) rows is same goes_on = tt
 loaded_told (Some kept) (Some held) (Some told) rows is same goes_on = let both : kept ≡ held = cc in is ∙ sym both
 loaded_told (Some kept) None (Some told) rows is same goes_on = absurd cc
 
--- and where a crash may leave any, before the table was begun
-loaded_left : (before loaded now : Store) (rows image : List Row) → IsLoaded rows before loaded → IsAtMost before.rows loaded.rows
+-- and where it is told that a crash may leave any
+loaded_left : (before loaded : Store) (rows image : List Row) → IsLoaded rows before loaded → IsAtMost before.rows loaded.rows
     → loaded.images image ⊎ IsSome loaded.rows → IfSome before.rows (λ kept. rows ≡ kept)
-loaded_left before loaded now rows image is same left = elim left [
+loaded_left before loaded rows image is same left = elim left [
   | inl old ↦ is.left image old
   | inr told ↦ told_then before.rows loaded.rows is.told same told
 ]
@@ -387,17 +409,22 @@ pub IsRunEnd-loaded : {K W B : Type 0} (tells : Tells K W B) (workers : ℕ) (co
     (rows : List Row) (keeper loaded : K) (sink : W) (ended : Ended K W B)
     → IsRunEnd tells workers commands hands (tells.store loaded).name (Some rows) (Some rows) loaded sink ended
     → IsAtMost (Some name) (tells.store loaded).name → IsLoaded rows (tells.store keeper) (tells.store loaded)
-    → IsStoreKept (tells.store keeper) (tells.store loaded) → (tells.store loaded).faults ≡ (tells.store keeper).faults
+    → IsStoreKept (tells.store keeper) (tells.store loaded) → KeepsTelling (tells.store keeper) (tells.store loaded)
+    → (tells.store loaded).faults ≡ (tells.store keeper).faults
     → IsRunEnd tells workers commands hands (Some name) (told_before (tells.store keeper).rows (tells.store ended.keeper).rows)
     (tells.store keeper).rows keeper sink ended
-IsRunEnd-loaded tells workers commands hands name rows keeper loaded sink ended is named are kept faults =
+IsRunEnd-loaded tells workers commands hands name rows keeper loaded sink ended is named are kept telling faults =
     let before = (tells.store keeper).rows in
     let last = (tells.store ended.keeper).rows in
     let held = told_before before last in
-    let told : IfSome held (λ kept. rows ≡ kept) = loaded_told before (tells.store loaded).rows last rows are.told kept.rows is.tells_on in
+    let told : IfSome held (λ kept. rows ≡ kept) = loaded_told before (tells.store loaded).rows last rows are.told kept.rows is.goes_on.rows in
+    let told_left : (image : List Row) → (tells.store ended.keeper).images image → IfSome before (λ kept. rows ≡ kept) =
+    λ image left. loaded_left (tells.store keeper) (tells.store loaded) rows image are kept.rows (is.goes_on.images image left) in
     record {
       replay = replayed_told ended.began held rows _ ended.first ended.log ended.last told is.replay;
+      replay_left = λ image left. replayed_told ended.began before rows _ ended.first ended.log ended.last (told_left image left) is.replay;
       begun = is.begun;
+      at_opening = is.at_opening;
       not_begun_keeps = is.not_begun_keeps;
       rows = kept_loaded ended.began ended.last (tells.store keeper) (tells.store loaded) (tells.store ended.keeper) kept.rows is.rows;
       store_is = λ began. IsAtMost-then (Some name) (tells.store loaded).name (tells.store ended.keeper).name named (is.store_is began);
@@ -412,26 +439,13 @@ IsRunEnd-loaded tells workers commands hands name rows keeper loaded sink ended 
       keeper_fault = λ fault. subst (λ n. Failed n (tells.store ended.keeper).faults) faults (is.keeper_fault fault);
       sink_fault = is.sink_fault;
       images = λ alone.
-          images_told ended.began ended.status commands before rows (instances_from tells.kind_of 0 hands) ended.last ended.log (tells.store ended.keeper)
-          (λ unbegun image left.
-          loaded_left (tells.store keeper) (tells.store loaded) (tells.store ended.keeper) rows image are kept.rows (is.leaves unbegun image left))
+          images_told ended.began ended.at_opening ended.status commands before rows (instances_from tells.kind_of 0 hands) ended.last ended.log (tells.store ended.keeper)
+          told_left
           (is.images (loaded-alone rows (tells.store keeper) (tells.store loaded) are kept alone));
       bad_store = store_told ended.status held rows told is.bad_store;
       unsound = λ all seq bad_row stored refused no_fault.
           let both : rows ≡ all = subst (λ held. IfSome held (λ kept. rows ≡ kept)) stored told in
           is.unsound all seq bad_row (ap Some both) refused (subst (λ n. ¬ Failed n (tells.store ended.keeper).faults) (sym faults) no_fault);
-      tells_on = told_first before (tells.store loaded).rows last (IsSome-at_most before (tells.store loaded).rows kept.rows) is.tells_on;
-      leaves = λ unbegun image left. elim (is.leaves unbegun image left) [
-        | inl old ↦ inl (kept.images image old)
-        | inr some ↦ inr (some_before before (tells.store loaded).rows (IsSome-at_most before (tells.store loaded).rows kept.rows) some)
-      ];
+      goes_on = GoesOn-then (tells.store keeper) (tells.store loaded) (tells.store ended.keeper)
+          (GoesOn-loaded (tells.store keeper) (tells.store loaded) kept telling) is.goes_on;
     }
-  where
-    some_before : (before loaded : Option (List Row)) → IfSome loaded (λ told. IsSome before) → IsSome loaded → IsSome before
-    some_before before (Some told) goes_on some = goes_on
-    some_before before None goes_on some = absurd cc
-
-    told_first : (before loaded last : Option (List Row)) → IfSome loaded (λ told. IsSome before) → IfSome last (λ told. IsSome loaded)
-        → IfSome last (λ told. IsSome before)
-    told_first before loaded None goes_on some = tt
-    told_first before loaded (Some told) goes_on some = some_before before loaded goes_on some

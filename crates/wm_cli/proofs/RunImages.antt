@@ -1,7 +1,7 @@
 -- What a crash leaves of a run, from what it leaves of the calls below.
 use Rattle.std.proofs.Common.{◌≡◌, ℕ, Bool, true, false, List, Option, Some, refl, sym, ap, subst, inl, inr}
 use Rattle.std.proofs.lemmas.Option.{same_Some}
-use Rattle.std.specs.Prelude.{◌⊎◌, IfSome, IsSome}
+use Rattle.std.specs.Prelude.{◌⊎◌, IfSome, IsSome, MatchBool}
 use Rattle.wm_cli.proofs.RunsWithoutEvents.{ForScript-any}
 use Rattle.wm_cli.specs.Ended.{IsCrashSafe}
 use Rattle.wm_cli.specs.Images.{IsHeldAlone, LeavesHeld, LeavesOpening, RunImages, UnbegunImages}
@@ -12,13 +12,10 @@ use Rattle.wm_machine.specs.declared.event.Event.{Event}
 use Rattle.wm_machine.specs.declared.state.Instance.{Instance}
 use Rattle.wm_machine.specs.declared.state.State.{State}
 use Rattle.wm_script.specs.Lines.{commands_in}
-use Rattle.wm_session.specs.Causes.{status_by_begin}
 use Rattle.wm_session.specs.declared.status.Status.{Status}
-use Rattle.wm_session.specs.declared.status.Status.TheVariants as status
 use Rattle.wm_table.specs.Images.{LeavesOnly, WouldOpen}
-use Rattle.wm_table.specs.Table.{LeavesUnopened}
+use Rattle.wm_table.specs.Table.{is_at_commit, LeavesUnopened, MayLeaveOpening}
 use Rattle.wm_table.specs.declared.table.BeginFault.{BeginFault}
-use Rattle.wm_table.specs.declared.table.BeginFault.TheVariants as begin
 
 -- ---- the rows held
 
@@ -42,23 +39,10 @@ loaded-alone rows before loaded are kept alone image left =
 
 -- ---- a run whose table wasn't begun
 
--- what leaves the rows held does so however the run ended
-pub unbegun-held : (ended : Status) (held : Option (List Row)) (instances : List Instance) (store : Store) → LeavesHeld held store
-    → UnbegunImages ended held instances store
-unbegun-held status.KeeperFault held instances store leaves = λ image left. inl (leaves image left)
-unbegun-held status.Memory held instances store leaves = λ image left. inl (leaves image left)
-unbegun-held status.Done held instances store leaves = leaves
-unbegun-held status.SinkFault held instances store leaves = leaves
-unbegun-held status.Usage held instances store leaves = leaves
-unbegun-held status.SourceFault held instances store leaves = leaves
-unbegun-held (status.ScriptTooLong limit) held instances store leaves = leaves
-unbegun-held (status.BadStore seq bad_row) held instances store leaves = leaves
-
 -- a load that failed leaves the rows held
-pub unbegun-loaded : (ended : Status) (instances : List Instance) (before loaded : Store) → IsStoreKept before loaded → IsHeldAlone before.rows before
-    → UnbegunImages ended before.rows instances loaded
-unbegun-loaded ended instances before loaded kept alone =
-    unbegun-held ended before.rows instances loaded (λ image left. leaves-held before.rows before alone image (kept.images image left))
+pub unbegun-loaded : (instances : List Instance) (before loaded : Store) → IsStoreKept before loaded → IsHeldAlone before.rows before
+    → UnbegunImages false before.rows instances loaded
+unbegun-loaded instances before loaded kept alone = λ image left. leaves-held before.rows before alone image (kept.images image left)
 
 opening_left : {K : Type 0} (store : K → Store) (rows : List Row) (instances : List Instance) (keeper now : K)
     → ((image : List Row) → (store now).images image → (store keeper).images image ⊎ (IsSome (store keeper).rows × WouldOpen rows instances image))
@@ -68,22 +52,16 @@ opening_left store rows instances keeper now leaves alone image left = elim (lea
   | inr would ↦ inr (record { rows = rows; told = refl; opening = would.1 })
 ]
 
--- a table that wasn't begun leaves the rows that were loaded, or those of their opening
+-- a table that wasn't begun leaves the rows that were loaded, or those of their opening where it was being committed
 pub unbegun-opened : {K : Type 0} (store : K → Store) (rows : List Row) (instances : List Instance) (keeper : K) (refused : K × BeginFault)
     → LeavesUnopened store rows instances keeper refused → IsHeldAlone (Some rows) (store keeper)
-    → UnbegunImages (status_by_begin refused.1) (Some rows) instances (store refused.0)
-unbegun-opened store rows instances keeper (now, begin.Bad seq bad_row) same alone =
-    subst (λ k. LeavesHeld (Some rows) (store k)) (sym same) (leaves-held (Some rows) (store keeper) alone)
-unbegun-opened store rows instances keeper (now, begin.KeeperFault) leaves alone = opening_left store rows instances keeper now leaves alone
-unbegun-opened store rows instances keeper (now, begin.Memory) leaves alone = opening_left store rows instances keeper now leaves alone
-
--- such a table leaves only what was left before, unless rows were told
-pub unopened-leaves : {K : Type 0} (store : K → Store) (rows : List Row) (instances : List Instance) (keeper : K) (refused : K × BeginFault)
-    → LeavesUnopened store rows instances keeper refused
-    → (image : List Row) → (store refused.0).images image → (store keeper).images image ⊎ IsSome (store keeper).rows
-unopened-leaves store rows instances keeper (now, begin.Bad seq bad_row) same image left = inl (subst (λ k. (store k).images image) same left)
-unopened-leaves store rows instances keeper (now, begin.KeeperFault) leaves image left = elim (leaves image left) [ inl old ↦ inl old | inr would ↦ inr would.0 ]
-unopened-leaves store rows instances keeper (now, begin.Memory) leaves image left = elim (leaves image left) [ inl old ↦ inl old | inr would ↦ inr would.0 ]
+    → UnbegunImages (is_at_commit refused.1) (Some rows) instances (store refused.0)
+unbegun-opened store rows instances keeper refused leaves alone = by_commit (is_at_commit refused.1) leaves
+  where
+    by_commit : (at_commit : Bool) → MatchBool at_commit (MayLeaveOpening store rows instances keeper refused.0) (refused.0 ≡ keeper)
+        → UnbegunImages at_commit (Some rows) instances (store refused.0)
+    by_commit true leaves = opening_left store rows instances keeper refused.0 leaves alone
+    by_commit false same = subst (λ k. LeavesHeld (Some rows) (store k)) (sym same) (leaves-held (Some rows) (store keeper) alone)
 
 -- ---- a run over rows that were loaded
 
@@ -106,32 +84,23 @@ held_told : (held : Option (List Row)) (rows : List Row) (store : Store) → Are
     → LeavesHeld held store
 held_told held rows store told leaves image left = subst (λ all. IfSome held (λ kept. all ≡ kept)) (sym (leaves image left)) (told image left)
 
-unbegun_told : (ended : Status) (held : Option (List Row)) (rows : List Row) (instances : List Instance) (store : Store)
-    → AreTold held rows store → UnbegunImages ended (Some rows) instances store → UnbegunImages ended held instances store
-unbegun_told status.KeeperFault held rows instances store told leaves = opening_told held rows instances store told leaves
-unbegun_told status.Memory held rows instances store told leaves = opening_told held rows instances store told leaves
-unbegun_told status.Done held rows instances store told leaves = held_told held rows store told leaves
-unbegun_told status.SinkFault held rows instances store told leaves = held_told held rows store told leaves
-unbegun_told status.Usage held rows instances store told leaves = held_told held rows store told leaves
-unbegun_told status.SourceFault held rows instances store told leaves = held_told held rows store told leaves
-unbegun_told (status.ScriptTooLong limit) held rows instances store told leaves = held_told held rows store told leaves
-unbegun_told (status.BadStore seq bad_row) held rows instances store told leaves = held_told held rows store told leaves
-
 -- what a crash leaves beside the rows loaded it leaves beside those held, where they were told
-pub images_told : (began : Bool) (ended : Status) (lines : List Command) (held : Option (List Row)) (rows : List Row) (instances : List Instance)
-    (last : State) (log : List Event) (store : Store)
-    → (began ≡ false → AreTold held rows store) → RunImages began ended lines (Some rows) instances last log store
-    → RunImages began ended lines held instances last log store
-images_told true ended lines held rows instances last log store told leaves = leaves
-images_told false ended lines held rows instances last log store told leaves = unbegun_told ended held rows instances store (told refl) leaves
+pub images_told : (began at_opening : Bool) (ended : Status) (lines : List Command) (held : Option (List Row)) (rows : List Row)
+    (instances : List Instance) (last : State) (log : List Event) (store : Store)
+    → AreTold held rows store → RunImages began at_opening ended lines (Some rows) instances last log store
+    → RunImages began at_opening ended lines held instances last log store
+images_told true at_opening ended lines held rows instances last log store told leaves = leaves
+images_told false true ended lines held rows instances last log store told leaves = opening_told held rows instances store told leaves
+images_told false false ended lines held rows instances last log store told leaves = held_told held rows store told leaves
 
 -- ---- a run whose store wasn't opened
 
 -- it leaves the store as it was
-pub crash-unopened : (left : Option (List ℕ)) (began : Bool) (ended : Status) (instances : List Instance) (last : State) (log : List Event)
+pub crash-unopened : (left : Option (List ℕ)) (began at_opening : Bool) (ended : Status) (instances : List Instance) (last : State) (log : List Event)
     (before now : Store)
-    → began ≡ false → now ≡ before → IsHeldAlone before.rows before → IsCrashSafe left began ended before.rows instances last log now
-crash-unopened left began ended instances last log before now unbegun same alone =
-    rw (unbegun, same)
-    (ForScript-any left (λ bytes. RunImages false ended (commands_in bytes) before.rows instances last log before)
-    (λ bytes. unbegun-held ended before.rows instances before (leaves-held before.rows before alone)))
+    → began ≡ false → at_opening ≡ false → now ≡ before → IsHeldAlone before.rows before
+    → IsCrashSafe left began at_opening ended before.rows instances last log now
+crash-unopened left began at_opening ended instances last log before now unbegun early same alone =
+    rw (unbegun, early, same)
+    (ForScript-any left (λ bytes. RunImages false false ended (commands_in bytes) before.rows instances last log before)
+    (λ bytes. leaves-held before.rows before alone))

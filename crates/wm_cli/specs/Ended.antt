@@ -1,5 +1,5 @@
 -- How a run ends: what its log, its last state, the rows kept, the bytes given and the workers handed back are.
-use Rattle.std.specs.Prelude.{◌≡◌, ◌⊎◌, ℕ, ℤ, Bool, true, false, List, [], ◌∷◌, ◌++◌, Option, Some, IfSome, IsSome, MatchBool, option_map, Err, Vec}
+use Rattle.std.specs.Prelude.{◌≡◌, ◌⊎◌, ℕ, ℤ, Bool, true, false, List, [], ◌∷◌, ◌++◌, Option, Some, IfSome, MatchBool, option_map, Err, Vec}
 use Rattle.std.specs.declared.alloc.Global.{Global}
 use Rattle.wm_bench.specs.declared.hand.Hand.{Hand}
 use Rattle.wm_cli.specs.Causes.{IsOpeningStatus, IsUnlessMemory, StoreCause}
@@ -7,7 +7,7 @@ use Rattle.wm_cli.specs.Images.{IsHeldAlone, RunImages}
 use Rattle.wm_cli.specs.Words.{options_of}
 use Rattle.wm_data.specs.declared.data.DataEntry.{DataEntry}
 use Rattle.wm_faults.specs.Faults.{Failed}
-use Rattle.wm_keeper.specs.Store.{Store, IsAtMost}
+use Rattle.wm_keeper.specs.Store.{Store, GoesOn, IsAtMost}
 use Rattle.wm_keeper.specs.declared.row.Row.{Row}
 use Rattle.wm_script.specs.Lines.{commands_in}
 use Rattle.wm_machine.specs.Opened.{opening_state, Opened}
@@ -61,6 +61,10 @@ IsBegunBy status.KeeperFault began = Unit {0}
 IsBegunBy status.Memory began = Unit {0}
 IsBegunBy _ began = began ≡ false
 
+-- where the commit of the opening was refused, the table wasn't begun, and the keeper failed or memory was refused
+abbrev pub IsOpeningRefused : Status → Bool → Bool → Type 0
+IsOpeningRefused ended began at_opening = at_opening ≡ true → (began ≡ false) × ((ended ≡ status.KeeperFault) ⊎ (ended ≡ status.Memory))
+
 -- ---- the rows kept
 
 -- where the keeper tells its rows, they are the last state's, and those of before where the table wasn't begun
@@ -90,9 +94,9 @@ IsSerialOver left ended first log last = ForScript left (λ bytes. IsSerialRun (
 -- ---- what a crash leaves
 
 -- over the script's commands, a crash leaves what it may leave of a run that is over
-abbrev pub IsCrashSafe : Option (List ℕ) → Bool → Status → Option (List Row) → List Instance → State → List Event → Store → Type 0
-IsCrashSafe left began ended held instances last log store =
-    ForScript left (λ bytes. RunImages began ended (commands_in bytes) held instances last log store)
+abbrev pub IsCrashSafe : Option (List ℕ) → Bool → Bool → Status → Option (List Row) → List Instance → State → List Event → Store → Type 0
+IsCrashSafe left began at_opening ended held instances last log store =
+    ForScript left (λ bytes. RunImages began at_opening ended (commands_in bytes) held instances last log store)
 
 -- ---- the end
 
@@ -129,6 +133,7 @@ HaveToldOnDone diary_of ended hands first log last back = ended ≡ status.Done 
 pub record IsEndedAtOnce {K W B : Type 0} (table : TableState K) (sink : W) (hands : Vec (Hand B) Global) (ended : Ended K W B) : Type 0 where
   pub status_is : ended.status ≡ status.Memory
   pub began : ended.began ≡ true
+  pub at_opening : ended.at_opening ≡ false
   pub first : ended.first ≡ table.first
   pub log : ended.log ≡ table.log
   pub last : ended.last ≡ table.state
@@ -138,11 +143,14 @@ pub record IsEndedAtOnce {K W B : Type 0} (table : TableState K) (sink : W) (han
 
 -- A run that is over whose commands, these, were read, and that was given these workers, this keeper, of a store of this name, where it tells it,
 -- and this sink; so many worker threads drove its works. The keeper told these rows before, and they are held where it tells rows to the end. Each
--- fact is the promise of `run` of that name, but for the last two, which say where rows are told.
+-- fact is the promise of `run` of that name, but for the last one, which says what is told.
 pub record IsRunEnd {K W B : Type 0} (tells : Tells K W B) (workers : ℕ) (commands : List Command) (hands : List (Hand B)) (name : Option (List ℕ))
     (held before : Option (List Row)) (keeper : K) (sink : W) (ended : Ended K W B) : Type 0 where
   pub replay : IsReplayed held (instances_from tells.kind_of 0 hands) ended.began ended.first ended.log ended.last
+  pub replay_left : (image : List Row) → (tells.store ended.keeper).images image
+      → IsReplayed before (instances_from tells.kind_of 0 hands) ended.began ended.first ended.log ended.last
   pub begun : IsBegunBy ended.status ended.began
+  pub at_opening : IsOpeningRefused ended.status ended.began ended.at_opening
   pub not_begun_keeps : ended.began ≡ false → ended.sink ≡ sink
   pub rows : AreRowsKept ended.began ended.last (tells.store keeper) (tells.store ended.keeper)
   pub store_is : ended.began ≡ true → IsAtMost name (tells.store ended.keeper).name
@@ -157,10 +165,9 @@ pub record IsRunEnd {K W B : Type 0} (tells : Tells K W B) (workers : ℕ) (comm
   pub keeper_fault : ended.status ≡ status.KeeperFault → Failed (tells.store keeper).faults (tells.store ended.keeper).faults
   pub sink_fault : ended.status ≡ status.SinkFault → Failed (tells.sink_faults sink) (tells.sink_faults ended.sink)
   pub images : IsHeldAlone before (tells.store keeper)
-      → RunImages ended.began ended.status commands before (instances_from tells.kind_of 0 hands) ended.last ended.log (tells.store ended.keeper)
+      → RunImages ended.began ended.at_opening ended.status commands before (instances_from tells.kind_of 0 hands) ended.last ended.log
+      (tells.store ended.keeper)
   pub bad_store : StoreCause ended.status held
   pub unsound : (rows : List Row) (seq : ℤ) (bad_row : Bool) → held ≡ Some rows → checked rows ≡ Err (row_fault seq bad_row)
       → ¬ Failed (tells.store keeper).faults (tells.store ended.keeper).faults → IsUnlessMemory ended.status (status.BadStore seq bad_row)
-  pub tells_on : IfSome (tells.store ended.keeper).rows (λ told. IsSome (tells.store keeper).rows)
-  pub leaves : ended.began ≡ false → (image : List Row) → (tells.store ended.keeper).images image
-      → (tells.store keeper).images image ⊎ IsSome (tells.store keeper).rows
+  pub goes_on : GoesOn (tells.store keeper) (tells.store ended.keeper)

@@ -8,7 +8,6 @@ use Rattle.wm_machine.specs.declared.state.Instance.{Instance}
 use Rattle.wm_machine.specs.declared.state.State.{State}
 use Rattle.wm_session.specs.Images.{EndImages}
 use Rattle.wm_session.specs.declared.status.Status.{Status}
-use Rattle.wm_session.specs.declared.status.Status.TheVariants as status
 use Rattle.wm_table.specs.Images.{WouldOpen}
 
 -- nothing is pending: a crash leaves just the rows held
@@ -30,14 +29,12 @@ abbrev pub LeavesOpening : Option (List Row) → List Instance → Store → Typ
 LeavesOpening held instances store =
     (image : List Row) → store.images image → IfSome held (λ rows. image ≡ rows) ⊎ WouldOpenHeld held instances image
 
--- what a crash leaves of a run whose table wasn't begun: the opening was being committed only where the keeper failed or memory was refused
-abbrev pub UnbegunImages : Status → Option (List Row) → List Instance → Store → Type 0
-UnbegunImages status.KeeperFault held instances store = LeavesOpening held instances store
-UnbegunImages status.Memory held instances store = LeavesOpening held instances store
-UnbegunImages _ held instances store = LeavesHeld held store
+-- what a crash leaves of a run whose table wasn't begun: the rows held, unless the opening was being committed
+abbrev pub UnbegunImages : Bool → Option (List Row) → List Instance → Store → Type 0
+UnbegunImages at_opening held instances store = MatchBool at_opening (LeavesOpening held instances store) (LeavesHeld held store)
 
 -- What a crash leaves of a run over these lines that is over: the rows of its last state, or those of the state after the event that was being
 -- committed; and where its table wasn't begun the rows held, or those of the opening that was being committed.
-abbrev pub RunImages : Bool → Status → List Command → Option (List Row) → List Instance → State → List Event → Store → Type 0
-RunImages began ended lines held instances last log store =
-    MatchBool began (EndImages ended lines last log store) (UnbegunImages ended held instances store)
+abbrev pub RunImages : Bool → Bool → Status → List Command → Option (List Row) → List Instance → State → List Event → Store → Type 0
+RunImages began at_opening ended lines held instances last log store =
+    MatchBool began (EndImages ended lines last log store) (UnbegunImages at_opening held instances store)

@@ -56,7 +56,8 @@ pub fn open_book<W: Sink, K: Keeper, B: Worker, M: Mark>(
         Err(refused) => {
             let (keeper, fault) = refused;
             let status = Status::from(fault);
-            Err(Ended::before_begin(alloc, status, keeper, sink, hands))
+            let at_opening = fault.is_at_commit();
+            Err(Ended::unbegun(alloc, status, at_opening, keeper, sink, hands))
         }
     }
 }
@@ -142,6 +143,7 @@ fn end_at_once<W: Sink, K: Keeper, B: Worker, M: Mark>(
     Ended {
         status: Status::Memory,
         began: true,
+        at_opening: false,
         first,
         log,
         last,

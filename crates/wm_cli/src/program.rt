@@ -2,12 +2,12 @@ ghost use Rattle.std.specs.Prelude.{◌≡◌, ◌↔◌, ◌+◌, ◌≤◌, �
 ghost use Rattle.std.specs.List.{AllByRecursion};
 ghost use Rattle.wm_bench.specs.Places.{idle_hands, most_hands};
 ghost use Rattle.wm_cli.specs.Causes.{IsToldTooLong, IsToldWithin, IsUnlessMemory, LimitCause, StoreCause};
-ghost use Rattle.wm_cli.specs.Ended.{AreBoxesOf, AreHandsOf, AreReportedOnce, AreRowsKept, HasCommandsOf, HaveToldOnDone, IsBegunBy, IsCrashSafe, IsQuietOnDone, IsReplayed, IsRunEnd, IsSerialOver, IsStoreOf};
+ghost use Rattle.wm_cli.specs.Ended.{AreBoxesOf, AreHandsOf, AreReportedOnce, AreRowsKept, HasCommandsOf, HaveToldOnDone, IsBegunBy, IsCrashSafe, IsOpeningRefused, IsQuietOnDone, IsReplayed, IsRunEnd, IsSerialOver, IsStoreOf};
 ghost use Rattle.wm_cli.specs.Reading.{AreCommandsOf, IsReadStatus};
 ghost use Rattle.wm_cli.specs.Script.{IsTakenWithin};
 ghost use Rattle.wm_cli.specs.Words.{options_of, AskForNoThreads};
 ghost use Rattle.wm_faults.specs.Faults.{Failed};
-ghost use Rattle.wm_keeper.specs.Store.{told_before, IsSettled};
+ghost use Rattle.wm_keeper.specs.Store.{told_before, IsSettled, KeepsTelling};
 ghost use Rattle.wm_keeper.specs.declared.row.Row.{Row};
 ghost use Rattle.wm_machine.specs.Outcome.{IsAskable};
 ghost use Rattle.wm_rows.specs.Sound.{checked, AreSound};
@@ -222,16 +222,23 @@ pub fn run<
     ensures replay { IsReplayed (told_before (K.store keeper).rows (K.store result.keeper).rows)
         (instances_from B.kind_of 0 hands.items)
         result.began result.first result.log result.last }
+    // And they are those, told to the end or not, where it is told in the end that a crash may leave any.
+    ensures replay_left { (image : List Row) → (K.store result.keeper).images image
+        → IsReplayed (K.store keeper).rows (instances_from B.kind_of 0 hands.items)
+        result.began result.first result.log result.last }
+    // Rows that the keeper told are told in the end, unless it is lost then.
+    ensures keeps_telling { KeepsTelling (K.store keeper) (K.store result.keeper) }
     ensures begun { IsBegunBy result.status result.began }
+    ensures at_opening { IsOpeningRefused result.status result.began result.at_opening }
     // Where no store was opened, the sink is as it was.
     ensures not_begun_keeps { result.began ≡ false → result.sink ≡ sink }
     // The rows kept are the last state's, and those of before where no store was opened.
     ensures rows { AreRowsKept result.began result.last (K.store keeper) (K.store result.keeper) }
     // Where nothing was pending in the store, a crash leaves the last state's rows, or those of the state
-    // after the event that was being committed; and where no store was opened the rows of before, or
-    // those of the opening that was being committed.
+    // after the event that was being committed; and where no store was opened the rows of before, or,
+    // where the commit of the opening was refused, those that it would have left.
     ensures crash { IsSettled (K.store keeper) → IsCrashSafe (S.left source.old) result.began
-        result.status (K.store keeper).rows (instances_from B.kind_of 0 hands.items)
+        result.at_opening result.status (K.store keeper).rows (instances_from B.kind_of 0 hands.items)
         result.last result.log (K.store result.keeper) }
     // They stand in the store that the words name.
     ensures store { result.began ≡ true → IsStoreOf (map string_bytes words.now) (K.store result.keeper).name }

@@ -1,8 +1,8 @@
 use Rattle.std.proofs.Common.{◌≤◌, length, Some, sym, ◌∙◌, subst, rules}
 use Rattle.wm_bench.specs.Places.{most_hands}
 use Rattle.wm_cli.proofs.Hands.{AreFresh-instances_from}
-use Rattle.wm_cli.proofs.RunEnds.{EarlyCause, EarlyCause-begin, IsRunEnd-early, IsRunEnd-unbegun}
-use Rattle.wm_cli.proofs.RunImages.{unbegun-opened, unopened-leaves}
+use Rattle.wm_cli.proofs.RunEnds.{at_opening-begin, EarlyCause, EarlyCause-begin, IsRunEnd-early, IsRunEnd-unbegun}
+use Rattle.wm_cli.proofs.RunImages.{unbegun-opened}
 use Rattle.wm_keeper.proofs.Stores.{TellsOn-same, TellsOn-then}
 use Rattle.wm_machine.specs.Opened.{AreFresh, Opened}
 use Rattle.wm_rows.specs.Sound.{AreSound}
@@ -15,7 +15,9 @@ begin-requires-clause-instances g c =
     subst AreFresh (sym c.requires.instances) (AreFresh-instances_from g.B.Worker.kind_of c.args.hands.items few)
 
 pub begin-requires-clause-given_store : goal.begin-requires-clause-given_store
-begin-requires-clause-given_store g c = TellsOn-same g.M.Mark.inputs.store (g.K.Keeper.store c.args.keeper) c.requires.inputs.told c.requires.inputs.name
+begin-requires-clause-given_store g c =
+    let given = c.requires.inputs in
+    TellsOn-same g.M.Mark.inputs.store (g.K.Keeper.store c.args.keeper) given.told (λ image left. (given.images image).0 left) given.lost given.name
 
 pub book_of_table-requires-clause-begun : goal.book_of_table-requires-clause-begun
 book_of_table-requires-clause-begun g c =
@@ -32,7 +34,7 @@ book_of_table-requires-clause-begun g c =
       roll = begun.roll;
       rows = begun.held;
       tells_on = TellsOn-then run.store (g.K.Keeper.store c.args.keeper) (g.K.Keeper.store table.keeper)
-          (TellsOn-same run.store (g.K.Keeper.store c.args.keeper) given.told given.name) begun.tells_on;
+          (TellsOn-same run.store (g.K.Keeper.store c.args.keeper) given.told (λ image left. (given.images image).0 left) given.lost given.name) begun.tells_on;
       no_fault = begun.cause ∙ given.faults;
       images = λ only. begun.images (λ image left. only image ((given.images image).0 left) ∙ sym given.rows_are);
     }
@@ -46,7 +48,7 @@ returns-in-Ok-clause-ended g c =
     c.book_of_table.ensures.ended
     (sym given.lines_are) (sym given.instances_are ∙ c.requires.instances) (sym given.written) (sym given.sink_faults) (sym given.faults)
     (sym given.told) (sym given.name)
-    (λ image left. (given.images image).1 left) (subst AreSound given.rows_are c.in-Ok.ensures.sound))
+    (λ image left. (given.images image).1 left) (sym given.lost) (subst AreSound given.rows_are c.in-Ok.ensures.sound))
 
 pub returns-in-Err-clause-ended : goal.returns-in-Err-clause-ended
 returns-in-Err-clause-ended g c =
@@ -55,12 +57,13 @@ returns-in-Err-clause-ended g c =
     let rows = c.args.rows.items in
     let before = (tells.store c.args.keeper).faults in
     let now = (tells.store refused.0).faults in
-    IsRunEnd-unbegun tells 0 c.args.commands c.from-status.result c.args.hands (tells.store c.args.keeper).name (Some rows) (Some rows) c.args.keeper refused.0
+    IsRunEnd-unbegun tells 0 c.args.commands c.from-status.result c.is_at_commit-at_opening.result c.args.hands (tells.store c.args.keeper).name (Some rows) (Some rows) c.args.keeper refused.0
     c.args.sink
-    c.before_begin.result c.before_begin.ensures c.requires.askable c.in-Err.ensures.kept
+    c.unbegun.result c.unbegun.ensures c.requires.askable c.in-Err.ensures.kept
     (subst (λ why. EarlyCause why before now (Some rows)) (sym c.from-status.ensures)
     (EarlyCause-begin tells.store c.args.keeper rows refused c.in-Err.ensures.bad c.in-Err.ensures.cause))
+    (λ opening. rw c.from-status.ensures (at_opening-begin refused.1 (sym c.is_at_commit-at_opening.ensures ∙ opening)))
     (λ alone.
-    rw (c.from-status.ensures, ← c.requires.instances)
+    rw (c.is_at_commit-at_opening.ensures, ← c.requires.instances)
     (unbegun-opened tells.store rows c.args.instances c.args.keeper refused c.in-Err.ensures.images_err alone))
-    (unopened-leaves tells.store rows c.args.instances c.args.keeper refused c.in-Err.ensures.images_err)
+    c.in-Err.ensures.tells_on_err.goes_on

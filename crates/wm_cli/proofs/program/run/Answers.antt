@@ -93,15 +93,15 @@ pub returns-in_default-clause-crash : goal.returns-in_default-clause-crash
 returns-in_default-clause-crash g c =
     let tells = g.K.Keeper.store in
     let ended = c.before_begin.result in
-    λ settled. crash-unopened (g.S.Source.left c.args.source.now) ended.began ended.status _ ended.last ended.log (tells c.args.keeper) (tells ended.keeper)
-    c.before_begin.ensures.began (ap tells c.before_begin.ensures.keeper_is) settled
+    λ settled. crash-unopened (g.S.Source.left c.args.source.now) ended.began ended.at_opening ended.status _ ended.last ended.log (tells c.args.keeper) (tells ended.keeper)
+    c.before_begin.ensures.began c.before_begin.ensures.opening (ap tells c.before_begin.ensures.keeper_is) settled
 
 pub returns-in-Err-clause-crash : goal.returns-in-Err-clause-crash
 returns-in-Err-clause-crash g c =
     let tells = g.K.Keeper.store in
     let ended = c.before_begin-in-Err.result in
-    λ settled. crash-unopened (g.S.Source.left c.args.source.now) ended.began ended.status _ ended.last ended.log (tells c.args.keeper) (tells ended.keeper)
-    c.before_begin-in-Err.ensures.began (ap tells c.before_begin-in-Err.ensures.keeper_is) settled
+    λ settled. crash-unopened (g.S.Source.left c.args.source.now) ended.began ended.at_opening ended.status _ ended.last ended.log (tells c.args.keeper) (tells ended.keeper)
+    c.before_begin-in-Err.ensures.began c.before_begin-in-Err.ensures.opening (ap tells c.before_begin-in-Err.ensures.keeper_is) settled
 
 pub returns-in-Ok-clause-crash : goal.returns-in-Ok-clause-crash
 returns-in-Ok-clause-crash g c =
@@ -112,6 +112,6 @@ returns-in-Ok-clause-crash g c =
     λ settled. record {
       bytes = read.bytes;
       told = read.told;
-      holds = subst (λ all. RunImages ended.began ended.status all held instances ended.last ended.log (g.K.Keeper.store ended.keeper)) read.holds.0
+      holds = subst (λ all. RunImages ended.began ended.at_opening ended.status all held instances ended.last ended.log (g.K.Keeper.store ended.keeper)) read.holds.0
           (c.run_commands.ensures.images settled);
     }

@@ -21,7 +21,7 @@ returns-in-Ok g c =
     (λ alone. subst (λ hands. IsSerialEnd tells run hands c.run_book.result) c.in-Ok.ensures.workers (c.run_book.ensures.serial alone))
     (sym given.lines_are) (sym given.instances_are ∙ c.requires.instances) (sym given.written) (sym given.sink_faults) (sym given.faults)
     (sym given.told) (sym given.name)
-    (λ image left. (given.images image).1 left) (subst AreSound given.rows_are c.in-Ok.ensures.sound))
+    (λ image left. (given.images image).1 left) (sym given.lost) (subst AreSound given.rows_are c.in-Ok.ensures.sound))
 
 pub returns-in-Err : goal.returns-in-Err
 returns-in-Err g c =
