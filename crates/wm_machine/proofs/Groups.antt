@@ -180,8 +180,17 @@ kind-unnamed (Some period) work kind = record { phase_is = kind.phase_is; no_out
 
 IsRecord-unnamed : (work : Record) → IsRecord work → IsRecord (record work { name = None })
 IsRecord-unnamed work is =
-    IsRecord-kept work (record work { name = None }) refl is tt is.fits.enqueued_at is.attempt is.started is.backoff_n is.runs
-    (kind-unnamed work.request.period work is.kind) is.output is.progress
+    IsRecord-kept work (record work { name = None }) refl is (record {
+      name = tt;
+      enqueued_at = is.fits.enqueued_at;
+      attempt = is.attempt;
+      started = is.started;
+      backoff_n = is.backoff_n;
+      runs = is.runs;
+      kind = kind-unnamed work.request.period work is.kind;
+      output = is.output;
+      progress = is.progress;
+    })
 
 -- names are taken
 reached-unnamed : (numbers : List ℕ) (s : State) → Valid s → Valid (record s { works = map (unnamed numbers) s.works })

@@ -42,8 +42,17 @@ kind-reopened (Some period) work is =
 
 IsRecord-reopened : (work : Record) → IsRecord work → IsRecord (reopened work)
 IsRecord-reopened work is =
-    IsRecord-kept work (reopened work) refl is is.name is.fits.enqueued_at is.attempt (attempt-reopened work.phase work.attempt is.started) is.backoff_n
-    is.runs (kind-reopened work.request.period work is.kind) (output-reopened work.phase work.output is.output) (progress-reopened work.phase)
+    IsRecord-kept work (reopened work) refl is (record {
+      name = is.name;
+      enqueued_at = is.fits.enqueued_at;
+      attempt = is.attempt;
+      started = attempt-reopened work.phase work.attempt is.started;
+      backoff_n = is.backoff_n;
+      runs = is.runs;
+      kind = kind-reopened work.request.period work is.kind;
+      output = output-reopened work.phase work.output is.output;
+      progress = progress-reopened work.phase;
+    })
 
 -- ---- the records
 

@@ -39,29 +39,38 @@ output-waiting (phase.Done how) output waits is = absurd (false≢true waits)
 abbrev asked_of : Record → ℕ × (RequestFields × (List ℕ × ℕ))
 asked_of work = (work.seq, (work.request, (work.prior, work.generation)))
 
--- a change that leaves that makes a record, where the rest is within its limits
-pub IsRecord-kept : (work now : Record) → asked_of now ≡ asked_of work → IsRecord work → IfSome now.name IsShortText → now.enqueued_at < 2 ^ 53
-    → now.attempt ≤ 1000000 → IsAttemptIn now.phase now.attempt → now.backoff_n ≤ now.attempt → now.runs ≤ 1000000
-    → IsOfKind work.request.period now → IsOutputIn now.phase now.output
-    → IsProgressIn now.phase now.progress → IsRecord now
-IsRecord-kept work now same is name enqueued_at attempt started backoff_n runs kind output progress =
+-- the rest of a record is within its limits after a change
+pub record IsRestWithin (work now : Record) : Type 0 where
+  pub name : IfSome now.name IsShortText
+  pub enqueued_at : now.enqueued_at < 2 ^ 53
+  pub attempt : now.attempt ≤ 1000000
+  pub started : IsAttemptIn now.phase now.attempt
+  pub backoff_n : now.backoff_n ≤ now.attempt
+  pub runs : now.runs ≤ 1000000
+  pub kind : IsOfKind work.request.period now
+  pub output : IsOutputIn now.phase now.output
+  pub progress : IsProgressIn now.phase now.progress
+
+-- a change that leaves what was asked for makes a record, where the rest is within its limits
+pub IsRecord-kept : (work now : Record) → asked_of now ≡ asked_of work → IsRecord work → IsRestWithin work now → IsRecord now
+IsRecord-kept work now same is rest =
     let seq = ap (λ l. l.0) same in
     let request = ap (λ l. l.1.0) same in
     let prior = ap (λ l. l.1.1.0) same in
     let generation = ap (λ l. l.1.1.1) same in
     record {
       number = rw seq is.number;
-      fits = record { seq = rw seq is.fits.seq; prior = rw prior is.fits.prior; generation = rw generation is.fits.generation; enqueued_at = enqueued_at };
-      name = name;
+      fits = record { seq = rw seq is.fits.seq; prior = rw prior is.fits.prior; generation = rw generation is.fits.generation; enqueued_at = rest.enqueued_at };
+      name = rest.name;
       request = rw request is.request;
       prior = rw (seq, prior) is.prior;
-      attempt = attempt;
-      started = started;
-      backoff_n = backoff_n;
-      runs = runs;
-      kind = subst (λ (r : RequestFields). IsOfKind r.period now) (sym request) kind;
-      output = output;
-      progress = progress;
+      attempt = rest.attempt;
+      started = rest.started;
+      backoff_n = rest.backoff_n;
+      runs = rest.runs;
+      kind = subst (λ (r : RequestFields). IsOfKind r.period now) (sym request) rest.kind;
+      output = rest.output;
+      progress = rest.progress;
     }
 
 -- what is of a kind stays so, where it is put into a phase of that kind
@@ -81,23 +90,49 @@ pub IsRecord-started : (work : Record) → is_waiting work.phase ≡ true → Is
 IsRecord-started work waits is =
     let few = is.backoff_n in
     let most = is.attempt in
-    IsRecord-kept work (started work) refl is is.name is.fits.enqueued_at (omega arith) (omega arith) (omega arith) is.runs
-    (IsOfKind-kept work.request.period work (started work) tt refl refl refl is.kind) (output-waiting work.phase work.output waits is.output) IsData-empty
+    IsRecord-kept work (started work) refl is (record {
+      name = is.name;
+      enqueued_at = is.fits.enqueued_at;
+      attempt = omega arith;
+      started = omega arith;
+      backoff_n = omega arith;
+      runs = is.runs;
+      kind = IsOfKind-kept work.request.period work (started work) tt refl refl refl is.kind;
+      output = output-waiting work.phase work.output waits is.output;
+      progress = IsData-empty;
+    })
 
 -- a work that runs may tell progress
 pub IsRecord-telling : (progress : Option (List DataEntry)) (work : Record) → IfSome progress IsData → work.phase ≡ phase.Running → IsRecord work
     → IsRecord (telling progress work)
 IsRecord-telling None work told running is = is
 IsRecord-telling (Some progress) work told running is =
-    IsRecord-kept work (telling (Some progress) work) refl is is.name is.fits.enqueued_at is.attempt is.started is.backoff_n is.runs
-    (IsOfKind-kept work.request.period work (telling (Some progress) work) (subst IsPeriodicPhase (sym running) tt) refl refl refl is.kind) is.output
-    (subst (λ phase. IsProgressIn phase progress) (sym running) told)
+    IsRecord-kept work (telling (Some progress) work) refl is (record {
+      name = is.name;
+      enqueued_at = is.fits.enqueued_at;
+      attempt = is.attempt;
+      started = is.started;
+      backoff_n = is.backoff_n;
+      runs = is.runs;
+      kind = IsOfKind-kept work.request.period work (telling (Some progress) work) (subst IsPeriodicPhase (sym running) tt) refl refl refl is.kind;
+      output = is.output;
+      progress = subst (λ phase. IsProgressIn phase progress) (sym running) told;
+    })
 
 -- a work whose attempt is to be retried
 pub IsRecord-retried : (now : ℕ) (work : Record) → now < 2 ^ 53 → work.phase ≡ phase.Running → IsRecord work → IsRecord (retried now work)
 IsRecord-retried now work below running is =
-    IsRecord-kept work (retried now work) refl is is.name below is.attempt tt (omega arith) is.runs
-    (IsOfKind-kept work.request.period work (retried now work) tt refl refl refl is.kind) (subst (λ phase. IsOutputIn phase work.output) running is.output) refl
+    IsRecord-kept work (retried now work) refl is (record {
+      name = is.name;
+      enqueued_at = below;
+      attempt = is.attempt;
+      started = tt;
+      backoff_n = omega arith;
+      runs = is.runs;
+      kind = IsOfKind-kept work.request.period work (retried now work) tt refl refl refl is.kind;
+      output = subst (λ phase. IsOutputIn phase work.output) running is.output;
+      progress = refl;
+    })
 
 freed-kind : (period : Option Period) (now : ℕ) (work : Record) → IsOfKind period work → IsOfKind period (record work { enqueued_at = now })
 freed-kind None now work kind = kind
@@ -106,15 +141,33 @@ freed-kind (Some period) now work kind = record { phase_is = kind.phase_is; no_o
 -- a work whose delay counts from another moment
 pub IsRecord-freed : (now : ℕ) (work : Record) → now < 2 ^ 53 → IsRecord work → IsRecord (record work { enqueued_at = now })
 IsRecord-freed now work below is =
-    IsRecord-kept work (record work { enqueued_at = now }) refl is is.name below is.attempt is.started is.backoff_n is.runs
-    (freed-kind work.request.period now work is.kind) is.output is.progress
+    IsRecord-kept work (record work { enqueued_at = now }) refl is (record {
+      name = is.name;
+      enqueued_at = below;
+      attempt = is.attempt;
+      started = is.started;
+      backoff_n = is.backoff_n;
+      runs = is.runs;
+      kind = freed-kind work.request.period now work is.kind;
+      output = is.output;
+      progress = is.progress;
+    })
 
 -- a one-time work that fails, with what it gave
 pub IsRecord-failed : (output : List DataEntry) (work : Record) → IsData output → work.request.period ≡ None → IsRecord work
     → IsRecord (with_output output (closed how.Failed work))
 IsRecord-failed output work gave one_time is =
-    IsRecord-kept work (with_output output (closed how.Failed work)) refl is is.name is.fits.enqueued_at is.attempt tt is.backoff_n is.runs
-    (IsOfKind-one_time work (with_output output (closed how.Failed work)) one_time refl is.kind) gave refl
+    IsRecord-kept work (with_output output (closed how.Failed work)) refl is (record {
+      name = is.name;
+      enqueued_at = is.fits.enqueued_at;
+      attempt = is.attempt;
+      started = tt;
+      backoff_n = is.backoff_n;
+      runs = is.runs;
+      kind = IsOfKind-one_time work (with_output output (closed how.Failed work)) one_time refl is.kind;
+      output = gave;
+      progress = refl;
+    })
 
 -- what is unfinished has given nothing
 output-open : (p : Phase) (output : List DataEntry) → is_open p ≡ true → IsOutputIn p output → output ≡ []
@@ -125,25 +178,50 @@ output-open (phase.Done how) output unfinished is = absurd (false≢true unfinis
 -- an unfinished work that is cancelled
 pub IsRecord-cancelled : (work : Record) → is_open work.phase ≡ true → IsRecord work → IsRecord (closed how.Cancelled work)
 IsRecord-cancelled work unfinished is =
-    IsRecord-kept work (closed how.Cancelled work) refl is is.name is.fits.enqueued_at is.attempt tt is.backoff_n is.runs
-    (IsOfKind-kept work.request.period work (closed how.Cancelled work) tt refl refl refl is.kind)
-    (output-open work.phase work.output unfinished is.output) refl
+    IsRecord-kept work (closed how.Cancelled work) refl is (record {
+      name = is.name;
+      enqueued_at = is.fits.enqueued_at;
+      attempt = is.attempt;
+      started = tt;
+      backoff_n = is.backoff_n;
+      runs = is.runs;
+      kind = IsOfKind-kept work.request.period work (closed how.Cancelled work) tt refl refl refl is.kind;
+      output = output-open work.phase work.output unfinished is.output;
+      progress = refl;
+    })
 
 -- a one-time work that succeeds
 pub IsRecord-succeeded : (output : List DataEntry) (work : Record) → IsData output → work.phase ≡ phase.Running → work.request.period ≡ None → IsRecord work
     → IsRecord (succeeded output work)
 IsRecord-succeeded output work gave running one_time is =
-    IsRecord-kept work (succeeded output work) refl is is.name is.fits.enqueued_at is.attempt
-    (subst (λ phase. IsAttemptIn phase work.attempt) running is.started)
-    is.backoff_n is.runs (IsOfKind-one_time work (succeeded output work) one_time refl is.kind) gave refl
+    IsRecord-kept work (succeeded output work) refl is (record {
+      name = is.name;
+      enqueued_at = is.fits.enqueued_at;
+      attempt = is.attempt;
+      started = subst (λ phase. IsAttemptIn phase work.attempt) running is.started;
+      backoff_n = is.backoff_n;
+      runs = is.runs;
+      kind = IsOfKind-one_time work (succeeded output work) one_time refl is.kind;
+      output = gave;
+      progress = refl;
+    })
 
 pub IsRecord-again : (period : Period) (now : ℕ) (work : Record) → now < 2 ^ 53 → work.request.period ≡ Some period → IsRecord work
     → IsRecord (enqueued_again now work)
 IsRecord-again period now work below repeats is =
     let kind : IsPeriodic work = subst (λ kind. IsOfKind kind work) repeats is.kind in
-    IsRecord-kept work (enqueued_again now work) refl is is.name below (omega arith) tt (omega arith) (omega arith)
-    (subst (λ kind. IsOfKind kind (enqueued_again now work)) (sym repeats)
-    (record { phase_is = tt; no_output = refl; no_prerequisite = kind.no_prerequisite })) refl refl
+    IsRecord-kept work (enqueued_again now work) refl is (record {
+      name = is.name;
+      enqueued_at = below;
+      attempt = omega arith;
+      started = tt;
+      backoff_n = omega arith;
+      runs = omega arith;
+      kind = subst (λ kind. IsOfKind kind (enqueued_again now work)) (sym repeats)
+          (record { phase_is = tt; no_output = refl; no_prerequisite = kind.no_prerequisite });
+      output = refl;
+      progress = refl;
+    })
 
 updated-kind : (before now : Option Period) (request : RequestFields) (work : Record) → is_same_kind now before ≡ true → IsOfKind before work
     → IsOfKind now (updated request work)

@@ -83,8 +83,17 @@ kind-put_back (Some period) work is = record { phase_is = tt; no_output = is.no_
 
 IsRecord-put_back : (work : Record) → work.phase ≡ phase.Running → IsRecord work → IsRecord (put_back work)
 IsRecord-put_back work running is =
-    IsRecord-kept work (put_back work) refl is is.name is.fits.enqueued_at is.attempt tt is.backoff_n is.runs (kind-put_back work.request.period work is.kind)
-    (subst (λ p. IsOutputIn p work.output) running is.output) refl
+    IsRecord-kept work (put_back work) refl is (record {
+      name = is.name;
+      enqueued_at = is.fits.enqueued_at;
+      attempt = is.attempt;
+      started = tt;
+      backoff_n = is.backoff_n;
+      runs = is.runs;
+      kind = kind-put_back work.request.period work is.kind;
+      output = subst (λ p. IsOutputIn p work.output) running is.output;
+      progress = refl;
+    })
 
 IsChange-put_back : (s : State) (conditions : Conditions) → Valid s → IsChange s.works (put_back_in conditions s.runs)
 IsChange-put_back s conditions valid =

@@ -35,8 +35,17 @@ kind-quiet (Some period) work is = record { phase_is = is.phase_is; no_output = 
 
 IsRecord-quiet : (work : Record) → IsRecord work → IsRecord (quiet work)
 IsRecord-quiet work is =
-    IsRecord-kept work (quiet work) refl is is.name is.fits.enqueued_at is.attempt is.started is.backoff_n is.runs
-    (kind-quiet work.request.period work is.kind) is.output (none_told work.phase)
+    IsRecord-kept work (quiet work) refl is (record {
+      name = is.name;
+      enqueued_at = is.fits.enqueued_at;
+      attempt = is.attempt;
+      started = is.started;
+      backoff_n = is.backoff_n;
+      runs = is.runs;
+      kind = kind-quiet work.request.period work is.kind;
+      output = is.output;
+      progress = none_told work.phase;
+    })
 
 AreWorks-quiet : (next : ℕ) (works : List Record) → AreWorks next works → AreWorks next (map quiet works)
 AreWorks-quiet next works are =
