@@ -4,7 +4,7 @@ use Rattle.std.proofs.lemmas.Bool.{and_parts, cond_both}
 use Rattle.wm_machine.proofs.Closings.{not_yet_passing}
 use Rattle.wm_machine.proofs.Groups.{frame-works_closed, is_any_run_reached, Valid-works_closed}
 use Rattle.wm_collections.proofs.Lists.{All-stored}
-use Rattle.wm_machine.proofs.Owed.{IsAnswered, IsLinedIn-quiet}
+use Rattle.wm_machine.proofs.Owed.{IsAnswered, IsLinedIn-quiet, IsLinedIn-stops}
 use Rattle.wm_machine.specs.Cancelled.{cancelled, cancelled_each, is_cancellable, is_for, is_stored, targeted}
 use Rattle.wm_machine.specs.Closed.{is_open}
 use Rattle.wm_machine.specs.Frame.{untouched, IsLinedIn}
@@ -30,10 +30,8 @@ owed-each s asked target =
       reached = λ valid. Valid-works_closed seqs s valid
           (not_yet_passing s (is_cancellable target) s.works valid (λ work is. (and_parts (is_open work.phase) (is_for target work) is).0)
           (All-stored s.works));
-      frame = record {
-        stops = is_any_run_reached seqs s.works;
-        frame_is = frame-works_closed how.Cancelled seqs s (command.Cancel asked ∷ []);
-      };
+      frame = IsLinedIn-stops (command.Cancel asked) s _ (is_any_run_reached seqs s.works)
+          (frame-works_closed how.Cancelled seqs s (command.Cancel asked ∷ []));
     }
 
 owed-id : (s : State) (id : List ℕ) → IsOwed s (command.Cancel (target.Id id))

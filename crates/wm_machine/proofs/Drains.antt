@@ -1,5 +1,5 @@
 -- From every valid state with at most one unreturned run a serial run goes on to its end.
-use Rattle.std.proofs.Common.{◌≡◌, ℕ, ◌+◌, ◌-◌, ◌<◌, ◌≤◌, zero, suc, Bool, true, false, cond, List, [], ◌∷◌, ◌++◌, length, Option, Some, None, Result, Ok, Err, refl, sym, ◌∙◌, ap, subst, arith, append_assoc}
+use Rattle.std.proofs.Common.{◌≡◌, ℕ, ◌+◌, ◌-◌, ◌<◌, ◌≤◌, zero, suc, Bool, true, false, cond, List, [], ◌∷◌, ◌++◌, length, map, Option, Some, None, Result, Ok, Err, refl, sym, ◌∙◌, ap, subst, arith, append_assoc}
 use Rattle.std.specs.List.{AllByRecursion}
 use Rattle.std.proofs.lemmas.Bool.{eq-eqb}
 use Rattle.wm_machine.specs.Types.{Cause, Command, DataEntry, End, Event, Instance, Record, Run, State}
@@ -19,7 +19,7 @@ use Rattle.wm_machine.specs.Valid.{Valid}
 use Rattle.wm_machine.specs.Quiet.{IsQuiet}
 use Rattle.wm_machine.specs.Replay.{Replay}
 use Rattle.wm_machine.specs.Role.{Role}
-use Rattle.wm_machine.specs.Runs.{run_numbered, start_refusal, with_stopped}
+use Rattle.wm_machine.specs.Runs.{run_numbered, start_refusal}
 use Rattle.wm_machine.specs.Serial.{AreInTurn, IsInTurn}
 use Rattle.wm_machine.specs.Step.{after, IsReport, Legal, role_of}
 use Rattle.wm_machine.specs.Turns.{turned}
@@ -253,6 +253,6 @@ goes_on (asked ∷ lines) s askable reached few =
     let answer = reply_where_asked t asked 0 askable.0 (record { settled = λ settles. done.quiet }) in
     let e = event.Command 0 asked answer.0 in
     let legal : Legal t e = answer.1 in
-    let no_run : (after t e).runs ≡ [] = ap (λ (f : Frame). f.runs) owed.frame.frame_is ∙ ap (with_stopped owed.frame.stops) done.quiet.no_run in
+    let no_run : (after t e).runs ≡ [] = ap (λ (f : Frame). f.runs) owed.frame.frame_is ∙ ap (map owed.frame.change) done.quiet.no_run in
     GoesOn-then s (asked ∷ lines) done (GoesOn-more t e lines legal done.quiet
     (goes_on lines (after t e) askable.1 (Valid-after t e done.reached legal) (subst (λ (runs : List Run). length runs ≤ 1) (sym no_run) (omega arith))))

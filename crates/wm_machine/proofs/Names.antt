@@ -7,7 +7,7 @@ use Rattle.wm_machine.proofs.Closings.{HasNotSucceeded, not_yet_passing}
 use Rattle.wm_machine.proofs.Enqueues.{AreBothOneTime, CanFollow, CanFollow-none, CanShare, first_refusal-none, frame-placed, none_found, not_some, passes, PassesChecks, placeable, reached-placed}
 use Rattle.wm_machine.proofs.Groups.{All-made_ready, frame-made_ready, is_any_run_reached, length-made_ready, next-made_ready, reached-made_ready, with_let_go-none}
 use Rattle.wm_collections.proofs.Lists.{All-any, All-from_filter, All-kept, All-map, All-of_one, All-stored, All-weaker, All-with2, AllLater-each, AllLater-few, AllLater-filter, AllLater-map, HasOne-weaker, find-none, find-stored, list_any-stored, list_any_after}
-use Rattle.wm_machine.proofs.Owed.{IsAnswered, IsLinedIn-quiet}
+use Rattle.wm_machine.proofs.Owed.{IsAnswered, IsLinedIn-quiet, IsLinedIn-stops}
 use Rattle.wm_machine.proofs.Placings.{bytes_eq-refl}
 use Rattle.wm_machine.proofs.Updates.{update-reached}
 use Rattle.wm_machine.specs.Built.{AreAsked, AreAskedUnder}
@@ -275,10 +275,8 @@ frame-carried_out s unique batch name works (plan.Updates member) =
     let asked = command.Enqueue (Some unique) batch in IsLinedIn-quiet asked s _ (frame-updated s (asked ∷ []) member works)
 frame-carried_out s unique batch name works (plan.Places placing) =
     let asked = command.Enqueue (Some unique) batch in
-    record {
-      stops = is_any_run_reached placing.cancel s.works;
-      frame_is = frame-placed (made_ready s placing) (asked ∷ []) (Some name) placing.after works ∙ frame-made_ready s placing (asked ∷ []);
-    }
+    IsLinedIn-stops asked s _ (is_any_run_reached placing.cancel s.works)
+    (frame-placed (made_ready s placing) (asked ∷ []) (Some name) placing.after works ∙ frame-made_ready s placing (asked ∷ []))
 
 frame-named : (s : State) (unique : UniqueName) (batch : BatchFields) (found : Option Refusal) (works : List Node)
     → let asked = command.Enqueue (Some unique) batch in IsLinedIn asked s (untouched (outcome_by found s (Some unique) works).state (asked ∷ []))

@@ -1,5 +1,5 @@
 -- That each run is reported once.
-use Rattle.std.proofs.Common.{◌≡◌, ℕ, ◌+◌, ◌≤◌, ◌<◌, Bool, false, eqb, not, List, [], ◌∷◌, ◌++◌, Option, Some, None, option_map, cond, true, refl, sym, ◌∙◌, ap, subst, arith, inl, inr}
+use Rattle.std.proofs.Common.{◌≡◌, ℕ, ◌+◌, ◌≤◌, ◌<◌, Bool, false, eqb, not, List, [], ◌∷◌, ◌++◌, map, Option, Some, None, option_map, cond, true, refl, sym, ◌∙◌, ap, subst, arith, inl, inr}
 use Rattle.std.specs.Prelude.{count_by}
 use Rattle.std.proofs.lemmas.Bool.{cases_Bool, cond_both, eq-eqb, eqb-true, ne_eqb, not-false, not-true}
 use Rattle.wm_collections.specs.Lists.{AllLater}
@@ -9,13 +9,12 @@ use Rattle.wm_machine.proofs.Runnings.{found_valid}
 use Rattle.wm_machine.proofs.Steps.{framed, Valid-after}
 use Rattle.wm_machine.proofs.Starts.{after_start}
 use Rattle.wm_machine.proofs.StoppedRuns.{current-end, not_current_then, stopped-late, stopped_by_line}
-use Rattle.wm_machine.proofs.Stops.{stopped_both, stopped_in}
 use Rattle.wm_machine.proofs.Turns.{turned_at, turned_both}
 use Rattle.wm_machine.specs.Diaries.{DiaryLine}
 use Rattle.wm_machine.specs.Frame.{Frame, frame_to, untouched}
 use Rattle.wm_machine.specs.Replay.{Replay, state_after}
 use Rattle.wm_machine.specs.Reports.{current_in, is_report_of, is_start_of, reports_in, starts_in, IsReportedOnce, IsStoppedIn}
-use Rattle.wm_machine.specs.Runs.{other_runs, run_numbered, run_on, with_stopped}
+use Rattle.wm_machine.specs.Runs.{other_runs, run_numbered, run_on}
 use Rattle.wm_machine.specs.Step.{after, Legal}
 use Rattle.wm_machine.specs.Turns.{with_turned}
 use Rattle.wm_machine.specs.Valid.{Valid, AreApart}
@@ -168,10 +167,8 @@ counted : (number : ℕ) (s : State) (e : Event) → Valid s → Legal s e → n
 counted number s (event.Command line asked answer) valid legal earlier =
     let e = event.Command line asked answer in
     let is = framed s e legal in
-    let runs : (after s e).runs ≡ with_stopped is.stops s.runs = ap (λ (f : Frame). f.runs) is.frame_is in
-    let same =
-    count-same (has_number number) (stopped_in is.stops) s.runs
-    (λ r. stopped_both (λ (x : Run). eqb x.run number ≡ eqb r.run number) is.stops r (λ e. refl) (λ e. refl)) in
+    let runs : (after s e).runs ≡ map is.change s.runs = ap (λ (f : Frame). f.runs) is.frame_is in
+    let same = count-same (has_number number) is.change s.runs (λ r. ap (λ n. eqb n number) (is.keeps r).run) in
     record { no_start = refl; left = rw runs (omega (arith, same)) }
 counted number s (event.Start run seq instance input) valid legal earlier =
     let e = event.Start run seq instance input in

@@ -1,5 +1,5 @@
 -- A log in serial order, with more events.
-use Rattle.std.proofs.Common.{◌≡◌, ℕ, ◌≤◌, Bool, true, false, List, [], ◌∷◌, ◌++◌, length, refl, sym, ◌∙◌, ap, subst, arith, inl, inr}
+use Rattle.std.proofs.Common.{◌≡◌, ℕ, ◌≤◌, Bool, true, false, List, [], ◌∷◌, ◌++◌, length, map, refl, sym, ◌∙◌, ap, subst, arith, inl, inr}
 use Rattle.std.specs.List.{AllByRecursion}
 use Rattle.std.proofs.lemmas.Bool.{cases_Bool, false≢true}
 use Rattle.wm_machine.proofs.Commands.{answered, reply_where_asked}
@@ -10,7 +10,6 @@ use Rattle.wm_machine.specs.Outcome.{IsAskable}
 use Rattle.wm_machine.specs.Frame.{Frame}
 use Rattle.wm_machine.specs.Log.{commands_of}
 use Rattle.wm_machine.specs.Replay.{Replay}
-use Rattle.wm_machine.specs.Runs.{with_stopped}
 use Rattle.wm_machine.specs.Serial.{AreInOrder, AreInOrderBy, AreInTurn, BeginsByLine, BeginsSerial, drains_first, IsInTurn, MayGoOn}
 use Rattle.wm_machine.specs.Step.{after, Answers, Legal}
 use Rattle.wm_machine.specs.Valid.{Valid}
@@ -97,7 +96,7 @@ unbegun asked lines first drains askable reached no_run =
     let legal : Legal first e = answer.1 in
     let rest =
     goes_on lines (after first e) askable.1 (Valid-after first e reached legal)
-    (subst (λ (runs : List Run). length runs ≤ 1) (sym (ap (λ (f : Frame). f.runs) owed.frame.frame_is ∙ ap (with_stopped owed.frame.stops) no_run)) (omega arith)) in
+    (subst (λ (runs : List Run). length runs ≤ 1) (sym (ap (λ (f : Frame). f.runs) owed.frame.frame_is ∙ ap (map owed.frame.change) no_run)) (omega arith)) in
     record {
       rest = e ∷ rest.log;
       last = rest.last;

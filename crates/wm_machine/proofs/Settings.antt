@@ -7,7 +7,7 @@ use Rattle.wm_conditions.specs.Met.{met}
 use Rattle.wm_conditions.specs.declared.conditions.Conditions.{Conditions}
 use Rattle.wm_machine.proofs.Changes.{all_open, IsChange, IsSameRequest, KeepsRun, moves-kept, MovesTo, Succeeded}
 use Rattle.wm_machine.proofs.Endings.{KeepsRun-same}
-use Rattle.wm_machine.proofs.Owed.{IsAnswered, IsLinedIn-quiet}
+use Rattle.wm_machine.proofs.Owed.{IsAnswered, IsLinedIn-quiet, IsLinedIn-stops}
 use Rattle.wm_machine.proofs.Records.{IsRecord-kept}
 use Rattle.wm_machine.proofs.Runnings.{all_of_number, each_or_apart}
 use Rattle.wm_machine.proofs.Stops.{and_fails, IsStop, Valid-stopped}
@@ -154,7 +154,7 @@ pub conditions-answered : (s : State) (conditions : Conditions) → IsAnswered s
 conditions-answered s conditions = record {
   answered = λ may. refl;
   reached = λ valid. reached-conditioned s conditions valid;
-  frame = record { stops = is_stopped_by conditions; frame_is = refl };
+  frame = IsLinedIn-stops (command.Conditions conditions) s _ (is_stopped_by conditions) refl;
 }
 
 -- ---- the hush

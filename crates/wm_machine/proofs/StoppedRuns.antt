@@ -3,9 +3,8 @@ use Rattle.std.proofs.Common.{◌≡◌, ◌⊎◌, ℕ, ◌<◌, ◌≤◌, Boo
 use Rattle.std.proofs.lemmas.Bool.{cases_Bool, eqb-true, false≢true, ne_eqb}
 use Rattle.wm_collections.proofs.Lists.{find-passes}
 use Rattle.wm_machine.proofs.Steps.{framed, Valid-after}
-use Rattle.wm_machine.proofs.Stops.{stopped_both, stopped_in}
 use Rattle.wm_machine.proofs.Turns.{turned_at, turned_both}
-use Rattle.wm_machine.specs.Frame.{Frame}
+use Rattle.wm_machine.specs.Frame.{Frame, IsSameRun}
 use Rattle.wm_machine.specs.Replay.{Replay}
 use Rattle.wm_machine.specs.Reports.{current_in, is_end_of, IsCommand, IsStoppedIn}
 use Rattle.wm_machine.specs.Runs.{other_runs, run_numbered}
@@ -78,18 +77,16 @@ goes is_line (Some false) now none = inr none
 goes is_line (Some true) now none = inr (inl none)
 
 -- a line may stop it
-by_line : (is_line : Type 0) (stops : Run → Bool) (found : Option Run) → is_line
-    → MayBecome is_line (option_map (λ run. run.current) found) (option_map (λ run. run.current) (option_map (stopped_in stops) found))
-by_line is_line stops None is = refl
-by_line is_line stops (Some run) is = by_current run.current refl
+by_line : (is_line : Type 0) (change : Run → Run) (found : Option Run) → is_line → ((run : Run) → IsSameRun run (change run))
+    → MayBecome is_line (option_map (λ run. run.current) found) (option_map (λ run. run.current) (option_map change found))
+by_line is_line change None is keeps = refl
+by_line is_line change (Some run) is keeps = by_current run.current (change run).current (keeps run).current
   where
-    by_current : (current : Bool) → run.current ≡ current → MayBecome is_line (Some run.current) (Some (stopped_in stops run).current)
-    by_current true e =
-        subst (λ b. MayBecome is_line (Some b) (Some (stopped_in stops run).current)) (sym e)
-        (stopped_both (λ r. MayBecome is_line (Some true) (Some r.current)) stops run (λ f. inr (inr (is, refl))) (λ f. inl (ap Some e)))
-    by_current false e =
-        subst (λ b. MayBecome is_line (Some b) (Some (stopped_in stops run).current)) (sym e)
-        (stopped_both (λ r. MayBecome is_line (Some false) (Some r.current)) stops run (λ f. inl refl) (λ f. inl (ap Some e)))
+    by_current : (was now : Bool) → (now ≡ true → was ≡ true) → MayBecome is_line (Some was) (Some now)
+    by_current true true may = inl refl
+    by_current true false may = inr (inr (is, refl))
+    by_current false false may = inl refl
+    by_current false true may = absurd (false≢true (may refl))
 
 -- a turn leaves it
 current-turned : (number : ℕ) (found : Option Run)
@@ -118,11 +115,10 @@ one_event : (number : ℕ) (s : State) (e : Event) → Legal s e → number < s.
 one_event number s (event.Command line asked answer) legal earlier =
     let e = event.Command line asked answer in
     let is = framed s e legal in
-    let found : run_numbered number (after s e).runs ≡ option_map (stopped_in is.stops) (run_numbered number s.runs) =
-    ap (run_numbered number) (ap (λ (f : Frame). f.runs) is.frame_is)
-    ∙ found-map number (stopped_in is.stops) s.runs (λ r. stopped_both (λ x. x.run ≡ r.run) is.stops r (λ e. refl) (λ e. refl)) in
+    let found : run_numbered number (after s e).runs ≡ option_map is.change (run_numbered number s.runs) =
+    ap (run_numbered number) (ap (λ (f : Frame). f.runs) is.frame_is) ∙ found-map number is.change s.runs (λ r. (is.keeps r).run) in
     subst (λ now. MayBecome (IsCommand e) (current_in number s) (option_map (λ run. run.current) now)) (sym found)
-    (by_line (IsCommand e) is.stops (run_numbered number s.runs) tt)
+    (by_line (IsCommand e) is.change (run_numbered number s.runs) tt is.keeps)
 one_event number s (event.Start run seq instance input) legal earlier =
     let e = event.Start run seq instance input in
     let is = framed s e legal in

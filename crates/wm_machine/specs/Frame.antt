@@ -1,11 +1,11 @@
 -- What an event makes of all but the records, by what it is to the runs.
-use Rattle.std.specs.Prelude.{◌≡◌, ℕ, ◌+◌, ◌==◌, Bool, true, false, List, [], ◌∷◌, ◌++◌, Some, if◌then◌else◌}
+use Rattle.std.specs.Prelude.{◌≡◌, ℕ, ◌+◌, ◌==◌, true, false, List, [], ◌∷◌, ◌++◌, map, Some, if◌then◌else◌}
 use Rattle.wm_machine.specs.Diaries.{event_lines, given_lines, DiaryLine, Began}
 use Rattle.wm_machine.specs.Log.{command_in}
 use Rattle.wm_machine.specs.Retired.{with_retired}
 use Rattle.wm_machine.specs.Role as role
 use Rattle.wm_machine.specs.Role.{Reported, Role, This}
-use Rattle.wm_machine.specs.Runs.{other_runs, run_numbered, with_out, with_stopped}
+use Rattle.wm_machine.specs.Runs.{other_runs, run_numbered, with_out}
 use Rattle.wm_machine.specs.Step.{after}
 use Rattle.wm_machine.specs.Turns.{with_turned}
 use Rattle.wm_machine.specs.declared.command.Command.{Command}
@@ -42,10 +42,9 @@ abbrev pub instances_after : Command → List Instance → List Instance
 instances_after (command.Retire class) instances = with_retired class instances
 instances_after _ instances = instances
 
--- the frame of a line that stops these runs
-abbrev pub lined_frame : State → Command → (Run → Bool) → Frame
-lined_frame s asked stops =
-    record (untouched s (asked ∷ [])) { runs = with_stopped stops s.runs; instances = instances_after asked s.instances }
+-- the frame of a line that makes this of each run
+abbrev pub lined_frame : State → Command → (Run → Run) → Frame
+lined_frame s asked change = record (untouched s (asked ∷ [])) { runs = map change s.runs; instances = instances_after asked s.instances }
 
 -- the frame in which this run begins, under these numbers of a run and an instance: the instance is out, and its worker writes that it began
 abbrev pub begun_frame : State → ℕ → ℕ → Run → Frame
@@ -87,10 +86,23 @@ returned_frame s run = record {
   lines = λ worker. [];
 }
 
--- a line may stop runs, and leaves each as it is but for that
+-- one run is the other later, with all that it took and at the same turn: if it is current then, it was before
+pub record IsSameRun (one other : Run) : Type 0 where
+  pub run : other.run ≡ one.run
+  pub seq : other.seq ≡ one.seq
+  pub attempt : other.attempt ≡ one.attempt
+  pub input : other.input ≡ one.input
+  pub kind : other.kind ≡ one.kind
+  pub instance : other.instance ≡ one.instance
+  pub constraints : other.constraints ≡ one.constraints
+  pub turn : other.turn ≡ one.turn
+  pub current : other.current ≡ true → one.current ≡ true
+
+-- a line leaves each run, but that it may not be current any more
 pub record IsLinedIn (asked : Command) (s : State) (frame : Frame) : Type 0 where
-  pub stops : Run → Bool
-  pub frame_is : frame ≡ lined_frame s asked stops
+  pub change : Run → Run
+  pub keeps : (run : Run) → IsSameRun run (change run)
+  pub frame_is : frame ≡ lined_frame s asked change
 
 pub record IsBegunIn (number instance : ℕ) (s : State) (frame : Frame) : Type 0 where
   pub run : Run

@@ -11,7 +11,6 @@ use Rattle.wm_collections.specs.Lists.{HasOne}
 use Rattle.wm_data.specs.declared.data.DataEntry.{DataEntry}
 use Rattle.wm_machine.proofs.Runnings.{found_or_apart, found_valid, IsFoundOrApart}
 use Rattle.wm_machine.proofs.Steps.{framed}
-use Rattle.wm_machine.proofs.Stops.{stopped_both, stopped_in}
 use Rattle.wm_machine.proofs.Turns.{turned_at, turned_both}
 use Rattle.wm_machine.specs.Frame.{frame_of, Frame, IsBegunIn, IsLinedIn, IsTurnedIn}
 use Rattle.wm_machine.specs.Runs.{other_runs, run_numbered, with_out}
@@ -32,7 +31,7 @@ use Rattle.wm_runs.proofs.RunLookups.{found-numbered, run_numbered-push, run_num
 use Rattle.wm_session.proofs.PlacesAndInstances.{away-changed, here-back, run-from, traits-back}
 use Rattle.wm_session.specs.Bench.{instance_traits, is_away, is_out_on, kind_at, place_traits, Traits}
 use Rattle.wm_session.specs.Invariant.{ListsExactly}
-use Rattle.wm_table.proofs.Parts.{none-without, out-after, out-standing, stands_in}
+use Rattle.wm_table.proofs.Parts.{none-without, out-after, out-standing, part-same, stands_in}
 use Rattle.wm_table.specs.Parts.{part_of, ticket_part, IsItOrApart, IsOffRoll, NoneOf, Stands, WasOut}
 use Rattle.wm_table.specs.Rolls.{given_again}
 use Rattle.wm_table.specs.Table.{IsTicketIn}
@@ -66,21 +65,18 @@ out-agrees s roll valid exact =
 
 -- ---- a line
 
-part-stopped_in : (stops : Run → Bool) (run : Run) → part_of (stopped_in stops run) ≡ part_of run
-part-stopped_in stops run = stopped_both (λ (r : Run). part_of r ≡ part_of run) stops run (λ e. refl) (λ e. refl)
-
 -- a run that is stopped stays on the roll
 pub exact-lined : (s : State) (roll : List Part) (line : ℕ) (asked : Command) (answer : Reply) → Legal s (event.Command line asked answer)
     → ListsExactly s.runs roll → ListsExactly (after s (event.Command line asked answer)).runs roll
 exact-lined s roll line asked answer legal exact =
     let e = event.Command line asked answer in
     let is : IsLinedIn asked s (frame_of s e) = framed s e legal in
-    let runs : (after s e).runs ≡ map (stopped_in is.stops) s.runs = ap (λ (f : Frame). f.runs) is.frame_is in
+    let runs : (after s e).runs ≡ map is.change s.runs = ap (λ (f : Frame). f.runs) is.frame_is in
     record {
       of_runs = out-after s e roll legal tt exact.of_runs;
       each = rw runs
-          (All-map (λ run. IsListed roll (part_of run)) (stopped_in is.stops) s.runs
-          (λ run listed. subst (IsListed roll) (sym (part-stopped_in is.stops run)) listed) exact.each);
+          (All-map (λ run. IsListed roll (part_of run)) is.change s.runs
+          (λ run listed. subst (IsListed roll) (sym (part-same run (is.change run) (is.keeps run))) listed) exact.each);
     }
 
 -- ---- a run begins

@@ -1,5 +1,5 @@
 -- What the steps of a serial session make of its book.
-use Rattle.std.proofs.Common.{◌≡◌, ◌⊎◌, ℕ, ◌+◌, ◌<◌, ◌≤◌, Bool, true, false, List, [], ◌∷◌, ◌++◌, length, Option, Some, None, IsSome, IsSomeAnd, Result, Ok, Err, refl, sym, ◌∙◌, ap, subst, inl, inr, arith}
+use Rattle.std.proofs.Common.{◌≡◌, ◌⊎◌, ℕ, ◌+◌, ◌<◌, ◌≤◌, Bool, true, false, List, [], ◌∷◌, ◌++◌, length, map, Option, Some, None, IsSome, IsSomeAnd, Result, Ok, Err, refl, sym, ◌∙◌, ap, subst, inl, inr, arith}
 use Rattle.std.specs.List.{AllByRecursion}
 use Rattle.std.specs.declared.alloc.AllocError.{AllocError}
 use Rattle.std.proofs.lemmas.Bool.{eq-eqb, true≢false}
@@ -20,7 +20,7 @@ use Rattle.wm_machine.specs.Frame.{Frame}
 use Rattle.wm_machine.specs.Log.{commands_of}
 use Rattle.wm_machine.specs.Quiet.{IsQuiet}
 use Rattle.wm_machine.specs.Replay.{Replay}
-use Rattle.wm_machine.specs.Runs.{other_runs, run_numbered, run_on, with_stopped}
+use Rattle.wm_machine.specs.Runs.{other_runs, run_numbered, run_on}
 use Rattle.wm_machine.specs.Serial.{AreInOrder, drains_first, IsInTurn, MayGoOn}
 use Rattle.wm_machine.specs.Turns.{turned, with_turned}
 use Rattle.wm_machine.specs.Valid.{Valid}
@@ -503,7 +503,7 @@ module _ {K W B : Type 0} {store : K → Store} {kind_of : B → Kind} {old new 
   line_none : old.status ≡ None → IsLineDone store kind_of old new → new.table.state.runs ≡ []
   line_none going done =
       let is = framed old.table.state (event.Command (old.line + 1) done.command done.reply) done.step.legal in
-      ap (λ (t : State). t.runs) done.step.state ∙ ap (λ (f : Frame). f.runs) is.frame_is ∙ ap (with_stopped is.stops) (rest.no_run going)
+      ap (λ (t : State). t.runs) done.step.state ∙ ap (λ (f : Frame). f.runs) is.frame_is ∙ ap (map is.change) (rest.no_run going)
 
   -- a line was executed
   pub IsBetweenRuns-line : old.status ≡ None → IsLineDone store kind_of old new → IsBetweenRuns new

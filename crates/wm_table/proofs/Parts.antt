@@ -8,9 +8,8 @@ use Rattle.wm_collections.specs.Lists.{AllLater, HasOne}
 use Rattle.wm_data.specs.declared.data.DataEntry.{DataEntry}
 use Rattle.wm_machine.proofs.Runnings.{found_or_apart, IsFoundOrApart}
 use Rattle.wm_machine.proofs.Steps.{framed}
-use Rattle.wm_machine.proofs.Stops.{stopped_both, stopped_in}
 use Rattle.wm_machine.proofs.Turns.{turned_at, turned_both}
-use Rattle.wm_machine.specs.Frame.{frame_of, Frame, IsFramed, IsTurnedIn}
+use Rattle.wm_machine.specs.Frame.{frame_of, Frame, IsFramed, IsSameRun, IsTurnedIn}
 use Rattle.wm_machine.specs.Role as role
 use Rattle.wm_machine.specs.Role.{Role}
 use Rattle.wm_machine.specs.Runs.{other_runs, run_numbered}
@@ -112,12 +111,15 @@ out-without number gone runs parts found off out =
     HasOne-filter {A = λ run. Unit {0}} {P = λ run. part_of run ≡ part} (λ run. not (eqb run.run gone.run)) runs
     (λ run any of. ap not (ne_eqb run.run gone.run (λ e. other (sym (ap (λ (p : Part). p.run) of) ∙ e ∙ its)))) (All-any runs (λ run. tt)) one) off out
 
+-- the same run has the same part
+pub part-same : (one other : Run) → IsSameRun one other → part_of other ≡ part_of one
+part-same one other is = λ i. record { run = is.run i; instance = is.instance i; kind = is.kind i }
+
 pub out-framed : (r : Role) (s : State) (f : Frame) (parts : List Part) → IsFramed r s f → IsOffRoll r parts → AreOut s.runs parts → AreOut f.runs parts
 out-framed (role.Line asked) s f parts is off out =
     rw (ap (λ (f : Frame). f.runs) is.frame_is)
     (All-weaker parts (λ part one.
-    HasOne-map (λ run. part_of run ≡ part) (stopped_in is.stops) s.runs
-    (λ run of. stopped_both (λ (r : Run). part_of r ≡ part) is.stops run (λ e. of) (λ e. of)) one) out)
+    HasOne-map (λ run. part_of run ≡ part) is.change s.runs (λ run of. part-same run (is.change run) (is.keeps run) ∙ of) one) out)
 out-framed (role.Begins number instance) s f parts is off out =
     rw (ap (λ (f : Frame). f.runs) is.frame_is)
     (All-weaker parts (λ part one. HasOne-front (λ run. part_of run ≡ part) s.runs (is.run ∷ []) one) out)
