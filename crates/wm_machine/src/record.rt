@@ -1,11 +1,14 @@
 ghost use Rattle.std.specs.Prelude.{◌≡◌};
 ghost use Rattle.wm_machine.specs.Closed.{is_open};
+ghost use Rattle.wm_machine.specs.Due.{due_of, times_of};
 ghost use Rattle.wm_machine.specs.First.{is_succeeded, is_waiting};
+ghost use Rattle.wm_machine.specs.Valid.{IsRecord};
 
 use std::alloc::{AllocError, Global};
 use wm_collections::{Items, Replica, Text};
 use wm_data::Data;
 use wm_request::Request;
+use wm_schedule::Times;
 
 /// How a finished work ended.
 #[derive(Clone, Copy, Debug, PartialEq, Eq)]
@@ -83,6 +86,31 @@ pub struct Record {
     pub output: Data,
     /// What it told while it runs.
     pub progress: Data,
+}
+
+impl Record {
+    /// The moment from which on the work may start, in milliseconds.
+    #[tactic(auto, unfolding(crate::specs::Due::due_of))]
+    pub fn due(&self) -> u64
+        requires { IsRecord self.now }
+        ensures { result ≡ due_of self.now }
+    {
+        wm_schedule::due(&self.times())
+    }
+
+    /// What that moment depends on.
+    fn times(&self) -> Times
+        ensures { result ≡ times_of self.now }
+    {
+        Times {
+            enqueued_at: self.enqueued_at,
+            initial_delay: self.request.initial_delay(),
+            backoff: self.request.backoff(),
+            backoff_n: self.backoff_n,
+            period: self.request.period(),
+            runs: self.runs,
+        }
+    }
 }
 
 impl Replica for Record {

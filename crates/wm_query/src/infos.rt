@@ -4,7 +4,7 @@ ghost use Rattle.wm_collections.specs.Lists.{AllLater};
 ghost use Rattle.wm_machine.specs.Shown.{due_shown, info_in, shown_in, shown_of};
 ghost use Rattle.wm_machine.specs.Valid.{IsBefore, IsRecord};
 
-use crate::scan::{all_met, due};
+use crate::scan::all_met;
 use std::alloc::{AllocError, Global};
 use wm_collections::Replica;
 use wm_machine::{How, Phase, Record, Shown, WorkInfo};
@@ -37,7 +37,7 @@ fn due_shown(state: Shown, work: &Record) -> Option<u64>
     ensures { result ≡ due_shown state work.now }
 {
     match state {
-        Shown::Enqueued => Some(due(work)),
+        Shown::Enqueued => Some(work.due()),
         _ => None,
     }
 }

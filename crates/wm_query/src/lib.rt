@@ -1,6 +1,6 @@
-//! What is read off the works of a state: when each is due and whether its prerequisites have
-//! succeeded, which starts next and on which instance, what is told of it, which works a query asks
-//! for, and what a summary counts.
+//! What is read off the works of a state: whether the prerequisites of each have succeeded, which
+//! starts next and on which instance, what is told of it, which works a query asks for, and what a
+//! summary counts.
 //!
 //! After the guide's pages "Work states", "Chaining work" and "Managing work" (observing your work,
 //! complex work queries).
@@ -14,4 +14,4 @@ mod scan;
 pub use counts::counts_of;
 pub use infos::{info, shown_in, shown_of};
 pub use queries::{answer, answer_to, has_tag, is_name, matches};
-pub use scan::{all_met, due, first_index, has_succeeded, idle_in, is_idle, is_live};
+pub use scan::{all_met, first_index, has_succeeded, idle_in, is_idle, is_live};

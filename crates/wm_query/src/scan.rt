@@ -4,37 +4,12 @@ ghost use Rattle.std.specs.List.{AllByRecursion};
 ghost use Rattle.std.specs.Option.{option_copied};
 ghost use Rattle.std.specs.Prelude.{◌≡◌, ◌<◌, length, Some, None, slice_get, option_and_then, IfSome, MatchOption};
 ghost use Rattle.wm_collections.specs.Lists.{AllLater};
-ghost use Rattle.wm_machine.specs.Due.{due_of, times_of};
 ghost use Rattle.wm_machine.specs.First.{all_met, comes_before, earlier_of, first_of, has_room, has_succeeded, idle_instance, is_idle, is_live, is_startable};
 ghost use Rattle.wm_machine.specs.Valid.{Valid, IsBefore, IsRecord};
 ghost use Rattle.wm_machine.specs.declared.record.Record.{Record};
 
 use wm_conditions::met;
 use wm_machine::{Instance, Record, State, work_numbered};
-use wm_schedule::Times;
-
-/// What the moment from which on a work may start depends on.
-fn times_of(work: &Record) -> Times
-    ensures { result ≡ times_of work.now }
-{
-    Times {
-        enqueued_at: work.enqueued_at,
-        initial_delay: work.request.initial_delay(),
-        backoff: work.request.backoff(),
-        backoff_n: work.backoff_n,
-        period: work.request.period(),
-        runs: work.runs,
-    }
-}
-
-/// The moment from which on a work may start.
-#[tactic(auto, unfolding(wm_machine::specs::Due::due_of))]
-pub fn due(work: &Record) -> u64
-    requires { IsRecord work.now }
-    ensures { result ≡ due_of work.now }
-{
-    wm_schedule::due(&times_of(work))
-}
 
 /// Whether the record of this number has succeeded.
 pub fn has_succeeded(works: &[Record], number: u64) -> bool
@@ -98,7 +73,7 @@ fn is_startable(state: &State, work: &Record) -> bool
 {
     work.phase.is_waiting()
         && all_met(state.works.as_slice(), work)
-        && due(work) <= state.now
+        && work.due() <= state.now
         && met(&work.request.constraints(), &state.conditions)
         && has_room(state.instances.as_slice(), work.request.class().as_str())
 }
@@ -109,7 +84,7 @@ fn comes_before(one: &Record, other: &Record) -> bool
     requires other { IsRecord other.now }
     ensures { result ≡ comes_before one.now other.now }
 {
-    due(one) < due(other) || due(one) == due(other) && one.seq < other.seq
+    one.due() < other.due() || one.due() == other.due() && one.seq < other.seq
 }
 
 /// The index of the work that starts next. The records are looked at from the last to the first.
