@@ -1,6 +1,6 @@
 -- What a run takes. After the guide's page "Chaining work" (input mergers), where the outputs of a work's prerequisites are inputs to it; the
 -- order of the inputs, and that periodic work takes its own as it is, are this project's own choice.
-use Rattle.std.specs.Prelude.{ℕ, ◌==◌, List, ◌∷◌, filter_map, find, Option, Some, None, option_map, Result, Ok, Err}
+use Rattle.std.specs.Prelude.{◌≡◌, ℕ, ◌==◌, List, ◌∷◌, filter_map, find, Option, Some, None, option_map, Result, Ok, Err}
 use Rattle.wm_data.specs.declared.data.DataEntry.{DataEntry}
 use Rattle.wm_machine.specs.declared.event.Cause.{Cause}
 use Rattle.wm_machine.specs.declared.event.Cause.TheVariants as cause
@@ -24,9 +24,13 @@ abbrev pub input_by : Option Period → List Record → Record → Result (List 
 input_by None works work = merged work.request.merger (work.request.input ∷ outputs_for works work)
 input_by (Some period) works work = Ok work.request.input
 
--- what a run of a work takes, or why it has no input
+-- what a run of a work among these records takes, or why it has no input
+abbrev pub input_among : List Record → Record → Result (List DataEntry) MergeFault
+input_among works work = input_by work.request.period works work
+
+-- what a run of a work of a state takes
 abbrev pub input_of : State → Record → Result (List DataEntry) MergeFault
-input_of s work = input_by work.request.period s.works work
+input_of s work = input_among s.works work
 
 -- why inputs don't become one, where they don't
 abbrev pub cause_in : Result (List DataEntry) MergeFault → Option Cause
@@ -34,3 +38,8 @@ cause_in (Ok input) = None
 cause_in (Err (fault.Conflict key)) = Some (cause.Conflict key)
 cause_in (Err (fault.TooLarge size)) = Some (cause.TooLarge size)
 cause_in (Err fault.Memory) = None
+
+-- an answer tells what a run takes, or the cause for which there is no input
+abbrev pub IsTaken : Result (List DataEntry) MergeFault → Result (List DataEntry) Cause → Type 0
+IsTaken taken (Ok input) = taken ≡ Ok input
+IsTaken taken (Err cause) = cause_in taken ≡ Some cause

@@ -1,6 +1,6 @@
 //! What is read off the works of a state: whether the prerequisites of each have succeeded, which
-//! starts next and on which instance, what is told of it, which works a query asks for, and what a
-//! summary counts.
+//! starts next, on which instance and with which input, what is told of it, which works a query asks
+//! for, and what a summary counts.
 //!
 //! After the guide's pages "Work states", "Chaining work" and "Managing work" (observing your work,
 //! complex work queries).
@@ -8,10 +8,12 @@
 
 mod counts;
 mod infos;
+mod inputs;
 mod queries;
 mod scan;
 
 pub use counts::counts_of;
 pub use infos::{info, shown_in, shown_of};
+pub use inputs::input_among;
 pub use queries::{answer, answer_to, has_tag, is_name, matches};
 pub use scan::{all_met, first_index, has_succeeded, idle_in, is_idle, is_live};

@@ -1,21 +1,18 @@
 -- What is built for an event of a run: the change of its step, and what is answered.
-use Rattle.std.specs.Prelude.{◌≡◌, ℕ, Bool, true, List, [], Option, Some, None, IsSomeAnd, Result, Ok, Err, slice_get}
+use Rattle.std.specs.Prelude.{◌≡◌, ℕ, Bool, true, List, [], Option, Some, None, IsSomeAnd, slice_get}
 use Rattle.wm_data.specs.declared.data.DataEntry.{DataEntry}
 use Rattle.wm_machine.specs.Ends.{given_by}
 use Rattle.wm_machine.specs.First.{first_of}
-use Rattle.wm_machine.specs.Input.{cause_in}
 use Rattle.wm_machine.specs.Role.{HasGiven, Reported}
 use Rattle.wm_machine.specs.Role as role
 use Rattle.wm_machine.specs.Runs.{run_numbered}
 use Rattle.wm_machine.specs.Step.{after, role_of}
-use Rattle.wm_machine.specs.declared.event.Cause.{Cause}
 use Rattle.wm_machine.specs.declared.event.End.{End}
 use Rattle.wm_machine.specs.declared.event.Event.{Event}
 use Rattle.wm_machine.specs.declared.event.Event.TheVariants as event
 use Rattle.wm_machine.specs.declared.record.Record.{Record}
 use Rattle.wm_machine.specs.declared.state.Run.{Run}
 use Rattle.wm_machine.specs.declared.state.State.{State}
-use Rattle.wm_merge.specs.declared.fault.MergeFault.{MergeFault}
 use Rattle.wm_runs.specs.Reports.{is_timeout, wants_more}
 use Rattle.wm_runs.specs.declared.starting.Claimed.{Claimed}
 use Rattle.wm_runs.specs.declared.starting.Claimed.TheVariants as claimed
@@ -32,11 +29,6 @@ use Rattle.wm_worker.specs.declared.answer.Given.{Given}
 use Rattle.wm_worker.specs.declared.answer.Given.TheVariants.{More}
 
 -- ---- a claim
-
--- what inputs became, or the cause for which they don't become one
-abbrev pub IsTaken : Result (List DataEntry) MergeFault → Result (List DataEntry) Cause → Type 0
-IsTaken answer (Ok input) = answer ≡ Ok input
-IsTaken answer (Err cause) = cause_in answer ≡ Some cause
 
 -- the work that is first stands at this index
 pub record IsFirstAt (s : State) (index : ℕ) (work : Record) : Type 0 where

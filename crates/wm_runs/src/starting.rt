@@ -1,13 +1,10 @@
 //! How the work that is first starts: its run begins, or it can't start.
-ghost use Rattle.std.specs.Prelude.{◌≡◌, ◌∷◌, Err, Ok, Some, None, IfOk, MatchOption};
-ghost use Rattle.wm_collections.specs.Lists.{AllLater};
+ghost use Rattle.std.specs.Prelude.{◌≡◌, Ok, Some, None, IfOk, MatchOption};
 ghost use Rattle.wm_graph.specs.Nodes.{HasNode};
 ghost use Rattle.wm_machine.specs.First.{first_of, idle_instance};
-ghost use Rattle.wm_machine.specs.Input.{cause_in, input_of, outputs_for};
+ghost use Rattle.wm_machine.specs.Input.{input_of};
 ghost use Rattle.wm_machine.specs.Runs.{one_attempt_more, run_on, start_refusal};
-ghost use Rattle.wm_machine.specs.Valid.{IsBefore};
-ghost use Rattle.wm_merge.specs.Merged.{merged};
-ghost use Rattle.wm_runs.specs.Builds.{IsClaiming, IsFirstAt, IsTaken};
+ghost use Rattle.wm_runs.specs.Builds.{IsClaiming, IsFirstAt};
 ghost use Rattle.wm_runs.specs.Reached.{replaced_by_no_start};
 ghost use Rattle.wm_steps.specs.Nodes.{nodes_of};
 
@@ -16,10 +13,9 @@ use std::alloc::{AllocError, Global};
 use wm_collections::{Items, Replica};
 use wm_data::Data;
 use wm_lifecycle::{not_started, started};
-use wm_machine::{Cause, Event, Instance, Record, Run, State, work_numbered};
-use wm_merge::{MergeFault, merge};
-use wm_query::{first_index, idle_in};
-use wm_steps::{Replacement, RunChange, StepChange, View, at, both, copied, one};
+use wm_machine::{Cause, Event, Instance, Record, Run, State};
+use wm_query::{first_index, idle_in, input_among};
+use wm_steps::{Replacement, RunChange, StepChange, View, at, both, copied};
 
 /// What becomes of the work that is first.
 #[derive(Drop)]
@@ -66,7 +62,7 @@ fn start_merged(
     requires idle { idle_instance view.now.instances work.now.request.class ≡ Some idle.now }
     ensures { IfOk result (IsClaiming view.entry.now) }
 {
-    match taken_by(alloc, view, work)? {
+    match input_among(alloc, view.state.works.as_slice(), work)? {
         Ok(input) => start(alloc, view, index, work, idle, input),
         Err(cause) => fail(alloc, view, work, cause),
     }
@@ -130,62 +126,6 @@ fn replaced_by_no_start(
     let itself = not_started(alloc, work, view.state.now)?;
     let (itself, reach) = both(itself, not_started_reach(view, work))?;
     replaced_by(alloc, &itself, &reach, view.state.works.as_slice())
-}
-
-/// What a run of a work takes, or why it takes nothing: of periodic work its own input, and of
-/// one-time work what its merger makes of that and of what its prerequisites gave.
-fn taken_by(alloc: Global, view: &View, work: &Record) -> Result<Result<Data, Cause>, AllocError>
-    ensures { IfOk result (IsTaken (input_of view.entry.now work.entry.now)) }
-{
-    if work.request.period().is_some() {
-        Ok(Ok(work.request.input().replica(alloc)?))
-    } else {
-        merged_by(alloc, view.state.works.as_slice(), work)
-    }
-}
-
-/// What a work's merger makes of its inputs, or why they don't become one.
-fn merged_by(
-    alloc: Global,
-    works: &[Record],
-    work: &Record,
-) -> Result<Result<Data, Cause>, AllocError>
-    requires { AllLater IsBefore works.now }
-    ensures { IfOk result (IsTaken (merged work.entry.now.request.merger
-        (work.entry.now.request.input ∷ outputs_for works.entry.now work.entry.now))) }
-{
-    let inputs = inputs_for(alloc, works, work)?;
-    match merge(alloc, work.request.merger(), inputs.as_slice()) {
-        Ok(input) => Ok(Ok(input)),
-        Err(fault) => Ok(Err(cause_of(fault)?)),
-    }
-}
-
-/// The inputs that a work's merger makes one of: its own, and then what its prerequisites gave, in
-/// the order in which it names them.
-fn inputs_for(alloc: Global, works: &[Record], work: &Record) -> Result<Items<Data>, AllocError>
-    requires { AllLater IsBefore works.now }
-    ensures { IfOk result (λ inputs. inputs
-        ≡ work.entry.now.request.input ∷ outputs_for works.entry.now work.entry.now) }
-{
-    let mut inputs = one(alloc, work.request.input().replica(alloc)?)?;
-    for number in work.prior.as_slice() {
-        if let Some(prior) = work_numbered(works, *number) {
-            inputs.push(prior.output.replica(alloc)?)?;
-        }
-    }
-    Ok(inputs)
-}
-
-/// Why a work whose inputs don't become one can't start.
-fn cause_of(fault: MergeFault) -> Result<Cause, AllocError>
-    ensures { IfOk result (λ cause. cause_in (Err fault) ≡ Some cause) }
-{
-    match fault {
-        MergeFault::Conflict { key } => Ok(Cause::Conflict { key }),
-        MergeFault::TooLarge { size } => Ok(Cause::TooLarge { size }),
-        MergeFault::Memory => Err(AllocError),
-    }
 }
 
 /// The next run, which is this attempt of a work on an instance, with this input.

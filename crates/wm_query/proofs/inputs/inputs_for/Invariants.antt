@@ -1,7 +1,7 @@
 use Rattle.std.proofs.Common.{◌≡◌, ◌∷◌, ◌++◌, drop, filter_map, option_map}
 use Rattle.wm_machine.specs.Input.{outputs_for, work_numbered}
 use Rattle.wm_machine.specs.declared.record.Record.{Record}
-use Rattle.wm_runs.proofs.starting.inputs_for.Given as goal
+use Rattle.wm_query.proofs.inputs.inputs_for.Given as goal
 
 -- the inputs so far and the outputs of the prerequisites that are left are all
 abbrev pub invariant-loop-number : goal.invariant-loop-number
