@@ -110,7 +110,7 @@ reached-opened rows instances first opened =
 pub opened-nothing : (instances : List Instance) → AreFresh instances → Opened [] instances (opening_state [] instances)
 opened-nothing instances fresh = record {
   stored = [];
-  rows_are_theirs = refl;
+  rows_are_theirs = tt;
   sound = record { first = omega arith; fits = omega arith; numbers = tt; few = omega arith; records = tt; in_order = tt; sound = tt };
   fresh = fresh;
   state = refl;

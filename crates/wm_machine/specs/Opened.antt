@@ -4,7 +4,7 @@ use Rattle.std.specs.List.{AllByRecursion}
 use Rattle.wm_conditions.specs.Defaults.{opening_conditions}
 use Rattle.wm_keeper.specs.declared.row.Row.{Row}
 use Rattle.wm_machine.specs.Replay.{Replay}
-use Rattle.wm_machine.specs.Rows.{row_of}
+use Rattle.wm_machine.specs.Rows.{AreRowsOf}
 use Rattle.wm_machine.specs.Valid.{AreNumberedInOrder, AreWorks}
 use Rattle.wm_machine.specs.declared.event.Event.{Event}
 use Rattle.wm_machine.specs.declared.record.Phase.{Phase}
@@ -55,7 +55,7 @@ pub record AreFresh (instances : List Instance) : Type 0 where
 -- the state is the one that these rows open to, which are those of sound records, with these instances
 pub record Opened (rows : List Row) (instances : List Instance) (first : State) : Type 0 where
   pub stored : List Record
-  pub rows_are_theirs : rows ≡ map row_of stored
+  pub rows_are_theirs : AreRowsOf rows stored
   pub sound : AreWorks (next_number stored) stored
   pub fresh : AreFresh instances
   pub state : first ≡ opening_state (map reopened stored) instances

@@ -1,5 +1,5 @@
 -- The rows that are kept for a state. The form is this project's own choice.
-use Rattle.std.specs.Prelude.{ℕ, ◌+◌, ℤ, pos, Bool, List, map, Option, Some, None, if◌then◌else◌}
+use Rattle.std.specs.Prelude.{◌≡◌, ℕ, ◌+◌, ℤ, pos, Bool, List, [], ◌∷◌, map, Option, Some, None, if◌then◌else◌}
 use Rattle.wm_conditions.specs.declared.conditions.Constraints.{Constraints}
 use Rattle.wm_conditions.specs.declared.conditions.Network.{Network}
 use Rattle.wm_conditions.specs.declared.conditions.Network.TheVariants as network
@@ -85,6 +85,16 @@ row_of work = record {
   prior = map pos work.prior;
   tags = work.request.tags;
 }
+
+-- a row is one of a record: the one that is kept for it
+abbrev pub IsRowOf : Row → Record → Type 0
+IsRowOf row work = row ≡ row_of work
+
+-- the rows are those of these records, side by side
+abbrev pub AreRowsOf : List Row → List Record → Type 0
+AreRowsOf [] [] = Unit {0}
+AreRowsOf (row ∷ rows) (work ∷ works) = IsRowOf row work × AreRowsOf rows works
+AreRowsOf _ _ = ⊥
 
 -- the rows of a state, in ascending number
 abbrev pub rows_of : State → List Row

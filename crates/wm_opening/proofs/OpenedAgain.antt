@@ -2,6 +2,7 @@
 use Rattle.std.proofs.Common.{◌≡◌, List, [], ◌∷◌, map, refl, sym, ap, subst}
 use Rattle.wm_keeper.specs.declared.row.Row.{Row}
 use Rattle.wm_machine.proofs.Openings.{reached-opened}
+use Rattle.wm_machine.proofs.Rows.{AreRowsOf-kept}
 use Rattle.wm_machine.specs.Opened.{Opened, opening_state, reopened, reopened_phase}
 use Rattle.wm_machine.specs.Rows.{rows_of}
 use Rattle.wm_machine.specs.declared.record.Phase.{Phase}
@@ -32,7 +33,7 @@ opened-again rows instances first opened =
     (record { stored = opened.stored; rows_are_theirs = opened.rows_are_theirs; sound = opened.sound; fresh = opened.fresh; state = refl }) in
     subst (λ (s : State). Opened (rows_of s) instances s) (sym opened.state) (record {
       stored = works;
-      rows_are_theirs = refl;
+      rows_are_theirs = AreRowsOf-kept works;
       sound = reached.works;
       fresh = opened.fresh;
       state = ap (λ (works : List Record). opening_state works instances) (sym (reopened-again opened.stored));

@@ -5,8 +5,9 @@ use Rattle.wm_collections.proofs.Lists.{All-weaker, map-twice}
 use Rattle.wm_keeper.specs.declared.row.Row.{Row}
 use Rattle.wm_machine.proofs.Changes.{AreWorks-changed, IsChange-still}
 use Rattle.wm_machine.proofs.Records.{IsData-empty, IsRecord-kept}
+use Rattle.wm_machine.proofs.Rows.{AreRowsOf-kept, rows-theirs}
 use Rattle.wm_machine.specs.Opened.{AreFresh, next_number, Opened, opening_state, reopened}
-use Rattle.wm_machine.specs.Rows.{row_of, rows_of}
+use Rattle.wm_machine.specs.Rows.{row_of, rows_of, AreRowsOf}
 use Rattle.wm_machine.specs.Valid.{AreWorks, IsOfKind, IsProgressIn, IsRecord, Valid}
 use Rattle.wm_machine.specs.declared.record.Phase.{Phase}
 use Rattle.wm_machine.specs.declared.record.Phase.TheVariants as phase
@@ -72,6 +73,10 @@ checked-quiet next works are =
     subst (λ (rows : List Row). checked rows ≡ Ok (map quiet works)) (rows-quiet works)
     (checked-written next (map quiet works) (AreWorks-quiet next works are) (quiet-told works))
 
+-- rows that are theirs are read as them
+checked-theirs : (rows : List Row) (works : List Record) → AreRowsOf rows works → AreWorks (next_number works) works → checked rows ≡ Ok (map quiet works)
+checked-theirs rows works theirs are = ap checked (rows-theirs rows works theirs) ∙ checked-quiet (next_number works) works are
+
 -- ---- what they open to
 
 -- rows open to one state
@@ -80,9 +85,9 @@ pub opened-once : (rows : List Row) (instances : List Instance) (first other : S
 opened-once rows instances first other one two =
     let works = one.stored in
     let others = two.stored in
-    let here = checked-quiet (next_number works) works one.sound in
-    let there = checked-quiet (next_number others) others two.sound in
-    let reading : Ok (map quiet works) ≡ Ok (map quiet others) = sym here ∙ ap checked (sym one.rows_are_theirs ∙ two.rows_are_theirs) ∙ there in
+    let here = checked-theirs rows works one.rows_are_theirs one.sound in
+    let there = checked-theirs rows others two.rows_are_theirs two.sound in
+    let reading : Ok (map quiet works) ≡ Ok (map quiet others) = sym here ∙ there in
     let quiets : map quiet works ≡ map quiet others = cc in
     let same : map reopened works ≡ map reopened others = sym (reopened-quiet works) ∙ ap (map reopened) quiets ∙ reopened-quiet others in
     one.state ∙ ap (λ (list : List Record). opening_state list instances) same ∙ sym two.state
@@ -96,7 +101,7 @@ pub opened-kept : (s : State) (instances : List Instance) → Valid s → AreFre
     → Opened (rows_of s) instances (opening_state (map reopened s.works) instances)
 opened-kept s instances valid fresh = record {
   stored = map quiet s.works;
-  rows_are_theirs = sym (rows-quiet s.works);
+  rows_are_theirs = subst (λ (rows : List Row). AreRowsOf rows (map quiet s.works)) (rows-quiet s.works) (AreRowsOf-kept (map quiet s.works));
   sound = checked_works (rows_of s) (map quiet s.works) (checked-quiet s.next s.works valid.works);
   fresh = fresh;
   state = ap (λ (works : List Record). opening_state works instances) (sym (reopened-quiet s.works));

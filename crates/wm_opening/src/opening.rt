@@ -4,7 +4,7 @@ ghost use Rattle.wm_keeper.specs.Keeper.{changed, AreOfDifferentNumbers};
 ghost use Rattle.wm_machine.specs.Opened.{next_number, opening_state, AreFresh, Opened};
 ghost use Rattle.wm_machine.specs.Rows.{rows_of};
 ghost use Rattle.wm_machine.specs.Valid.{AreWorks, Valid};
-ghost use Rattle.wm_opening.specs.Reopenings.{reopenings, AreReopened};
+ghost use Rattle.wm_opening.specs.Reopenings.{AreReopened, AreReopenings};
 ghost use Rattle.wm_rows.specs.Sound.{checked, AreSound, IsFaultOf};
 
 use crate::nodes::graph_of;
@@ -24,7 +24,8 @@ pub struct Opening {
     pub first: State,
     /// The view of the same state.
     pub view: View,
-    /// What is to be committed of its rows, in one commit: the row of each work that was running.
+    /// What is to be committed of its rows, in one commit: each row that isn't that of its record in
+    /// this state.
     pub changes: Vec<Change>,
 }
 
@@ -37,8 +38,8 @@ pub fn open(alloc: Global, rows: &[Row], instances: Items<Instance>) -> Result<O
     requires { AreFresh instances }
     ensures opened { IfOk result (λ opening. Opened rows.now instances opening.first) }
     ensures view { IfOk result (λ opening. opening.view ≡ opening.first) }
-    ensures those_running { IfOk result
-        (λ opening. IfOk (checked rows.now) (λ stored. opening.changes.items ≡ reopenings stored)) }
+    ensures those_differing { IfOk result
+        (λ opening. IfOk (checked rows.now) (λ stored. AreReopenings rows.now stored opening.changes.items)) }
     ensures changes { IfOk result (λ opening. changed opening.changes.items rows.now ≡ rows_of opening.first) }
     ensures apart { IfOk result (λ opening. AreOfDifferentNumbers opening.changes.items) }
     ensures only_changed { IfOk result (λ opening. rows_of opening.first ≡ rows.now → opening.changes.items ≡ []) }
@@ -61,7 +62,7 @@ fn works_of(alloc: Global, rows: &[Row]) -> Result<(Items<Record>, Vec<Change>),
     ensures err { IfErr result (IsFaultOf (checked rows.now)) }
 {
     let stored = check_all(alloc, rows)?;
-    Ok(reopened(alloc, stored)?)
+    Ok(reopened(alloc, rows, stored)?)
 }
 
 /// The opening state of these records, and its view.

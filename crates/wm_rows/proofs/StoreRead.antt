@@ -1,5 +1,5 @@
 -- The records of sound rows are works as the machine has them.
-use Rattle.std.proofs.Common.{◌≡◌, ℕ, ◌^◌, ◌<◌, ◌≤◌, ◌==◌, Bool, true, false, ◌||◌, not, cond, List, [], ◌∷◌, ◌++◌, append-nil, append_assoc, length, map, Option, Some, None, is_some, Result, Ok, Err, refl, sym, ap, ◌∙◌, subst, arith}
+use Rattle.std.proofs.Common.{◌≡◌, ℕ, ◌^◌, ◌<◌, ◌≤◌, ◌==◌, Bool, true, false, ◌||◌, not, cond, List, [], ◌∷◌, ◌++◌, append-nil, append_assoc, length, Option, Some, None, is_some, Result, Ok, Err, refl, sym, ap, ◌∙◌, subst, arith}
 use Rattle.std.proofs.lemmas.Bool.{and_parts, eq-eqb, eqb-true, false≢true}
 use Rattle.std.proofs.lemmas.List.{length-append}
 use Rattle.std.specs.List.{AllByRecursion}
@@ -15,7 +15,7 @@ use Rattle.wm_machine.specs.Closed.{is_open}
 use Rattle.wm_machine.specs.First.{is_succeeded}
 use Rattle.wm_machine.specs.Input.{work_numbered}
 use Rattle.wm_machine.specs.Opened.{next_number}
-use Rattle.wm_machine.specs.Rows.{row_of}
+use Rattle.wm_machine.specs.Rows.{AreRowsOf}
 use Rattle.wm_machine.specs.Valid.{ArePrior, ArePriorSound, AreWorks, HasSucceeded, IsBefore, IsPrerequisite, IsProgressIn, IsRecord, MaySucceedOrHas}
 use Rattle.wm_machine.specs.declared.record.How.TheVariants as how
 use Rattle.wm_machine.specs.declared.record.Phase.{Phase}
@@ -165,7 +165,7 @@ read_after-gives before row work is = by_reading (read_row row) refl is where
 record AreRecordsOf (before : List Record) (rows : List Row) (works : List Record) : Type 0 where
   more : List Record
   whole : works ≡ before ++ more
-  rows_are : map row_of more ≡ rows
+  rows_are : AreRowsOf rows more
   sound : AreSoundWorks works
 
 bound_ok : {A : Type 0} (answer : Result A RowFault) (f : A → Result (List Record) RowFault) (works : List Record)
@@ -177,7 +177,7 @@ checked-from : (before : List Record) (rows : List Row) (works : List Record) �
     → AreRecordsOf before rows works
 checked-from before [] works are is =
     let same : before ≡ works = cc in
-    record { more = []; whole = sym same ∙ sym (append-nil before); rows_are = refl; sound = subst AreSoundWorks same are }
+    record { more = []; whole = sym same ∙ sym (append-nil before); rows_are = tt; sound = subst AreSoundWorks same are }
 checked-from before (row ∷ rows) works are is =
     let work = bound_ok (read_after before row) (λ w. checked_after (before ++ w ∷ []) rows) works is in
     let gives = read_after-gives before row work.0 work.1 in
@@ -187,7 +187,7 @@ checked-from before (row ∷ rows) works are is =
     record {
       more = work.0 ∷ rest.more;
       whole = rest.whole ∙ append_assoc before (work.0 ∷ []) rest.more;
-      rows_are = rw (of_row.same, rest.rows_are) refl;
+      rows_are = (sym of_row.same, rest.rows_are);
       sound = rest.sound;
     }
 
@@ -239,8 +239,9 @@ AreWorks-sound works are = record {
 
 -- ---- the law
 
-pub checked_rows : (rows : List Row) (works : List Record) → checked rows ≡ Ok works → map row_of works ≡ rows
-checked_rows rows works is = let read_as = checked-from [] rows works sound-none is in ap (map row_of) read_as.whole ∙ read_as.rows_are
+pub checked_rows : (rows : List Row) (works : List Record) → checked rows ≡ Ok works → AreRowsOf rows works
+checked_rows rows works is =
+    let read_as = checked-from [] rows works sound-none is in subst (AreRowsOf rows) (sym read_as.whole) read_as.rows_are
 
 pub checked_works : (rows : List Row) (works : List Record) → checked rows ≡ Ok works → AreWorks (next_number works) works
 checked_works rows works is = AreWorks-sound works (checked-from [] rows works sound-none is).sound

@@ -1,7 +1,7 @@
 //! The records of all rows of a store.
-ghost use Rattle.std.specs.Prelude.{◌≡◌, IfErr, IfOk, Ok, map, true};
+ghost use Rattle.std.specs.Prelude.{◌≡◌, IfErr, IfOk, Ok, true};
 ghost use Rattle.wm_machine.specs.Opened.{next_number};
-ghost use Rattle.wm_machine.specs.Rows.{row_of};
+ghost use Rattle.wm_machine.specs.Rows.{AreRowsOf};
 ghost use Rattle.wm_machine.specs.Valid.{AreWorks};
 ghost use Rattle.wm_rows.specs.Sound.{checked, is_sound_after, read_after, IsFaultOf};
 
@@ -19,7 +19,7 @@ use wm_machine::Record;
 /// `Unsound` where it isn't sound after the rows before it.
 pub fn check_all(alloc: Global, rows: &[Row]) -> Result<Items<Record>, RowFault>
     ensures ok { IfOk result (λ works. checked rows.now ≡ Ok works) }
-    ensures rows { IfOk result (λ works. map row_of works ≡ rows.now) }
+    ensures rows { IfOk result (AreRowsOf rows.now) }
     ensures works { IfOk result (λ works. AreWorks (next_number works) works) }
     ensures err { IfErr result (IsFaultOf (checked rows.now)) }
 {

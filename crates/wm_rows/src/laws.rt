@@ -3,7 +3,7 @@ ghost use Rattle.std.specs.List.{AllByRecursion};
 ghost use Rattle.std.specs.Prelude.{◌≡◌, ℕ, [], List, map, Ok, Err, Some};
 ghost use Rattle.wm_keeper.specs.declared.row.Row.{Row};
 ghost use Rattle.wm_machine.specs.Opened.{next_number};
-ghost use Rattle.wm_machine.specs.Rows.{row_of};
+ghost use Rattle.wm_machine.specs.Rows.{row_of, AreRowsOf, IsRowOf};
 ghost use Rattle.wm_machine.specs.Valid.{AreWorks};
 ghost use Rattle.wm_machine.specs.declared.record.Record.{Record};
 ghost use Rattle.wm_rows.specs.Grammar.{read_row, IsStored};
@@ -13,7 +13,7 @@ ghost use Rattle.wm_rows.specs.declared.fault.RowFault.{RowFault};
 /// What is read from a row has just that row, and is a record within the limits of a row that has
 /// told nothing.
 pub fn what_is_read_has_its_row()
-    ensures row { (row : Row) (work : Record) → read_row row ≡ Some work → row_of work ≡ row }
+    ensures row { (row : Row) (work : Record) → read_row row ≡ Some work → IsRowOf row work }
     ensures stored { (row : Row) (work : Record) → read_row row ≡ Some work → IsStored work }
 {}
 
@@ -25,7 +25,7 @@ pub fn a_record_is_read_from_its_row()
 /// The records of sound rows have just those rows, each is within the limits of a row and has told
 /// nothing, and together they are works as a state of the machine has them.
 pub fn sound_rows_are_those_of_works()
-    ensures rows { (rows : List Row) (works : List Record) → checked rows ≡ Ok works → map row_of works ≡ rows }
+    ensures rows { (rows : List Row) (works : List Record) → checked rows ≡ Ok works → AreRowsOf rows works }
     ensures stored { (rows : List Row) (works : List Record) → checked rows ≡ Ok works
         → AllByRecursion IsStored works }
     ensures works { (rows : List Row) (works : List Record) → checked rows ≡ Ok works

@@ -15,4 +15,4 @@ mod texts;
 pub use checking::check_all;
 pub use fault::RowFault;
 pub use reading::from_row;
-pub use rows::{have_one_row, to_row};
+pub use rows::{have_one_row, is_same, to_row};

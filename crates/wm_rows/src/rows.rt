@@ -161,7 +161,7 @@ pub fn to_row(alloc: Global, work: &Record) -> Result<Row, AllocError>
 
 /// Whether two rows are the same.
 #[tactic(auto, using(wm_keeper::proofs::Equal::row_decides))]
-fn is_same(one: &Row, other: &Row) -> bool
+pub fn is_same(one: &Row, other: &Row) -> bool
     ensures { Decides result (one.now ≡ other.now) }
 {
     *one == *other
