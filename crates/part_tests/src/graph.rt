@@ -30,10 +30,12 @@ fn expect(
     Ok(())
 }
 
-/// What the nodes reach, which are the last of some, and what a node frees, where none is marked.
+/// What depends on the nodes, what they reach, which are the last of some, and what a node frees,
+/// where none is marked.
 fn expect_unmarked(rt: &impl Abort, graph: &Graph) -> Result<(), AllocError>
     requires { graph.now ≡ three_nodes }
 {
+    expect(rt, graph.dependents(1), &[2, 3])?;
     expect(rt, graph.descendants(1), &[1, 2, 3])?;
     expect(rt, graph.descendants(2), &[2, 3])?;
     expect(rt, graph.descendants(3), &[3])?;

@@ -1,18 +1,13 @@
 -- The prerequisites of a node that aren't marked: how many there are, and when there is one.
-use Rattle.std.proofs.Common.{◌≡◌, ℕ, zero, suc, ◌<◌, ◌≤◌, ◌==◌, Bool, true, false, not, ◌||◌, ◌&&◌, eqb, List, [], ◌∷◌, length, find, get_or, slice_get, Option, Some, Result, Ok, Err, nat_cmp, refl, sym, ap, ◌∙◌, subst, arith}
+use Rattle.std.proofs.Common.{◌≡◌, ℕ, ◌<◌, ◌≤◌, ◌==◌, Bool, true, false, not, ◌||◌, ◌&&◌, eqb, List, [], ◌∷◌, length, find, Option, Some, refl, ap, ◌∙◌, arith}
 use Rattle.std.specs.List.{AllByRecursion}
-use Rattle.std.specs.List.Sorted.{IsBinarySearchResult, IsSearchInRange}
 use Rattle.std.specs.Option.{option_map_or}
-use Rattle.std.proofs.lemmas.Bool.{cond_both, eq-eqb, eqb-true, ne_eqb}
+use Rattle.std.proofs.lemmas.Bool.{cond_both, eqb-true, ne_eqb}
 use Rattle.std.proofs.lemmas.Map.Views.{any-filter_same}
 use Rattle.wm_collections.specs.Lists.{is_among}
 use Rattle.wm_collections.proofs.Lists.{filter-few}
-use Rattle.wm_collections.proofs.Places.{above-at, place-found, place-none}
 use Rattle.wm_graph.specs.Marks.{before_of, is_just, is_met, unmet, unmet_of}
-use Rattle.wm_graph.specs.Nodes.{AreAscending, IsGraph, IsNode, NodeFields}
-
-and_true : (a : Bool) → a ≡ (true && a)
-and_true a = refl
+use Rattle.wm_graph.specs.Nodes.{IsGraph, IsNode, NodeFields}
 
 and_turned : (a b : Bool) → (a && b) ≡ (b && a)
 and_turned true true = refl
@@ -59,47 +54,9 @@ unmet-few nodes seq graph = omega (arith, filter-few (λ number. not (is_met nod
 
 -- ---- the mark of a node
 
--- whether the node at the place that a search answers is marked
-abbrev pub done_at : List NodeFields → Result ℕ ℕ → Bool
-done_at nodes (Ok i) = option_map_or (λ (node : NodeFields). node.done) (slice_get nodes i) false
-done_at nodes (Err i) = false
-
-or_last : (a : Bool) → (a || false) ≡ a
-or_last true = refl
-or_last false = refl
-
 -- no node after this one has its number
-met-later : (number : ℕ) (nodes : List NodeFields) → AllByRecursion (λ later. number < later.seq) nodes → is_met nodes number ≡ false
+pub met-later : (number : ℕ) (nodes : List NodeFields) → AllByRecursion (λ later. number < later.seq) nodes → is_met nodes number ≡ false
 met-later number [] later = refl
 met-later number (node ∷ nodes) later =
     let miss = ne_eqb node.seq number (λ e. absurd (omega (arith, later.0))) in
     rw miss (met-later number nodes later.1)
-
--- the mark of the node of a number is that of the one that stands where a node has the number
-met-at : (number : ℕ) (nodes : List NodeFields) (i : ℕ) (d : NodeFields) → AreAscending nodes → i < length nodes → (get_or nodes i d).seq ≡ number
-    → done_at nodes (Ok i) ≡ is_met nodes number
-met-at number [] i d ascending within is = absurd (omega arith)
-met-at number (node ∷ nodes) zero d ascending within is =
-    let hit = eq-eqb node.seq number is in
-    let none = met-later number nodes (subst (λ n. AllByRecursion (λ later. n < later.seq) nodes) is ascending.0) in
-    rw (hit, none) (sym (or_last node.done))
-met-at number (node ∷ nodes) (suc i) d ascending within is =
-    let above = above-at (λ (n : NodeFields). n.seq) node.seq nodes i d ascending.0 (omega arith) in
-    let miss = ne_eqb node.seq number (λ e. absurd (omega arith)) in
-    rw miss (met-at number nodes i d ascending.1 (omega arith) is)
-
-met-none : (number : ℕ) (nodes : List NodeFields) → ((k : ℕ) (d : NodeFields) → k < length nodes → (get_or nodes k d).seq ≡ number → ⊥)
-    → is_met nodes number ≡ false
-met-none number [] differ = refl
-met-none number (node ∷ nodes) differ =
-    let miss = ne_eqb node.seq number (λ e. absurd (differ 0 node (omega arith) e)) in
-    rw miss (met-none number nodes (λ k d within is. differ (suc k) d (omega arith) is))
-
--- a binary search by the numbers finds the mark of a number
-pub met-search : (number : ℕ) (nodes : List NodeFields) (answer : Result ℕ ℕ) → AreAscending nodes → IsSearchInRange answer (length nodes)
-    → IsBinarySearchResult (λ node. nat_cmp node.seq number) nodes answer → done_at nodes answer ≡ is_met nodes number
-met-search number [] (Ok i) ascending range is = absurd (omega arith)
-met-search number (node ∷ nodes) (Ok i) ascending range is =
-    met-at number (node ∷ nodes) i node ascending range (place-found (λ (n : NodeFields). n.seq) number (node ∷ nodes) i node is)
-met-search number nodes (Err i) ascending range is =
-    sym (met-none number nodes (λ k d within same. place-none (λ (n : NodeFields). n.seq) number nodes i k d ascending range is within same))

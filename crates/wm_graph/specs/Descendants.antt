@@ -1,8 +1,12 @@
 -- What a node reaches. After the guide's page "Chaining work", where a failure or a cancelling reaches all work that depends on it.
-use Rattle.std.specs.Prelude.{◌≡◌, ℕ, ◌==◌, ◌<◌, ◌||◌, Bool, List, [], ◌∷◌, if◌then◌else◌}
+use Rattle.std.specs.Prelude.{◌≡◌, ℕ, ◌<◌, ◌||◌, List, [], ◌∷◌, if◌then◌else◌, filter, map}
 use Rattle.std.specs.List.{AllByRecursion, list_any}
 use Rattle.wm_collections.specs.Lists.{AllLater, is_among}
 use Rattle.wm_graph.specs.Nodes.{HasNode, NodeFields}
+
+-- the numbers of the nodes that have this one as a prerequisite, ascending
+abbrev pub dependents : List NodeFields → ℕ → List ℕ
+dependents nodes seq = map (λ node. node.seq) (filter (λ node. is_among node.before seq) nodes)
 
 -- The numbers of the descendants of some nodes among these nodes, which stand in descending number: those nodes themselves, and each node that has
 -- a descendant as a prerequisite. Prerequisites have smaller numbers.

@@ -1,5 +1,9 @@
 -- What no head of these files takes from a page of the guide is this project's own choice.
+pub mod Added
 pub mod Descendants
+pub mod Edges
+pub mod Freed
+pub mod Kept
 pub mod Leaves
 pub mod Marks
 pub mod Nodes

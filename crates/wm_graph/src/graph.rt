@@ -1,34 +1,41 @@
-ghost use Rattle.std.specs.Prelude.{◌≡◌, ◌==◌, ◌&&◌, ◌<◌, ◌≤◌, [], ◌∷◌, ◌++◌, find, length, map, reverse, take, false, IfOk, OnOk, OnErr};
-ghost use Rattle.std.specs.List.{AllByRecursion, list_any};
-ghost use Rattle.std.specs.Option.{option_copied};
-ghost use Rattle.wm_collections.specs.Lists.{is_among};
-ghost use Rattle.wm_graph.specs.Descendants.{descendants, AreDescendants, BeginsWith};
-ghost use Rattle.wm_graph.specs.Marks.{freed_by, frees, is_just, is_met, unmet, unmet_of, with_marked};
-ghost use Rattle.wm_graph.specs.Leaves.{is_leaf, is_needed, leaves};
-ghost use Rattle.wm_graph.specs.Nodes.{forgetting, AreAscending, HasNode, NamesNodes, without};
+ghost use Rattle.std.specs.Prelude.{◌≡◌, ◌<◌, ◌≤◌, [], ◌∷◌, ◌++◌, length, reverse, take, false, IfOk, OnOk, OnErr};
+ghost use Rattle.std.specs.List.{AllByRecursion};
+ghost use Rattle.wm_graph.specs.Descendants.{dependents, descendants, AreDescendants, BeginsWith};
+ghost use Rattle.wm_graph.specs.Marks.{freed_by, frees, is_met, unmet, with_marked};
+ghost use Rattle.wm_graph.specs.Leaves.{leaves};
+ghost use Rattle.wm_graph.specs.Nodes.{HasNode, NamesNodes, without};
 
-use crate::node::Node;
+use crate::adding::{add_node, new_node};
+use crate::freeing::freed_by;
+use crate::last::{drop_needed, listed};
+use crate::node::{Node, is_met, lower_each, mark};
+use crate::removing::{remove_node, truncate_nodes};
+use crate::walks::{dependents_of, reached, starts_of};
 use std::alloc::{AllocError, Global};
+use std::collections::{BTreeMap, BTreeSet};
 use std::marker::Model;
-use wm_collections::is_among;
 
 /// Nodes in ascending number, each with its prerequisites and a mark. A contract sees it as their
 /// list. A prerequisite is a node before it, and a node has at most 100, which differ.
 #[derive(Debug, Drop)]
 pub struct Graph {
-    nodes: Vec<Node>,
+    nodes: BTreeMap<u64, Node>,
+    /// Each prerequisite with each node that has it, so that the dependents of a node stand
+    /// together and ascend.
+    edges: BTreeSet<(u64, u64)>,
     alloc: Global,
 }
 
 impl Model for Graph {
     ghost use Rattle.std.specs.Prelude.{List};
-    ghost use Rattle.wm_graph.specs.Nodes.{NodeFields, IsGraph};
+    ghost use Rattle.wm_graph.specs.Nodes.{NodeFields};
+    ghost use Rattle.wm_graph.specs.Kept.{nodes_of, IsKept};
 
     ghost Value = { List NodeFields };
 
-    ghost view = { λ g. g.nodes.items };
+    ghost view = { λ g. nodes_of g.nodes.entries };
 
-    ghost invariant = { λ g. IsGraph g.nodes.items };
+    ghost invariant = { λ g. IsKept g.nodes.entries g.edges };
 }
 
 impl Graph {
@@ -37,7 +44,8 @@ impl Graph {
         ensures { result ≡ [] }
     {
         Graph {
-            nodes: Vec::new(alloc),
+            nodes: BTreeMap::new(alloc),
+            edges: BTreeSet::new(alloc),
             alloc,
         }
     }
@@ -52,9 +60,8 @@ impl Graph {
             (self.new ≡ self.old ++ (record { seq = seq; before = before.now; done = done }) ∷ []) }
         ensures err { OnErr result (self.new ≡ self.old) }
     {
-        let before = Vec::from_slice(self.alloc, before)?;
-        self.nodes.push(Node { seq, before, done })?;
-        Ok(())
+        let node = new_node(self.alloc, &self.nodes, before, done)?;
+        add_node(&mut self.nodes, &mut self.edges, seq, before, node)
     }
 
     /// How many nodes there are.
@@ -68,7 +75,15 @@ impl Graph {
     pub fn is_done(&self, seq: u64) -> bool
         ensures { result ≡ is_met self.now seq }
     {
-        is_met(self.nodes.as_slice(), seq)
+        is_met(&self.nodes, seq)
+    }
+
+    /// The numbers of the nodes that have a node as a prerequisite, ascending. The number of a node
+    /// that isn't there has none. Memory that is refused is the only error.
+    pub fn dependents(&self, seq: u64) -> Result<Vec<u64>, AllocError>
+        ensures { IfOk result (λ found. found.items ≡ dependents self.now seq) }
+    {
+        dependents_of(self.alloc, &self.edges, seq)
     }
 
     /// The numbers of a node and of all that it reaches, ascending, the node itself first. Memory
@@ -82,7 +97,7 @@ impl Graph {
         ensures descendants { IfOk result (λ found. AreDescendants self.now (seq ∷ []) found.items) }
         ensures itself_first { IfOk result (λ found. BeginsWith seq found.items) }
     {
-        reached(self.alloc, self.nodes.as_slice(), &[seq])
+        reached(self.alloc, &self.nodes, &self.edges, &[seq])
     }
 
     /// The numbers of some nodes and of all that any of them reaches, ascending. Numbers of nodes
@@ -94,7 +109,7 @@ impl Graph {
         // What follows of the numbers found.
         ensures descendants { IfOk result (λ found. AreDescendants self.now seqs.now found.items) }
     {
-        reached(self.alloc, self.nodes.as_slice(), seqs)
+        reached(self.alloc, &self.nodes, &self.edges, seqs)
     }
 
     /// The given nodes that aren't a prerequisite of a given node, ascending. Memory that is refused
@@ -103,14 +118,9 @@ impl Graph {
         requires { NamesNodes self.now among.now }
         ensures { IfOk result (λ last. last.items ≡ leaves self.now among.now) }
     {
-        let nodes = self.nodes.as_slice();
-        let mut last = Vec::new(self.alloc);
-        for node in &self.nodes {
-            if is_leaf(nodes, among, node.seq()) {
-                last.push(node.seq())?;
-            }
-        }
-        Ok(last)
+        let mut last = starts_of(self.alloc, &self.nodes, among)?;
+        drop_needed(&mut last, &self.nodes, among);
+        listed(self.alloc, &last)
     }
 
     /// How many prerequisites of a node aren't marked, at most 100. It takes no memory.
@@ -119,7 +129,10 @@ impl Graph {
         ensures unmet { result ≡ unmet self.now seq }
         ensures few { result ≤ 100 }
     {
-        unmet_in(self.nodes.as_slice(), seq) as u32
+        match self.nodes.get(&seq) {
+            Some(node) => node.unmet(),
+            None => 0,
+        }
     }
 
     /// The nodes whose one unmarked prerequisite is this node, ascending. Memory that is refused is
@@ -132,14 +145,7 @@ impl Graph {
         // In other words: those that nothing holds back once this node is marked.
         ensures freed_by { IfOk result (λ freed. freed.items ≡ freed_by self.now seq) }
     {
-        let nodes = self.nodes.as_slice();
-        let mut freed = Vec::new(self.alloc);
-        for node in &self.nodes {
-            if is_freed(nodes, node.before(), seq) {
-                freed.push(node.seq())?;
-            }
-        }
-        Ok(freed)
+        freed_by(self.alloc, &self.nodes, &self.edges, seq)
     }
 
     /// Marks a node. It takes no memory.
@@ -148,7 +154,8 @@ impl Graph {
         requires unmarked { is_met self.old seq ≡ false }
         ensures { self.new ≡ with_marked seq self.old }
     {
-        mark_each(self.nodes.as_mut_slice(), seq);
+        lower_each(&mut self.nodes, &self.edges, seq);
+        mark(&mut self.nodes, seq);
     }
 
     /// Takes a node away, and its place among the prerequisites of others, so that a dependent of
@@ -157,108 +164,13 @@ impl Graph {
         requires { HasNode self.old seq }
         ensures { self.new ≡ without seq self.old }
     {
-        self.nodes.retain(|node| node.seq() != seq);
-        forget_each(self.nodes.as_mut_slice(), seq);
+        remove_node(&mut self.nodes, &mut self.edges, seq);
     }
 
     /// Takes away all nodes but the first ones, of which there are so many. It takes no memory.
     pub fn truncate(&mut self, count: usize)
         ensures { self.new ≡ take count self.old }
     {
-        self.nodes.truncate(count);
-    }
-}
-
-/// The numbers of the nodes that are these or that one of these reaches.
-fn reached(alloc: Global, nodes: &[Node], seqs: &[u64]) -> Result<Vec<u64>, AllocError>
-    ensures { IfOk result (λ found. found.items ≡ reverse (descendants seqs.now (reverse nodes.now))) }
-{
-    let mut found = Vec::new(alloc);
-    for node in nodes {
-        if node.follows(seqs, found.as_slice()) {
-            found.push(node.seq())?;
-        }
-    }
-    Ok(found)
-}
-
-/// The node of this number.
-fn node_of(nodes: &[Node], seq: u64) -> Option<&Node>
-    ensures { option_copied result ≡ find (λ node. node.seq == seq) nodes.now }
-{
-    nodes.iter().find(|node| node.seq() == seq)
-}
-
-/// Whether a number is one of the given nodes, and is a prerequisite of none of them.
-fn is_leaf(nodes: &[Node], among: &[u64], number: u64) -> bool
-    ensures { result ≡ is_leaf nodes.now among.now number }
-{
-    is_among(among, number) && !is_needed(nodes, among, number)
-}
-
-/// Whether a number is a prerequisite of one of the given nodes.
-fn is_needed(nodes: &[Node], among: &[u64], number: u64) -> bool
-    ensures { result ≡ is_needed nodes.now among.now number }
-{
-    nodes.iter().any(|node| is_among(among, node.seq()) && is_among(node.before(), number))
-}
-
-/// Whether the node of this number is marked, among nodes in ascending number.
-fn is_met(nodes: &[Node], number: u64) -> bool
-    requires { AreAscending nodes.now }
-    ensures { result ≡ is_met nodes.now number }
-{
-    match nodes.binary_search_by(|node| node.seq().cmp(&number)) {
-        Ok(index) => nodes[index].is_done(),
-        Err(_) => false,
-    }
-}
-
-/// How many prerequisites of the node of this number aren't marked.
-fn unmet_in(nodes: &[Node], seq: u64) -> usize
-    requires { AreAscending nodes.now }
-    ensures { result ≡ unmet nodes.now seq }
-{
-    match node_of(nodes, seq) {
-        Some(node) => unmet_count(nodes, node.before()),
-        None => 0,
-    }
-}
-
-/// How many of these prerequisites aren't marked.
-fn unmet_count(nodes: &[Node], before: &[u64]) -> usize
-    requires { AreAscending nodes.now }
-    ensures { result ≡ length (unmet_of nodes.now before.now) }
-{
-    before
-        .iter()
-        .filter(|number| !is_met(nodes, **number))
-        .count()
-}
-
-/// Whether this number, which isn't marked, is the one of these prerequisites that isn't.
-fn is_freed(nodes: &[Node], before: &[u64], seq: u64) -> bool
-    requires ascending { AreAscending nodes.now }
-    requires unmarked { is_met nodes.now seq ≡ false }
-    ensures { result ≡ is_just seq (unmet_of nodes.now before.now) }
-{
-    is_among(before, seq) && unmet_count(nodes, before) == 1
-}
-
-/// Marks the node of this number.
-fn mark_each(nodes: &mut [Node], seq: u64)
-    ensures { nodes.new ≡ with_marked seq nodes.old }
-{
-    for node in nodes.iter_mut() {
-        node.mark(seq);
-    }
-}
-
-/// Takes a number out of the prerequisites of each node.
-fn forget_each(nodes: &mut [Node], seq: u64)
-    ensures { nodes.new ≡ map (forgetting seq) nodes.old }
-{
-    for node in nodes.iter_mut() {
-        node.forget(seq);
+        truncate_nodes(&mut self.nodes, &mut self.edges, count);
     }
 }

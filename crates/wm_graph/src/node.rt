@@ -1,47 +1,41 @@
-ghost use Rattle.std.specs.Prelude.{◌≡◌, ◌||◌};
-ghost use Rattle.std.specs.List.{list_any};
-ghost use Rattle.wm_collections.specs.Lists.{is_among};
-ghost use Rattle.wm_graph.specs.Marks.{marked};
-ghost use Rattle.wm_graph.specs.Nodes.{forgetting};
+//! What is kept of a node, and how it changes with the nodes that it depends on.
+ghost use Rattle.std.specs.Prelude.{◌≡◌};
+ghost use Rattle.wm_graph.specs.Edges.{AreNumbered};
+ghost use Rattle.wm_graph.specs.Kept.{changed_at, done, forgotten, lowered, lowered_after, lowered_at, nodes_of};
+ghost use Rattle.wm_graph.specs.Marks.{before_of, is_met};
+ghost use Rattle.wm_graph.specs.Nodes.{AreAscending};
 
+use std::collections::{BTreeMap, BTreeSet};
 use std::marker::Model;
-use wm_collections::is_among;
 
-/// A node as the graph keeps it. A contract sees it as the record of its fields.
+/// A node's prerequisites, whether it is marked, and how many of its prerequisites aren't. A
+/// contract sees it as the record of its fields.
 #[derive(Debug, Drop)]
 pub struct Node {
-    pub(crate) seq: u64,
     pub(crate) before: Vec<u64>,
     pub(crate) done: bool,
+    pub(crate) unmet: u32,
 }
 
 impl Model for Node {
-    ghost use Rattle.wm_graph.specs.Nodes.{NodeFields};
+    ghost use Rattle.wm_graph.specs.Kept.{Kept};
 
-    ghost Value = { NodeFields };
+    ghost Value = { Kept };
 
-    ghost view = { λ n. record { seq = n.seq; before = n.before.items; done = n.done } };
+    ghost view = { λ n. record { before = n.before.items; done = n.done; unmet = n.unmet } };
 }
 
 impl Node {
-    pub(crate) fn seq(&self) -> u64
-        ensures { result ≡ self.now.seq }
-    {
-        self.seq
-    }
-
-    /// Whether it is the node of one of these numbers, or has one of those found as a prerequisite.
-    pub(crate) fn follows(&self, seqs: &[u64], found: &[u64]) -> bool
-        ensures { result
-            ≡ (is_among seqs.now self.now.seq || list_any (is_among found.now) self.now.before) }
-    {
-        is_among(seqs, self.seq) || has_any(self.before.as_slice(), found)
-    }
-
-    pub(crate) fn before(&self) -> &[u64]
+    pub(crate) fn prerequisites(&self) -> &[u64]
         ensures { result.now ≡ self.now.before }
     {
         self.before.as_slice()
+    }
+
+    pub(crate) fn unmet(&self) -> u32
+        ensures { result ≡ self.now.unmet }
+    {
+        self.unmet
     }
 
     pub(crate) fn is_done(&self) -> bool
@@ -50,26 +44,84 @@ impl Node {
         self.done
     }
 
-    /// Marks it where it has this number.
-    pub(crate) fn mark(&mut self, seq: u64)
-        ensures { self.new ≡ marked seq self.old }
+    fn mark(&mut self)
+        ensures { self.new ≡ done self.old }
     {
-        if self.seq == seq {
-            self.done = true;
-        }
+        self.done = true;
     }
 
-    /// Takes a number out of its prerequisites.
-    pub(crate) fn forget(&mut self, seq: u64)
-        ensures { self.new ≡ forgetting seq self.old }
+    /// One of its prerequisites is marked.
+    fn lower(&mut self)
+        ensures { self.new ≡ lowered self.old }
+    {
+        self.unmet = self.unmet.saturating_sub(1);
+    }
+
+    /// One of its prerequisites, which was marked or wasn't, is none any more.
+    fn forget(&mut self, seq: u64, was_done: bool)
+        ensures { self.new ≡ forgotten seq was_done self.old }
     {
         self.before.retain(|number| *number != seq);
+        if !was_done {
+            self.unmet = self.unmet.saturating_sub(1);
+        }
     }
 }
 
-/// Whether one of these numbers is one of the others.
-fn has_any(numbers: &[u64], others: &[u64]) -> bool
-    ensures { result ≡ list_any (is_among others.now) numbers.now }
+/// Whether the node of a number is marked.
+pub(crate) fn is_met(nodes: &BTreeMap<u64, Node>, number: u64) -> bool
+    requires { AreAscending (nodes_of nodes.now.entries) }
+    ensures { result ≡ is_met (nodes_of nodes.now.entries) number }
 {
-    numbers.iter().any(|number| is_among(others, *number))
+    match nodes.get(&number) {
+        Some(node) => node.is_done(),
+        None => false,
+    }
+}
+
+/// The prerequisites of the node of a number.
+pub(crate) fn before_of(nodes: &BTreeMap<u64, Node>, number: u64) -> &[u64]
+    ensures { result.now ≡ before_of (nodes_of nodes.now.entries) number }
+{
+    match nodes.get(&number) {
+        Some(node) => node.prerequisites(),
+        None => &[],
+    }
+}
+
+/// Marks the node of a number.
+pub(crate) fn mark(nodes: &mut BTreeMap<u64, Node>, number: u64)
+    ensures { nodes.new.entries ≡ changed_at done number nodes.old.entries }
+{
+    if let Some(node) = nodes.get_mut(&number) {
+        node.mark();
+    }
+}
+
+/// One prerequisite less of a node is unmet.
+fn lower(nodes: &mut BTreeMap<u64, Node>, number: u64)
+    ensures { nodes.new.entries ≡ lowered_at number nodes.old.entries }
+{
+    if let Some(node) = nodes.get_mut(&number) {
+        node.lower();
+    }
+}
+
+/// A number, whose node was marked or wasn't, is no prerequisite of a node any more.
+pub(crate) fn forget(nodes: &mut BTreeMap<u64, Node>, number: u64, seq: u64, was_done: bool)
+    ensures { nodes.new.entries ≡ changed_at (forgotten seq was_done) number nodes.old.entries }
+{
+    if let Some(node) = nodes.get_mut(&number) {
+        node.forget(seq, was_done);
+    }
+}
+
+/// One prerequisite less is unmet of each node that comes right after this one.
+pub(crate) fn lower_each(nodes: &mut BTreeMap<u64, Node>, edges: &BTreeSet<(u64, u64)>, number: u64)
+    requires { AreNumbered edges.now }
+    ensures { nodes.new.entries ≡ lowered_after edges.now number nodes.old.entries }
+{
+    for edge in edges.range((number, 0)..=(number, u64::MAX)) {
+        lower(nodes, edge.1);
+    }
 }

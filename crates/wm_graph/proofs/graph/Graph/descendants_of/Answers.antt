@@ -1,15 +1,25 @@
-use Rattle.std.proofs.Common.{◌≡◌, rules, sym, subst}
+use Rattle.std.proofs.Common.{◌≡◌, ap, sym, subst, ◌∙◌}
 use Rattle.std.specs.Prelude.{reverse}
 use Rattle.std.proofs.lemmas.Result.{IfOk-weaker}
 use Rattle.wm_graph.proofs.Reaches.{descendants-are}
 use Rattle.wm_graph.specs.Descendants.{AreDescendants, descendants}
+use Rattle.wm_graph.specs.Kept.{nodes_of}
 use Rattle.wm_graph.specs.Nodes.{IsGraph}
 use Rattle.wm_graph.proofs.graph.Graph.descendants_of.Goals as goal
+
+pub returns-clause-found : goal.returns-clause-found
+returns-clause-found c =
+    let seqs = c.args.seqs.now in
+    IfOk-weaker c.reached.result (λ found. found.items ≡ reverse (descendants seqs (reverse (nodes_of c.self.inside.nodes.entries))))
+    (λ found. found.items ≡ reverse (descendants seqs (reverse c.args.self.now)))
+    (λ found is. is ∙ ap (λ nodes. reverse (descendants seqs (reverse nodes))) c.self.view_is) c.reached.ensures
 
 pub returns-clause-descendants : goal.returns-clause-descendants
 returns-clause-descendants c =
     let seqs = c.args.seqs.now in
     let nodes = c.args.self.now in
-    let graph : IsGraph nodes = subst IsGraph c.self.view_is c.self.invariant in
-    IfOk-weaker c.reached.result (λ found. found.items ≡ reverse (descendants seqs (reverse nodes))) (λ found. AreDescendants nodes seqs found.items)
-    (λ found is. subst (AreDescendants nodes seqs) (sym is) (descendants-are seqs nodes graph)) (search rules)
+    let graph : IsGraph nodes = subst IsGraph c.self.view_is c.self.invariant.graph in
+    IfOk-weaker c.reached.result (λ found. found.items ≡ reverse (descendants seqs (reverse (nodes_of c.self.inside.nodes.entries))))
+    (λ found. AreDescendants nodes seqs found.items)
+    (λ found is. subst (AreDescendants nodes seqs) (sym (is ∙ ap (λ nodes. reverse (descendants seqs (reverse nodes))) c.self.view_is)) (descendants-are seqs nodes graph))
+    c.reached.ensures

@@ -1,7 +1,8 @@
-use Rattle.std.proofs.Common.{sym, subst}
-use Rattle.wm_graph.proofs.Graphs.{IsGraph-take}
-use Rattle.wm_graph.specs.Nodes.{IsGraph}
+use Rattle.std.proofs.Common.{take, ap, ◌∙◌}
+use Rattle.wm_graph.proofs.Truncated.{first-nodes}
+use Rattle.wm_graph.specs.Kept.{nodes_of}
 use Rattle.wm_graph.proofs.graph.Graph.truncate.Goals as goal
 
-pub invariant_of-self : goal.invariant_of-self
-invariant_of-self c = subst IsGraph (sym c.truncate.ensures.items) (IsGraph-take c.args.count c.self.inside.nodes.items c.self.invariant)
+pub returns : goal.returns
+returns c =
+    ap nodes_of c.truncate_nodes.ensures.first ∙ first-nodes c.args.count c.self.inside.nodes.entries ∙ ap (λ nodes. take c.args.count nodes) c.self.view_is
