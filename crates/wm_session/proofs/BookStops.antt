@@ -1,5 +1,5 @@
 -- A book whose session stops, or has stopped.
-use Rattle.std.proofs.Common.{◌≡◌, ℕ, ◌+◌, ◌^◌, ◌<◌, ◌≤◌, List, ◌∷◌, ◌++◌, length, map, Option, Some, None, IsSome, Err, refl, sym, ◌∙◌, ap, subst, inl, inr, arith}
+use Rattle.std.proofs.Common.{◌≡◌, ℕ, ◌+◌, ◌^◌, ◌<◌, ◌≤◌, List, ◌∷◌, ◌++◌, length, map, ◌⊎◌, false, true≢false, Option, Some, None, IsSome, IsSomeAnd, Err, refl, sym, ◌∙◌, ap, subst, inl, inr, arith}
 use Rattle.std.proofs.lemmas.Option.{none-some}
 use Rattle.std.specs.List.{AllByRecursion}
 use Rattle.wm_bench.specs.Places.{changed_at, made_back}
@@ -19,6 +19,9 @@ use Rattle.wm_session.proofs.BookImages.{images-going, images-memory, images-ref
 use Rattle.wm_session.proofs.BookParts.{AwayInvariant-stopped, LinesInvariant-front, StopCause-trouble, StopCause-turn, Replay-same}
 use Rattle.wm_roll.specs.Parts.{without}
 use Rattle.wm_roll.specs.declared.part.Part.{Part}
+use Rattle.wm_machine.specs.Runs.{run_numbered}
+use Rattle.wm_machine.specs.declared.state.Run.{Run}
+use Rattle.wm_runs.specs.Reports.{Counts, CountsIn}
 use Rattle.wm_table.specs.Parts.{WasOut}
 use Rattle.wm_session.specs.Bench.{instance_traits, is_away, is_out_on, place_traits, places_after}
 use Rattle.wm_session.specs.Book as book
@@ -238,16 +241,38 @@ IsFrontStopped-untold store kind_of old table places left pending sink asked ans
   });
 }
 
+-- ---- a report
+
+-- a run on which a report counts wasn't stopped
+counts-current : (found : Option Run) (told : Report) → IsSomeAnd found (λ run. Counts run told) → IsSomeAnd found (λ run. run.current ≡ false) → ⊥
+counts-current None told counts stopped = counts
+counts-current (Some run) told counts stopped = true≢false (sym counts.current ∙ stopped)
+
+-- a report that counts leaves no run that was stopped
+never_late : {K W B : Type 0} (store : K → Store) (ticket : TicketState) (told : Report) (old new : BookState K W B)
+    → CountsIn old.table.state ticket.task.run told → book.IsLateIfStopped store ticket old new
+never_late store ticket told old new counts going stopped =
+    absurd (counts-current (run_numbered ticket.task.run old.table.state.runs) told counts stopped)
+
+-- the event of a run that was stopped is its return
+pub late_by_event : {K W B : Type 0} (store : K → Store) (ticket : TicketState) (told : Report) (old new : BookState K W B)
+    → book.IsLateUntold store ticket old new ⊎ (book.IsEndUntold store ticket told old new ⊎ book.IsTurnUntold store ticket told old new)
+    → book.IsLateIfStopped store ticket old new
+late_by_event store ticket told old new (inl late) going stopped = late
+late_by_event store ticket told old new (inr (inl ended)) going stopped = never_late store ticket told old new ended.counts going stopped
+late_by_event store ticket told old new (inr (inr turned)) going stopped =
+    never_late store ticket told old new turned.turn.counts going stopped
+
 -- ---- a report that the table refused
 
 -- the session stopped, the ticket was taken back, and the worker is back
 pub IsReportStopped-refused : {K W B : Type 0} (store : K → Store) (kind_of : B → Kind) (old : BookState K W B) (between table : TableState K)
     (places : List (Place B)) (ticket : TicketState) (seat : Seat B) (told : Report) (stop : Stop)
-    → old.status ≡ None → IsUntouched store IsNoLine old.table between
+    → old.status ≡ None → CountsIn old.table.state ticket.task.run told → IsUntouched store IsNoLine old.table between
     → table ≡ record between { roll = without ticket.task.run old.table.roll } → WasOut old.table.state old.table.roll ticket
     → places ≡ changed_at (made_back kind_of seat.worker) seat.number old.places
     → book.IsReportStopped store kind_of ticket seat told old (record old { table = table; places = places; status = Some stop })
-IsReportStopped-refused store kind_of old between table places ticket seat told stop going untouched same out are = record {
+IsReportStopped-refused store kind_of old between table places ticket seat told stop going counts untouched same out are = record {
   how = inl (record {
     status = refl;
     stays = stays_going old (record old { table = table; places = places; status = Some stop }) going;
@@ -255,6 +280,7 @@ IsReportStopped-refused store kind_of old between table places ticket seat told 
         (IsUntouched-roll store IsNoLine old.table between (without ticket.task.run old.table.roll) untouched);
     left = refl;
   });
+  late = never_late store ticket told old (record old { table = table; places = places; status = Some stop }) counts;
   out = out;
   roll = ap (λ (t : TableState _). t.roll) same;
   places = are;

@@ -275,21 +275,27 @@ pub record IsAskedAgain {K W B : Type 0} (ticket same : TicketState) (seat kept 
   pub seat_is : kept ≡ seat
   pub book_is : new ≡ old
 
--- the session has stopped early without an event of the run, or with the one by which it is over that was stopped, or had stopped before; the run is
--- off the roll, and the worker is back
+-- a run that was stopped is over, where the session went on until its report came
+abbrev pub IsLateIfStopped : {K W B : Type 0} → (K → Store) → TicketState → BookState K W B → BookState K W B → Type 0
+IsLateIfStopped store ticket old new = old.status ≡ None → IsOut old.table.state ticket.task.run false → IsLateUntold store ticket old new
+
+-- the session has stopped early without an event of the run, or with the one by which it is over that was stopped, as it always is then, or had
+-- stopped before; the run is off the roll, and the worker is back
 pub record IsGivenBack {K W B : Type 0} (store : K → Store) (kind_of : B → Kind) (ticket : TicketState) (seat : Seat B) (old new : BookState K W B)
     : Type 0 where
   pub how : HasStopped store old new ⊎ IsLateUntold store ticket old new
+  pub late : IsLateIfStopped store ticket old new
   pub out : WasOut old.table.state old.table.roll ticket
   pub roll : new.table.roll ≡ without ticket.task.run old.table.roll
   pub places : new.places ≡ changed_at (made_back kind_of seat.worker) seat.number old.places
 
--- the session has stopped early, without an event of the run, or with the one by which it is over or goes on; the run is off the roll, and the
--- worker is back
+-- the session has stopped early, without an event of the run, or with the one by which it is over or goes on, which for a run that was stopped is
+-- its return; the run is off the roll, and the worker is back
 pub record IsReportStopped {K W B : Type 0} (store : K → Store) (kind_of : B → Kind) (ticket : TicketState) (seat : Seat B) (told : Report)
     (old new : BookState K W B) : Type 0 where
   pub how : HasStopped store old new ⊎
       (IsLateUntold store ticket old new ⊎ (IsEndUntold store ticket told old new ⊎ IsTurnUntold store ticket told old new))
+  pub late : IsLateIfStopped store ticket old new
   pub out : WasOut old.table.state old.table.roll ticket
   pub roll : new.table.roll ≡ without ticket.task.run old.table.roll
   pub places : new.places ≡ changed_at (made_back kind_of seat.worker) seat.number old.places

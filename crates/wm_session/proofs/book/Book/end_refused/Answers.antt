@@ -59,8 +59,11 @@ returns-in-Err-tell_last g c =
     let told = c.tell_last.new in
     let late = c.in-Ok.ensures in
     let going = subst (λ book. book.status ≡ None) (sym c.self.view_is) c.requires.going in
+    let untold =
+    IsLateUntold-told c.late.new.self c.give.new.self told.self told.sink c.from.result c.args.ticket c.self.invariant going late.returned in
     rw (← c.self.view_is) (record {
-      how = inr (IsLateUntold-told c.late.new.self c.give.new.self told.self told.sink c.from.result c.args.ticket c.self.invariant going late.returned);
+      how = inr untold;
+      late = λ before stopped. untold;
       out = late.out;
       roll = late.roll;
       places = c.give.ensures;

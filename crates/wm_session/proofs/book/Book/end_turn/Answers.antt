@@ -6,7 +6,7 @@ use Rattle.wm_session.specs.Bench.{is_out_on}
 use Rattle.wm_table.specs.TableState.{TableState, TicketState}
 use Rattle.wm_session.proofs.BookSteps.{IsTold-all, IsTold-cut}
 use Rattle.wm_session.proofs.BookReports.{over_out, over_roll, turned_instances, unfaulted_over, BookInvariant-over, BookInvariant-turn_untold, BookInvariant-turned, HasLeft-by, IsOver-told, IsOverUntold-told, IsTurnTold-made, IsTurnUntold-made}
-use Rattle.wm_session.proofs.BookStops.{BookInvariant-refused, IsReportStopped-refused}
+use Rattle.wm_session.proofs.BookStops.{late_by_event, BookInvariant-refused, IsReportStopped-refused}
 use Rattle.wm_session.proofs.book.Book.end_turn.Goals as goal
 
 -- ---- the run goes on
@@ -67,10 +67,13 @@ returns-in-Err g c =
     let told = c.tell_last.new in
     let back = c.give_back in
     let going = subst (λ book. book.status ≡ None) (sym c.self.view_is) c.requires.going in
+    let untold =
+    inr (inr (IsTurnUntold-made c.turn.new.self back.new.table back.new.bench told.self told.sink
+    (without c.in-Go.next.task.run c.turn.new.self.roll) c.from.result c.args.ticket c.in-Go.next c.args.told c.self.invariant going
+    c.in-Go.ensures.answer back.ensures.table)) in
     rw (← c.self.view_is) (record {
-      how = inr (inr (inr (IsTurnUntold-made c.turn.new.self back.new.table back.new.bench told.self told.sink
-          (without c.in-Go.next.task.run c.turn.new.self.roll) c.from.result c.args.ticket c.in-Go.next c.args.told c.self.invariant going
-          c.in-Go.ensures.answer back.ensures.table)));
+      how = inr untold;
+      late = late_by_event _ _ _ _ _ untold;
       out = c.in-Go.ensures.out;
       roll = ap (λ (t : TableState g.row.K.Denot). t.roll) back.ensures.table
           ∙ (λ j. without (c.in-Go.ensures.answer.same_run j) (c.in-Go.ensures.roll j))
@@ -146,9 +149,12 @@ returns-in-Err-tell_last g c =
     let going = subst (λ book. book.status ≡ None) (sym c.self.view_is) c.requires.going in
     let out = over_out c.self.inside.table.state c.self.inside.table.roll c.args.ticket c.turn.result c.in-Finished.is c.turn.ensures.out in
     let roll = over_roll c.args.ticket c.turn.result c.self.inside.table.roll c.turn.new.self.roll c.in-Finished.is c.turn.ensures.roll in
+    let untold =
+    IsOverUntold-told c.turn.new.self c.give.new.self told.self told.sink c.from-in-Err-tell_last.result c.args.ticket
+    c.args.told c.turn.result c.self.invariant going c.in-Finished.is c.turn.ensures.answer in
     rw (← c.self.view_is) (record {
-      how = inr (IsOverUntold-told c.turn.new.self c.give.new.self told.self told.sink c.from-in-Err-tell_last.result c.args.ticket
-          c.args.told c.turn.result c.self.invariant going c.in-Finished.is c.turn.ensures.answer);
+      how = inr untold;
+      late = late_by_event _ _ _ _ _ untold;
       out = out;
       roll = roll;
       places = c.give.ensures;
@@ -203,5 +209,5 @@ returns-in-Refused g c =
     rw (← c.self.view_is)
     (IsReportStopped-refused g.K.Keeper.store g.B.Worker.kind_of
     (record { table = i.table; places = i.bench; left = i.left.items; line = i.line; pending = i.pending; sink = i.sink; status = i.status })
-    table back.new.table back.new.bench ticket seat c.args.told c.from-in-Refused.result going answer.untouched
+    table back.new.table back.new.bench ticket seat c.args.told c.from-in-Refused.result going answer.counts answer.untouched
     (back.ensures.table ∙ (λ j. record table { roll = taken j })) refused.ensures.out back.ensures.places)
