@@ -1,8 +1,6 @@
 //! The run in threads: one in front executes the lines, and the others claim works, have their
 //! workers take their turns and report.
 ghost use Rattle.std.specs.Prelude.{◌≡◌, ◌+◌, ◌<◌, ◌≤◌, [], All, IfOk, IsNone, is_some, map, sum};
-ghost use Rattle.std.specs.List.{AllByRecursion};
-ghost use Rattle.wm_machine.specs.Outcome.{IsAskable};
 ghost use Rattle.wm_session.specs.Ended.{IsBookEnd};
 ghost use Rattle.wm_session.specs.Tells.{tells_of};
 
@@ -237,7 +235,6 @@ pub fn run_pool<
     requires some { 0 < workers }
     requires few { workers ≤ 64 }
     requires none_out { book.table.roll ≡ [] }
-    requires askable { AllByRecursion IsAskable M.inputs.lines }
     ensures { IsBookEnd (tells_of K.store W.given W.faults B.kind_of B.diary_of) M.inputs result }
 {
     let blank = Blank::new(workers as u64);

@@ -174,7 +174,6 @@ fn run_book<
     G: Gate + Sync,
 >(crew: &Crew<'_, R, G>, book: Book<K, W, B, M>) -> Ended<K, W, B>
     requires begins { IsAtBegin M.inputs.lines book }
-    requires askable { AllByRecursion IsAskable M.inputs.lines }
     ensures end { IsBookEnd (tells_of K.store W.given W.faults B.kind_of B.diary_of)
         M.inputs result }
     ensures serial { crew.now.workers ≡ 0

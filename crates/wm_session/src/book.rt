@@ -420,9 +420,10 @@ impl<K: Keeper, W: Sink, B: Worker, M: Mark> Book<K, W, B, M> {
 
     /// Whether all that may start is driven to its end before the next line: none is left, or it
     /// settles. It takes no memory. Where no ticket is out, no run is unreturned while the session goes
-    /// on, and no worker is away.
+    /// on, and no worker is away; and each line that is left may be asked.
     pub fn drains_first(&self) -> bool
         ensures drains { result ≡ drains_first self.now.left }
+        ensures askable { AllByRecursion IsAskable self.now.left }
         ensures rest { self.now.table.roll ≡ [] → IsBetweenRuns self.now }
     {
         self.left.is_empty() || self.settles_next()

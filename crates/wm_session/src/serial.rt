@@ -48,7 +48,6 @@ pub fn run_serial<K: Keeper, W: Sink, B: Worker, M: Mark, G: Gate>(
     gate: &G,
 ) -> Ended<K, W, B>
     requires none_out { book.table.roll ≡ [] }
-    requires askable { AllByRecursion IsAskable M.inputs.lines }
     ensures end { IsBookEnd (tells_of K.store W.given W.faults B.kind_of B.diary_of)
         M.inputs result }
     ensures serial { IsAtBegin M.inputs.lines book
@@ -67,6 +66,7 @@ fn execute_lines<K: Keeper, W: Sink, B: Worker, M: Mark, G: Gate>(
     gate: &G,
 )
     requires none_out { book.old.table.roll ≡ [] }
+    ensures askable { AllByRecursion IsAskable book.old.left }
     ensures rest { IsBetweenRuns book.new }
     ensures done { book.new.status ≡ None → book.new.left ≡ [] }
     ensures quiet { book.new.status ≡ None → IsQuiet book.new.table.state }

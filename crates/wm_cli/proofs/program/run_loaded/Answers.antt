@@ -1,14 +1,9 @@
 use Rattle.std.proofs.Common.{Some, sym, ◌∙◌, subst}
 use Rattle.wm_cli.proofs.RunEnds.{IsRunEnd-begun, IsRunEnd-threads}
 use Rattle.wm_rows.specs.Sound.{AreSound}
-use Rattle.wm_session.specs.BetweenRuns.{IsAtBegin}
 use Rattle.wm_session.specs.Ended.{IsSerialEnd}
 use Rattle.wm_session.specs.Tells.{tells_of}
 use Rattle.wm_cli.proofs.program.run_loaded.Goals as goal
-
-pub run_book-requires-clause-begins : goal.run_book-requires-clause-begins
-run_book-requires-clause-begins g c lifetimes outlive =
-    subst (λ lines. IsAtBegin lines c.in-Ok.book) c.requires.inputs.lines_are c.in-Ok.ensures.begins
 
 pub returns-in-Ok : goal.returns-in-Ok
 returns-in-Ok g c =

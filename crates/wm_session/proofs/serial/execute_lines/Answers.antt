@@ -62,6 +62,7 @@ returns-in-Ended g c =
       | inl ended ↦
           let is : IsFronted store kind_of front.Ended old new = subst (λ r. IsFronted store kind_of r old new) ended c.front_step.ensures in
           rw is.book_is (record {
+            askable = c.drains_first.ensures.askable;
             rest = kept.rest;
             done = λ going. is.none_left;
             quiet = λ going. kept.quiet is.going (ap drains_first is.none_left);
@@ -70,6 +71,7 @@ returns-in-Ended g c =
           })
       | inr stopped ↦
           let is : IsFronted store kind_of front.Stopped old new = subst (λ r. IsFronted store kind_of r old new) stopped c.front_step.ensures in record {
+            askable = c.drains_first.ensures.askable;
             rest = IsBetweenRuns-front kept.rest is;
             done = no_longer new.status is.status;
             quiet = no_longer new.status is.status;

@@ -1,4 +1,7 @@
+use Rattle.std.proofs.Common.{subst, sym}
+use Rattle.std.specs.List.{AllByRecursion}
 use Rattle.wm_bench.specs.Places.{idle_hands}
+use Rattle.wm_machine.specs.Outcome.{IsAskable}
 use Rattle.wm_machine.specs.Serial.{AreInOrder}
 use Rattle.wm_session.proofs.BoxLemmas.{AtPlace-weaker, KeepBoxes-begin}
 use Rattle.wm_session.proofs.HandLemmas.{AreHandsBack-all, EachBack-all}
@@ -33,6 +36,7 @@ returns-clause-serial g c begins =
     let numbered = back.valid.instances.numbered in
     let boxes = executed.boxes given (KeepBoxes-begin diary_of c.args.book begins) in
     let order = (executed.order lines (IsReady-begin begins)).order in
+    let askable : AllByRecursion IsAskable lines = subst (AllByRecursion IsAskable) (sym begins.lines_are) executed.askable in
     let in_order : AreInOrder lines last.first last.log = rw (back.first, back.log) order.in_order in
     record {
       boxes = rw (back.hands, back.log)
@@ -42,6 +46,6 @@ returns-clause-serial g c begins =
           rw (back.hands, back.first, back.log)
           (EachBack-all (HasTold diary_of book.table.first log) given kind_of book.places last.last numbered none back.workers
           (AtPlace-weaker given book.places (λ number had now is. is.told (c.finish.ensures.done done)) boxes));
-      serial = IsSerialRun-order lines last.status last.first last.last last.log c.requires.askable session.commands (rw back.first order.from_rest)
+      serial = IsSerialRun-order lines last.status last.first last.last last.log askable session.commands (rw back.first order.from_rest)
           session.replay back.valid (rw back.last order.few_runs) in_order (λ done. rw back.last (executed.quiet (c.finish.ensures.done done)));
     }

@@ -20,3 +20,10 @@ returns-else-is_empty-clause-rest g c none =
     (IsBetweenRuns-rests g.M.Mark.inputs tells
     (record { table = i.table; places = i.bench; left = i.left.items; line = i.line; pending = i.pending; sink = i.sink; status = i.status })
     c.self.invariant (rw (← c.self.view_is) at none))
+
+-- the lines that are left may be asked
+pub returns-then-is_empty-clause-askable : goal.returns-then-is_empty-clause-askable
+returns-then-is_empty-clause-askable g c = rw (← c.self.view_is) c.self.invariant.askable
+
+pub returns-else-is_empty-clause-askable : goal.returns-else-is_empty-clause-askable
+returns-else-is_empty-clause-askable g c = rw (← c.self.view_is) c.self.invariant.askable
