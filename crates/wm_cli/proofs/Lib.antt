@@ -4,6 +4,7 @@ pub mod Opening
 pub mod ReportedRuns
 pub mod RunEnds
 pub mod RunImages
+pub mod RunsUnopened
 pub mod RunsWithoutEvents
 pub mod ScriptLimits
 pub mod TakenBytes

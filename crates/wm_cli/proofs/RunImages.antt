@@ -1,9 +1,7 @@
 -- What a crash leaves of a run, from what it leaves of the calls below.
-use Rattle.std.proofs.Common.{◌≡◌, ℕ, Bool, true, false, List, Option, Some, refl, sym, ap, subst, inl, inr}
+use Rattle.std.proofs.Common.{◌≡◌, Bool, true, false, List, Option, Some, refl, sym, ap, subst, inl, inr}
 use Rattle.std.proofs.lemmas.Option.{same_Some}
 use Rattle.std.specs.Prelude.{◌⊎◌, IfSome, IsSome, MatchBool}
-use Rattle.wm_cli.proofs.RunsWithoutEvents.{ForScript-any}
-use Rattle.wm_cli.specs.Ended.{IsCrashSafe}
 use Rattle.wm_cli.specs.Images.{IsHeldAlone, LeavesHeld, LeavesOpening, RunImages, UnbegunImages}
 use Rattle.wm_keeper.specs.Store.{Store, IsLoaded, IsStoreKept}
 use Rattle.wm_keeper.specs.declared.row.Row.{Row}
@@ -11,7 +9,6 @@ use Rattle.wm_machine.specs.declared.command.Command.{Command}
 use Rattle.wm_machine.specs.declared.event.Event.{Event}
 use Rattle.wm_machine.specs.declared.state.Instance.{Instance}
 use Rattle.wm_machine.specs.declared.state.State.{State}
-use Rattle.wm_script.specs.Lines.{commands_in}
 use Rattle.wm_session.specs.declared.status.Status.{Status}
 use Rattle.wm_table.specs.Images.{LeavesOnly, WouldOpen}
 use Rattle.wm_table.specs.Table.{is_at_commit, LeavesUnopened, MayLeaveOpening}
@@ -96,11 +93,9 @@ images_told false false ended lines held rows instances last log store told leav
 -- ---- a run whose store wasn't opened
 
 -- it leaves the store as it was
-pub crash-unopened : (left : Option (List ℕ)) (began at_opening : Bool) (ended : Status) (instances : List Instance) (last : State) (log : List Event)
+pub crash-unopened : (lines : List Command) (began at_opening : Bool) (ended : Status) (instances : List Instance) (last : State) (log : List Event)
     (before now : Store)
     → began ≡ false → at_opening ≡ false → now ≡ before → IsHeldAlone before.rows before
-    → IsCrashSafe left began at_opening ended before.rows instances last log now
-crash-unopened left began at_opening ended instances last log before now unbegun early same alone =
-    rw (unbegun, early, same)
-    (ForScript-any left (λ bytes. RunImages false false ended (commands_in bytes) before.rows instances last log before)
-    (λ bytes. leaves-held before.rows before alone))
+    → RunImages began at_opening ended lines before.rows instances last log now
+crash-unopened lines began at_opening ended instances last log before now unbegun early same alone =
+    rw (unbegun, early, same) (leaves-held before.rows before alone)

@@ -4,12 +4,11 @@ use Rattle.std.specs.declared.alloc.Global.{Global}
 use Rattle.wm_bench.specs.declared.hand.Hand.{Hand}
 use Rattle.wm_cli.specs.Causes.{IsOpeningStatus, IsUnlessMemory, StoreCause}
 use Rattle.wm_cli.specs.Images.{IsHeldAlone, RunImages}
-use Rattle.wm_cli.specs.Words.{options_of}
+use Rattle.wm_cli.specs.Words.{options_of, AskForNoThreads}
 use Rattle.wm_data.specs.declared.data.DataEntry.{DataEntry}
 use Rattle.wm_faults.specs.Faults.{Failed}
-use Rattle.wm_keeper.specs.Store.{Store, GoesOn, IsAtMost}
+use Rattle.wm_keeper.specs.Store.{Store, GoesOn, IsAtMost, IsSettled}
 use Rattle.wm_keeper.specs.declared.row.Row.{Row}
-use Rattle.wm_script.specs.Lines.{commands_in}
 use Rattle.wm_machine.specs.Opened.{opening_state, Opened}
 use Rattle.wm_machine.specs.Quiet.{IsQuiet}
 use Rattle.wm_machine.specs.Replay.{Replay}
@@ -83,20 +82,16 @@ pub record ForScript (left : Option (List ℕ)) (P : List ℕ → Type 0) : Type
   pub told : IfSome left (λ all. all ≡ bytes)
   pub holds : P bytes
 
--- the log has the script's commands, a front of them, and on `Done` all
-abbrev pub HasCommandsOf : Option (List ℕ) → Status → List Event → Type 0
-HasCommandsOf left ended log = ForScript left (λ bytes. HasCommands (commands_in bytes) ended log)
-
--- the log is that of a serial run over the script's commands on `Done`, and else a front of one
-abbrev pub IsSerialOver : Option (List ℕ) → Status → State → List Event → State → Type 0
-IsSerialOver left ended first log last = ForScript left (λ bytes. IsSerialRun (commands_in bytes) ended first log last)
-
--- ---- what a crash leaves
-
--- over the script's commands, a crash leaves what it may leave of a run that is over
-abbrev pub IsCrashSafe : Option (List ℕ) → Bool → Bool → Status → Option (List Row) → List Instance → State → List Event → Store → Type 0
-IsCrashSafe left began at_opening ended held instances last log store =
-    ForScript left (λ bytes. RunImages began at_opening ended (commands_in bytes) held instances last log store)
+-- A run of these lines, which was given these words, workers and this keeper: the log has the lines as its commands, a front of them, and on `Done` all;
+-- where the words ask for no threads it is that of a serial run over them on `Done`, and else a front of one; and where nothing was pending in the
+-- store, a crash leaves what it may leave of a run over them.
+pub record IsRunOf {K W B : Type 0} (tells : Tells K W B) (words : List (List ℕ)) (hands : List (Hand B)) (keeper : K) (lines : List Command)
+    (ended : Ended K W B) : Type 0 where
+  pub commands : HasCommands lines ended.status ended.log
+  pub serial : AskForNoThreads words → IsSerialRun lines ended.status ended.first ended.log ended.last
+  pub crash : IsSettled (tells.store keeper)
+      → RunImages ended.began ended.at_opening ended.status lines (tells.store keeper).rows (instances_from tells.kind_of 0 hands) ended.last ended.log
+      (tells.store ended.keeper)
 
 -- ---- the end
 

@@ -2,16 +2,17 @@ ghost use Rattle.std.specs.Prelude.{◌≡◌, ◌↔◌, ◌+◌, ◌≤◌, �
 ghost use Rattle.std.specs.List.{AllByRecursion};
 ghost use Rattle.wm_bench.specs.Places.{idle_hands, most_hands};
 ghost use Rattle.wm_cli.specs.Causes.{IsToldTooLong, IsToldWithin, IsUnlessMemory, LimitCause, StoreCause};
-ghost use Rattle.wm_cli.specs.Ended.{AreBoxesOf, AreHandsOf, AreReportedOnce, AreRowsKept, HasCommandsOf, HaveToldOnDone, IsBegunBy, IsCrashSafe, IsOpeningRefused, IsQuietOnDone, IsReplayed, IsRunEnd, IsSerialOver, IsStoreOf};
+ghost use Rattle.wm_cli.specs.Ended.{AreBoxesOf, AreHandsOf, AreReportedOnce, AreRowsKept, ForScript, HaveToldOnDone, IsBegunBy, IsOpeningRefused, IsQuietOnDone, IsReplayed, IsRunEnd, IsRunOf, IsStoreOf};
 ghost use Rattle.wm_cli.specs.Reading.{AreCommandsOf, IsReadStatus};
 ghost use Rattle.wm_cli.specs.Script.{IsTakenWithin};
 ghost use Rattle.wm_cli.specs.Words.{options_of, AskForNoThreads};
 ghost use Rattle.wm_faults.specs.Faults.{Failed};
-ghost use Rattle.wm_keeper.specs.Store.{told_before, IsSettled, KeepsTelling};
+ghost use Rattle.wm_keeper.specs.Store.{told_before, KeepsTelling};
 ghost use Rattle.wm_keeper.specs.declared.row.Row.{Row};
 ghost use Rattle.wm_machine.specs.Outcome.{IsAskable};
 ghost use Rattle.wm_rows.specs.Sound.{checked, AreSound};
 ghost use Rattle.wm_script.specs.Limits.{most_script_bytes};
+ghost use Rattle.wm_script.specs.Lines.{commands_in};
 ghost use Rattle.wm_script.specs.declared.limits.Limit.{Limit};
 ghost use Rattle.wm_session.specs.BetweenRuns.{IsAtBegin};
 ghost use Rattle.wm_session.specs.Ended.{IsBookEnd, IsSerialEnd, IsTextWritten};
@@ -233,16 +234,17 @@ pub fn run<
     ensures not_begun_keeps { result.began ≡ false → result.sink ≡ sink }
     // The rows kept are the last state's, and those of before where no store was opened.
     ensures rows { AreRowsKept result.began result.last (K.store keeper) (K.store result.keeper) }
-    // Where nothing was pending in the store, a crash leaves the last state's rows, or those of the state
-    // after the event that was being committed; and where no store was opened the rows of before, or,
-    // where the commit of the opening was refused, those that it would have left.
-    ensures crash { IsSettled (K.store keeper) → IsCrashSafe (S.left source.old) result.began
-        result.at_opening result.status (K.store keeper).rows (instances_from B.kind_of 0 hands.items)
-        result.last result.log (K.store result.keeper) }
     // They stand in the store that the words name.
     ensures store { result.began ≡ true → IsStoreOf (map string_bytes words.now) (K.store result.keeper).name }
-    // The log has the script's commands, a front of them, and on `Done` all.
-    ensures commands { HasCommandsOf (S.left source.old) result.status result.log }
+    // It is a run of the script's commands, those of the bytes that the source had left, where it tells
+    // them, and else of some bytes. The log has them, a front of them, and on `Done` all. Without
+    // threads it is that of a serial run over them, or a front of one. Where nothing was pending in the
+    // store, a crash leaves the last state's rows, or those of the state after the event that was being
+    // committed; and where no store was opened the rows of before, or those of the opening that was
+    // being committed.
+    ensures script { ForScript (S.left source.old) (λ bytes.
+        IsRunOf (tells_of K.store W.given W.faults B.kind_of B.diary_of) (map string_bytes words.now)
+        hands.items keeper (commands_in bytes) result) }
     // The bytes written are the log's text, a front of it, and on `Done` all.
     ensures bytes { IsTextWritten (W.given sink) (W.given result.sink)
         result.status result.first result.log }
@@ -259,10 +261,6 @@ pub fn run<
     ensures diaries { AskForNoThreads (map string_bytes words.now)
         → HaveToldOnDone B.diary_of result.status hands.items
         result.first result.log result.last result.hands.items }
-    // Without threads the log is that of a serial run over the script's commands, or a front of one.
-    ensures serial { AskForNoThreads (map string_bytes words.now)
-        → IsSerialOver (S.left source.old) result.status
-        result.first result.log result.last }
 
     // At most one byte more than a script may have is read.
     ensures reads { IsTakenWithin (most_script_bytes + 1) (S.left source.old) (S.left source.new) }
