@@ -4,6 +4,8 @@
 #![tactic(auto)]
 
 #[cfg(test)]
+mod diaries;
+#[cfg(test)]
 mod signals;
 #[cfg(test)]
 mod threads;

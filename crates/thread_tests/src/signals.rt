@@ -134,7 +134,11 @@ fn nine(alloc: Global) -> Result<Data, AllocError> {
 }
 
 /// One worker.
-fn one_hand<B: Drop>(alloc: Global, class: &str, worker: B) -> Result<Vec<Hand<B>>, AllocError>
+pub(crate) fn one_hand<B: Drop>(
+    alloc: Global,
+    class: &str,
+    worker: B,
+) -> Result<Vec<Hand<B>>, AllocError>
     ensures { IfOk result (λ hands. vec_len hands ≤ most_hands) }
 {
     let mut hands = Vec::new(alloc);
