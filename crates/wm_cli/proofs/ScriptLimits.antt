@@ -20,7 +20,7 @@ longer script rest false past whole =
     past_bytes (script ++ rest) (omega (arith, length-append script rest)) ∙ sym (past_bytes script (omega arith))
 
 -- what was read of a script passes the limit first that the whole script does
-pub same_limit : (before now : Option (List ℕ)) (script : List ℕ) (found : Option Limit) → IsReadFrom before now script → first_limit script ≡ found
+pub same_limit : (before now : Option (List ℕ)) (script : List ℕ) (found : Option Limit) → IsReadFrom most_script_bytes before now script → first_limit script ≡ found
     → IfSome before (λ all. first_limit all ≡ found)
 same_limit before None script found read is = rw read.taken tt
 same_limit before (Some rest) script found read is =
@@ -32,7 +32,7 @@ within script false up none = ltb-false most_script_bytes (length script) up
 
 -- a script that passes no limit was read whole
 pub read_whole : (before now : Option (List ℕ)) (script : List ℕ) →
-    IsReadFrom before now script → first_limit script ≡ None → IfSome before (λ all. all ≡ script)
+    IsReadFrom most_script_bytes before now script → first_limit script ≡ None → IfSome before (λ all. all ≡ script)
 read_whole before None script read none = rw read.taken tt
 read_whole before (Some rest) script read none =
     let at_end = read.whole (within script (nat_lt most_script_bytes (length script)) refl none) in

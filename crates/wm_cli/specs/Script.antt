@@ -3,7 +3,6 @@ use Rattle.std.specs.Prelude.{◌≡◌, ℕ, ◌<◌, ◌≤◌, Bool, true, fa
 use Rattle.wm_faults.specs.Faults as faults
 use Rattle.wm_cli.specs.declared.script.ReadFault.{ReadFault}
 use Rattle.wm_cli.specs.declared.script.ReadFault.TheVariants.{Failed}
-use Rattle.wm_script.specs.Limits.{most_script_bytes}
 
 -- where the source tells what it has left, this was taken from its front
 abbrev pub IsTakenFrom : Option (List ℕ) → Option (List ℕ) → List ℕ → Type 0
@@ -13,10 +12,10 @@ IsTakenFrom before now bytes = before ≡ option_map (λ rest. bytes ++ rest) no
 abbrev pub IsAtEnd : Option (List ℕ) → Type 0
 IsAtEnd left = IfSome left (λ rest. rest ≡ [])
 
--- the script was taken from the front of what was left: all of it, unless it is past the limit on bytes
-pub record IsReadFrom (before now : Option (List ℕ)) (script : List ℕ) : Type 0 where
+-- the script was taken from the front of what was left: all of it, unless it is past this limit on its bytes
+pub record IsReadFrom (most_bytes : ℕ) (before now : Option (List ℕ)) (script : List ℕ) : Type 0 where
   pub taken : IsTakenFrom before now script
-  pub whole : length script ≤ most_script_bytes → IsAtEnd now
+  pub whole : length script ≤ most_bytes → IsAtEnd now
 
 -- at most this many bytes were taken from the front of what was left
 pub record IsTakenWithin (limit : ℕ) (before now : Option (List ℕ)) : Type 0 where

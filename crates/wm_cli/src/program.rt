@@ -36,7 +36,7 @@ use wm_keeper::{Keeper, Row};
 use wm_machine::{Command, Instance};
 use wm_pool::Gate;
 use wm_roll::Roll;
-use wm_script::{Limit, ScriptFault, read_lines};
+use wm_script::{Limit, MAX_SCRIPT_BYTES, ScriptFault, read_lines};
 use wm_session::{Book, Ended, Status, run_serial};
 use wm_table::Mark;
 use wm_worker::Worker;
@@ -63,7 +63,7 @@ fn read_commands<S: Source>(alloc: Global, source: &mut S) -> Result<Items<Comma
     ensures status { IfErr result (λ status. IsReadStatus status
         (S.faults source.old) (S.faults source.new) (S.left source.old)) }
 {
-    let script = match read_script(alloc, source) {
+    let script = match read_script(alloc, source, MAX_SCRIPT_BYTES) {
         Ok(script) => script,
         Err(ReadFault::Failed) => return Err(Status::SourceFault),
         Err(ReadFault::Memory) => return Err(Status::Memory),

@@ -1,10 +1,8 @@
 ghost use Rattle.std.specs.Prelude.{◌≡◌, ◌+◌, ◌<◌, ◌≤◌, length, IfOk};
 ghost use Rattle.wm_cli.specs.Script.{IsPieceOf, IsReadFrom, IsTakenWithin, ReadCause};
-ghost use Rattle.wm_script.specs.Limits.{most_script_bytes};
 
 use std::alloc::{AllocError, Global};
 use wm_io::{Got, Source};
-use wm_script::MAX_SCRIPT_BYTES;
 
 /// How many bytes are asked for in one read.
 const PIECE_BYTES: usize = 65_536;
@@ -28,18 +26,22 @@ impl From<AllocError> for ReadFault {
     }
 }
 
-/// Reads a script to its end, or to the first byte past the limit on its bytes.
-pub fn read_script<S: Source>(alloc: Global, source: &mut S) -> Result<Vec<u8>, ReadFault>
+/// Reads a script to its end, or to the first byte past this limit on its bytes.
+pub fn read_script<S: Source>(
+    alloc: Global,
+    source: &mut S,
+    most_bytes: usize,
+) -> Result<Vec<u8>, ReadFault>
     ensures bytes { IfOk result
-        (λ script. IsReadFrom (S.left source.old) (S.left source.new) script.items) }
-    ensures reads { IsTakenWithin (most_script_bytes + 1) (S.left source.old) (S.left source.new) }
-    ensures within { IfOk result (λ script. length script.items ≤ most_script_bytes + 1) }
+        (λ script. IsReadFrom most_bytes (S.left source.old) (S.left source.new) script.items) }
+    ensures reads { IsTakenWithin (most_bytes + 1) (S.left source.old) (S.left source.new) }
+    ensures within { IfOk result (λ script. length script.items ≤ most_bytes + 1) }
     ensures cause { ReadCause result (S.faults source.old) (S.faults source.new) }
 {
     let mut script = Vec::new(alloc);
     let mut buffer = [0u8; PIECE_BYTES];
-    'pieces: while script.len() <= MAX_SCRIPT_BYTES {
-        let room = (MAX_SCRIPT_BYTES + 1 - script.len()).min(PIECE_BYTES);
+    'pieces: while script.len() <= most_bytes {
+        let room = (most_bytes - script.len()).min(PIECE_BYTES - 1) + 1;
         if read_piece(source, &mut buffer[..room], &mut script)? {
             return Ok(script);
         }

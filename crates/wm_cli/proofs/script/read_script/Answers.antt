@@ -1,4 +1,4 @@
-use Rattle.std.proofs.Common.{◌++◌, arith, length-append}
+use Rattle.std.proofs.Common.{◌+◌, ◌++◌, arith, length-append}
 use Rattle.std.proofs.lemmas.List.{length-take}
 use Rattle.wm_cli.proofs.TakenBytes.{IsTakenFrom-append}
 use Rattle.wm_cli.proofs.script.read_script.Goals as goal
@@ -10,7 +10,7 @@ returns-in_err-read_piece-clause-reads g c =
     let more = c.in_err-read_piece.ensures.bytes in
     record {
       bytes = before ++ more.bytes;
-      few = omega (arith, length-append before more.bytes, more.few, length-take c.min-room.result c.pieces.buffer, c.pieces.script.ok.0);
+      few = omega (arith, length-append before more.bytes, more.few, length-take (c.min-room.result + 1) c.pieces.buffer, c.pieces.script.ok.0);
       taken = IsTakenFrom-append (left c.args.source.now) (left c.pieces.source)
           (left c.read_piece.new.source) before more.bytes c.pieces.invariant.taken more.taken;
     }
