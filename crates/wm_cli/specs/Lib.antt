@@ -6,4 +6,5 @@ pub mod Ended
 pub mod Images
 pub mod Reading
 pub mod Script
+pub mod Taken
 pub mod Words

@@ -1,7 +1,7 @@
 //! What the threads of a run share under one lock: the book, with the ledger of the runs that are
 //! out.
-ghost use Rattle.std.specs.Prelude.{◌≡◌, ◌+◌, ◌<◌, [], length};
-ghost use Rattle.wm_cli.specs.Desk.{begun_in};
+ghost use Rattle.std.specs.Prelude.{◌≡◌, ◌+◌, ◌<◌, [], false, length, IfSome};
+ghost use Rattle.wm_cli.specs.Desk.{begun_in, IfBegun};
 ghost use Rattle.wm_pool.specs.Shares.{count_of};
 
 use crate::work::Work;
@@ -57,11 +57,12 @@ impl<K: Keeper, W: Sink, B: Worker, M: Mark, L: Ledger> Desk<K, W, B, M, L> {
         self.book.front_step()
     }
 
-    /// Starts the work that is first, for the thread of this share.
+    /// Starts the work that is first, for the thread of this share. Its worker hasn't made ready yet.
     pub fn claim(&mut self, share: &mut Share<L>) -> Start<Work<B, M>>
         requires { 0 < share.old.parts }
         ensures amount { share.new.amount ≡ share.old.amount + begun_in result }
         ensures parts { share.new.parts ≡ share.old.parts }
+        ensures fresh { IfBegun result (λ work. work.has_begun ≡ false) }
     {
         let Desk { book, out } = self;
         match book.claim() {
@@ -80,7 +81,7 @@ impl<K: Keeper, W: Sink, B: Worker, M: Mark, L: Ledger> Desk<K, W, B, M, L> {
     }
 
     /// Ends the turn of a run that the thread of this share holds, as its worker told, and gives it
-    /// back where it goes on.
+    /// back where it goes on, with its worker as ready as it was.
     pub fn report(
         &mut self,
         share: &mut Share<L>,
@@ -90,6 +91,7 @@ impl<K: Keeper, W: Sink, B: Worker, M: Mark, L: Ledger> Desk<K, W, B, M, L> {
         requires { 0 < share.old.amount }
         ensures amount { share.new.amount + 1 ≡ share.old.amount + count_of result }
         ensures parts { share.new.parts ≡ share.old.parts }
+        ensures begun { IfSome result (λ back. back.has_begun ≡ work.has_begun) }
     {
         let Desk { book, out } = self;
         let Work {
