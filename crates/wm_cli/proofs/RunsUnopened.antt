@@ -15,7 +15,7 @@ use Rattle.wm_session.specs.declared.status.Status.TheVariants as status
 
 pub IsRunOf-unopened : {K W B : Type 0} (tells : Tells K W B) (words : List (List ℕ)) (hands : List (Hand B)) (given : Vec (Hand B) Global) (keeper : K)
     (sink : W) (bytes : List ℕ) (why : Status) (ended : Ended K W B)
-    → IsUnbegun why keeper sink given ended → (why ≡ status.Done → ⊥) → IsRunOf tells words hands keeper (commands_in bytes) ended
+    → IsUnbegun why false keeper sink given ended → (why ≡ status.Done → ⊥) → IsRunOf tells words hands keeper (commands_in bytes) ended
 IsRunOf-unopened tells words hands given keeper sink bytes why ended unbegun early =
     let lines = commands_in bytes in
     let not_done : (ended.status ≡ status.Done → ⊥) = λ done. early (sym unbegun.status_is ∙ done) in
@@ -23,6 +23,6 @@ IsRunOf-unopened tells words hands given keeper sink bytes why ended unbegun ear
       commands = HasCommands-nothing lines ended.status ended.log unbegun.log (λ done. absurd (not_done done));
       serial = λ alone. IsSerialRun-unopened lines ended.status ended.first ended.log ended.last (IsAskable-commands_in bytes) not_done
           unbegun.first unbegun.log;
-      crash = λ settled. crash-unopened lines ended.began ended.status _ ended.last ended.log (tells.store keeper) (tells.store ended.keeper)
-          unbegun.began (ap tells.store unbegun.keeper_is) settled;
+      crash = λ settled. crash-unopened lines ended.began ended.at_opening ended.status _ ended.last ended.log (tells.store keeper) (tells.store ended.keeper)
+          unbegun.began unbegun.opening (ap tells.store unbegun.keeper_is) settled;
     }
