@@ -115,7 +115,8 @@ IsAskable-or_faulty (Err Form) h = tt
 IsAskable-or_faulty (Err (Fault found)) h = tt
 IsAskable-or_faulty (Err Memory) h = tt
 
-IsAskable-command_of : (line : List ℕ) → IsAskable (command_of line)
+-- the command of a line is askable
+pub IsAskable-command_of : (line : List ℕ) → IsAskable (command_of line)
 unfolding command_of
 IsAskable-command_of line = IsAskable-or_faulty (asked_in line) (bind_any IsAskable _ (formed (value_of line)) IsAskable-asked_by)
 

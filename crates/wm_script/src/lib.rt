@@ -1,6 +1,7 @@
 //! The lines of a script.
 //!
-//! [`read_lines`] reads the commands of a script's bytes. Their definition is `specs/Lines.antt`, with
+//! [`read_lines`] reads the commands of a script's bytes; [`first_line`] cuts one line off, and
+//! [`command_of`] reads it. Their definition is `specs/Lines.antt`, with
 //! `Limits`, `Batches`, `Requests`, `Works`, `Names`, `Conditions`, `Queries`, `Objects`, `Parts` and
 //! `Values`; `Onto` says how a list is read item by item.
 #![tactic(auto)]
@@ -18,4 +19,4 @@ mod values;
 mod works;
 
 pub use limits::{Limit, MAX_LINE_BYTES, MAX_LINES, MAX_SCRIPT_BYTES, ScriptFault, first_limit};
-pub use lines::read_lines;
+pub use lines::{command_of, first_line, read_lines};

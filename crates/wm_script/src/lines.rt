@@ -66,9 +66,10 @@ fn commands_in(alloc: Global, bytes: &[u8]) -> Result<Items<Command>, AllocError
     Ok(commands)
 }
 
-/// The first line, without its LF, and what stands after that LF.
+/// The first line of some bytes, without its LF, and what stands after that LF; a last line without
+/// LF counts. It takes no memory.
 #[tactic(auto, using(crate::proofs::LinesLemmas::line_ends))]
-pub(crate) fn first_line(bytes: &[u8]) -> (&[u8], &[u8])
+pub fn first_line(bytes: &[u8]) -> (&[u8], &[u8])
     requires { 0 < length bytes.now }
     ensures cut { cut bytes.now ≡ result.0.now ∷ cut result.1.now }
     ensures shorter { length result.1.now < length bytes.now }
@@ -86,9 +87,10 @@ fn find_lf(bytes: &[u8]) -> Option<usize>
     bytes.iter().position(|byte| *byte == LF)
 }
 
-/// The command of a line, or that of its fault.
+/// The command of a line, which is given without its LF: one that isn't in the grammar, or whose works
+/// have a fault, gives a [`Command::Faulty`]. Memory that is refused is the only error.
 #[tactic(auto, unfolding(crate::specs::Lines::command_of))]
-fn command_of(alloc: Global, line: &[u8]) -> Result<Command, AllocError>
+pub fn command_of(alloc: Global, line: &[u8]) -> Result<Command, AllocError>
     ensures { IfOk result (λ command. command ≡ command_of line.now) }
 {
     match asked_in(alloc, line) {
