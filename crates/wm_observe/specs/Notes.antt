@@ -3,7 +3,6 @@ use Rattle.std.specs.Prelude.{ℕ, ◌+◌, ◌==◌, ◌&&◌, ◌||◌, Bool, 
 use Rattle.wm_machine.specs.Queried.{matches}
 use Rattle.wm_machine.specs.Shown.{infos_of}
 use Rattle.wm_machine.specs.Step.{after}
-use Rattle.wm_machine.specs.contracts.reply.WorkInfoPartialEq.TheImpl as infos
 use Rattle.wm_machine.specs.declared.event.Event.{Event}
 use Rattle.wm_machine.specs.declared.reply.WorkInfo.{WorkInfo}
 use Rattle.wm_machine.specs.declared.state.State.{State}
@@ -11,12 +10,13 @@ use Rattle.wm_machine.specs.declared.state.WorkQuery.{WorkQuery}
 use Rattle.wm_observe.specs.declared.note.Note.{Note}
 use Rattle.wm_observe.specs.declared.note.Note.TheVariants as note
 use Rattle.wm_observe.specs.declared.note.Pair.{Pair}
+use Rattle.wm_observe.specs.SameInfo.{decided}
 
 -- ---- one work
 
 -- whether two infos are the same
 unfoldable pub same_info : WorkInfo → WorkInfo → Bool
-same_info one other = infos.eq-value.it one other
+same_info one other = (decided one other).holds
 
 -- whether what is told of a work differs before and after; that it isn't there differs from whatever is told
 abbrev pub differs_in : Option WorkInfo → Option WorkInfo → Bool

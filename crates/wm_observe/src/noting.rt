@@ -9,7 +9,6 @@ use wm_machine::{WorkInfo, WorkQuery};
 use wm_query::matches;
 
 /// Whether two infos are the same. It takes no memory.
-#[tactic(auto, unfolding(crate::specs::Notes::same_info))]
 pub fn is_same(one: &WorkInfo, other: &WorkInfo) -> bool
     ensures same { result ≡ same_info one.now other.now }
     ensures decides { Decides result (one.now ≡ other.now) }

@@ -1,7 +1,10 @@
 use Rattle.std.proofs.Common.{rules}
-use Rattle.wm_observe.proofs.Same.{same_decides}
+use Rattle.wm_observe.proofs.Same.{eq_same}
+use Rattle.wm_observe.specs.SameInfo.{eq_decides}
 use Rattle.wm_observe.proofs.noting.is_same.Goals as goal
 
+pub returns-clause-same : goal.returns-clause-same
+returns-clause-same c = search (eq_same, rules)
+
 pub returns-clause-decides : goal.returns-clause-decides
-unfolding Rattle.wm_observe.specs.Notes.same_info
-returns-clause-decides c = search (same_decides, rules)
+returns-clause-decides c = search (eq_decides, rules)
