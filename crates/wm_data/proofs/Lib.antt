@@ -8,3 +8,4 @@ pub mod Puts
 pub mod ReadBack
 pub mod ReadData
 pub mod ReadTypes
+pub mod TextsRead
