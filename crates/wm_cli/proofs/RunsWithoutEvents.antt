@@ -1,10 +1,10 @@
 -- How a run ends that has made no event.
 use Rattle.std.proofs.Common.{◌≡◌, ℕ, List, [], ◌++◌, Option, Some, None, refl, sym, ◌∙◌, ap, subst}
 use Rattle.wm_cli.specs.Ended.{ForScript}
-use Rattle.wm_session.specs.Ended.{HasCommands, IsTextWritten}
-use Rattle.wm_session.proofs.WrittenTexts.{IsAppended-nothing}
+use Rattle.wm_session.specs.Ended.{HasCommands, IsPartAppended, IsTextWritten}
+use Rattle.wm_io.proofs.AppendedTexts.{IsAppended-nothing}
 use Rattle.wm_cli.specs.Reading.{IsReadStatus}
-use Rattle.wm_session.specs.Writing.{IsAppended, IsPartAppended}
+use Rattle.wm_io.specs.Writing.{IsAppended}
 use Rattle.wm_session.specs.declared.status.Status.{Status}
 use Rattle.wm_session.specs.declared.status.Status.TheVariants as status
 use Rattle.wm_machine.specs.Log.{commands_of, AreNumberedFrom}

@@ -3,4 +3,5 @@ pub mod Memory
 pub mod Sink
 pub mod Source
 pub mod Standard
+pub mod Writing
 pub use Rattle.wm_faults.specs.Faults

@@ -17,13 +17,13 @@ use Rattle.wm_table.specs.Inputs.{Inputs}
 use Rattle.wm_session.specs.Invariant.{LinesInvariant, TextsInvariant, BookInvariant}
 use Rattle.wm_session.specs.Pending.{pending_text}
 use Rattle.wm_session.specs.Tells.{Tells}
-use Rattle.wm_session.specs.Writing.{WriteCause}
+use Rattle.wm_io.specs.Writing.{WriteCause}
 use Rattle.wm_session.specs.declared.book.Stop.TheVariants as why
 use Rattle.wm_session.specs.declared.book.Stop.{Stop}
 use Rattle.wm_session.specs.declared.status.Status.TheVariants as status
 use Rattle.wm_session.specs.declared.status.Status.{Status}
-use Rattle.wm_session.specs.declared.writing.WriteFault.TheVariants as fault
-use Rattle.wm_session.specs.declared.writing.WriteFault.{WriteFault}
+use Rattle.wm_io.specs.declared.writing.WriteFault.TheVariants as fault
+use Rattle.wm_io.specs.declared.writing.WriteFault.{WriteFault}
 
 done_is : (stop : Option Stop) (ended : Status) → IfSome stop (λ why. ended ≡ status_by_stop why) → ended ≡ status.Done → stop ≡ None
 done_is None ended is done = refl

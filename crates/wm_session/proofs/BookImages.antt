@@ -17,8 +17,8 @@ use Rattle.wm_session.specs.Images.{EndImages, LeavesOneMore, MayComeNext, StopI
 use Rattle.wm_session.specs.declared.book.Stop.{Stop}
 use Rattle.wm_session.specs.declared.book.Stop.TheVariants as stop
 use Rattle.wm_session.specs.declared.status.Status.{Status}
-use Rattle.wm_session.specs.declared.writing.WriteFault.{WriteFault}
-use Rattle.wm_session.specs.declared.writing.WriteFault.TheVariants as fault
+use Rattle.wm_io.specs.declared.writing.WriteFault.{WriteFault}
+use Rattle.wm_io.specs.declared.writing.WriteFault.TheVariants as fault
 use Rattle.wm_table.specs.Images.{IsLine, IsNoLine, LeavesOnly, WouldLeave}
 use Rattle.wm_table.specs.declared.table.Trouble.{Trouble}
 use Rattle.wm_table.specs.declared.table.Trouble.TheVariants as trouble

@@ -22,15 +22,15 @@ use Rattle.wm_session.specs.Invariant.{AwayInvariant, LinesInvariant, ListsExact
 use Rattle.wm_session.specs.Pending.{PendingState}
 use Rattle.wm_table.specs.Table.{IsClaimAnswer, IsOneStep, IsUntouched, TroubleCause, TurnCause}
 use Rattle.wm_table.specs.TableState.{TableState, TicketState}
-use Rattle.wm_session.specs.Writing.{WriteCause}
+use Rattle.wm_io.specs.Writing.{WriteCause}
 use Rattle.wm_session.specs.declared.book.Stop.{Stop}
 use Rattle.wm_table.specs.declared.table.Claim.TheVariants as claim
 use Rattle.wm_table.specs.declared.table.Claim.{Claim}
 use Rattle.wm_table.specs.declared.table.Trouble.TheVariants as trouble
 use Rattle.wm_table.specs.declared.table.Trouble.{Trouble}
 use Rattle.wm_table.specs.declared.table.TurnAnswer.TheVariants as turn
-use Rattle.wm_session.specs.declared.writing.WriteFault.TheVariants as fault
-use Rattle.wm_session.specs.declared.writing.WriteFault.{WriteFault}
+use Rattle.wm_io.specs.declared.writing.WriteFault.TheVariants as fault
+use Rattle.wm_io.specs.declared.writing.WriteFault.{WriteFault}
 use Rattle.wm_worker.specs.Told.{Report}
 
 pub LinesInvariant-from : (status : Option Stop) (lines done left : List Command) → lines ≡ done ++ left → LinesInvariant status lines done left

@@ -27,9 +27,9 @@ use Rattle.wm_session.specs.Pending.{PendingState, nothing, pending_text}
 use Rattle.wm_session.specs.Tells.{Tells}
 use Rattle.wm_table.specs.Table.{IsOneStep}
 use Rattle.wm_table.specs.TableState.{TableState}
-use Rattle.wm_session.specs.Writing.{WriteCause}
+use Rattle.wm_io.specs.Writing.{WriteCause}
 use Rattle.wm_session.specs.declared.book.Stop.{Stop}
-use Rattle.wm_session.specs.declared.writing.WriteFault.{WriteFault}
+use Rattle.wm_io.specs.declared.writing.WriteFault.{WriteFault}
 
 -- what is the same in every step of the table
 pub record IsStep {K W B : Type 0} (tells : Tells K W B) (e : Event) (old new : BookState K W B) : Type 0 where

@@ -11,8 +11,8 @@ use Rattle.wm_table.specs.declared.table.BeginFault.{BeginFault}
 use Rattle.wm_table.specs.declared.table.BeginFault.TheVariants as begin
 use Rattle.wm_table.specs.declared.table.Trouble.{Trouble}
 use Rattle.wm_table.specs.declared.table.Trouble.TheVariants as trouble
-use Rattle.wm_session.specs.declared.writing.WriteFault.{WriteFault}
-use Rattle.wm_session.specs.declared.writing.WriteFault.TheVariants as fault
+use Rattle.wm_io.specs.declared.writing.WriteFault.{WriteFault}
+use Rattle.wm_io.specs.declared.writing.WriteFault.TheVariants as fault
 
 abbrev pub status_by_begin : BeginFault → Status
 status_by_begin (begin.Bad seq bad_row) = status.BadStore seq bad_row

@@ -25,11 +25,11 @@ use Rattle.wm_table.specs.Inputs.{Inputs}
 use Rattle.wm_session.specs.Invariant.{TextsInvariant}
 use Rattle.wm_session.specs.Pending.{pending_text}
 use Rattle.wm_session.specs.Tells.{Tells}
-use Rattle.wm_session.specs.Writing.{IsAppended, IsPartAppended, WriteCause}
+use Rattle.wm_io.specs.Writing.{IsAppended, WriteCause}
 use Rattle.wm_session.specs.declared.ended.Ended.{Ended}
 use Rattle.wm_session.specs.declared.status.Status.{Status}
 use Rattle.wm_session.specs.declared.status.Status.TheVariants as status
-use Rattle.wm_session.specs.declared.writing.WriteFault.{WriteFault}
+use Rattle.wm_io.specs.declared.writing.WriteFault.{WriteFault}
 use Rattle.wm_table.specs.Table.{HoldsRowsOf}
 use Rattle.wm_worker.specs.declared.answer.Entry.{Entry}
 use Rattle.wm_worker.specs.declared.kind.Kind.{Kind}
@@ -47,6 +47,12 @@ pub record HasCommands (commands : List Command) (ended : Status) (log : List Ev
   pub front : HasPrefix commands (commands_of log)
   pub numbered : AreNumberedFrom 1 log
   pub all : ended ≡ status.Done → commands_of log ≡ commands
+
+-- a front of the text came to its end
+pub record IsPartAppended (before now : Option (List ℕ)) (text : List ℕ) : Type 0 where
+  pub front : List ℕ
+  pub is_front : HasPrefix text front
+  pub given : IsAppended before now front
 
 -- the sink was given a front of the log's text, and all of it on `Done`
 pub record IsTextWritten (before now : Option (List ℕ)) (ended : Status) (first : State) (log : List Event) : Type 0 where

@@ -13,4 +13,3 @@ pub mod Invariant
 pub mod Pending
 pub mod Status
 pub mod Tells
-pub mod Writing

@@ -14,7 +14,6 @@ pub mod serial;
 mod signals;
 pub mod status;
 mod steps;
-mod writing;
 
 pub use book::{After, Book, Front, Job, Over, Stop};
 pub use ended::Ended;

@@ -2,13 +2,12 @@
 ghost use Rattle.std.specs.Prelude.{◌≡◌, ◌++◌, [], false, IfOk, OnOk, OnErr};
 ghost use Rattle.wm_session.specs.Invariant.{TextsInvariant};
 ghost use Rattle.wm_session.specs.Pending.{nothing, pending_text};
-ghost use Rattle.wm_session.specs.Writing.{WriteCause};
+ghost use Rattle.wm_io.specs.Writing.{WriteCause};
 ghost use Rattle.wm_texts.specs.Texts.{last_text};
 
-use crate::writing::{WriteFault, write_front};
 use std::alloc::{AllocError, Global};
 use std::marker::Model;
-use wm_io::Sink;
+use wm_io::{Sink, WriteFault, write_front};
 use wm_keeper::Keeper;
 use wm_table::{Mark, Table};
 use wm_texts::event_text;

@@ -16,8 +16,8 @@ ghost use Rattle.wm_table.specs.Table.{IsOneStep, IsUntouched, TroubleCause};
 
 use crate::book::Stop;
 use crate::status::Status;
-use crate::writing::WriteFault;
 use wm_bench::{Bench, Seated};
+use wm_io::WriteFault;
 use wm_keeper::Keeper;
 use wm_machine::{Command, Event};
 use wm_table::{Claim, Mark, Table, Ticket, Trouble};

@@ -1,19 +1,12 @@
 -- What writing a text gives to its sink.
 use Rattle.std.specs.Prelude.{◌≡◌, ℕ, Bool, true, false, List, ◌++◌, Option, option_map, Result, Err}
-use Rattle.wm_session.specs.declared.writing.WriteFault.{WriteFault}
-use Rattle.wm_session.specs.declared.writing.WriteFault.TheVariants.{Failed}
+use Rattle.wm_io.specs.declared.writing.WriteFault.{WriteFault}
+use Rattle.wm_io.specs.declared.writing.WriteFault.TheVariants.{Failed}
 use Rattle.wm_faults.specs.Faults as faults
-use Rattle.wm_machine.specs.Log.{HasPrefix}
 
 -- where the sink tells what it was given, this came to its end
 abbrev pub IsAppended : Option (List ℕ) → Option (List ℕ) → List ℕ → Type 0
 IsAppended before now text = now ≡ option_map (λ given. given ++ text) before
-
--- a front of the text came to its end
-pub record IsPartAppended (before now : Option (List ℕ)) (text : List ℕ) : Type 0 where
-  pub front : List ℕ
-  pub is_front : HasPrefix text front
-  pub given : IsAppended before now front
 
 abbrev pub is_write_failed : {T : Type 0} → Result T WriteFault → Bool
 is_write_failed (Err Failed) = true

@@ -1,7 +1,8 @@
+//! Writing a text to a sink, in as many pieces as it takes.
 ghost use Rattle.std.specs.Prelude.{◌≡◌, ◌≤◌, length, take, OnOk};
-ghost use Rattle.wm_session.specs.Writing.{IsAppended, WriteCause};
+ghost use Rattle.wm_io.specs.Writing.{IsAppended, WriteCause};
 
-use wm_io::{Put, Sink};
+use crate::sink::{Put, Sink};
 
 /// Why a text wasn't written whole.
 #[derive(Clone, Copy, Debug, PartialEq, Eq)]

@@ -1,6 +1,6 @@
 use Rattle.std.proofs.Common.{◌≡◌, ◌-◌, ◌≤◌, length, take}
-use Rattle.wm_session.specs.Writing.{IsAppended}
-use Rattle.wm_session.proofs.writing.write_front.Given as goal
+use Rattle.wm_io.specs.Writing.{IsAppended}
+use Rattle.wm_io.proofs.writing.write_front.Given as goal
 
 -- the bytes taken were given
 abbrev pub invariant-pieces : goal.invariant-pieces

@@ -1,7 +1,7 @@
 use Rattle.std.proofs.Common.{◌∙◌, length-drop, arith}
 use Rattle.std.proofs.lemmas.List.{length-take}
-use Rattle.wm_session.proofs.WrittenTexts.{IsAppended-piece}
-use Rattle.wm_session.proofs.writing.write_front.Goals as goal
+use Rattle.wm_io.proofs.AppendedTexts.{IsAppended-piece}
+use Rattle.wm_io.proofs.writing.write_front.Goals as goal
 
 pub pieces-preserved : goal.pieces-preserved
 pieces-preserved g c =
