@@ -5,7 +5,7 @@ ghost use Rattle.wm_bench.specs.Places.{most_hands};
 ghost use Rattle.wm_machine.specs.Outcome.{IsAskable};
 ghost use Rattle.wm_roll.specs.Parts.{without};
 ghost use Rattle.wm_session.specs.BetweenRuns.{IsAtBegin};
-ghost use Rattle.wm_session.specs.Hands.{instances_from};
+ghost use Rattle.wm_seating.specs.Hands.{instances_from};
 ghost use Rattle.wm_session.specs.Tells.{tells_of, AreInputs};
 
 use std::alloc::{AllocError, Global};

@@ -11,10 +11,10 @@ use Rattle.wm_machine.specs.declared.state.State.{State}
 use Rattle.wm_worker.specs.declared.kind.Kind.{Kind}
 use Rattle.wm_session.proofs.BoxLemmas.{boxes-given}
 use Rattle.wm_session.proofs.HandLemmas.{EachBack-all, NoneAway-hands}
-use Rattle.wm_session.specs.Bench.{hand_traits, instance_traits, place_traits}
+use Rattle.wm_seating.specs.Bench.{hand_traits, instance_traits, place_traits}
 use Rattle.wm_session.specs.Boxes.{EachBack, IsBoxAfter}
 use Rattle.wm_session.specs.Ended.{AreBoxesBack, AreHandsBack, kept_numbers}
-use Rattle.wm_session.specs.Hands.{instance_of, instances_from}
+use Rattle.wm_seating.specs.Hands.{instance_of, instances_from}
 use Rattle.wm_worker.specs.declared.answer.Entry.{Entry}
 use Rattle.std.proofs.Common.{Option}
 

@@ -29,7 +29,7 @@ use Rattle.wm_rows.specs.Sound.{checked, AreSound}
 use Rattle.wm_rows.specs.declared.fault.RowFault.{RowFault}
 use Rattle.wm_session.specs.Causes.{status_by_begin, status_by_keeper}
 use Rattle.wm_session.specs.Ended.{HasCommands, IsBookEnd, IsSerialEnd, IsSerialRun, IsSessionStatus, IsTextWritten, IsUnbegun}
-use Rattle.wm_session.specs.Hands.{instances_from}
+use Rattle.wm_seating.specs.Hands.{instances_from}
 use Rattle.wm_session.specs.Images.{EndImages}
 use Rattle.wm_session.specs.Tells.{Tells}
 use Rattle.wm_session.specs.declared.ended.Ended.{Ended}

@@ -9,7 +9,7 @@ use Rattle.wm_machine.specs.Rows.{rows_of}
 use Rattle.wm_machine.specs.declared.state.Instance.{Instance}
 use Rattle.wm_rows.specs.Sound.{AreSound}
 use Rattle.wm_session.specs.Ended.{IsBookEnd, IsSerialEnd}
-use Rattle.wm_session.specs.Hands.{instances_from}
+use Rattle.wm_seating.specs.Hands.{instances_from}
 use Rattle.wm_session.specs.Tells.{Tells}
 use Rattle.wm_session.specs.declared.ended.Ended.{Ended}
 use Rattle.wm_table.specs.Images.{LeavesOnly}

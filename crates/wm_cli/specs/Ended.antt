@@ -20,7 +20,7 @@ use Rattle.wm_machine.specs.declared.state.Instance.{Instance}
 use Rattle.wm_machine.specs.declared.state.State.{State}
 use Rattle.wm_rows.specs.Sound.{checked}
 use Rattle.wm_session.specs.Ended.{AreBoxesBack, AreHandsBack, HasCommands, HaveTold, IsSerialRun, IsTextWritten}
-use Rattle.wm_session.specs.Hands.{instances_from}
+use Rattle.wm_seating.specs.Hands.{instances_from}
 use Rattle.wm_session.specs.Tells.{Tells}
 use Rattle.wm_session.specs.declared.ended.Ended.{Ended}
 use Rattle.wm_session.specs.declared.status.Status.{Status}

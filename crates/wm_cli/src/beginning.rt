@@ -7,7 +7,7 @@ ghost use Rattle.wm_cli.specs.Ended.{IsEndedAtOnce, IsRunEnd};
 ghost use Rattle.wm_machine.specs.Outcome.{IsAskable};
 ghost use Rattle.wm_rows.specs.Sound.{AreSound};
 ghost use Rattle.wm_session.specs.BetweenRuns.{IsAtBegin};
-ghost use Rattle.wm_session.specs.Hands.{instances_from};
+ghost use Rattle.wm_seating.specs.Hands.{instances_from};
 ghost use Rattle.wm_session.specs.Tells.{tells_of, AreInputs};
 
 use std::alloc::{AllocFailed, Global};

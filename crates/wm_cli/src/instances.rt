@@ -1,5 +1,5 @@
 ghost use Rattle.std.specs.Prelude.{◌≡◌, ◌^◌, ◌<◌, length, IfOk};
-ghost use Rattle.wm_session.specs.Hands.{instances_from};
+ghost use Rattle.wm_seating.specs.Hands.{instances_from};
 
 use std::alloc::{AllocError, Global};
 use wm_bench::Hand;

@@ -16,7 +16,7 @@ ghost use Rattle.wm_script.specs.Lines.{commands_in};
 ghost use Rattle.wm_script.specs.declared.limits.Limit.{Limit};
 ghost use Rattle.wm_session.specs.BetweenRuns.{IsAtBegin};
 ghost use Rattle.wm_session.specs.Ended.{IsBookEnd, IsSerialEnd, IsTextWritten};
-ghost use Rattle.wm_session.specs.Hands.{instances_from};
+ghost use Rattle.wm_seating.specs.Hands.{instances_from};
 ghost use Rattle.wm_session.specs.Tells.{tells_of, AreInputs};
 ghost use Rattle.wm_table.specs.Table.{row_fault};
 

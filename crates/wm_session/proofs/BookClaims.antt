@@ -16,11 +16,12 @@ use Rattle.wm_machine.specs.Frame.{Frame}
 use Rattle.wm_machine.specs.Runs.{run_numbered, with_out}
 use Rattle.wm_machine.specs.Valid.{Valid}
 use Rattle.wm_machine.specs.declared.event.Event.TheVariants as event
-use Rattle.wm_session.proofs.PlacesAndInstances.{away-changed, away-taken, idle_at-in, kind-of_run, no_seat, seat_is, traits-taken, traits-with_out}
+use Rattle.wm_seating.proofs.PlacesAndInstances.{away-changed, away-taken, idle_at-in, kind-of_run, no_seat, seat_is, traits-taken, traits-with_out}
 use Rattle.wm_session.proofs.BookParts.{AwayInvariant-from, claimed_step}
 use Rattle.wm_roll.specs.Parts.{without}
 use Rattle.wm_roll.specs.declared.part.Part.{Part}
-use Rattle.wm_session.specs.Bench.{instance_traits, is_away, is_out_on, place_traits}
+use Rattle.wm_seating.specs.GivenUp.{roll_given_up}
+use Rattle.wm_seating.specs.Bench.{instance_traits, is_away, is_out_on, place_traits}
 use Rattle.wm_session.specs.Book as book
 use Rattle.wm_session.specs.BookState.{BookState}
 use Rattle.wm_table.specs.Inputs.{Inputs}
@@ -196,7 +197,7 @@ module _ {K W B : Type 0} {run : Inputs} {tells : Tells K W B} where
   -- the roll is as it was once a claim was given up
   pub given_up : {M : Type 0} (claimed : Claim M) (old : BookState K W B) (between : TableState K) → BookInvariant run tells old → old.status ≡ None
       → IsClaimAnswer tells.store (Some claimed) old.table between → between.roll ≡ roll_after old.table.roll claimed
-      → book.roll_given_up claimed between.roll ≡ old.table.roll
+      → roll_given_up claimed between.roll ≡ old.table.roll
   given_up (claim.Run ticket) old between kept going done roll =
       let new = new-on old.table.state old.table.roll ticket.task.run kept.valid (exact_now old going kept.away).of_runs done.step.legal.run_is in
       ap (without ticket.task.run) roll ∙ without-new ticket.task.run old.table.roll (ticket_part ticket) refl new
@@ -206,12 +207,12 @@ module _ {K W B : Type 0} {run : Inputs} {tells : Tells K W B} where
   pub BookInvariant-untold : {M : Type 0} {old : BookState K W B} (claimed : Claim M) (between table : TableState K) (pending : PendingState)
       (sink : W) (stop : Stop)
       → BookInvariant run tells old → old.status ≡ None → IsClaimAnswer tells.store (Some claimed) old.table between
-      → between.roll ≡ roll_after old.table.roll claimed → table ≡ record between { roll = book.roll_given_up claimed between.roll }
+      → between.roll ≡ roll_after old.table.roll claimed → table ≡ record between { roll = roll_given_up claimed between.roll }
       → IsTold run tells old between pending sink (Some stop)
       → (tells.store between.keeper).faults ≡ (tells.store old.table.keeper).faults
       → BookInvariant run tells (record old { table = table; pending = pending; sink = sink; status = Some stop })
   BookInvariant-untold {old = old} claimed between table pending sink stop kept going done roll same told no_fault =
-      let back = book.roll_given_up claimed between.roll in
+      let back = roll_given_up claimed between.roll in
       let after_all : TableState K = record between { roll = back } in
       let step = claimed_step tells.store claimed old.table between done in
       subst (λ t. BookInvariant run tells (record old { table = t; pending = pending; sink = sink; status = Some stop })) (sym same)

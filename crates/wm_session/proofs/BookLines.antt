@@ -15,12 +15,12 @@ use Rattle.wm_machine.specs.declared.command.Command.{Command}
 use Rattle.wm_machine.specs.declared.reply.Reply.{Reply}
 use Rattle.wm_machine.specs.declared.state.State.{State}
 use Rattle.wm_machine.specs.declared.event.Event.TheVariants as event
-use Rattle.wm_session.proofs.PlacesAndInstances.{all_here}
-use Rattle.wm_session.proofs.RetiredPlaces.{away-after, workers-after}
+use Rattle.wm_seating.proofs.PlacesAndInstances.{all_here}
+use Rattle.wm_seating.proofs.RetiredPlaces.{away-after, workers-after}
 use Rattle.wm_session.proofs.BookParts.{AwayInvariant-from}
 use Rattle.wm_session.proofs.BookRolls.{exact-lined}
 use Rattle.wm_session.proofs.WrittenTexts.{TextsInvariant-unwritten}
-use Rattle.wm_session.specs.Bench.{instance_traits, place_traits, places_after, NoneAway}
+use Rattle.wm_seating.specs.Bench.{instance_traits, place_traits, places_after, NoneAway}
 use Rattle.wm_session.specs.BookState.{BookState}
 use Rattle.wm_table.specs.Images.{LeavesOnly}
 use Rattle.wm_table.specs.Inputs.{Inputs}

@@ -14,7 +14,7 @@ use Rattle.wm_roll.specs.declared.part.Part.{Part}
 use Rattle.wm_session.proofs.BookRolls.{out-agrees}
 use Rattle.wm_table.proofs.Claims.{IsClaimAnswer-roll}
 use Rattle.wm_machine.specs.declared.event.Event.TheVariants as event
-use Rattle.wm_session.specs.Bench.{is_away, is_out_on}
+use Rattle.wm_seating.specs.Bench.{is_away, is_out_on}
 use Rattle.wm_session.specs.Book as book
 use Rattle.wm_session.specs.BookState.{BookState}
 use Rattle.wm_session.specs.Causes.{stop_by_fault, stop_by_trouble, StopCause}

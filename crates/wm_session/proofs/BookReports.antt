@@ -19,7 +19,7 @@ use Rattle.wm_machine.specs.Turns.{turned, with_turned}
 use Rattle.wm_runs.proofs.RunLookups.{found-numbered, run_numbered-turned}
 use Rattle.wm_session.proofs.DiaryLemmas.{ticket-found}
 use Rattle.wm_machine.specs.declared.event.Event.TheVariants as event
-use Rattle.wm_session.proofs.PlacesAndInstances.{away-changed, here-back, traits-given, traits-with_out}
+use Rattle.wm_seating.proofs.PlacesAndInstances.{away-changed, here-back, traits-given, traits-with_out}
 use Rattle.wm_session.proofs.BookEvents.{no_more_after_end, no_more_after_turn}
 use Rattle.wm_table.proofs.NoLines.{framed_end, silent_end}
 use Rattle.wm_session.proofs.BookParts.{AwayInvariant-from}
@@ -27,7 +27,7 @@ use Rattle.wm_machine.specs.Step.{after, role_of}
 use Rattle.wm_roll.specs.Parts.{without}
 use Rattle.wm_roll.specs.declared.part.Part.{Part}
 use Rattle.wm_session.proofs.BookRolls.{exact-left, exact-turned}
-use Rattle.wm_session.specs.Bench.{instance_traits, is_away, is_out_on, place_traits}
+use Rattle.wm_seating.specs.Bench.{instance_traits, is_away, is_out_on, place_traits}
 use Rattle.wm_session.specs.Book as book
 use Rattle.wm_session.specs.BookState.{BookState}
 use Rattle.wm_table.specs.Inputs.{Inputs}

@@ -28,8 +28,8 @@ use Rattle.wm_roll.proofs.Strikings.{listed-without}
 use Rattle.wm_roll.specs.Parts.{is_of, without, IsListed}
 use Rattle.wm_roll.specs.declared.part.Part.{Part}
 use Rattle.wm_runs.proofs.RunLookups.{found-numbered, run_numbered-push, run_numbered-turned}
-use Rattle.wm_session.proofs.PlacesAndInstances.{away-changed, here-back, run-from, traits-back}
-use Rattle.wm_session.specs.Bench.{instance_traits, is_away, is_out_on, kind_at, place_traits, Traits}
+use Rattle.wm_seating.proofs.PlacesAndInstances.{away-changed, here-back, run-from, traits-back}
+use Rattle.wm_seating.specs.Bench.{instance_traits, is_away, is_out_on, kind_at, place_traits, Traits}
 use Rattle.wm_session.specs.Invariant.{ListsExactly}
 use Rattle.wm_table.proofs.Parts.{none-without, out-after, out-standing, part-same, stands_in}
 use Rattle.wm_table.specs.Parts.{part_of, ticket_part, IsItOrApart, IsOffRoll, NoneOf, Stands, WasOut}

@@ -18,7 +18,7 @@ use Rattle.wm_roll.specs.declared.part.Part.{Part}
 use Rattle.wm_session.proofs.BookRolls.{out-agrees}
 use Rattle.wm_session.proofs.BookParts.{LinesInvariant-from, StopCause-write, Replay-step}
 use Rattle.wm_session.proofs.WrittenTexts.{TextsInvariant-more}
-use Rattle.wm_session.specs.Bench.{instance_traits, is_away, place_traits}
+use Rattle.wm_seating.specs.Bench.{instance_traits, is_away, place_traits}
 use Rattle.wm_session.specs.BookState.{BookState}
 use Rattle.wm_session.specs.Causes.{stop_by_fault, StopCause}
 use Rattle.wm_table.specs.Inputs.{Inputs}

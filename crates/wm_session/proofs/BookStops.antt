@@ -23,7 +23,7 @@ use Rattle.wm_machine.specs.Runs.{run_numbered}
 use Rattle.wm_machine.specs.declared.state.Run.{Run}
 use Rattle.wm_runs.specs.Reports.{Counts, CountsIn}
 use Rattle.wm_table.specs.Parts.{WasOut}
-use Rattle.wm_session.specs.Bench.{instance_traits, is_away, is_out_on, place_traits, places_after}
+use Rattle.wm_seating.specs.Bench.{instance_traits, is_away, is_out_on, place_traits, places_after}
 use Rattle.wm_session.specs.Book as book
 use Rattle.wm_session.specs.BookState.{BookState}
 use Rattle.wm_session.specs.Causes.{stop_by_trouble, StopCause}

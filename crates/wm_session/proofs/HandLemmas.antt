@@ -10,8 +10,8 @@ use Rattle.wm_machine.specs.Valid.{AreNumberedInOrder}
 use Rattle.wm_machine.specs.declared.state.Instance.{Instance}
 use Rattle.wm_machine.specs.declared.state.State.{State}
 use Rattle.wm_worker.specs.declared.kind.Kind.{Kind}
-use Rattle.wm_session.proofs.PlacesAndInstances.{here-back}
-use Rattle.wm_session.specs.Bench.{NoneAway, Traits, hand_traits, instance_traits, is_away, place_traits}
+use Rattle.wm_seating.proofs.PlacesAndInstances.{here-back}
+use Rattle.wm_seating.specs.Bench.{NoneAway, Traits, hand_traits, instance_traits, is_away, place_traits}
 use Rattle.wm_session.specs.Boxes.{EachAtPlace, EachBack}
 use Rattle.wm_session.specs.Ended.{AreHandsBack, kept_numbers}
 

@@ -13,7 +13,5 @@ pub mod BoxLemmas
 pub mod DiaryLemmas
 pub mod HandLemmas
 pub mod NextLines
-pub mod PlacesAndInstances
-pub mod RetiredPlaces
 pub mod SerialLemmas
 pub mod WrittenTexts

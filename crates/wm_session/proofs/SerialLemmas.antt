@@ -42,8 +42,8 @@ use Rattle.wm_roll.specs.declared.part.Part.{Part}
 use Rattle.wm_session.proofs.BookRolls.{taken_again, without-new}
 use Rattle.wm_session.proofs.HandLemmas.{IsAwayAt-taken, NoneAway-back}
 use Rattle.wm_table.specs.Parts.{ticket_part}
-use Rattle.wm_session.specs.Bench.{NoneAway}
-use Rattle.wm_session.proofs.RetiredPlaces.{idle_at-after, NoneAway-after}
+use Rattle.wm_seating.specs.Bench.{NoneAway}
+use Rattle.wm_seating.proofs.RetiredPlaces.{idle_at-after, NoneAway-after}
 use Rattle.wm_session.specs.Book.{IsBegun, IsClaimStopped, HasStopped, IsFrontStopped, IsLineDone, IsReported, IsStartFailed, IsTurnUntold}
 use Rattle.wm_session.specs.BookState.{BookState}
 use Rattle.wm_session.specs.Boxes.{IsDiaryLater}

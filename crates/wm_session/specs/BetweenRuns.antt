@@ -6,7 +6,7 @@ use Rattle.wm_machine.specs.Quiet.{IsQuiet}
 use Rattle.wm_machine.specs.Replay.{Replay}
 use Rattle.wm_machine.specs.Serial.{AreInOrder, MayGoOn}
 use Rattle.wm_machine.specs.declared.command.Command.{Command}
-use Rattle.wm_session.specs.Bench.{NoneAway}
+use Rattle.wm_seating.specs.Bench.{NoneAway}
 use Rattle.wm_session.specs.BookState.{BookState}
 use Rattle.wm_session.specs.Boxes.{EachAtPlace, HasTold, IsBoxAfter}
 use Rattle.wm_worker.specs.declared.answer.Entry.{Entry}

@@ -14,7 +14,7 @@ use Rattle.wm_machine.specs.declared.event.Event.{Event}
 use Rattle.wm_machine.specs.declared.event.Event.TheVariants as event
 use Rattle.wm_machine.specs.declared.reply.Reply.{Reply}
 use Rattle.wm_machine.specs.declared.state.State.{State}
-use Rattle.wm_session.specs.Bench.{places_after}
+use Rattle.wm_seating.specs.Bench.{places_after}
 use Rattle.wm_session.specs.BookState.{BookState}
 use Rattle.wm_session.specs.Pending.{nothing}
 use Rattle.wm_roll.specs.Parts.{without}
@@ -26,7 +26,6 @@ use Rattle.wm_table.specs.Rolls.{given_again}
 use Rattle.wm_table.specs.Table.{HasGoneOn, IsClaimAnswer, IsFinished, IsOneStep, IsReturned, IsUntouched, IsTicketIn}
 use Rattle.wm_table.specs.TableState.{TicketState}
 use Rattle.wm_table.specs.declared.table.Claim.{Claim}
-use Rattle.wm_table.specs.declared.table.Claim.TheVariants as claim
 use Rattle.wm_session.specs.declared.book.After.{After}
 use Rattle.wm_session.specs.declared.book.After.TheVariants as after
 use Rattle.wm_session.specs.declared.book.Front.{Front}
@@ -163,11 +162,6 @@ pub record HasStopped {K W B : Type 0} (store : K → Store) (old new : BookStat
   pub stays : IsSome old.status → StaysStopped old new
   pub table : IsUntouched store IsNoLine old.table new.table
   pub left : new.left ≡ old.left
-
--- the roll once a claim was given up
-abbrev pub roll_given_up : {M : Type 0} → Claim M → List Part → List Part
-roll_given_up (claim.Run ticket) roll = without ticket.task.run roll
-roll_given_up (claim.Failed seq cause) roll = roll
 
 -- a work was started, or couldn't start, and the session stopped while that was told: a run that began stays in the state, without a
 -- ticket, and its worker stays on the bench

@@ -17,7 +17,7 @@ use Rattle.wm_machine.specs.Waiting.{left_to_drain}
 use Rattle.wm_machine.specs.declared.command.Command.{Command}
 use Rattle.wm_machine.specs.declared.event.Event.{Event}
 use Rattle.wm_machine.specs.declared.event.Event.TheVariants as event
-use Rattle.wm_session.specs.Bench.{NoneAway}
+use Rattle.wm_seating.specs.Bench.{NoneAway}
 use Rattle.wm_session.specs.Book.{GoesOn, HasStopped}
 use Rattle.wm_session.specs.BookState.{BookState}
 use Rattle.wm_session.specs.Boxes.{IsDiaryLater, IsStartOn}

@@ -15,7 +15,7 @@ use Rattle.wm_texts.specs.Texts.{log_text}
 use Rattle.wm_machine.specs.declared.command.Command.{Command}
 use Rattle.wm_machine.specs.declared.event.Event.{Event}
 use Rattle.wm_machine.specs.declared.state.State.{State}
-use Rattle.wm_session.specs.Bench.{hand_traits, instance_traits, place_traits}
+use Rattle.wm_seating.specs.Bench.{hand_traits, instance_traits, place_traits}
 use Rattle.wm_session.specs.BookState.{BookState}
 use Rattle.wm_session.specs.Boxes.{EachBack, HasTold, IsBoxAfter}
 use Rattle.wm_session.specs.Causes.{EndsBy}

@@ -10,7 +10,7 @@ use Rattle.wm_machine.specs.declared.command.Command.{Command}
 use Rattle.wm_machine.specs.declared.state.Run.{Run}
 use Rattle.wm_roll.specs.Parts.{IsListed}
 use Rattle.wm_roll.specs.declared.part.Part.{Part}
-use Rattle.wm_session.specs.Bench.{instance_traits, is_away, is_out_on, place_traits}
+use Rattle.wm_seating.specs.Bench.{instance_traits, is_away, is_out_on, place_traits}
 use Rattle.wm_session.specs.BookState.{BookState}
 use Rattle.wm_session.specs.Causes.{StopCause}
 use Rattle.wm_session.specs.Images.{StopImages}

@@ -1,5 +1,4 @@
 -- What no head of these files takes from a page of the guide is this project's own choice.
-pub mod Bench
 pub mod BetweenRuns
 pub mod Book
 pub mod BookState
@@ -7,7 +6,6 @@ pub mod Boxes
 pub mod Causes
 pub mod Drive
 pub mod Ended
-pub mod Hands
 pub mod Images
 pub mod Invariant
 pub mod Pending

@@ -13,7 +13,6 @@ mod pending;
 pub mod serial;
 mod signals;
 pub mod status;
-mod steps;
 
 pub use book::{After, Book, Front, Job, Over, Stop};
 pub use ended::Ended;

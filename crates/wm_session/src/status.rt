@@ -1,8 +1,10 @@
 ghost use Rattle.std.specs.Prelude.{◌≡◌, IfOk, string_bytes};
+ghost use Rattle.wm_session.specs.Causes.{EndsBy};
 ghost use Rattle.wm_session.specs.Status.{code_of, status_text, limit_name, row_fault_name, bad_store_text};
 
 use crate::book::Stop;
 use std::alloc::{AllocError, Global};
+use wm_io::WriteFault;
 use wm_keeper::KeepFault;
 use wm_script::Limit;
 use wm_table::{BeginFault, Trouble};
@@ -128,4 +130,15 @@ fn bad_store_text(alloc: Global, seq: i64, bad_row: bool) -> Result<String, Allo
     ensures { IfOk result (λ text. string_bytes text ≡ bad_store_text seq bad_row) }
 {
     format!(in alloc; "bad store: row {seq}: {}", row_fault_name(bad_row))
+}
+
+/// How a session ends that stopped for this, or whose last write was answered so.
+pub(crate) fn status_after(stop: Option<Stop>, written: Result<(), WriteFault>) -> Status
+    ensures { EndsBy stop written result }
+{
+    match (stop, written) {
+        (Some(stop), _) => Status::from(stop),
+        (None, Err(fault)) => Status::from(Stop::from(fault)),
+        (None, Ok(())) => Status::Done,
+    }
 }

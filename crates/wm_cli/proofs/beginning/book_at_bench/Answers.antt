@@ -9,7 +9,7 @@ use Rattle.wm_machine.specs.Outcome.{IsAskable}
 use Rattle.wm_machine.specs.Valid.{Valid}
 use Rattle.wm_machine.specs.declared.state.Instance.{Instance}
 use Rattle.wm_machine.specs.declared.state.State.{State}
-use Rattle.wm_session.specs.Bench.{instance_traits, place_traits, NoneAway}
+use Rattle.wm_seating.specs.Bench.{instance_traits, place_traits, NoneAway}
 use Rattle.wm_session.specs.Tells.{tells_of}
 use Rattle.wm_session.proofs.HandLemmas.{NoneAway-hands}
 use Rattle.wm_cli.proofs.beginning.book_at_bench.Goals as goal

@@ -3,7 +3,7 @@ use Rattle.std.proofs.lemmas.List.{take_more, length-take}
 use Rattle.wm_bench.specs.declared.hand.Hand.{Hand}
 use Rattle.wm_cli.proofs.Hands.{instances_from-push}
 use Rattle.wm_machine.specs.declared.state.Instance.{Instance}
-use Rattle.wm_session.specs.Hands.{instance_of, instances_from}
+use Rattle.wm_seating.specs.Hands.{instance_of, instances_from}
 use Rattle.wm_cli.proofs.instances.instances_of.Goals as goal
 
 pub loop-hand-preserved : goal.loop-hand-preserved

@@ -1,5 +1,5 @@
 use Rattle.std.proofs.Common.{◌≡◌, take}
-use Rattle.wm_session.specs.Hands.{instances_from}
+use Rattle.wm_seating.specs.Hands.{instances_from}
 use Rattle.wm_cli.proofs.instances.instances_of.Given as goal
 
 -- the instances of the workers so far

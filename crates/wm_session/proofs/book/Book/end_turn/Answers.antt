@@ -2,7 +2,7 @@ use Rattle.std.proofs.Common.{◌≡◌, None, Some, inr, map, ap, subst, sym, �
 use Rattle.wm_machine.specs.declared.state.State.{State}
 use Rattle.wm_roll.specs.Parts.{without}
 use Rattle.wm_session.proofs.BookRolls.{away-out, given_back, taken_again}
-use Rattle.wm_session.specs.Bench.{is_out_on}
+use Rattle.wm_seating.specs.Bench.{is_out_on}
 use Rattle.wm_table.specs.TableState.{TableState, TicketState}
 use Rattle.wm_session.proofs.BookSteps.{IsTold-all, IsTold-cut}
 use Rattle.wm_session.proofs.BookReports.{over_out, over_roll, turned_instances, unfaulted_over, BookInvariant-over, BookInvariant-turn_untold, BookInvariant-turned, HasLeft-by, IsOver-told, IsOverUntold-told, IsTurnTold-made, IsTurnUntold-made}

@@ -1,6 +1,6 @@
 use Rattle.std.proofs.Common.{◌≡◌, ℕ, false, Option, None, refl, sym, ap, subst, ◌∙◌}
 use Rattle.wm_session.proofs.BookParts.{IsUntold-claimed}
-use Rattle.wm_session.specs.Book.{roll_given_up}
+use Rattle.wm_seating.specs.GivenUp.{roll_given_up}
 use Rattle.wm_session.proofs.BookSteps.{IsTold-all, IsTold-cut}
 use Rattle.wm_session.proofs.BookClaims.{claimed_idle, given_up, BookInvariant-begun, BookInvariant-start_failed, BookInvariant-untold, IsBegun-taken, IsStartFailed-kept}
 use Rattle.wm_session.proofs.BookStops.{BookInvariant-claim_refused}

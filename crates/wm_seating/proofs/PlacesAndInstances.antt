@@ -13,7 +13,7 @@ use Rattle.wm_machine.specs.Valid.{AreNumberedInOrder, IsInstanceOf}
 use Rattle.wm_machine.specs.declared.state.Instance.{Instance}
 use Rattle.wm_machine.specs.declared.state.Run.{Run}
 use Rattle.wm_worker.specs.declared.kind.Kind.{Kind}
-use Rattle.wm_session.specs.Bench.{instance_traits, is_away, kind_at, place_traits, NoneAway, Traits}
+use Rattle.wm_seating.specs.Bench.{instance_traits, is_away, kind_at, place_traits, NoneAway, Traits}
 
 -- ---- what stays of a place and of an instance
 

@@ -1,4 +1,5 @@
-//! What a book does with its parts: it executes a line, puts ticket and worker back, and ends.
+//! What is done to a table and a bench at once: a line is executed, a ticket and its worker put back,
+//! and a claim given up.
 ghost use Rattle.std.specs.Prelude.{◌≡◌, ℕ, Some, OnOk, OnErr};
 ghost use Rattle.wm_bench.specs.Places.{changed_at, made_back, IsAwayAt};
 ghost use Rattle.wm_collections.specs.Lists.{last_of};
@@ -6,18 +7,14 @@ ghost use Rattle.wm_machine.specs.Outcome.{IsLegalLine};
 ghost use Rattle.wm_machine.specs.declared.event.Event.TheVariants as event;
 ghost use Rattle.wm_machine.specs.declared.command.Command.{Command};
 ghost use Rattle.wm_machine.specs.declared.reply.Reply.{Reply};
-ghost use Rattle.wm_session.specs.Bench.{places_after};
+ghost use Rattle.wm_seating.specs.Bench.{places_after};
 ghost use Rattle.wm_roll.specs.Parts.{without};
-ghost use Rattle.wm_session.specs.Book.{roll_given_up};
-ghost use Rattle.wm_session.specs.Causes.{EndsBy};
+ghost use Rattle.wm_seating.specs.GivenUp.{roll_given_up};
 ghost use Rattle.wm_table.specs.Images.{IsLine};
 ghost use Rattle.wm_table.specs.Parts.{WasOut};
 ghost use Rattle.wm_table.specs.Table.{IsOneStep, IsUntouched, TroubleCause};
 
-use crate::book::Stop;
-use crate::status::Status;
 use wm_bench::{Bench, Seated};
-use wm_io::WriteFault;
 use wm_keeper::Keeper;
 use wm_machine::{Command, Event};
 use wm_table::{Claim, Mark, Table, Ticket, Trouble};
@@ -95,16 +92,5 @@ pub fn give_up<K: Keeper, M: Mark>(table: &mut Table<K, M>, claim: Claim<M>)
     match claim {
         Claim::Run(ticket) => table.take_back(ticket),
         Claim::Failed { seq: _, cause } => drop(cause),
-    }
-}
-
-/// How a session ends that stopped for this, or whose last write was answered so.
-pub fn status_after(stop: Option<Stop>, written: Result<(), WriteFault>) -> Status
-    ensures { EndsBy stop written result }
-{
-    match (stop, written) {
-        (Some(stop), _) => Status::from(stop),
-        (None, Err(fault)) => Status::from(Stop::from(fault)),
-        (None, Ok(())) => Status::Done,
     }
 }

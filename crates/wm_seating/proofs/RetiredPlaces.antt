@@ -13,7 +13,7 @@ use Rattle.wm_machine.specs.declared.command.Command.{Command}
 use Rattle.wm_machine.specs.declared.command.Command.TheVariants as command
 use Rattle.wm_machine.specs.declared.state.Instance.{Instance}
 use Rattle.wm_worker.specs.declared.kind.Kind.{Kind}
-use Rattle.wm_session.specs.Bench.{instance_traits, is_away, place_traits, places_after, NoneAway, Traits}
+use Rattle.wm_seating.specs.Bench.{instance_traits, is_away, place_traits, places_after, NoneAway, Traits}
 
 -- ---- one class
 

@@ -2,7 +2,7 @@ use Rattle.std.proofs.Common.{ap, ◌∙◌}
 use Rattle.wm_collections.proofs.Lists.{last_of-push}
 use Rattle.wm_collections.specs.Lists.{last_of}
 use Rattle.wm_machine.specs.declared.event.Event.TheVariants as event
-use Rattle.wm_session.proofs.steps.execute.Goals as goal
+use Rattle.wm_seating.proofs.steps.execute.Goals as goal
 
 pub returns-in-Ok-clause-places : goal.returns-in-Ok-clause-places
 returns-in-Ok-clause-places g c =

@@ -1,0 +1,2 @@
+pub mod PlacesAndInstances
+pub mod RetiredPlaces
