@@ -3,7 +3,7 @@
 #
 # - 2,000 works (or as many as are asked for) of class Count, of 50 turns each, which take next to no time;
 # - as many works of class Busy, of as many turns, which take a processor a millisecond or so, by the program
-#   `busy_worker`, which has four workers of that class and a store in memory.
+#   `own_worker`, which has four workers of that class and a store in memory.
 #
 # Prints the time of each until all works have succeeded, of Count the best of five and of Busy, which takes
 # some four minutes, that of one run, and its ratio to that without workers.
@@ -12,7 +12,7 @@ set -euo pipefail
 shopt -s inherit_errexit
 source "$(dirname "${BASH_SOURCE[0]}")/measure.bash"
 declare -A works=([Count]=${1:-2000} [Busy]=${1:-2000}) turns=([Count]=50 [Busy]=50)
-busy=$root/crates/busy_worker/out/busy_worker
+busy=$root/crates/own_worker/out/own_worker
 
 # Prints a script of the works of a class, in which as many as may be stand in a line.
 script() {
@@ -50,5 +50,5 @@ measure() {
 
 measure Count "$root/crates/work/out/work"
 # Proves and builds the other program where it is outdated.
-(cd "$root/crates/busy_worker" && rt run -- --store build < /dev/null) > "$work/build.log" 2>&1 || { cat "$work/build.log" >&2 && exit 9; }
+(cd "$root/crates/own_worker" && rt run -- --store build < /dev/null) > "$work/build.log" 2>&1 || { cat "$work/build.log" >&2 && exit 9; }
 times=1 measure Busy "$busy"

@@ -1,10 +1,16 @@
 //! A program of a user's own, which `docs/LIBRARY.md` goes through: it runs a script that it has in
 //! memory, with a worker of its own beside a stock one, and places works that it requests by calls.
+//!
+//! With words it then measures what threads gain: it runs the script on standard input with four
+//! workers of class `Busy`, each of whose turns takes a processor a millisecond or so, over a store in
+//! memory. `bench/pool.sh` times that.
 #![tactic(auto)]
 
+mod busy;
 mod photos;
 mod resizer;
 
+use crate::busy::busy_hands;
 use crate::resizer::Resizer;
 use std::alloc::{AllocError, Global};
 use std::io;
@@ -12,10 +18,12 @@ use std::process::ExitCode;
 use std::sync::Wait;
 use std::thread::Threads;
 use wm_bench::Hand;
+use wm_cli::Status;
 use wm_collections::Text;
-use wm_io::{MemorySink, MemorySource};
+use wm_io::{MemorySink, MemorySource, Sink, Source, StdSink, StdSource};
 use wm_keeper::SureKeeper;
 use wm_pool::OpenGate;
+use wm_program::exit;
 use wm_stock::Echo;
 
 /// A photo is resized, and what comes of that is echoed.
@@ -69,10 +77,30 @@ fn placed(alloc: Global) -> Option<String> {
     format!(in alloc; "{count} works are placed").ok()
 }
 
+/// Runs a script with these words and the busy workers.
+fn run_busy<R: Threads + Wait + Sync, S: Source, W: Sink + Send + Drop>(
+    rt: &R,
+    alloc: Global,
+    words: &[String],
+    source: &mut S,
+    sink: W,
+) -> Result<Status, AllocError> {
+    let hands = busy_hands(alloc)?;
+    let keeper = SureKeeper::new(Vec::new(alloc));
+    Ok(wm_cli::run(rt, alloc, words, hands, source, sink, keeper, &OpenGate).status)
+}
+
 fn main(rt: HostRuntime) -> io::Result<ExitCode> {
     let alloc = rt.alloc();
     let (code, written) = run(&rt, alloc)?;
     rt.print(String::from_utf8_lossy(alloc, &written)?)?;
     rt.println(placed(alloc).as_deref().unwrap_or("out of memory"))?;
-    Ok(ExitCode::from(code))
+    let words = wm_program::words(&rt)?;
+    if words.is_empty() {
+        return Ok(ExitCode::from(code));
+    }
+    let mut source = StdSource::new(rt.stdin());
+    let sink = StdSink::new(rt.stdout());
+    let ran = run_busy(&rt, alloc, &words, &mut source, sink);
+    Ok(exit(&rt, alloc, ran))
 }

@@ -1,11 +1,19 @@
-//! Tests of single calls of the table and of whole runs, a table a subject.
+//! Tests of single calls of the table and of a book, whose runs the test drives itself, of whole runs,
+//! also with worker threads that a gate of the test holds, and of how a program ends, a module a
+//! subject.
 //!
-//! It is otherwise empty. What whole runs do, scripts show.
+//! It is otherwise empty. What whole runs do with the program's own workers, worked cases show.
 #![tactic(auto)]
 
 #[cfg(test)]
+mod beside;
+#[cfg(test)]
+mod ends;
+#[cfg(test)]
 mod runs;
 #[cfg(test)]
-mod stores;
+mod signals;
 #[cfg(test)]
 mod table;
+#[cfg(test)]
+mod threads;

@@ -1,7 +1,8 @@
-//! Statuses and whole runs, of `wm_cli`, as far as no worked case shows them.
+//! Whole runs, of `wm_cli`, as far as no worked case shows them.
 ghost use Rattle.std.specs.Prelude.{◌≡◌, ◌≤◌, vec_len, IfOk};
 ghost use Rattle.wm_bench.specs.Places.{most_hands};
 
+use crate::threads::{one_hand, run_at};
 use part_tests::diarist::{Diarist, diary_text};
 use part_tests::hands::add_hand;
 use part_tests::uploader::Uploader;
@@ -14,108 +15,15 @@ use wm_bench::Hand;
 use wm_cli::{Ended, Status, run};
 use wm_collections::Text;
 use wm_data::{Data, DataBuilder, DataFault, Value};
-use wm_io::{MemorySink, MemorySource, StdSink, StdSource};
+use wm_io::{MemorySink, MemorySource};
 use wm_keeper::SureKeeper;
 use wm_pool::OpenGate;
-use wm_script::Limit;
 use wm_steps::both;
 use wm_stock::Echo;
 use wm_worker::Worker;
 
-/// The statuses of a run that began, each with its code and its text.
-fn statuses_of_runs() -> [(Status, u8, &'static str); 5] {
-    [
-        (Status::Done, 0, ""),
-        (Status::SourceFault, 3, "read failed"),
-        (Status::SinkFault, 4, "write failed"),
-        (Status::KeeperFault, 5, "store failed"),
-        (Status::Memory, 8, "out of memory"),
-    ]
-}
-
-/// The statuses of what a run is given, each with its code and its text.
-fn statuses_of_inputs() -> [(Status, u8, &'static str); 4] {
-    [
-        (
-            Status::Usage,
-            2,
-            "usage: work --store NAME [--workers N] [--generate SEED]",
-        ),
-        (
-            Status::ScriptTooLong(Limit::Bytes),
-            7,
-            "script too long: bytes",
-        ),
-        (
-            Status::ScriptTooLong(Limit::Line),
-            7,
-            "script too long: line",
-        ),
-        (
-            Status::ScriptTooLong(Limit::Lines),
-            7,
-            "script too long: lines",
-        ),
-    ]
-}
-
-/// The statuses of stores that aren't opened, each with its text.
-fn statuses_of_stores() -> [(Status, &'static str); 3] {
-    [
-        (
-            Status::BadStore {
-                seq: 3,
-                bad_row: true,
-            },
-            "bad store: row 3: bad row",
-        ),
-        (
-            Status::BadStore {
-                seq: 5,
-                bad_row: false,
-            },
-            "bad store: row 5: unsound",
-        ),
-        (
-            Status::BadStore {
-                seq: -7,
-                bad_row: true,
-            },
-            "bad store: row -7: bad row",
-        ),
-    ]
-}
-
-/// The status has the code and the text.
-fn expect_status(
-    rt: &impl Abort,
-    alloc: Global,
-    status: Status,
-    code: u8,
-    text: &str,
-) -> Result<(), AllocError> {
-    assert_eq!(rt; status.code(), code);
-    assert_eq!(rt; status.text(alloc)?.as_str(), text);
-    Ok(())
-}
-
-#[test]
-fn a_status_has_a_code_and_a_text(rt: HostRuntime) -> Result<(), Fail> {
-    let alloc = rt.alloc();
-    for (status, code, text) in statuses_of_runs() {
-        expect_status(&rt, alloc, status, code, text)?;
-    }
-    for (status, code, text) in statuses_of_inputs() {
-        expect_status(&rt, alloc, status, code, text)?;
-    }
-    for (status, text) in statuses_of_stores() {
-        expect_status(&rt, alloc, status, 6, text)?;
-    }
-    Ok(())
-}
-
 /// The words of an ordinary run.
-pub fn words(alloc: Global) -> Result<Vec<String>, AllocError> {
+fn words(alloc: Global) -> Result<Vec<String>, AllocError> {
     let mut words = Vec::new(alloc);
     words.push(String::from_str(alloc, "--store")?)?;
     words.push(String::from_str(alloc, "demo")?)?;
@@ -140,42 +48,13 @@ fn echo(alloc: Global) -> Result<Hand<Echo>, AllocError> {
 }
 
 /// Two workers of class Echo.
-pub fn echoes(alloc: Global) -> Result<Vec<Hand<Echo>>, AllocError>
+fn echoes(alloc: Global) -> Result<Vec<Hand<Echo>>, AllocError>
     ensures { IfOk result (λ hands. vec_len hands ≤ most_hands) }
 {
     let mut hands = Vec::new(alloc);
     hands.push(echo(alloc)?)?;
     hands.push(echo(alloc)?)?;
     Ok(hands)
-}
-
-/// How a run of the script ends with these words and workers, over std's reader and writer and a
-/// keeper that never fails, and what it writes.
-fn run_of_echoes<R: Threads + Wait + Sync>(
-    rt: &R,
-    alloc: Global,
-    words: &[String],
-    hands: Vec<Hand<Echo>>,
-) -> (Status, Vec<u8>)
-    requires { vec_len hands ≤ most_hands }
-{
-    let mut written = Vec::new(alloc);
-    let mut source = StdSource::new(SCRIPT.as_bytes());
-    let sink = StdSink::new(&mut written);
-    let keeper = SureKeeper::new(Vec::new(alloc));
-    let ended = run(
-        rt,
-        alloc,
-        words,
-        hands,
-        &mut source,
-        sink,
-        keeper,
-        &OpenGate,
-    );
-    let status = ended.status;
-    drop(ended);
-    (status, written)
 }
 
 /// A run over std's reader and writer and a keeper that never fails.
@@ -184,23 +63,10 @@ fn a_run_takes_any_source_sink_and_keeper(rt: HostRuntime) -> Result<(), Fail> {
     let alloc = rt.alloc();
     let words = words(alloc)?;
     let hands = echoes(alloc)?;
-    let (status, written) = run_of_echoes(&rt, alloc, &words, hands);
+    let (status, written) = run_at(&rt, alloc, &words, hands, SCRIPT, &OpenGate);
     assert_eq!(rt; status, Status::Done);
     assert_eq!(rt; written.as_slice(), REPLIES.as_bytes());
     Ok(())
-}
-
-/// The one hand of a run: a boxed worker of this class.
-fn one_hand(
-    alloc: Global,
-    class: &str,
-    worker: Box<dyn Worker + Send>,
-) -> Result<Vec<Hand>, AllocError>
-    ensures { IfOk result (λ hands. vec_len hands ≤ most_hands) }
-{
-    let mut hands = Vec::new(alloc);
-    add_hand(alloc, &mut hands, class, worker)?;
-    Ok(hands)
 }
 
 /// What is left of a run: how it ended, what it wrote, how many events it had, and the hands that

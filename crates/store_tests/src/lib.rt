@@ -1,4 +1,6 @@
-//! Tests of the keepers of `wm_sqlite`, over stores in memory and over files.
+//! Tests of the keepers of `wm_sqlite`, over stores in memory and over files, of whole runs over them,
+//! and of a store that is stopped after each number of calls of its disk: what is found when it is
+//! opened again.
 //!
 //! It is otherwise empty.
 #![tactic(auto)]
@@ -7,5 +9,13 @@
 mod files;
 #[cfg(test)]
 mod rows;
+#[cfg(test)]
+mod runs;
+#[cfg(test)]
+mod state_rows;
+#[cfg(test)]
+mod stores;
+#[cfg(test)]
+mod sweep;
 #[cfg(test)]
 mod tables;

@@ -180,7 +180,7 @@ pub(crate) fn change_one<K: Keeper>(
 }
 
 /// One change.
-fn one(alloc: Global, change: Change) -> Result<Vec<Change>, AllocError>
+pub(crate) fn one(alloc: Global, change: Change) -> Result<Vec<Change>, AllocError>
     ensures { IfOk result (λ changes. AreOfDifferentNumbers changes.items) }
 {
     Ok(vec![in alloc; change]?)

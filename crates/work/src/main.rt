@@ -3,32 +3,20 @@
 //! contract of [`wm_cli::run`].
 #![tactic(auto)]
 
-#[cfg(test)]
-mod tests;
-
 use std::alloc::{AllocError, Global};
 use std::process::ExitCode;
 use std::rt::Env;
 use std::sync::Wait;
 use std::thread::Threads;
-use std::{env, io};
 use wm_bench::Hand;
 use wm_cli::Status;
 use wm_collections::Text;
 use wm_io::{Sink, Source, StdSink, StdSource};
 use wm_keeper::Keeper;
 use wm_pool::OpenGate;
+use wm_program::{exit, words};
 use wm_sqlite::FileKeeper;
 use wm_stock::{AnyStock, STOCK_WORKERS};
-
-/// The words of the command line after the program's name. Where the system doesn't give them,
-/// there is none.
-fn words(rt: &(impl Env + AllocGlobal)) -> Result<Vec<String>, AllocError> {
-    match env::args(rt) {
-        Ok(words) => words.skip(1).collect(rt.alloc()),
-        Err(_) => Ok(Vec::new(rt.alloc())),
-    }
-}
 
 /// Runs a script with these words and the stock workers, a few of each kind, whose classes are
 /// named as their kinds.
@@ -48,24 +36,6 @@ fn run<R: Threads + Wait + Sync, S: Source, W: Sink + Send + Drop, K: Keeper + S
         hands.push(Hand { class, worker })?;
     }
     Ok(wm_cli::run(rt, alloc, words, hands, source, sink, keeper, &OpenGate).status)
-}
-
-/// Prints what a status has to say on standard error.
-fn report(rt: &impl Eprint, alloc: Global, status: &Status) -> io::Result<()> {
-    let text = status.text(alloc)?;
-    if !text.is_empty() {
-        rt.eprintln(text.as_str())?;
-    }
-    Ok(())
-}
-
-/// The exit status of a run, which has said what it has to say. Where memory was refused before
-/// the run, it ended so.
-fn exit(rt: &impl Eprint, alloc: Global, ran: Result<Status, AllocError>) -> ExitCode {
-    let status = ran.unwrap_or(Status::Memory);
-    // A text that can't be printed changes nothing of how the run ended.
-    let _ = report(rt, alloc, &status);
-    ExitCode::from(status.code())
 }
 
 /// Runs a script with the words of the command line.

@@ -1,20 +1,15 @@
 //! Whole runs over SQLite stores in memory, in which rows stand that were committed before.
-ghost use Rattle.std.specs.Prelude.{◌≡◌, IfOk};
-ghost use Rattle.wm_keeper.specs.Keeper.{AreOfDifferentNumbers};
-
-use crate::runs::{echoes, words};
+use crate::rows::one;
+use crate::runs::{keeper_of, run_with};
 use sqlite::{Connection, MemStore};
 use std::alloc::{AllocError, Global};
 use std::sync::Wait;
 use std::test::Fail;
 use std::thread::Threads;
-use wm_cli::{Ended, Status, run};
+use wm_cli::Status;
 use wm_collections::{Items, Text};
-use wm_io::{StdSink, StdSource};
 use wm_keeper::{Change, KeepFault, Keeper, Row};
-use wm_pool::OpenGate;
 use wm_sqlite::SqliteKeeper;
-use wm_stock::Echo;
 
 /// The id of the work that is stored.
 const ID: [u8; 16] = [0, 0, 0, 0, 0, 0, 0, 0, 0, 0, 0, 0, 0, 0, 0, 1];
@@ -59,26 +54,12 @@ fn row_of(alloc: Global, stored: &Stored<'_>) -> Result<Row, AllocError> {
     })
 }
 
-/// A put of this row alone.
-fn put(alloc: Global, row: Row) -> Result<Vec<Change>, AllocError>
-    ensures { IfOk result (λ changes. AreOfDifferentNumbers changes.items) }
-{
-    Ok(vec![in alloc; Change::Put(row)]?)
-}
-
 /// A store in memory to which a keeper committed this row.
 fn store_of(alloc: Global, row: Row) -> Result<Connection<MemStore>, KeepFault> {
     let mut keeper = SqliteKeeper::adopt(Connection::open_in_memory(alloc)?);
-    let changes = put(alloc, row)?;
+    let changes = one(alloc, Change::Put(row))?;
     keeper.commit(changes.as_slice())?;
     Ok(keeper.into_connection())
-}
-
-/// The keeper that comes back from a run.
-fn keeper_of(
-    ended: Ended<SqliteKeeper<MemStore>, StdSink<&mut Vec<u8>>, Echo>,
-) -> SqliteKeeper<MemStore> {
-    ended.keeper
 }
 
 /// How a run of this script over a store ends, what it writes, and the store.
@@ -88,25 +69,11 @@ fn run_over<R: Threads + Wait + Sync>(
     store: Connection<MemStore>,
     script: &str,
 ) -> Result<(Status, Vec<u8>, Connection<MemStore>), AllocError> {
-    let words = words(alloc)?;
-    let hands = echoes(alloc)?;
-    let mut written = Vec::new(alloc);
-    let mut source = StdSource::new(script.as_bytes());
-    let sink = StdSink::new(&mut written);
-    let keeper = SqliteKeeper::adopt(store);
-    let ended = run(
-        rt,
-        alloc,
-        &words,
-        hands,
-        &mut source,
-        sink,
-        keeper,
-        &OpenGate,
-    );
+    let ended = run_with(rt, alloc, SqliteKeeper::adopt(store), script)?;
     let status = ended.status;
+    let written = Vec::from_slice(alloc, ended.sink.bytes());
     let store = keeper_of(ended).into_connection();
-    Ok((status, written, store))
+    Ok((status, written?, store))
 }
 
 /// The number, the phase and the attempt of each row.

@@ -2,7 +2,7 @@
 ghost use Rattle.std.specs.Prelude.{◌≤◌, vec_len, IfOk};
 ghost use Rattle.wm_bench.specs.Places.{most_hands};
 
-use crate::rows::rows_of;
+use crate::state_rows::rows_of;
 use sqlite::{Alter, Connection};
 use sqlite_disk::{Disk, Files};
 use sqlite_pager::Options;
@@ -69,7 +69,7 @@ fn words(alloc: Global) -> Result<Vec<String>, AllocError> {
 }
 
 /// How a run of a script over a store ends.
-fn run_with<R: Threads + Wait + Sync, K: Keeper + Send + Drop>(
+pub(crate) fn run_with<R: Threads + Wait + Sync, K: Keeper + Send + Drop>(
     rt: &R,
     alloc: Global,
     keeper: K,
@@ -106,7 +106,7 @@ fn told_of<K: Keeper + Drop>(
 }
 
 /// The keeper that comes back from a run.
-fn keeper_of<K: Keeper + Drop>(ended: Ended<K, MemorySink, AnyStock>) -> K {
+pub(crate) fn keeper_of<K: Keeper + Drop>(ended: Ended<K, MemorySink, AnyStock>) -> K {
     ended.keeper
 }
 

@@ -1,16 +1,14 @@
-//! What the program says in the end.
+//! How a program ends and what it says in the end, of `wm_program`.
 
-use crate::{exit, run};
 use std::alloc::{AllocError, Global};
 use std::cell::RefCell;
 use std::fmt::Display;
 use std::io;
 use std::process::ExitCode;
-use std::sync::Wait;
 use std::test::Fail;
-use std::thread::Threads;
-use wm_io::{StdSink, StdSource};
-use wm_keeper::SureKeeper;
+use wm_cli::Status;
+use wm_program::exit;
+use wm_script::Limit;
 
 /// Standard error, in memory.
 struct Page {
@@ -33,48 +31,41 @@ impl Eprint for Page {
     }
 }
 
-/// How the program ends with these words on a script of so many bytes that is one line, and what
-/// it says on standard error.
-fn ended<R: Threads + Wait + Sync>(
-    rt: &R,
-    alloc: Global,
-    words: &[&str],
-    bytes: usize,
-) -> Result<(ExitCode, String), AllocError> {
-    let mut copies = Vec::new(alloc);
-    for word in words {
-        copies.push(String::from_str(alloc, word)?)?;
-    }
-    let script = vec![in alloc; b'x'; bytes]?;
-    let mut replies = Vec::new(alloc);
-    let mut source = StdSource::new(script.as_slice());
-    let sink = StdSink::new(&mut replies);
-    let keeper = SureKeeper::new(Vec::new(alloc));
-    let ran = run(rt, alloc, &copies, &mut source, sink, keeper);
+/// How a program ends whose run ended so, and what it says on standard error.
+fn ended(alloc: Global, ran: Result<Status, AllocError>) -> (ExitCode, String) {
     let page = Page {
         alloc,
         text: RefCell::new(String::new(alloc)),
     };
     let code = exit(&page, alloc, ran);
     let Page { alloc: _, text } = page;
-    Ok((code, text.into_inner()))
+    (code, text.into_inner())
 }
 
+/// Of each other status a worked case shows the code and the text.
 #[test]
 fn the_program_ends_with_a_code_and_a_text(rt: HostRuntime) -> Result<(), Fail> {
     let usage = "usage: work --store NAME [--workers N] [--generate SEED]\n";
-    let cases: [(&[&str], usize, u8, &str); 3] = [
-        (&["--store", "demo"], 1_048_576, 0, ""),
-        (&["--store"], 1, 2, usage),
+    let cases = [
+        (Ok(Status::Done), 0, ""),
+        (Ok(Status::Usage), 2, usage),
         (
-            &["--store", "demo"],
-            1_048_577,
+            Ok(Status::ScriptTooLong(Limit::Line)),
             7,
             "script too long: line\n",
         ),
+        (
+            Ok(Status::BadStore {
+                seq: -7,
+                bad_row: true,
+            }),
+            6,
+            "bad store: row -7: bad row\n",
+        ),
+        (Err(AllocError), 8, "out of memory\n"),
     ];
-    for (words, bytes, code, text) in cases {
-        let (ended, said) = ended(&rt, rt.alloc(), words, bytes)?;
+    for (ran, code, text) in cases {
+        let (ended, said) = ended(rt.alloc(), ran);
         assert!(rt; ended == ExitCode::from(code), "{text}");
         assert_eq!(rt; said.as_str(), text);
     }

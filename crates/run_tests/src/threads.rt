@@ -88,6 +88,19 @@ pub(crate) fn words(alloc: Global, workers: &str) -> Result<Vec<String>, AllocEr
     Ok(words)
 }
 
+/// One worker.
+pub(crate) fn one_hand<B: Drop>(
+    alloc: Global,
+    class: &str,
+    worker: B,
+) -> Result<Vec<Hand<B>>, AllocError>
+    ensures { IfOk result (λ hands. vec_len hands ≤ most_hands) }
+{
+    let mut hands = Vec::new(alloc);
+    add_hand(alloc, &mut hands, class, worker)?;
+    Ok(hands)
+}
+
 /// Four workers of class Count.
 fn counts(alloc: Global) -> Result<Vec<Hand<Count>>, AllocError>
     ensures { IfOk result (λ hands. vec_len hands ≤ most_hands) }

@@ -1,5 +1,5 @@
 use Rattle.wm_session.specs.Tells.{inputs_of, tells_of}
-use Rattle.book_tests.proofs.beside.fronts_with.Given as goal
+use Rattle.run_tests.proofs.beside.fronts_with.Given as goal
 
 -- the mark of the run is what it is given
 abbrev pub ghosts-fronts_over : goal.ghosts-fronts_over

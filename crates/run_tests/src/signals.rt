@@ -1,17 +1,13 @@
 //! Runs with one worker thread whose worker looks at its signal, which a gate of the test holds.
-ghost use Rattle.std.specs.Prelude.{◌≤◌, vec_len, IfOk};
-ghost use Rattle.wm_bench.specs.Places.{most_hands};
-
-use crate::threads::{MOST_POLLS, run_at, words};
-use part_tests::hands::add_hand;
+use crate::runs::data_of;
+use crate::threads::{MOST_POLLS, one_hand, run_at, words};
 use std::alloc::{AllocError, Global};
 use std::process::Abort;
 use std::sync::atomic::{AtomicBool, AtomicU64, Ordering};
 use std::test::Fail;
 use std::thread;
-use wm_bench::Hand;
 use wm_cli::Status;
-use wm_data::{Data, DataBuilder, Value};
+use wm_data::Value;
 use wm_pool::{Gate, Point};
 use wm_stock::Wait;
 use wm_worker::{Answer, Entry, Kind, Signal, Task, Told, Worker};
@@ -119,31 +115,9 @@ impl<'a, R: Abort> Worker for Look<'a, R> {
         if let Some(raised) = signal.poll() {
             self.watch.seen.store(raised.run(), Ordering::SeqCst);
         }
-        let output = nine(alloc)?;
+        let output = data_of(alloc, "a", Value::Int(9))?;
         Told::new(alloc, Kind::Custom, task, k, Answer::Success(output))
     }
-}
-
-/// Data of one number.
-fn nine(alloc: Global) -> Result<Data, AllocError> {
-    let mut builder = DataBuilder::new(alloc);
-    match builder.put(String::from_str(alloc, "a")?, Value::Int(9)) {
-        Ok(()) => builder.build().map_err(|_| AllocError),
-        Err(_) => Err(AllocError),
-    }
-}
-
-/// One worker.
-pub(crate) fn one_hand<B: Drop>(
-    alloc: Global,
-    class: &str,
-    worker: B,
-) -> Result<Vec<Hand<B>>, AllocError>
-    ensures { IfOk result (λ hands. vec_len hands ≤ most_hands) }
-{
-    let mut hands = Vec::new(alloc);
-    add_hand(alloc, &mut hands, class, worker)?;
-    Ok(hands)
 }
 
 const STOPPED: &str = r#"{"cmd":"conditions","connected":true}

@@ -1,6 +1,6 @@
 use Rattle.std.proofs.Common.{◌∙◌}
-use Rattle.book_tests.proofs.Fronts.{front-roll}
-use Rattle.book_tests.proofs.beside.fronts.Goals as goal
+use Rattle.run_tests.proofs.Fronts.{front-roll}
+use Rattle.run_tests.proofs.beside.fronts.Goals as goal
 
 pub around_a_run-beside-requires : goal.around_a_run-beside-requires
 around_a_run-beside-requires g c =
