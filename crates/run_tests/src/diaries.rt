@@ -2,8 +2,7 @@
 ghost use Rattle.std.specs.Prelude.{◌≤◌, vec_len};
 ghost use Rattle.wm_bench.specs.Places.{most_hands};
 
-use crate::signals::one_hand;
-use crate::threads::words;
+use crate::threads::{one_hand, words};
 use part_tests::diarist::{Diarist, diary_text};
 use std::alloc::{AllocError, Global};
 use std::sync::Wait;

@@ -8,6 +8,8 @@
 #[cfg(test)]
 mod beside;
 #[cfg(test)]
+mod diaries;
+#[cfg(test)]
 mod ends;
 #[cfg(test)]
 mod runs;

@@ -1,1 +1,0 @@
--- What no head of these files takes from a page of the guide is this project's own choice.

@@ -1,3 +1,2 @@
--- What no head of these files takes from a page of the guide is this project's own choice.
 pub mod Places
 pub mod Seat

@@ -1,3 +1,4 @@
+//! The bench: a place for each instance, with its worker on it, out with a seat, or dropped.
 ghost use Rattle.std.specs.Prelude.{◌≡◌, ℕ, ◌≤◌, map, count_by, vec_len, IfOk, IfErr, IfSome, IfNone, OnSome, option_map};
 ghost use Rattle.wm_worker.specs.declared.kind.Kind.{Kind};
 

@@ -1,3 +1,4 @@
+//! A worker that a run is given, with its class.
 use wm_collections::Text;
 use wm_worker::Worker;
 

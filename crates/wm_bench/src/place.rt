@@ -1,3 +1,4 @@
+//! One place of a bench, and what taking, giving and retiring leave of it.
 ghost use Rattle.std.specs.Prelude.{◌≡◌, ◌<◌, ◌≤◌, length, map, count_by, IfSome, IfNone};
 ghost use Rattle.wm_bench.specs.Places.{IsAwayAt, changed_at, idle_at, is_idle_of, made_away, made_back, most_hands, retired_at};
 

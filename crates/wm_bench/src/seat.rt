@@ -1,3 +1,4 @@
+//! A worker that is out for a run, with the number of its place.
 ghost use Rattle.std.specs.Prelude.{◌≡◌, [], ◌∷◌, IfOk, OnOk, OnErr, IsTrue, IsSome};
 ghost use Rattle.wm_worker.specs.Answers.{given_of};
 ghost use Rattle.wm_worker.specs.Diary.{diary_with, turn_entries};

@@ -1,3 +1,4 @@
+//! Works as one batch, or the first fault by which they aren't.
 ghost use Rattle.std.specs.Prelude.{◌≡◌, ◌≤◌, ◌∷◌, [], find, length, map, option_map, Ok, IfOk, IfErr};
 ghost use Rattle.wm_chain.specs.Walk.{again, batched, fault_in, fault_of, IsFaultOf};
 ghost use Rattle.wm_request.specs.Batches.{has_id, ids_of, periodic_ids};

@@ -1,3 +1,4 @@
+//! A chain of works that is put together layer by layer.
 ghost use Rattle.std.specs.Prelude.{◌≡◌, ◌≤◌, ◌++◌, length, map, Ok, IfOk, IfErr, OnOk};
 ghost use Rattle.wm_chain.specs.Layers.{combined, layered, node_after, no_layer, request_ids};
 ghost use Rattle.wm_chain.specs.Walk.{batched, IsFaultOf};

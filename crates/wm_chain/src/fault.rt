@@ -1,3 +1,4 @@
+//! Why works aren't a batch.
 ghost use Rattle.std.specs.Prelude.{◌≡◌};
 
 use std::alloc::AllocError;

@@ -1,4 +1,3 @@
--- What no head of these files takes from a page of the guide is this project's own choice.
 pub mod Benched
 pub mod Causes
 pub mod Desk

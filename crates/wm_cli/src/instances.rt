@@ -1,3 +1,4 @@
+//! The instances that the given workers are.
 ghost use Rattle.std.specs.Prelude.{◌≡◌, ◌^◌, ◌<◌, length, IfOk};
 ghost use Rattle.wm_seating.specs.Hands.{instances_from};
 

@@ -1,3 +1,4 @@
+//! The top call: all that the program does, with its contract.
 ghost use Rattle.std.specs.Prelude.{◌≡◌, ◌↔◌, ◌+◌, ◌≤◌, ◌<◌, ◌^◌, ℤ, Bool, List, [], length, map, vec_len, true, false, None, Some, Err, IfOk, IfErr, IfSome, IsSome, OnOk, string_bytes};
 ghost use Rattle.std.specs.List.{AllByRecursion};
 ghost use Rattle.wm_bench.specs.Places.{idle_hands, most_hands};

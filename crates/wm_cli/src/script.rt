@@ -1,3 +1,4 @@
+//! The reading of a script from its source, to its end or past its limit.
 ghost use Rattle.std.specs.Prelude.{◌≡◌, ◌+◌, ◌<◌, ◌≤◌, length, IfOk};
 ghost use Rattle.wm_cli.specs.Script.{IsPieceOf, IsReadFrom, IsTakenWithin, ReadCause};
 

@@ -1,3 +1,4 @@
+//! The list of all public types.
 ghost use Rattle.std.specs.Prelude.{◌≡◌, ◌==◌, List, [], ◌∷◌, ◌++◌, length, IfErr, OnOk, OnErr};
 
 use std::alloc::{AllocError, AllocFailed, Global};

@@ -1,3 +1,4 @@
+//! Whether a number is among others.
 ghost use Rattle.std.specs.Prelude.{◌≡◌};
 ghost use Rattle.wm_collections.specs.Lists.{is_among};
 

@@ -1,3 +1,4 @@
+//! Copies that contracts know to be equal.
 ghost use Rattle.std.specs.Prelude.{◌≡◌, IfOk};
 
 use crate::items::Items;

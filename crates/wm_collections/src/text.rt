@@ -1,3 +1,4 @@
+//! The text of all public types.
 ghost use Rattle.std.specs.Prelude.{◌≡◌, ◌==◌, ℕ, List, length, string_bytes, Decides, IfOk};
 ghost use Rattle.std.specs.Str.{bytes_eq};
 

@@ -1,3 +1,5 @@
+//! What constraints and conditions are made of.
+
 /// The network that a work needs, after `androidx.work.NetworkType`.
 #[derive(Clone, Copy, Debug, PartialEq, Eq)]
 pub enum Network {

@@ -1,3 +1,4 @@
+//! Whether conditions meet constraints.
 ghost use Rattle.std.specs.Prelude.{◌≡◌};
 ghost use Rattle.wm_conditions.specs.Met.{met, network_met};
 

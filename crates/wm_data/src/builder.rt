@@ -1,3 +1,4 @@
+//! Data that is put together entry by entry, and its greatest size.
 ghost use Rattle.std.specs.Prelude.{◌≡◌, ◌<◌, ◌≤◌, [], length, Ok, IfOk, IfErr, OnOk, OnErr, string_bytes};
 ghost use Rattle.wm_data.specs.Entries.{built_of, put_of, with_entry, IsFaultOf, IsFoundAt, IsMissingAt};
 ghost use Rattle.wm_data.specs.declared.data.DataEntry.{DataEntry};

@@ -1,3 +1,4 @@
+//! Data: entries in the order of their keys, of a limited size.
 ghost use Rattle.std.specs.Prelude.{◌≡◌, ◌≤◌, [], length, ◌==◌, option_map, Decides, IfOk, IfErr};
 ghost use Rattle.std.specs.Cmp.Lexicographic.{pointwise};
 ghost use Rattle.wm_data.specs.Entries.{value_at};

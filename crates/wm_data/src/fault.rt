@@ -1,3 +1,4 @@
+//! Why there is no Data.
 use std::alloc::AllocError;
 use wm_collections::Text;
 

@@ -1,3 +1,5 @@
+//! The two ways in which inputs become one.
+
 /// How the inputs of a work become one, after WorkManager's `InputMerger`s.
 #[derive(Clone, Copy, Debug, PartialEq, Eq)]
 pub enum Merger {

@@ -1,3 +1,4 @@
+//! Where the entry of a key stands.
 ghost use Rattle.std.specs.Prelude.{map, IfOk, IfErr};
 ghost use Rattle.wm_collections.specs.Lists.{AscendByBytes};
 ghost use Rattle.wm_data.specs.Entries.{IsFoundAt, IsMissingAt};

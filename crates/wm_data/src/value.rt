@@ -1,3 +1,4 @@
+//! The values that Data holds.
 ghost use Rattle.wm_data.specs.InType.{IsInType};
 
 use crate::number::{Number, read_each};

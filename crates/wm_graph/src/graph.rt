@@ -1,3 +1,4 @@
+//! The graph: nodes in ascending number, and what is asked of them.
 ghost use Rattle.std.specs.Prelude.{◌≡◌, ◌<◌, ◌≤◌, [], ◌∷◌, ◌++◌, length, reverse, take, false, IfOk, OnOk, OnErr};
 ghost use Rattle.std.specs.List.{AllByRecursion};
 ghost use Rattle.wm_graph.specs.Descendants.{dependents, descendants, AreDescendants, BeginsWith};

@@ -1,3 +1,4 @@
+//! The trait of a sink, and what a write answers.
 ghost use Rattle.std.specs.Prelude.{ℕ, ◌<◌, List, length, Option};
 
 /// What a write answers.

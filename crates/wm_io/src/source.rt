@@ -1,3 +1,4 @@
+//! The trait of a source, and what a read answers.
 ghost use Rattle.std.specs.Prelude.{ℕ, ◌<◌, List, length, Option};
 
 /// What a read answers.

@@ -1,3 +1,4 @@
+//! A source and a sink over the readers and writers of std.
 ghost use Rattle.std.specs.Prelude.{◌≡◌, ℕ, ◌<◌, ◌≤◌, length, None, IfOk};
 
 use crate::sink::{Put, Sink};

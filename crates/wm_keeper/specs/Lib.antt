@@ -1,4 +1,3 @@
--- What no head of these files takes from a page of the guide is this project's own choice.
 pub mod Ascends
 pub mod Keeper
 pub mod Memory

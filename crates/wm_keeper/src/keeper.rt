@@ -1,3 +1,4 @@
+//! The trait of a keeper, and why it didn't do what it was asked.
 ghost use Rattle.std.specs.Prelude.{◌≡◌, Some, IfOk, IfSome, OnOk, OnErr};
 
 use crate::row::{Change, Row};

@@ -1,3 +1,4 @@
+//! A keeper in memory, which fails where it is told to.
 ghost use Rattle.std.specs.Prelude.{◌≡◌, ◌==◌, ◌↔◌, if◌then◌else◌, IsTrue, IfOk, OnOk, OnErr, IsErrOf};
 ghost use Rattle.std.specs.List.{list_any};
 

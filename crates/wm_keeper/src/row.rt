@@ -1,3 +1,4 @@
+//! The row of a work, and a change of the rows that are kept.
 use std::alloc::{AllocError, Global};
 use wm_collections::{Items, Replica, Text};
 

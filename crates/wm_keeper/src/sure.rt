@@ -1,3 +1,4 @@
+//! A keeper in memory that never fails.
 ghost use Rattle.std.specs.Prelude.{◌≡◌, IfOk, OnOk, OnErr, IsOkUnless};
 
 use crate::keeper::{KeepFault, Keeper};

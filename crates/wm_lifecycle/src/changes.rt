@@ -1,3 +1,4 @@
+//! The changes of one record: by its own run, and by the end of another.
 ghost use Rattle.std.specs.Prelude.{◌≡◌, IfOk};
 ghost use Rattle.wm_machine.specs.Closed.{closed};
 ghost use Rattle.wm_machine.specs.Ends.{ended, enqueued_again, not_started, retried, succeeded, with_output};

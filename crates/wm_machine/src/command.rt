@@ -1,3 +1,4 @@
+//! What a line asks for, and what may be wrong with it.
 use crate::state::WorkQuery;
 use std::alloc::{AllocError, Global};
 use uuid::Uuid;

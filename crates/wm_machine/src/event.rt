@@ -1,3 +1,4 @@
+//! The events of a log.
 use crate::command::Command;
 use crate::reply::Reply;
 use std::alloc::{AllocError, Global};

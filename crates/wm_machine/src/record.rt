@@ -1,3 +1,4 @@
+//! What is known of one work, with its phase and the state that is shown.
 ghost use Rattle.std.specs.Prelude.{◌≡◌};
 ghost use Rattle.wm_machine.specs.Closed.{is_open};
 ghost use Rattle.wm_machine.specs.Due.{due_of, times_of};

@@ -1,3 +1,4 @@
+//! What is answered to a command, with what is told of works.
 use crate::command::LineFault;
 use crate::record::Shown;
 use std::alloc::{AllocError, Global};

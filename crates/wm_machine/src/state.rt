@@ -1,3 +1,4 @@
+//! The state of the machine: records, runs, instances and what is set.
 ghost use Rattle.std.specs.Prelude.{◌≡◌, IfOk};
 
 use crate::record::{Record, Shown};

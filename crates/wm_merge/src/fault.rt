@@ -1,3 +1,4 @@
+//! Why inputs don't become one.
 use std::alloc::AllocError;
 use wm_collections::Text;
 

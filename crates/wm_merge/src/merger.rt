@@ -1,3 +1,4 @@
+//! What inputs become by each merger.
 ghost use Rattle.std.specs.Prelude.{◌≡◌, Ok, IfOk, IfErr};
 ghost use Rattle.wm_merge.specs.Merged.{merged, IsMergeFaultOf};
 

@@ -1,3 +1,4 @@
+//! What an observer is told, and what was told before and is told after.
 use wm_machine::WorkInfo;
 
 /// What an observer is told of a work.

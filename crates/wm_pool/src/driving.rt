@@ -1,3 +1,4 @@
+//! The driving of a pool: a thread for each share, and one in front.
 ghost use Rattle.std.specs.Thread.{IsSync, IsSend};
 ghost use Rattle.std.specs.Prelude.{◌≡◌, ◌+◌, ◌<◌, true, false, All, map};
 

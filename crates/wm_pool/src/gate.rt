@@ -1,3 +1,5 @@
+//! What a thread passes before its next step.
+
 /// The step before which a thread stands at a gate.
 #[derive(Clone, Copy, Debug, PartialEq, Eq)]
 pub enum Point {

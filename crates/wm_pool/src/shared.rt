@@ -1,3 +1,4 @@
+//! The trait of what the threads of a pool share.
 ghost use Rattle.std.specs.Prelude.{◌≡◌, ℕ, ◌+◌, ◌<◌, Bool, false, is_none};
 
 /// What the threads of a pool share. One thread is in front and leads. Each other one has a share of

@@ -1,3 +1,4 @@
+//! A request that is put together, and the limits of its parts.
 ghost use Rattle.std.specs.Prelude.{◌≡◌, ◌≤◌, insert, length, Ok, IfOk, IfErr, MatchOption, OnOk, OnErr, string_bytes};
 ghost use Rattle.wm_request.specs.Building.{backoff_of, built_of, has_long_delay, is_long, is_short, one_time_of, periodic_of, with_tag, IsFaultOf};
 ghost use Rattle.wm_request.specs.Requests.{IsShortText, RequestFields};

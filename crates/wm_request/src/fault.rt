@@ -1,3 +1,4 @@
+//! Why a request isn't built.
 ghost use Rattle.std.specs.Prelude.{◌≡◌};
 
 use std::alloc::AllocError;

@@ -1,3 +1,4 @@
+//! A request, whose type keeps its limits.
 ghost use Rattle.std.specs.Prelude.{◌≡◌, IfSome};
 ghost use Rattle.wm_request.specs.Batches.{IsBatch};
 ghost use Rattle.wm_request.specs.Requests.{AreTags, IsShortText, IsWithin};

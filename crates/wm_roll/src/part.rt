@@ -1,3 +1,4 @@
+//! What a roll has of a run that is out.
 use wm_worker::Kind;
 
 /// What a roll has of a run that is out. A roll looks at the run alone.

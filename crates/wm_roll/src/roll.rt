@@ -1,3 +1,4 @@
+//! The roll: the parts that are out.
 ghost use Rattle.std.specs.Prelude.{◌≡◌, ◌≢◌, ◌+◌, [], ◌∷◌, ◌++◌, length, IfOk};
 ghost use Rattle.std.specs.List.{AllByRecursion};
 ghost use Rattle.wm_collections.specs.Lists.{AllLater};

@@ -1,3 +1,4 @@
+//! The steps at the table of a roll: a part is given, comes back and is struck off.
 ghost use Rattle.std.specs.Prelude.{◌≡◌, ◌≢◌, ◌+◌, ◌++◌, [], ◌∷◌, length};
 ghost use Rattle.std.specs.List.{AllByRecursion};
 ghost use Rattle.wm_roll.specs.Parts.{IsListed, without};

@@ -1,3 +1,4 @@
+//! What whoever has a run has of the roll.
 use crate::part::Part;
 use crate::view::Place;
 use std::marker::Model;

@@ -1,3 +1,4 @@
+//! What the seats at the table of a roll know, and the rule that holds between them.
 ghost use Rattle.wm_roll.specs.Rule.{IsKept, first_view};
 
 use crate::part::Part;

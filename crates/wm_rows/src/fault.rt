@@ -1,3 +1,4 @@
+//! Why rows aren't those of a store.
 ghost use Rattle.std.specs.Prelude.{◌≡◌};
 
 use std::alloc::AllocError;

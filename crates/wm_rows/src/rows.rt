@@ -1,3 +1,4 @@
+//! The row of a record, and whether two records have one row.
 ghost use Rattle.std.specs.Prelude.{◌≡◌, ◌^◌, ◌<◌, All, map, pos, Decides, IfOk, IfSome};
 ghost use Rattle.wm_machine.specs.Limits.{FitsRow};
 ghost use Rattle.wm_machine.specs.Rows.{row_of, kind_code, period_code, flex_code, policy_code, merger_code, network_code, flags_code, phase_code};

@@ -1,3 +1,4 @@
+//! The limits that backoffs and periods are clamped to.
 ghost use Rattle.std.specs.Prelude.{◌≡◌};
 ghost use Rattle.wm_schedule.specs.Clamped.{clamped_delay, clamped_flex, clamped_period, IsBackoffDelay, IsPeriod};
 

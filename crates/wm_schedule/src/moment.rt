@@ -1,3 +1,4 @@
+//! The moment from which on a work may start.
 ghost use Rattle.std.specs.Prelude.{◌≡◌};
 ghost use Rattle.wm_schedule.specs.Due.{due_at, first_wait};
 ghost use Rattle.wm_schedule.specs.Moments.{AreTimes};

@@ -1,3 +1,5 @@
+//! What the moment of a work depends on.
+
 /// How the wait after a retry grows, after `androidx.work.BackoffPolicy`.
 #[derive(Clone, Copy, Debug, PartialEq, Eq)]
 pub enum BackoffPolicy {

@@ -1,3 +1,4 @@
+//! How long a work waits to be retried.
 ghost use Rattle.std.specs.Prelude.{◌≡◌, ◌≤◌, ◌*◌, ◌^◌, min};
 ghost use Rattle.wm_schedule.specs.Clamped.{IsBackoffDelay};
 ghost use Rattle.wm_schedule.specs.Due.{grown, wait_after};

@@ -1,3 +1,4 @@
+//! What a run hands back.
 ghost use Rattle.std.specs.Prelude.{false};
 ghost use Rattle.wm_session.specs.Ended.{IsUnbegun};
 

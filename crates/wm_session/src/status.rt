@@ -1,3 +1,4 @@
+//! How a run ended, with its code and its text.
 ghost use Rattle.std.specs.Prelude.{◌≡◌, IfOk, string_bytes};
 ghost use Rattle.wm_session.specs.Causes.{EndsBy};
 ghost use Rattle.wm_session.specs.Status.{code_of, status_text, limit_name, row_fault_name, bad_store_text};

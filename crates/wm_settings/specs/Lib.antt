@@ -1,2 +1,1 @@
--- What no head of these files takes from a page of the guide is this project's own choice.
 pub mod Builds

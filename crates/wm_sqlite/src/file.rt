@@ -1,3 +1,4 @@
+//! The keeper over a SQLite file, which opens it.
 ghost use Rattle.std.specs.Prelude.{◌≡◌, false, is_some, Err, IfSome, IsSome};
 ghost use Rattle.wm_keeper.specs.Keeper.{AreOfDifferentNumbers, KeepCause};
 

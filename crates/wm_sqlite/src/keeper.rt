@@ -1,3 +1,4 @@
+//! The keeper over a SQLite connection.
 ghost use Rattle.std.specs.Prelude.{◌≡◌, IfOk};
 ghost use Rattle.wm_sqlite.specs.Told.{store_of};
 

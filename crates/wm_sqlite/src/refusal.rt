@@ -1,3 +1,4 @@
+//! Why a call of a keeper ended early, and which refusals are counted.
 ghost use Rattle.std.specs.Prelude.{◌≡◌, IfOk, Ok};
 ghost use Rattle.wm_keeper.specs.Keeper.{KeepCause};
 ghost use Rattle.wm_sqlite.specs.Refusals.{answer_of};

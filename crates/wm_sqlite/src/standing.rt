@@ -1,3 +1,5 @@
+//! What a keeper knows of its table.
+
 /// What a keeper knows of the table of the rows.
 #[derive(Clone, Copy, Debug, PartialEq, Eq)]
 pub enum Standing {

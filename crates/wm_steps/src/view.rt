@@ -1,3 +1,4 @@
+//! The view: a state with the graph of its records.
 ghost use Rattle.std.specs.Prelude.{◌≡◌};
 
 use std::marker::Model;

@@ -1,3 +1,4 @@
+//! The stock worker that counts turns.
 use crate::input::{entry_alone, turns_of};
 use crate::stock::{Answering, Stock};
 use std::alloc::{AllocError, Global};

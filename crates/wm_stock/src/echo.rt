@@ -1,3 +1,4 @@
+//! The stock worker that gives back its input.
 use crate::stock::{Answering, Stock};
 use std::alloc::{AllocError, Global};
 use wm_collections::Replica;

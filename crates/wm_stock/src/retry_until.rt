@@ -1,3 +1,4 @@
+//! The stock worker that wants to be retried before an attempt.
 use crate::input::has_reached;
 use crate::stock::{Answering, Stock};
 use std::alloc::{AllocError, Global};

@@ -1,3 +1,4 @@
+//! The stock worker that adds up numbers.
 ghost use Rattle.std.specs.Prelude.{◌≡◌, ◌≤◌, ◌*◌, length, nat_abs};
 ghost use Rattle.wm_data.specs.Size.{payload};
 ghost use Rattle.wm_worker.specs.Answers.{summand, sum_of, total};

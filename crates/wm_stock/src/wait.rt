@@ -1,3 +1,4 @@
+//! The stock worker that always wants another turn.
 use crate::stock::{Answering, Stock};
 use std::alloc::{AllocError, Global};
 use wm_worker::{Answer, Kind, Task};

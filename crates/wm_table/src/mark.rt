@@ -1,3 +1,4 @@
+//! The mark: what one run was given, as a type.
 use std::marker::Brand;
 
 /// What one run was given, for contracts alone. A [`Table`](crate::Table), its tickets and what

@@ -1,3 +1,4 @@
+//! The state that an empty store opens to.
 ghost use Rattle.std.specs.Prelude.{◌≡◌, []};
 ghost use Rattle.wm_machine.specs.Opened.{opening_state};
 

@@ -1,3 +1,4 @@
+//! The texts of events, replies and notes.
 ghost use Rattle.std.specs.Prelude.{◌≡◌, ◌++◌, IfOk, OnOk, OnErr};
 ghost use Rattle.serde_json.specs.View.{view, members_view};
 ghost use Rattle.wm_data.specs.DataJson.{data_json};

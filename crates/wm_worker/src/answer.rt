@@ -1,3 +1,4 @@
+//! What a worker answers to a turn, and what it writes down.
 use crate::signal::Raised;
 use wm_data::Data;
 

@@ -1,3 +1,4 @@
+//! The signal by which a worker learns that its run was stopped.
 ghost use Rattle.std.specs.Prelude.{◌≡◌, true, false, IfOk, IfSome, IsTrue, IsNone};
 
 use std::alloc::{AllocError, Global};

@@ -1,3 +1,4 @@
+//! What a worker is to do.
 use wm_data::Data;
 
 /// What a worker is to do: one run of a work.

@@ -1,3 +1,4 @@
+//! What a worker told in one turn.
 ghost use Rattle.std.specs.Prelude.{◌≡◌, IfOk};
 
 use crate::answer::Answer;

@@ -1,3 +1,4 @@
+//! The trait of a worker.
 ghost use Rattle.std.specs.Prelude.{◌≡◌, [], ◌∷◌, List, Option, option_copied, IfOk, OnOk, OnErr, IsTrue, IsSome};
 
 use crate::answer::Entry;

@@ -1,3 +1,4 @@
+//! The ticket of a run that is out, and what it holds.
 ghost use Rattle.std.specs.Prelude.{◌≡◌, IsSomeAnd};
 ghost use Rattle.wm_machine.specs.Runs.{run_numbered};
 ghost use Rattle.wm_table.specs.Parts.{ticket_part};

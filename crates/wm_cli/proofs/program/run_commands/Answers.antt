@@ -4,7 +4,7 @@ use Rattle.wm_cli.proofs.RunImages.{unbegun-loaded}
 use Rattle.wm_keeper.proofs.Stores.{GoesOn-loaded}
 use Rattle.wm_keeper.specs.Store.{told_before}
 use Rattle.wm_keeper.specs.declared.row.Row.{Row}
-use Rattle.wm_session.specs.Hands.{instances_from}
+use Rattle.wm_seating.specs.Hands.{instances_from}
 use Rattle.wm_session.specs.Tells.{tells_of}
 use Rattle.wm_session.specs.declared.status.Status.TheVariants as status
 use Rattle.wm_cli.proofs.program.run_commands.Goals as goal
