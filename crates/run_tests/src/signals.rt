@@ -1,11 +1,16 @@
-//! Runs with one worker thread whose worker looks at its signal, which a gate of the test holds.
+//! Runs with two worker threads whose workers look at their signals, which a gate of the test holds.
+ghost use Rattle.std.specs.Prelude.{◌≤◌, vec_len, IfOk};
+ghost use Rattle.wm_bench.specs.Places.{most_hands};
+
 use crate::runs::data_of;
 use crate::threads::{MOST_POLLS, one_hand, run_at, words};
+use part_tests::hands::add_hand;
 use std::alloc::{AllocError, Global};
 use std::process::Abort;
 use std::sync::atomic::{AtomicBool, AtomicU64, Ordering};
 use std::test::Fail;
 use std::thread;
+use wm_bench::Hand;
 use wm_cli::Status;
 use wm_data::Value;
 use wm_pool::{Gate, Point};
@@ -16,26 +21,29 @@ use wm_worker::{Answer, Entry, Kind, Signal, Task, Told, Worker};
 /// in each of them.
 const TOO_MANY_TURNS: u64 = 2_000;
 
-/// What the gate and the worker of a run tell each other. The third line is held until a run has come
-/// to its first turn.
+/// What the gate and the workers of a run tell each other. The third line is held until a third run has
+/// come to its first turn, where the workers wait for the fourth.
 #[derive(Drop)]
 struct Watch<'a, R> {
     rt: &'a R,
-    /// Whether a run has come to its first turn.
+    /// Whether a second run has come to its first turn.
+    met: AtomicBool,
+    /// Whether a third one has, or needn't.
     began: AtomicBool,
     /// Whether a worker that looks needn't wait any more.
     passed: AtomicBool,
-    /// The run whose signal a worker saw raised, 0 where none did.
+    /// The sum of the numbers of the runs whose signal a worker saw raised.
     seen: AtomicU64,
     turns: AtomicU64,
 }
 
 impl<'a, R: Abort> Watch<'a, R> {
-    /// Of a run that hasn't begun. Its worker waits for the fourth line, where it is to.
+    /// Of runs that haven't begun. Their workers wait for the fourth line, where they are to.
     fn of(rt: &'a R, waits: bool) -> Watch<'a, R> {
         Watch {
             rt,
-            began: AtomicBool::new(false),
+            met: AtomicBool::new(false),
+            began: AtomicBool::new(!waits),
             passed: AtomicBool::new(!waits),
             seen: AtomicU64::new(0),
             turns: AtomicU64::new(0),
@@ -60,14 +68,24 @@ impl<'a, R: Abort> Watch<'a, R> {
         let before = self.turns.fetch_add(1, Ordering::SeqCst);
         assert!(rt; before < TOO_MANY_TURNS, "turns without an end");
     }
+
+    /// Tells that the run of this number has come to a turn.
+    fn come(&self, run: u64) {
+        if run >= 2 {
+            self.met.store(true, Ordering::SeqCst);
+        }
+        if run >= 3 {
+            self.began.store(true, Ordering::SeqCst);
+        }
+    }
 }
 
 impl<'a, R: Abort> Gate for Watch<'a, R> {
     fn at(&self, point: Point) {
         match point {
-            Point::Turn { .. } => {
+            Point::Turn { run, .. } => {
                 self.count();
-                self.began.store(true, Ordering::SeqCst);
+                self.come(run);
             }
             Point::Front { line: 3 } => self.wait_for(&self.began),
             Point::Front { line: 4 } => self.passed.store(true, Ordering::SeqCst),
@@ -76,10 +94,11 @@ impl<'a, R: Abort> Gate for Watch<'a, R> {
     }
 }
 
-/// Waits in its first turn until it needn't any more, looks at its signal once, and gives a number.
+/// Waits in its first turn until this is so, looks at its signal once, and gives a number.
 #[derive(Drop)]
 struct Look<'a, R> {
     watch: &'a Watch<'a, R>,
+    until: &'a AtomicBool,
 }
 
 impl<'a, R: Abort> Worker for Look<'a, R> {
@@ -111,17 +130,40 @@ impl<'a, R: Abort> Worker for Look<'a, R> {
         k: u32,
         signal: &Signal,
     ) -> Result<Told, AllocError> {
-        self.watch.wait_for(&self.watch.passed);
+        self.watch.wait_for(self.until);
         if let Some(raised) = signal.poll() {
-            self.watch.seen.store(raised.run(), Ordering::SeqCst);
+            self.watch.seen.fetch_add(raised.run(), Ordering::SeqCst);
         }
         let output = data_of(alloc, "a", Value::Int(9))?;
         Told::new(alloc, Kind::Custom, task, k, Answer::Success(output))
     }
 }
 
+/// A worker that waits for a second run, and two that wait as the watch has it.
+fn looks<'a, R: Abort>(
+    alloc: Global,
+    watch: &'a Watch<'a, R>,
+) -> Result<Vec<Hand<Look<'a, R>>>, AllocError>
+    ensures { IfOk result (λ hands. vec_len hands ≤ most_hands) }
+{
+    let (first, until) = (&watch.met, &watch.passed);
+    let mut hands = Vec::new(alloc);
+    add_hand(
+        alloc,
+        &mut hands,
+        "First",
+        Look {
+            watch,
+            until: first,
+        },
+    )?;
+    add_hand(alloc, &mut hands, "Look", Look { watch, until })?;
+    add_hand(alloc, &mut hands, "Look", Look { watch, until })?;
+    Ok(hands)
+}
+
 const STOPPED: &str = r#"{"cmd":"conditions","connected":true}
-{"cmd":"enqueue","works":[{"class":"Look","id":"00000000-0000-0000-0000-000000000001","constraints":{"network":"CONNECTED"}}]}
+{"cmd":"enqueue","works":[{"class":"First","id":"00000000-0000-0000-0000-000000000001"},{"class":"Look","id":"00000000-0000-0000-0000-000000000002","constraints":{"network":"CONNECTED"}},{"class":"Look","id":"00000000-0000-0000-0000-000000000003","constraints":{"network":"CONNECTED"},"after":["00000000-0000-0000-0000-000000000001"]}]}
 {"cmd":"conditions"}
 {"cmd":"conditions"}
 {"cmd":"settle"}
@@ -129,11 +171,11 @@ const STOPPED: &str = r#"{"cmd":"conditions","connected":true}
 "#;
 
 const STOPPED_REPLIES: &str = r#"{"line":1,"ok":"conditions","stopped":0}
-{"line":2,"ok":"enqueued","works":[1]}
-{"line":3,"ok":"conditions","stopped":1}
+{"line":2,"ok":"enqueued","works":[1,2,3]}
+{"line":3,"ok":"conditions","stopped":2}
 {"line":4,"ok":"conditions","stopped":0}
 {"line":5,"ok":"settled"}
-{"line":6,"ok":"query","works":[{"attempt":1,"due":0,"generation":0,"id":"00000000-0000-0000-0000-000000000001","output":{},"progress":{},"seq":1,"state":"ENQUEUED","tags":[]}]}
+{"line":6,"ok":"query","works":[{"attempt":1,"generation":0,"id":"00000000-0000-0000-0000-000000000001","output":{"a":{"int":9}},"progress":{},"seq":1,"state":"SUCCEEDED","tags":[]},{"attempt":1,"due":0,"generation":0,"id":"00000000-0000-0000-0000-000000000002","output":{},"progress":{},"seq":2,"state":"ENQUEUED","tags":[]},{"attempt":1,"due":0,"generation":0,"id":"00000000-0000-0000-0000-000000000003","output":{},"progress":{},"seq":3,"state":"ENQUEUED","tags":[]}]}
 "#;
 
 const KEPT: &str =
@@ -160,17 +202,18 @@ const WAITS_REPLIES: &str = r#"{"line":1,"ok":"enqueued","works":[1]}
 
 /// What a worker of a program's own answers is kept, but where its run was stopped: then it sees its
 /// signal, and the work waits. The signal of a run that isn't stopped isn't raised, so that one that
-/// only waits has no turn left in the end.
+/// only waits has no turn left in the end. Where a line stops two runs both see it, also the one that
+/// was out when another run ended.
 #[test]
 fn a_worker_sees_whether_its_run_was_stopped(rt: HostRuntime) -> Result<(), Fail> {
     let alloc = rt.alloc();
-    let words = words(alloc, "1")?;
+    let words = words(alloc, "2")?;
     for (waits, script, replies, seen) in [
-        (true, STOPPED, STOPPED_REPLIES, 1),
+        (true, STOPPED, STOPPED_REPLIES, 5),
         (false, KEPT, KEPT_REPLIES, 0),
     ] {
         let watch = Watch::of(&rt, waits);
-        let hands = one_hand(alloc, "Look", Look { watch: &watch })?;
+        let hands = looks(alloc, &watch)?;
         let (status, written) = run_at(&rt, alloc, &words, hands, script, &watch);
         assert_eq!(rt; status, Status::Done);
         assert_eq!(rt; written.as_slice(), replies.as_bytes());
