@@ -1,5 +1,6 @@
 //! Keepers over files.
 use crate::rows::{change_one, loaded};
+use std::alloc::Global;
 use std::fs;
 use std::test::Fail;
 use wm_keeper::{KeepFault, Keeper};
@@ -8,6 +9,15 @@ use wm_sqlite::FileKeeper;
 const FOLDER: &str = "store_tests_files";
 
 const PATH: &str = "store_tests_files/work.db";
+
+const OTHER_PATH: &str = "store_tests_files/other.db";
+
+/// Puts a row into the store of this name, and tells whether there was none.
+fn put_first<K: Keeper>(alloc: Global, keeper: &mut K, name: &str) -> Result<bool, KeepFault> {
+    let none = loaded(alloc, keeper, name)?.is_empty();
+    change_one(alloc, keeper, 6, Some(0))?;
+    Ok(none)
+}
 
 #[test]
 fn what_was_committed_is_loaded_by_the_next_keeper(rt: HostRuntime) -> Result<(), Fail> {
@@ -24,6 +34,9 @@ fn what_was_committed_is_loaded_by_the_next_keeper(rt: HostRuntime) -> Result<()
     change_one(alloc, &mut first, 5, Some(1))?;
     change_one(alloc, &mut first, 4, Some(0))?;
     drop(first);
+    let mut other = FileKeeper::new(&rt);
+    assert!(rt; put_first(alloc, &mut other, OTHER_PATH)?);
+    drop(other);
     let mut second = FileKeeper::new(&rt);
     let rows = loaded(alloc, &mut second, PATH)?;
     assert_eq!(rt; rows.as_slice(), [(4, 0), (5, 1)].as_slice());
