@@ -1,10 +1,9 @@
 -- What a run hands back, from what the calls below it handed back.
-use Rattle.std.proofs.Common.{◌≡◌, ◌⊎◌, ℕ, ℤ, Bool, true, false, List, [], Option, map, Some, None, IfSome, IsSome, Vec, Global, Result, Ok, Err, IfErr, refl, sym, ◌∙◌, ap, subst, inl, inr}
+use Rattle.std.proofs.Common.{◌≡◌, ◌⊎◌, ℕ, ℤ, Bool, true, false, List, [], Option, Some, None, IfSome, IsSome, Vec, Global, Result, Ok, Err, IfErr, refl, sym, ◌∙◌, ap, subst, inl, inr}
 use Rattle.std.specs.List.{AllByRecursion}
-use Rattle.wm_bench.specs.Places.{idle_hands, place_of}
 use Rattle.wm_bench.specs.declared.hand.Hand.{Hand}
 use Rattle.wm_cli.proofs.RunsWithoutEvents.{HasCommands-nothing, IsTextWritten-nothing}
-use Rattle.wm_cli.proofs.Hands.{AreBoxesBack-opened, AreHandsBack-opened, idle_hands-places}
+use Rattle.wm_cli.proofs.Hands.{AreBoxesBack-opened, AreHandsBack-opened}
 use Rattle.wm_cli.proofs.Opening.{BeginsSerial-nothing, IsSerialRun-early, IsSerialRun-unopened}
 use Rattle.wm_cli.proofs.RunImages.{images_told, leaves-only, loaded-alone}
 use Rattle.wm_cli.specs.Benched.{HasJustBegun, IsEndedBeforeLines}

@@ -1,5 +1,5 @@
 -- A run whose store wasn't opened is one of whatever commands a script has.
-use Rattle.std.proofs.Common.{◌≡◌, ℕ, List, Vec, Global, sym, ◌∙◌, ap}
+use Rattle.std.proofs.Common.{◌≡◌, ℕ, false, List, Vec, Global, sym, ◌∙◌, ap}
 use Rattle.wm_bench.specs.declared.hand.Hand.{Hand}
 use Rattle.wm_cli.proofs.Opening.{IsSerialRun-unopened}
 use Rattle.wm_cli.proofs.RunImages.{crash-unopened}
