@@ -1,5 +1,5 @@
 //! Works that are requested by calls, and placed in a table without a script.
-ghost use Rattle.std.specs.Prelude.{◌≡◌, [], IfSome, IsSome};
+ghost use Rattle.std.specs.Prelude.{◌≡◌, false, [], IfSome, IsSome};
 ghost use Rattle.wm_machine.specs.Built.{AreAsked};
 ghost use Rattle.wm_machine.specs.Outcome.{IsLegalLine};
 ghost use Rattle.wm_request.specs.Requests.{IsRequest};
@@ -78,6 +78,7 @@ fn begin<M: Mark>(alloc: Global, roll: Roll) -> Option<Table<SureKeeper, M>>
     requires rows { M.inputs.rows ≡ [] }
     requires instances { M.inputs.instances ≡ [] }
     requires store { IsSome M.inputs.store.rows }
+    requires telling { M.inputs.store.is_lost ≡ false }
     requires roll { roll.table_id ≡ M.inputs.roll }
     requires empty { roll.parts ≡ [] }
     ensures none_out { IfSome result (λ table. table.roll ≡ []) }
@@ -115,6 +116,7 @@ fn place_in<M: Mark>(alloc: Global, batch: Batch, roll: Roll) -> Option<usize>
     requires rows { M.inputs.rows ≡ [] }
     requires instances { M.inputs.instances ≡ [] }
     requires store { IsSome M.inputs.store.rows }
+    requires telling { M.inputs.store.is_lost ≡ false }
     requires roll { roll.table_id ≡ M.inputs.roll }
     requires empty { roll.parts ≡ [] }
 {
