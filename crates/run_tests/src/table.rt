@@ -1,5 +1,5 @@
 //! The table of `wm_table`, over a keeper that fails at the commits that it is told to.
-ghost use Rattle.std.specs.Prelude.{◌≡◌, [], Ok, IfOk, IsSome, None};
+ghost use Rattle.std.specs.Prelude.{◌≡◌, false, [], Ok, IfOk, IsSome, None};
 ghost use Rattle.wm_machine.specs.Opened.{AreFresh};
 ghost use Rattle.wm_machine.specs.Outcome.{IsLegalLine};
 ghost use Rattle.wm_machine.specs.declared.state.State.{State};
@@ -325,6 +325,7 @@ fn one_table<M: Mark>(
 ) -> Result<Table<MemoryKeeper, M>, AllocError>
     requires rows { M.inputs.rows ≡ [] }
     requires store { IsSome M.inputs.store.rows }
+    requires telling { M.inputs.store.is_lost ≡ false }
     requires instances { M.inputs.instances ≡ instances }
     requires fresh { AreFresh instances }
     requires roll { M.inputs.roll ≡ roll.table_id }
@@ -347,6 +348,7 @@ fn outcome_on<M: Mark>(
 ) -> Result<(Outcome, String, usize, bool), AllocError>
     requires rows { M.inputs.rows ≡ [] }
     requires store { IsSome M.inputs.store.rows }
+    requires telling { M.inputs.store.is_lost ≡ false }
     requires instances { M.inputs.instances ≡ instances }
     requires fresh { AreFresh instances }
     requires roll { M.inputs.roll ≡ roll.table_id }
@@ -530,6 +532,7 @@ fn started_on<M: Mark>(
 ) -> Result<String, AllocError>
     requires rows { M.inputs.rows ≡ [] }
     requires store { IsSome M.inputs.store.rows }
+    requires telling { M.inputs.store.is_lost ≡ false }
     requires instances { M.inputs.instances ≡ instances }
     requires fresh { AreFresh instances }
     requires roll { M.inputs.roll ≡ roll.table_id }
