@@ -1,11 +1,12 @@
 //! Tests of single calls of the crates that the table stands on, as far as no table of plain values
 //! has them, a module a subject: lists and copies, the graph, keepers, streams, workers and the
 //! bench, and the roll; and what the tests of the crates above have too: workers that tell diaries, their
-//! hands, and requests within their limits.
+//! hands, Data, and requests within their limits.
 #![tactic(auto)]
 
 #[cfg(test)]
 mod collections;
+pub mod data;
 pub mod diarist;
 #[cfg(test)]
 mod graph;

@@ -5,7 +5,10 @@ use std::alloc::{AllocError, Global};
 use std::io::{self, ErrorKind, Read, Write};
 use std::process::Abort;
 use std::test::Fail;
-use wm_io::{Got, MemorySink, MemorySource, Put, Sink, Source, StdSink, StdSource};
+use wm_io::{
+    Got, HasText, MemorySink, MemorySource, Pending, Put, Sink, Source, StdSink, StdSource,
+    WriteFault,
+};
 
 /// A source gives these answers to reads of two bytes, and these bytes in all.
 fn expect_reads<S: Source>(
@@ -45,6 +48,31 @@ fn source(
 {
     let failing = failing.to_vec(alloc)?;
     Ok(MemorySource::new(bytes.to_vec(alloc)?, cut, failing))
+}
+
+/// A line's text, for which memory is refused, or isn't.
+#[derive(Drop)]
+struct Line<'a> {
+    bytes: &'a [u8],
+    refused: bool,
+}
+
+impl<'a> HasText for Line<'a> {
+    ghost text = { λ line. line.bytes.now };
+
+    fn text(&self, alloc: Global) -> Result<Vec<u8>, AllocError> {
+        if self.refused {
+            return Err(AllocError);
+        }
+        self.bytes.to_vec(alloc)
+    }
+}
+
+fn some_line(refused: bool) -> Line<'static> {
+    Line {
+        bytes: b"abc".as_slice(),
+        refused,
+    }
 }
 
 /// A reader and writer that is interrupted, then moves two bytes, fails, and moves nothing. Its
@@ -123,5 +151,21 @@ fn a_sink_cuts_and_fails(rt: HostRuntime) -> Result<(), Fail> {
     assert_eq!(rt; held.as_slice(), b"abcabc".as_slice());
     let mut troubled = StdSink::new(Troubled { calls: 0 });
     expect_writes(&rt, &mut troubled, &[two, failed, failed, failed]);
+    Ok(())
+}
+
+/// A text that found no memory is owed to the sink, and is made again in the end.
+#[test]
+fn a_refused_text_is_made_again_in_the_end(rt: HostRuntime) -> Result<(), Fail> {
+    let alloc = rt.alloc();
+    let mut sink = MemorySink::new(9, Vec::new(alloc));
+    let mut pending = Pending::new(alloc)?;
+    let refused = some_line(true);
+    assert_eq!(rt;
+        pending.tell(alloc, &refused, &mut sink),
+        Err(WriteFault::Memory)
+    );
+    assert_eq!(rt; pending.finish(alloc, &some_line(false), &mut sink), Ok(()));
+    assert_eq!(rt; sink.bytes(), b"abc".as_slice());
     Ok(())
 }

@@ -1,4 +1,5 @@
 pub mod Memory
+pub mod Pending
 pub mod Sink
 pub mod Source
 pub mod Standard

@@ -8,12 +8,14 @@
 #![tactic(auto)]
 
 pub mod memory;
+pub mod pending;
 pub mod sink;
 pub mod source;
 pub mod standard;
 pub mod writing;
 
 pub use memory::{MemorySink, MemorySource};
+pub use pending::{HasText, Pending};
 pub use sink::{Put, Sink};
 pub use source::{Got, Source};
 pub use standard::{StdSink, StdSource};

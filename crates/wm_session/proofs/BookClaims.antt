@@ -31,7 +31,7 @@ use Rattle.wm_table.proofs.Parts.{new-on}
 use Rattle.wm_table.specs.Parts.{ticket_part}
 use Rattle.wm_table.specs.Rolls.{roll_after}
 use Rattle.wm_machine.specs.Step.{after}
-use Rattle.wm_session.specs.Pending.{PendingState, nothing}
+use Rattle.wm_io.specs.Pending.{nothing, PendingState}
 use Rattle.wm_session.specs.Tells.{Tells}
 use Rattle.wm_table.specs.Table.{IsClaimAnswer, IsOneStep, IsTicketIn}
 use Rattle.wm_table.specs.TableState.{TableState, TicketState, ticket_of}

@@ -14,7 +14,8 @@ use Rattle.wm_session.specs.BookState.{BookState}
 use Rattle.wm_session.specs.Causes.{status_by_stop, stop_by_fault, EndsBy, StopCause}
 use Rattle.wm_session.specs.Ended.{HasCommands, IsSessionStatus, IsTextWritten}
 use Rattle.wm_table.specs.Inputs.{Inputs}
-use Rattle.wm_session.specs.Invariant.{LinesInvariant, TextsInvariant, BookInvariant}
+use Rattle.wm_io.specs.Pending.{IsGivenBut}
+use Rattle.wm_session.specs.Invariant.{LinesInvariant, BookInvariant}
 use Rattle.wm_session.specs.Pending.{pending_text}
 use Rattle.wm_session.specs.Tells.{Tells}
 use Rattle.wm_io.specs.Writing.{WriteCause}
@@ -57,13 +58,13 @@ all_written None (Err fault.Memory) ended refused going done ok = let is : ended
 pub IsTextWritten-kept : {K W B : Type 0} {run : Inputs} {tells : Tells K W B} {book : BookState K W B} (ended : Status) (first : State) (log : List Event)
     (now : Option (List ℕ)) (left : List ℕ) (written : Result (Unit {0}) WriteFault)
     → BookInvariant run tells book → first ≡ book.table.first → log ≡ book.table.log
-    → TextsInvariant (tells.given book.sink) now (pending_text book.table book.pending) left → OnOk written (left ≡ []) → EndsBy book.status written ended
+    → IsGivenBut (tells.given book.sink) now (pending_text book.table book.pending) left → OnOk written (left ≡ []) → EndsBy book.status written ended
     → IsTextWritten run.written now ended first log
 IsTextWritten-kept {run = run} {tells = tells} {book = book} ended first log now left written kept first_is log_is told all ends =
     let text : log_text book.table.first book.table.log ≡ log_text first log =
     ap (log_text book.table.first) (sym log_is) ∙ ap (λ s. log_text s log) (sym first_is) in
     let pending = pending_text book.table book.pending in
-    let texts = subst (λ l. TextsInvariant run.written (tells.given book.sink) l pending) text kept.texts in
+    let texts = subst (λ l. IsGivenBut run.written (tells.given book.sink) l pending) text kept.texts in
     record {
       front = IsPartAppended-kept run.written (tells.given book.sink) now (log_text first log) pending left texts told;
       all = λ is.

@@ -19,13 +19,13 @@ use Rattle.wm_seating.proofs.PlacesAndInstances.{all_here}
 use Rattle.wm_seating.proofs.RetiredPlaces.{away-after, workers-after}
 use Rattle.wm_session.proofs.BookParts.{AwayInvariant-from}
 use Rattle.wm_session.proofs.BookRolls.{exact-lined}
-use Rattle.wm_session.proofs.WrittenTexts.{TextsInvariant-unwritten}
+use Rattle.wm_session.proofs.WrittenTexts.{IsGivenBut-unwritten}
 use Rattle.wm_seating.specs.Bench.{instance_traits, place_traits, places_after, NoneAway}
 use Rattle.wm_session.specs.BookState.{BookState}
 use Rattle.wm_table.specs.Images.{LeavesOnly}
 use Rattle.wm_table.specs.Inputs.{Inputs}
 use Rattle.wm_session.specs.Invariant.{BookInvariant, ListsExactly}
-use Rattle.wm_session.specs.Pending.{PendingState, nothing}
+use Rattle.wm_io.specs.Pending.{nothing, PendingState}
 use Rattle.wm_session.specs.Tells.{Tells}
 use Rattle.wm_table.specs.Table.{IsOneStep}
 use Rattle.wm_table.specs.TableState.{TableState}
@@ -91,7 +91,7 @@ BookInvariant-new run tells table places left pending sink empty lines none none
       numbered = subst (AreNumberedFrom 1) (sym empty) tt;
       line = ap (λ log. length (commands_of log)) (sym empty);
       few_lines = few;
-      texts = rw (empty, none, written) (TextsInvariant-unwritten run.written []);
+      texts = rw (empty, none, written) (IsGivenBut-unwritten run.written []);
       all_told = λ same. ap (λ (p : PendingState). p.untold) none;
       workers = workers;
       away = AwayInvariant-from None (record { table = table; places = places; left = left; line = 0; pending = pending; sink = sink; status = None })

@@ -19,7 +19,7 @@ use Rattle.wm_session.specs.Book as book
 use Rattle.wm_session.specs.BookState.{BookState}
 use Rattle.wm_session.specs.Causes.{stop_by_fault, stop_by_trouble, StopCause}
 use Rattle.wm_session.specs.Invariant.{AwayInvariant, LinesInvariant, ListsExactly, RollInvariant}
-use Rattle.wm_session.specs.Pending.{PendingState}
+use Rattle.wm_io.specs.Pending.{PendingState}
 use Rattle.wm_table.specs.Table.{IsClaimAnswer, IsOneStep, IsUntouched, TroubleCause, TurnCause}
 use Rattle.wm_table.specs.TableState.{TableState, TicketState}
 use Rattle.wm_io.specs.Writing.{WriteCause}

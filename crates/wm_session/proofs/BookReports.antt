@@ -32,7 +32,7 @@ use Rattle.wm_session.specs.Book as book
 use Rattle.wm_session.specs.BookState.{BookState}
 use Rattle.wm_table.specs.Inputs.{Inputs}
 use Rattle.wm_session.specs.Invariant.{BookInvariant, ListsExactly}
-use Rattle.wm_session.specs.Pending.{PendingState, nothing}
+use Rattle.wm_io.specs.Pending.{nothing, PendingState}
 use Rattle.wm_session.specs.Tells.{Tells}
 use Rattle.wm_table.proofs.Claims.{HasGoneOn-roll, IsOneStep-roll}
 use Rattle.wm_table.specs.Parts.{ticket_part, IsOffRoll, NoneOf, Stands, WasOut}

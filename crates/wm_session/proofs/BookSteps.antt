@@ -17,13 +17,14 @@ use Rattle.wm_machine.specs.Valid.{Valid}
 use Rattle.wm_roll.specs.declared.part.Part.{Part}
 use Rattle.wm_session.proofs.BookRolls.{out-agrees}
 use Rattle.wm_session.proofs.BookParts.{LinesInvariant-from, StopCause-write, Replay-step}
-use Rattle.wm_session.proofs.WrittenTexts.{TextsInvariant-more}
+use Rattle.wm_session.proofs.WrittenTexts.{IsGivenBut-more}
 use Rattle.wm_seating.specs.Bench.{instance_traits, is_away, place_traits}
 use Rattle.wm_session.specs.BookState.{BookState}
 use Rattle.wm_session.specs.Causes.{stop_by_fault, StopCause}
 use Rattle.wm_table.specs.Inputs.{Inputs}
-use Rattle.wm_session.specs.Invariant.{AwayInvariant, LinesInvariant, ListsExactly, RollInvariant, TextsInvariant, BookInvariant}
-use Rattle.wm_session.specs.Pending.{PendingState, nothing, pending_text}
+use Rattle.wm_io.specs.Pending.{nothing, IsGivenBut, PendingState}
+use Rattle.wm_session.specs.Invariant.{AwayInvariant, LinesInvariant, ListsExactly, RollInvariant, BookInvariant}
+use Rattle.wm_session.specs.Pending.{pending_text}
 use Rattle.wm_session.specs.Tells.{Tells}
 use Rattle.wm_table.specs.Table.{IsOneStep}
 use Rattle.wm_table.specs.TableState.{TableState}
@@ -44,7 +45,7 @@ pub record IsStep {K W B : Type 0} (tells : Tells K W B) (e : Event) (old new : 
 -- what telling a table's last event made of what is pending and of the sink, and why the session stopped, where it did
 pub record IsTold {K W B : Type 0} (run : Inputs) (tells : Tells K W B) (old : BookState K W B) (table : TableState K) (pending : PendingState)
     (sink : W) (status : Option Stop) : Type 0 where
-  pub texts : TextsInvariant (tells.given old.sink) (tells.given sink) (old.pending.bytes ++ last_text table.first table.log) (pending_text table pending)
+  pub texts : IsGivenBut (tells.given old.sink) (tells.given sink) (old.pending.bytes ++ last_text table.first table.log) (pending_text table pending)
   pub all_told : status ≡ None → pending.untold ≡ false
   pub later : tells.sink_faults old.sink ≤ tells.sink_faults sink
   pub cause : StopCause status run.store.faults (tells.store table.keeper).faults run.sink_faults (tells.sink_faults sink)
@@ -89,7 +90,7 @@ module _ {K W B : Type 0} {run : Inputs} {tells : Tells K W B} where
       let sink_before : run.sink_faults ≤ tells.sink_faults old.sink = kept.sink_later in
       let keeper_before : run.store.faults ≤ (tells.store old.table.keeper).faults = kept.keeper_later in
       let later : tells.sink_faults old.sink ≤ tells.sink_faults new.sink = told.later in
-      let before : TextsInvariant run.written (tells.given old.sink) (log_text old.table.first old.table.log) old.pending.bytes =
+      let before : IsGivenBut run.written (tells.given old.sink) (log_text old.table.first old.table.log) old.pending.bytes =
       rw (kept.all_told more.going) at kept.texts in
       record {
         replay = Replay-step tells.store e old.table new.table kept.replay step;
@@ -101,8 +102,8 @@ module _ {K W B : Type 0} {run : Inputs} {tells : Tells K W B} where
         numbered = subst (AreNumberedFrom 1) (sym step.appended) numbered;
         line = more.line ∙ ap (λ n. n + length (command_in e)) kept.line ∙ sym (length-append done (command_in e)) ∙ ap length (sym commands);
         few_lines = omega arith;
-        texts = subst (λ text. TextsInvariant run.written (tells.given new.sink) text (pending_text new.table new.pending)) (sym (text_is e old new kept step))
-            (TextsInvariant-more run.written (tells.given old.sink) (tells.given new.sink) (log_text old.table.first old.table.log)
+        texts = subst (λ text. IsGivenBut run.written (tells.given new.sink) text (pending_text new.table new.pending)) (sym (text_is e old new kept step))
+            (IsGivenBut-more run.written (tells.given old.sink) (tells.given new.sink) (log_text old.table.first old.table.log)
             (last_text new.table.first new.table.log) old.pending.bytes (pending_text new.table new.pending) before told.texts);
         all_told = told.all_told;
         workers = more.workers;
@@ -118,7 +119,7 @@ module _ {K W B : Type 0} {run : Inputs} {tells : Tells K W B} where
 
   -- the text was told, and all that was pending written
   pub IsTold-all : {old : BookState K W B} (table : TableState K) (pending : PendingState) (sink : W) → old.status ≡ None
-      → TextsInvariant (tells.given old.sink) (tells.given sink) (old.pending.bytes ++ last_text table.first table.log) (pending_text table pending)
+      → IsGivenBut (tells.given old.sink) (tells.given sink) (old.pending.bytes ++ last_text table.first table.log) (pending_text table pending)
       → pending ≡ nothing → tells.sink_faults sink ≡ tells.sink_faults old.sink
       → IsTold run tells old table pending sink old.status
   IsTold-all {old = old} table pending sink going texts none no_sink_fault = record {
@@ -131,7 +132,7 @@ module _ {K W B : Type 0} {run : Inputs} {tells : Tells K W B} where
   -- the session stopped while the text was told
   pub IsTold-cut : {old : BookState K W B} (table : TableState K) (pending : PendingState) (sink : W) (refused : WriteFault) (stop : Stop)
       → BookInvariant run tells old
-      → TextsInvariant (tells.given old.sink) (tells.given sink) (old.pending.bytes ++ last_text table.first table.log) (pending_text table pending)
+      → IsGivenBut (tells.given old.sink) (tells.given sink) (old.pending.bytes ++ last_text table.first table.log) (pending_text table pending)
       → WriteCause {T = Unit {0}} (Err refused) (tells.sink_faults old.sink) (tells.sink_faults sink) → stop ≡ stop_by_fault refused
       → IsTold run tells old table pending sink (Some stop)
   IsTold-cut {old = old} table pending sink refused stop kept texts trouble stop_is =

@@ -32,8 +32,9 @@ use Rattle.wm_table.proofs.Claims.{IsUntouched-roll}
 use Rattle.wm_table.proofs.TableSteps.{IsUntouched-as, IsUntouched-same}
 use Rattle.wm_table.specs.Images.{IsLine, IsNoLine, LeavesOnly}
 use Rattle.wm_table.specs.Inputs.{Inputs}
-use Rattle.wm_session.specs.Invariant.{LinesInvariant, TextsInvariant, BookInvariant}
-use Rattle.wm_session.specs.Pending.{PendingState, pending_text}
+use Rattle.wm_io.specs.Pending.{IsGivenBut, PendingState}
+use Rattle.wm_session.specs.Invariant.{LinesInvariant, BookInvariant}
+use Rattle.wm_session.specs.Pending.{pending_text}
 use Rattle.wm_session.specs.Tells.{Tells}
 use Rattle.wm_table.specs.Table.{IsOneStep, IsUntouched, TroubleCause, TurnCause}
 use Rattle.wm_table.specs.TableState.{TableState, TicketState}
@@ -46,8 +47,8 @@ use Rattle.wm_worker.specs.declared.kind.Kind.{Kind}
 
 -- an untouched table has the same text, and the same is pending
 texts_untouched : {K : Type 0} (store : K → Store) (may : Event → Type 0) (before now : Option (List ℕ)) (old table : TableState K) (pending : PendingState)
-    → IsUntouched store may old table → TextsInvariant before now (log_text old.first old.log) (pending_text old pending)
-    → TextsInvariant before now (log_text table.first table.log) (pending_text table pending)
+    → IsUntouched store may old table → IsGivenBut before now (log_text old.first old.log) (pending_text old pending)
+    → IsGivenBut before now (log_text table.first table.log) (pending_text table pending)
 texts_untouched store may before now old table pending same kept = rw (same.first, same.log) kept
 
 module _ {K W B : Type 0} {run : Inputs} {tells : Tells K W B} where

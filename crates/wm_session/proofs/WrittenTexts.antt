@@ -1,19 +1,19 @@
 -- The text that a sink was given, and what of it is pending.
 use Rattle.std.proofs.Common.{◌≡◌, ℕ, List, [], ◌++◌, Option, refl, sym, ◌∙◌, ap, subst, append_assoc}
 use Rattle.std.proofs.lemmas.List.{append-nil}
-use Rattle.wm_session.specs.Invariant.{TextsInvariant}
+use Rattle.wm_io.specs.Pending.{IsGivenBut}
 use Rattle.wm_io.proofs.AppendedTexts.{IsAppended-append, IsAppended-nothing}
 use Rattle.wm_io.specs.Writing.{IsAppended}
 use Rattle.wm_session.specs.Ended.{IsPartAppended}
 
 -- nothing was written, and everything is pending
-pub TextsInvariant-unwritten : (before : Option (List ℕ)) (pending : List ℕ) → TextsInvariant before before pending pending
-TextsInvariant-unwritten before pending = record { written = []; given = IsAppended-nothing before; kept = refl }
+pub IsGivenBut-unwritten : (before : Option (List ℕ)) (pending : List ℕ) → IsGivenBut before before pending pending
+IsGivenBut-unwritten before pending = record { written = []; given = IsAppended-nothing before; kept = refl }
 
 -- more text, and then more written or pending
-pub TextsInvariant-more : (before between now : Option (List ℕ)) (text more pending left : List ℕ)
-    → TextsInvariant before between text pending → TextsInvariant between now (pending ++ more) left → TextsInvariant before now (text ++ more) left
-TextsInvariant-more before between now text more pending left first then = record {
+pub IsGivenBut-more : (before between now : Option (List ℕ)) (text more pending left : List ℕ)
+    → IsGivenBut before between text pending → IsGivenBut between now (pending ++ more) left → IsGivenBut before now (text ++ more) left
+IsGivenBut-more before between now text more pending left first then = record {
   written = first.written ++ then.written;
   given = IsAppended-append before between now first.written then.written first.given then.given;
   kept =
@@ -24,9 +24,9 @@ TextsInvariant-more before between now text more pending left first then = recor
 }
 
 -- what was written first and what was written then are written together
-TextsInvariant-then : (before between now : Option (List ℕ)) (text pending left : List ℕ)
-    → TextsInvariant before between text pending → TextsInvariant between now pending left → TextsInvariant before now text left
-TextsInvariant-then before between now text pending left first then = record {
+IsGivenBut-then : (before between now : Option (List ℕ)) (text pending left : List ℕ)
+    → IsGivenBut before between text pending → IsGivenBut between now pending left → IsGivenBut before now text left
+IsGivenBut-then before between now text pending left first then = record {
   written = first.written ++ then.written;
   given = IsAppended-append before between now first.written then.written first.given then.given;
   kept = first.kept ∙ ap (λ (l : List ℕ). first.written ++ l) then.kept ∙ sym (append_assoc first.written then.written left);
@@ -34,15 +34,15 @@ TextsInvariant-then before between now text pending left first then = record {
 
 -- what was written in the end is a front of the text
 pub IsPartAppended-kept : (before between now : Option (List ℕ)) (text pending left : List ℕ)
-    → TextsInvariant before between text pending → TextsInvariant between now pending left → IsPartAppended before now text
+    → IsGivenBut before between text pending → IsGivenBut between now pending left → IsPartAppended before now text
 IsPartAppended-kept before between now text pending left kept more =
-    let all = TextsInvariant-then before between now text pending left kept more in
+    let all = IsGivenBut-then before between now text pending left kept more in
     record { front = all.written; is_front = (left, all.kept); given = all.given }
 
 -- where nothing is pending any more, the text was given
-pub IsAppended-kept : (before between now : Option (List ℕ)) (text pending left : List ℕ) → TextsInvariant before between text pending
-    → TextsInvariant between now pending left → left ≡ [] → IsAppended before now text
+pub IsAppended-kept : (before between now : Option (List ℕ)) (text pending left : List ℕ) → IsGivenBut before between text pending
+    → IsGivenBut between now pending left → left ≡ [] → IsAppended before now text
 IsAppended-kept before between now text pending left kept more none =
-    let all = TextsInvariant-then before between now text pending left kept more in
+    let all = IsGivenBut-then before between now text pending left kept more in
     let whole : text ≡ all.written = all.kept ∙ ap (λ (l : List ℕ). all.written ++ l) none ∙ append-nil all.written in
     subst (IsAppended before now) (sym whole) all.given

@@ -16,7 +16,7 @@ use Rattle.wm_machine.specs.declared.reply.Reply.{Reply}
 use Rattle.wm_machine.specs.declared.state.State.{State}
 use Rattle.wm_seating.specs.Bench.{places_after}
 use Rattle.wm_session.specs.BookState.{BookState}
-use Rattle.wm_session.specs.Pending.{nothing}
+use Rattle.wm_io.specs.Pending.{nothing}
 use Rattle.wm_roll.specs.Parts.{without}
 use Rattle.wm_roll.specs.declared.part.Part.{Part}
 use Rattle.wm_runs.specs.Reports.{CountsIn, IsOut}

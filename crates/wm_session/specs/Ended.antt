@@ -22,7 +22,7 @@ use Rattle.wm_session.specs.Causes.{EndsBy}
 use Rattle.wm_session.specs.Images.{EndImages}
 use Rattle.wm_table.specs.Images.{LeavesOnly}
 use Rattle.wm_table.specs.Inputs.{Inputs}
-use Rattle.wm_session.specs.Invariant.{TextsInvariant}
+use Rattle.wm_io.specs.Pending.{IsGivenBut}
 use Rattle.wm_session.specs.Pending.{pending_text}
 use Rattle.wm_session.specs.Tells.{Tells}
 use Rattle.wm_io.specs.Writing.{IsAppended, WriteCause}
@@ -115,7 +115,7 @@ pub record IsHandedBack {K W B : Type 0} (kind_of : B → Kind) (book : BookStat
 pub record IsWrittenOut {K W B : Type 0} (tells : Tells K W B) (book : BookState K W B) (ended : Ended K W B) : Type 0 where
   pub answer : Result (Unit {0}) WriteFault
   pub left : List ℕ
-  pub given : TextsInvariant (tells.given book.sink) (tells.given ended.sink) (pending_text book.table book.pending) left
+  pub given : IsGivenBut (tells.given book.sink) (tells.given ended.sink) (pending_text book.table book.pending) left
   pub all : OnOk answer (left ≡ [])
   pub cause : WriteCause answer (tells.sink_faults book.sink) (tells.sink_faults ended.sink)
   pub ends : EndsBy book.status answer ended.status

@@ -17,6 +17,7 @@ use Rattle.wm_session.specs.Images.{StopImages}
 use Rattle.wm_table.specs.Images.{LeavesOnly}
 use Rattle.wm_table.specs.Inputs.{Inputs}
 use Rattle.wm_table.specs.Parts.{part_of, AreOut}
+use Rattle.wm_io.specs.Pending.{IsGivenBut}
 use Rattle.wm_session.specs.Pending.{pending_text}
 use Rattle.wm_session.specs.Tells.{Tells}
 use Rattle.wm_io.specs.Writing.{IsAppended}
@@ -27,12 +28,6 @@ use Rattle.wm_session.specs.declared.book.Stop.{Stop}
 abbrev pub LinesInvariant : Option Stop → List Command → List Command → List Command → Type 0
 LinesInvariant None lines done left = lines ≡ done ++ left
 LinesInvariant (Some why) lines done left = HasPrefix lines done
-
--- what the sink was given since entry, where it tells that, and what is pending, are together the text
-pub record TextsInvariant (before now : Option (List ℕ)) (text pending : List ℕ) : Type 0 where
-  pub written : List ℕ
-  pub given : IsAppended before now written
-  pub kept : text ≡ written ++ pending
 
 -- the roll lists exactly these runs: each part is that of one, and the part of each is listed
 pub record ListsExactly (runs : List Run) (roll : List Part) : Type 0 where
@@ -62,7 +57,7 @@ pub record BookInvariant {K W B : Type 0} (run : Inputs) (tells : Tells K W B) (
   pub numbered : AreNumberedFrom 1 book.table.log
   pub line : book.line ≡ length (commands_of book.table.log)
   pub few_lines : book.line + length book.left < 2 ^ 32
-  pub texts : TextsInvariant run.written (tells.given book.sink) (log_text book.table.first book.table.log) (pending_text book.table book.pending)
+  pub texts : IsGivenBut run.written (tells.given book.sink) (log_text book.table.first book.table.log) (pending_text book.table book.pending)
   pub all_told : book.status ≡ None → book.pending.untold ≡ false
   pub workers : map (place_traits tells.kind_of) book.places ≡ map instance_traits book.table.state.instances
   pub away : AwayInvariant book.status book

@@ -15,7 +15,7 @@ ghost use Rattle.wm_session.specs.Tells.{tells_of};
 ghost use Rattle.wm_table.specs.Images.{LeavesOnly};
 
 use crate::ended::Ended;
-use crate::pending::Pending;
+use crate::pending::{tell_last, tell_rest};
 use crate::signals::Signals;
 use crate::status::{Status, status_after};
 use std::alloc::{AllocError, Global};
@@ -23,7 +23,7 @@ use std::collections::VecDeque;
 use std::marker::{Model, PhantomData};
 use wm_bench::{Bench, Seated};
 use wm_collections::Items;
-use wm_io::{Sink, WriteFault};
+use wm_io::{Pending, Sink, WriteFault};
 use wm_keeper::Keeper;
 use wm_machine::Command;
 use wm_seating::{execute, give_back, give_up};
@@ -221,10 +221,7 @@ impl<K: Keeper, W: Sink, B: Worker, M: Mark> Book<K, W, B, M> {
         }
         self.signals.raise_stopped(&self.table);
         self.line += 1;
-        match self
-            .pending
-            .tell_last(self.alloc, &self.table, &mut self.sink)
-        {
+        match tell_last(&mut self.pending, self.alloc, &self.table, &mut self.sink) {
             Ok(()) => Front::Moved,
             Err(fault) => {
                 self.status = Some(Stop::from(fault));
@@ -267,10 +264,7 @@ impl<K: Keeper, W: Sink, B: Worker, M: Mark> Book<K, W, B, M> {
                 return Job::Stopped;
             }
         };
-        match self
-            .pending
-            .tell_last(self.alloc, &self.table, &mut self.sink)
-        {
+        match tell_last(&mut self.pending, self.alloc, &self.table, &mut self.sink) {
             Ok(()) => match claim {
                 Claim::Run(ticket) => {
                     let Some(seat) = self.bench.take(ticket.instance()) else {
@@ -330,10 +324,7 @@ impl<K: Keeper, W: Sink, B: Worker, M: Mark> Book<K, W, B, M> {
             Ok(()) => {
                 self.bench.give(seat);
                 self.signals.remove(run);
-                match self
-                    .pending
-                    .tell_last(self.alloc, &self.table, &mut self.sink)
-                {
+                match tell_last(&mut self.pending, self.alloc, &self.table, &mut self.sink) {
                     Ok(()) => After::Over,
                     Err(fault) => {
                         self.status = Some(Stop::from(fault));
@@ -359,10 +350,7 @@ impl<K: Keeper, W: Sink, B: Worker, M: Mark> Book<K, W, B, M> {
         let run = ticket.task().run;
         match self.table.turn(ticket, told) {
             TurnAnswer::Go(next) => {
-                match self
-                    .pending
-                    .tell_last(self.alloc, &self.table, &mut self.sink)
-                {
+                match tell_last(&mut self.pending, self.alloc, &self.table, &mut self.sink) {
                     Ok(()) => After::Go(next, seat),
                     Err(fault) => {
                         self.status = Some(Stop::from(fault));
@@ -374,10 +362,7 @@ impl<K: Keeper, W: Sink, B: Worker, M: Mark> Book<K, W, B, M> {
             TurnAnswer::Finished | TurnAnswer::TimedOut | TurnAnswer::Late => {
                 self.bench.give(seat);
                 self.signals.remove(run);
-                match self
-                    .pending
-                    .tell_last(self.alloc, &self.table, &mut self.sink)
-                {
+                match tell_last(&mut self.pending, self.alloc, &self.table, &mut self.sink) {
                     Ok(()) => After::Over,
                     Err(fault) => {
                         self.status = Some(Stop::from(fault));
@@ -485,7 +470,7 @@ impl<K: Keeper, W: Sink, B: Worker, M: Mark> Book<K, W, B, M> {
             of: _,
         } = self;
         drop(left);
-        let written = pending.finish(alloc, &table, &mut sink);
+        let written = tell_rest(&mut pending, alloc, &table, &mut sink);
         let status = status_after(status, written);
         let TableEnd {
             first,

@@ -30,10 +30,10 @@ invariant_of-self g c =
     let away =
     away-out g.B.Worker.kind_of i.table.state i.table.roll c.args.ticket seat.number seat.worker i.bench kept.valid kept.workers kept.away.away
     c.requires.number c.requires.kind late.out in
-    BookInvariant-over table c.give.new.self told.self told.sink i.status c.args.ticket seat.number seat.worker kept going late.out.stands c.requires.number
+    BookInvariant-over table c.give.new.self told.pending told.sink i.status c.args.ticket seat.number seat.worker kept going late.out.stands c.requires.number
     away c.give.ensures (HasLeft-returned store c.args.ticket.task.run i.table table kept.valid late.returned)
     (ap (λ keeper. (store keeper).faults) late.returned.keeper) late.roll
-    (IsTold-all table told.self told.sink going c.in-Ok-tell_last.ensures.told c.in-Ok-tell_last.ensures.all c.in-Ok-tell_last.ensures.cause)
+    (IsTold-all table told.pending told.sink going c.in-Ok-tell_last.ensures.told c.in-Ok-tell_last.ensures.all c.in-Ok-tell_last.ensures.cause)
 
 pub invariant_of-self-in-Err-tell_last : goal.invariant_of-self-in-Err-tell_last
 invariant_of-self-in-Err-tell_last g c =
@@ -49,10 +49,10 @@ invariant_of-self-in-Err-tell_last g c =
     let away =
     away-out g.B.Worker.kind_of i.table.state i.table.roll c.args.ticket seat.number seat.worker i.bench kept.valid kept.workers kept.away.away
     c.requires.number c.requires.kind late.out in
-    BookInvariant-over table c.give.new.self told.self told.sink (Some c.from.result) c.args.ticket seat.number seat.worker kept going late.out.stands
+    BookInvariant-over table c.give.new.self told.pending told.sink (Some c.from.result) c.args.ticket seat.number seat.worker kept going late.out.stands
     c.requires.number away c.give.ensures (HasLeft-returned store c.args.ticket.task.run i.table table kept.valid late.returned)
     (ap (λ keeper. (store keeper).faults) late.returned.keeper) late.roll
-    (IsTold-cut table told.self told.sink refused.fault c.from.result kept refused.ensures.told refused.ensures.cause c.from.ensures)
+    (IsTold-cut table told.pending told.sink refused.fault c.from.result kept refused.ensures.told refused.ensures.cause c.from.ensures)
 
 pub returns-in-Err-tell_last : goal.returns-in-Err-tell_last
 returns-in-Err-tell_last g c =
@@ -60,7 +60,7 @@ returns-in-Err-tell_last g c =
     let late = c.in-Ok.ensures in
     let going = subst (λ book. book.status ≡ None) (sym c.self.view_is) c.requires.going in
     let untold =
-    IsLateUntold-told c.late.new.self c.give.new.self told.self told.sink c.from.result c.args.ticket c.self.invariant going late.returned in
+    IsLateUntold-told c.late.new.self c.give.new.self told.pending told.sink c.from.result c.args.ticket c.self.invariant going late.returned in
     rw (← c.self.view_is) (record {
       how = inr untold;
       late = λ before stopped. untold;

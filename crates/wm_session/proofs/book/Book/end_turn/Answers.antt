@@ -16,9 +16,9 @@ invariant_of-self g c =
     let told = c.tell_last.new in
     let table = c.turn.new.self in
     let going = subst (λ book. book.status ≡ None) (sym c.self.view_is) c.requires.going in
-    BookInvariant-turned table told.self told.sink c.args.ticket c.in-Go.next c.args.told c.self.invariant going c.in-Go.ensures.answer
+    BookInvariant-turned table told.pending told.sink c.args.ticket c.in-Go.next c.args.told c.self.invariant going c.in-Go.ensures.answer
     c.in-Go.ensures.out.stands c.in-Go.ensures.roll
-    (IsTold-all table told.self told.sink going c.in-Ok.ensures.told c.in-Ok.ensures.all c.in-Ok.ensures.cause)
+    (IsTold-all table told.pending told.sink going c.in-Ok.ensures.told c.in-Ok.ensures.all c.in-Ok.ensures.cause)
     c.in-Go.ensures.cause
 
 pub give_back-requires : goal.give_back-requires
@@ -48,10 +48,10 @@ invariant_of-self-in-Err g c =
     let left = without ticket.task.run i.table.roll in
     let taken : without c.in-Go.next.task.run table.roll ≡ left =
     (λ j. without (on.same_run j) (c.in-Go.ensures.roll j)) ∙ taken_again ticket i.table.roll in
-    BookInvariant-turn_untold table back.new.table back.new.bench told.self told.sink left c.from.result ticket c.in-Go.next c.args.told kept going on
+    BookInvariant-turn_untold table back.new.table back.new.bench told.pending told.sink left c.from.result ticket c.in-Go.next c.args.told kept going on
     (back.ensures.table ∙ (λ j. record table { roll = taken j })) given.0
     (given.1 ∙ ap (map (is_out_on left)) (sym (turned_instances g.K.Keeper.store i.table table ticket c.in-Go.next c.args.told on)))
-    (IsTold-cut table told.self told.sink c.in-Err.fault c.from.result kept c.in-Err.ensures.told c.in-Err.ensures.cause c.from.ensures)
+    (IsTold-cut table told.pending told.sink c.in-Err.fault c.from.result kept c.in-Err.ensures.told c.in-Err.ensures.cause c.from.ensures)
     c.in-Go.ensures.cause
 
 pub returns-in-Ok : goal.returns-in-Ok
@@ -59,7 +59,7 @@ returns-in-Ok g c =
     let told = c.tell_last.new in
     let going = subst (λ book. book.status ≡ None) (sym c.self.view_is) c.requires.going in
     rw (← c.self.view_is)
-    (IsTurnTold-made c.turn.new.self told.self told.sink c.args.ticket c.in-Go.next c.args.seat c.args.told c.self.invariant going
+    (IsTurnTold-made c.turn.new.self told.pending told.sink c.args.ticket c.in-Go.next c.args.seat c.args.told c.self.invariant going
     c.in-Go.ensures.answer c.in-Go.ensures.out c.in-Go.ensures.roll c.in-Ok.ensures.all)
 
 pub returns-in-Err : goal.returns-in-Err
@@ -68,7 +68,7 @@ returns-in-Err g c =
     let back = c.give_back in
     let going = subst (λ book. book.status ≡ None) (sym c.self.view_is) c.requires.going in
     let untold =
-    inr (inr (IsTurnUntold-made c.turn.new.self back.new.table back.new.bench told.self told.sink
+    inr (inr (IsTurnUntold-made c.turn.new.self back.new.table back.new.bench told.pending told.sink
     (without c.in-Go.next.task.run c.turn.new.self.roll) c.from.result c.args.ticket c.in-Go.next c.args.told c.self.invariant going
     c.in-Go.ensures.answer back.ensures.table)) in
     rw (← c.self.view_is) (record {
@@ -105,11 +105,11 @@ invariant_of-self-in-Ok-tell_last g c =
     kept.workers kept.away.away c.requires.number c.requires.kind out in
     let left =
     HasLeft-by g.K.Keeper.store c.args.ticket c.args.told c.turn.result c.self.inside.table table kept.valid c.in-Finished.is c.turn.ensures.answer in
-    BookInvariant-over table c.give.new.self told.self told.sink c.self.inside.status c.args.ticket seat.number seat.worker c.self.invariant going out.stands
+    BookInvariant-over table c.give.new.self told.pending told.sink c.self.inside.status c.args.ticket seat.number seat.worker c.self.invariant going out.stands
     c.requires.number away c.give.ensures left
     (unfaulted_over c.turn.result (g.K.Keeper.store c.self.inside.table.keeper).faults (g.K.Keeper.store table.keeper).faults c.in-Finished.is
     c.turn.ensures.cause) roll
-    (IsTold-all table told.self told.sink going c.in-Ok-tell_last.ensures.told c.in-Ok-tell_last.ensures.all c.in-Ok-tell_last.ensures.cause)
+    (IsTold-all table told.pending told.sink going c.in-Ok-tell_last.ensures.told c.in-Ok-tell_last.ensures.all c.in-Ok-tell_last.ensures.cause)
 
 pub invariant_of-self-in-Err-tell_last : goal.invariant_of-self-in-Err-tell_last
 invariant_of-self-in-Err-tell_last g c =
@@ -127,11 +127,11 @@ invariant_of-self-in-Err-tell_last g c =
     kept.workers kept.away.away c.requires.number c.requires.kind out in
     let left =
     HasLeft-by g.K.Keeper.store c.args.ticket c.args.told c.turn.result c.self.inside.table table kept.valid c.in-Finished.is c.turn.ensures.answer in
-    BookInvariant-over table c.give.new.self told.self told.sink (Some stop.result) c.args.ticket seat.number seat.worker c.self.invariant going out.stands
+    BookInvariant-over table c.give.new.self told.pending told.sink (Some stop.result) c.args.ticket seat.number seat.worker c.self.invariant going out.stands
     c.requires.number away c.give.ensures left
     (unfaulted_over c.turn.result (g.K.Keeper.store c.self.inside.table.keeper).faults (g.K.Keeper.store table.keeper).faults c.in-Finished.is
     c.turn.ensures.cause) roll
-    (IsTold-cut table told.self told.sink refused.fault stop.result c.self.invariant refused.ensures.told refused.ensures.cause stop.ensures)
+    (IsTold-cut table told.pending told.sink refused.fault stop.result c.self.invariant refused.ensures.told refused.ensures.cause stop.ensures)
 
 pub returns-in-Ok-tell_last : goal.returns-in-Ok-tell_last
 returns-in-Ok-tell_last g c =
@@ -140,7 +140,7 @@ returns-in-Ok-tell_last g c =
     let out = over_out c.self.inside.table.state c.self.inside.table.roll c.args.ticket c.turn.result c.in-Finished.is c.turn.ensures.out in
     let roll = over_roll c.args.ticket c.turn.result c.self.inside.table.roll c.turn.new.self.roll c.in-Finished.is c.turn.ensures.roll in
     rw (← c.self.view_is)
-    (IsOver-told c.turn.new.self c.give.new.self told.self told.sink c.args.ticket c.args.seat c.args.told c.turn.result c.self.invariant going
+    (IsOver-told c.turn.new.self c.give.new.self told.pending told.sink c.args.ticket c.args.seat c.args.told c.turn.result c.self.invariant going
     c.in-Finished.is c.turn.ensures.answer out roll c.give.ensures c.in-Ok-tell_last.ensures.all)
 
 pub returns-in-Err-tell_last : goal.returns-in-Err-tell_last
@@ -150,7 +150,7 @@ returns-in-Err-tell_last g c =
     let out = over_out c.self.inside.table.state c.self.inside.table.roll c.args.ticket c.turn.result c.in-Finished.is c.turn.ensures.out in
     let roll = over_roll c.args.ticket c.turn.result c.self.inside.table.roll c.turn.new.self.roll c.in-Finished.is c.turn.ensures.roll in
     let untold =
-    IsOverUntold-told c.turn.new.self c.give.new.self told.self told.sink c.from-in-Err-tell_last.result c.args.ticket
+    IsOverUntold-told c.turn.new.self c.give.new.self told.pending told.sink c.from-in-Err-tell_last.result c.args.ticket
     c.args.told c.turn.result c.self.invariant going c.in-Finished.is c.turn.ensures.answer in
     rw (← c.self.view_is) (record {
       how = inr untold;

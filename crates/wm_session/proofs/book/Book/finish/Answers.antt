@@ -13,7 +13,7 @@ returns-clause-session g c =
     let last = c.end-first in
     let ended = c.status_after-status.result in
     let ends = c.status_after-status.ensures in
-    let wrote = c.finish-written in
+    let wrote = c.tell_rest-written in
     let before = g.W.Sink.faults c.self.inside.sink in
     let keeper_now = (g.K.Keeper.store last.result.keeper).faults in
     let cause = subst (λ keeper. StopCause stop run.store.faults (g.K.Keeper.store keeper).faults run.sink_faults before) (sym last.ensures.keeper)
@@ -26,7 +26,7 @@ returns-clause-session g c =
       replay = last.ensures.replay;
       commands = HasCommands-kept ended last.result.log kept last.ensures.log ends.stopped
           (subst (λ book. book.status ≡ None → book.left ≡ []) (sym c.self.view_is) c.requires.lines);
-      bytes = IsTextWritten-kept ended last.result.first last.result.log (g.W.Sink.given wrote.new.sink) (pending_text c.self.inside.table wrote.new.self)
+      bytes = IsTextWritten-kept ended last.result.first last.result.log (g.W.Sink.given wrote.new.sink) (pending_text c.self.inside.table wrote.new.pending)
           wrote.result kept
           last.ensures.first last.ensures.log wrote.ensures.told wrote.ensures.all ends;
       rows = last.ensures.rows;
@@ -42,10 +42,10 @@ returns-clause-session g c =
 
 pub returns-clause-written : goal.returns-clause-written
 returns-clause-written g c =
-    let wrote = c.finish-written in
+    let wrote = c.tell_rest-written in
     rw (← c.self.view_is) (record {
       answer = wrote.result;
-      left = pending_text c.self.inside.table wrote.new.self;
+      left = pending_text c.self.inside.table wrote.new.pending;
       given = wrote.ensures.told;
       all = wrote.ensures.all;
       cause = wrote.ensures.cause;

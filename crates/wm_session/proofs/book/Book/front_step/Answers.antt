@@ -23,10 +23,10 @@ pub invariant_of-self-in-Ok : goal.invariant_of-self-in-Ok
 invariant_of-self-in-Ok g c =
     let done = c.in_default-execute.ensures.ok in
     let told = c.tell_last.new in
-    BookInvariant-line c.execute.new.table c.execute.new.bench c.pop_front.new.self.items told.self told.sink c.self.inside.status
+    BookInvariant-line c.execute.new.table c.execute.new.bench c.pop_front.new.self.items told.pending told.sink c.self.inside.status
     c.in-Some.command done.0 c.self.invariant
     (search rules) done.1 c.in-Some.ensures.items c.in_default-execute.ensures.cause
-    (IsTold-all c.execute.new.table told.self told.sink (search rules) c.in-Ok.ensures.told c.in-Ok.ensures.all c.in-Ok.ensures.cause)
+    (IsTold-all c.execute.new.table told.pending told.sink (search rules) c.in-Ok.ensures.told c.in-Ok.ensures.all c.in-Ok.ensures.cause)
     c.in_default-execute.ensures.places c.in_default-execute.ensures.roll
 
 pub invariant_of-self-in-Err-tell_last : goal.invariant_of-self-in-Err-tell_last
@@ -35,10 +35,10 @@ invariant_of-self-in-Err-tell_last g c =
     let told = c.tell_last.new in
     let refused = c.in-Err-tell_last in
     let stop = c.from-in-Err-tell_last in
-    BookInvariant-line c.execute.new.table c.execute.new.bench c.pop_front.new.self.items told.self told.sink (Some stop.result)
+    BookInvariant-line c.execute.new.table c.execute.new.bench c.pop_front.new.self.items told.pending told.sink (Some stop.result)
     c.in-Some.command done.0 c.self.invariant
     (search rules) done.1 c.in-Some.ensures.items c.in_default-execute.ensures.cause
-    (IsTold-cut c.execute.new.table told.self told.sink refused.fault stop.result c.self.invariant refused.ensures.told refused.ensures.cause stop.ensures)
+    (IsTold-cut c.execute.new.table told.pending told.sink refused.fault stop.result c.self.invariant refused.ensures.told refused.ensures.cause stop.ensures)
     c.in_default-execute.ensures.places c.in_default-execute.ensures.roll
 
 -- ---- the table had trouble
@@ -67,5 +67,5 @@ returns-in-Err-tell_last g c =
     rw (← c.self.view_is)
     (IsFrontStopped-untold g.K.Keeper.store g.B.Worker.kind_of
     (record { table = i.table; places = i.bench; left = i.left.items; line = i.line; pending = i.pending; sink = i.sink; status = i.status })
-    c.execute.new.table c.execute.new.bench c.pop_front.new.self.items told.self told.sink c.in-Some.command done.0 c.from-in-Err-tell_last.result
+    c.execute.new.table c.execute.new.bench c.pop_front.new.self.items told.pending told.sink c.in-Some.command done.0 c.from-in-Err-tell_last.result
     (search rules) c.in-Some.ensures.items done.1 c.in_default-execute.ensures.places c.in_default-execute.ensures.roll)

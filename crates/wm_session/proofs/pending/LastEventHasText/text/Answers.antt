@@ -6,7 +6,7 @@ use Rattle.wm_machine.specs.declared.event.Event.{Event}
 use Rattle.wm_machine.specs.declared.state.State.{State}
 use Rattle.wm_texts.proofs.LogTexts.{last_text-is}
 use Rattle.wm_texts.specs.Texts.{last_text}
-use Rattle.wm_session.proofs.pending.last_text.Goals as goal
+use Rattle.wm_session.proofs.pending.LastEventHasText.text.Goals as goal
 
 -- without an event there is no text
 no_text : (first : State) (log : List Event) → None ≡ last_of log → last_text first log ≡ []
@@ -16,12 +16,12 @@ no_text first (e ∷ later ∷ log) none = no_text (after first e) (later ∷ lo
 
 pub returns-in-Some : goal.returns-in-Some
 returns-in-Some g c =
-    let table = c.args.table.now in
+    let table = c.args.self.now.table.now in
     let event = c.in-Some.event.now in
     let told = rw (c.last_notes.ensures, c.hushed.ensures) at c.event_text.ensures in
     rw (last_text-is table.first table.log table.state event c.in-Some.ensures.replay (sym c.in-Some.ensures.last)) told
 
 pub returns-in-None : goal.returns-in-None
 returns-in-None g c =
-    let table = c.args.table.now in
+    let table = c.args.self.now.table.now in
     c.new.ensures.items ∙ sym (no_text table.first table.log c.in-None.ensures.last)
