@@ -1,6 +1,5 @@
-//! Tests of single calls of the table and of a book, whose runs the test drives itself, of whole runs,
-//! also with worker threads that a gate of the test holds, and of how a program ends, a module a
-//! subject.
+//! Tests of a book whose runs the test drives itself, of whole runs, also with worker threads that a
+//! gate of the test holds, and of how a program ends, a module a subject.
 //!
 //! It is otherwise empty. What whole runs do with the program's own workers, worked cases show.
 #![tactic(auto)]
@@ -15,7 +14,5 @@ mod ends;
 mod runs;
 #[cfg(test)]
 mod signals;
-#[cfg(test)]
-mod table;
 #[cfg(test)]
 mod threads;

@@ -3,6 +3,7 @@ ghost use Rattle.std.specs.Prelude.{◌≡◌, ◌≤◌, vec_len, IfOk};
 ghost use Rattle.wm_bench.specs.Places.{most_hands};
 
 use crate::threads::{one_hand, run_at};
+use part_tests::data::data_of;
 use part_tests::diarist::{Diarist, diary_text};
 use part_tests::hands::add_hand;
 use part_tests::uploader::Uploader;
@@ -14,7 +15,7 @@ use std::thread::Threads;
 use wm_bench::Hand;
 use wm_cli::{Ended, Status, run};
 use wm_collections::Text;
-use wm_data::{Data, DataBuilder, DataFault, Value};
+use wm_data::Value;
 use wm_io::{MemorySink, MemorySource};
 use wm_keeper::SureKeeper;
 use wm_pool::OpenGate;
@@ -192,22 +193,6 @@ run 1 turn 0: More {"of":{"int":3}}
 run 1 turn 1: More {"of":{"int":3}}
 run 1 turn 2: Failure {"sent":{"int":2}}
 "#;
-
-/// The Data of a builder, unless what was put was refused.
-fn built(builder: DataBuilder, put: Result<(), DataFault>) -> Result<Data, AllocError> {
-    match put {
-        Ok(()) => builder.build().map_err(|_| AllocError),
-        Err(_) => Err(AllocError),
-    }
-}
-
-/// Data of one value.
-pub fn data_of(alloc: Global, key: &str, value: Value) -> Result<Data, AllocError> {
-    let (value, key) = both(value, String::from_str(alloc, key))?;
-    let mut builder = DataBuilder::new(alloc);
-    let put = builder.put(key, value);
-    built(builder, put)
-}
 
 /// A caller's own worker, which tells its progress twice, and fails.
 fn uploader(alloc: Global) -> Result<Uploader, AllocError> {

@@ -2,8 +2,8 @@
 ghost use Rattle.std.specs.Prelude.{◌≤◌, vec_len, IfOk};
 ghost use Rattle.wm_bench.specs.Places.{most_hands};
 
-use crate::runs::data_of;
 use crate::threads::{MOST_POLLS, one_hand, run_at, words};
+use part_tests::data::data_of;
 use part_tests::hands::add_hand;
 use std::alloc::{AllocError, Global};
 use std::process::Abort;

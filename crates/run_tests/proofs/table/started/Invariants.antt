@@ -1,7 +1,0 @@
-use Rattle.std.proofs.Common.{Some, false, []}
-use Rattle.wm_table.specs.Inputs.{no_inputs}
-use Rattle.run_tests.proofs.table.started.Given as goal
-
--- the mark of the table is an empty store that tells its rows, with these instances and this roll
-abbrev pub ghosts-started_on : goal.ghosts-started_on
-ghosts-started_on a = record { inputs = record no_inputs { instances = a.instances; roll = a.roll.table_id; store = record no_inputs.store { rows = Some []; is_lost = false } } }
