@@ -1,4 +1,4 @@
-//! Tests of the keepers of `wm_sqlite`, over stores in memory and over files, of whole runs over them,
+//! Tests of the keepers of `wm_sqlite`, over stores in memory and over files, of whole runs over files,
 //! and of a store that is stopped after each number of calls of its disk: what is found when it is
 //! opened again.
 //!

@@ -1,7 +1,9 @@
 //! Runs over a store in files, on whatever disk.
 ghost use Rattle.std.specs.Prelude.{◌≤◌, vec_len, IfOk};
 ghost use Rattle.wm_bench.specs.Places.{most_hands};
+ghost use Rattle.wm_keeper.specs.Keeper.{AreOfDifferentNumbers};
 
+use crate::rows::commit;
 use crate::state_rows::rows_of;
 use sqlite::{Alter, Connection};
 use sqlite_disk::{Disk, Files};
@@ -9,14 +11,16 @@ use sqlite_pager::Options;
 use sqlite_store::FileStore;
 use std::alloc::{AllocError, Global};
 use std::sync::Wait;
+use std::test::Fail;
 use std::thread::Threads;
 use wm_bench::Hand;
 use wm_cli::{Ended, Status, run};
 use wm_collections::Text;
 use wm_io::{MemorySink, MemorySource};
-use wm_keeper::{Keeper, Row};
+use wm_keeper::{Change, KeepFault, Keeper, Row};
 use wm_pool::OpenGate;
 use wm_sqlite::SqliteKeeper;
+use wm_steps::both;
 use wm_stock::AnyStock;
 
 /// What a run told.
@@ -28,6 +32,8 @@ pub(crate) struct Told {
     pub(crate) events: usize,
     /// The rows of the state that its log led to.
     pub(crate) rows: Vec<Row>,
+    /// What it wrote.
+    pub(crate) written: Vec<u8>,
 }
 
 /// What is left of a run.
@@ -69,7 +75,7 @@ fn words(alloc: Global) -> Result<Vec<String>, AllocError> {
 }
 
 /// How a run of a script over a store ends.
-pub(crate) fn run_with<R: Threads + Wait + Sync, K: Keeper + Send + Drop>(
+fn run_with<R: Threads + Wait + Sync, K: Keeper + Send + Drop>(
     rt: &R,
     alloc: Global,
     keeper: K,
@@ -98,15 +104,17 @@ fn told_of<K: Keeper + Drop>(
     ended: &Ended<K, MemorySink, AnyStock>,
 ) -> Result<Told, AllocError> {
     let rows = rows_of(alloc, ended.last.works.as_slice())?;
+    let (rows, written) = both(rows, Vec::from_slice(alloc, ended.sink.bytes()))?;
     Ok(Told {
         status: ended.status,
         events: ended.log.len(),
         rows,
+        written,
     })
 }
 
 /// The keeper that comes back from a run.
-pub(crate) fn keeper_of<K: Keeper + Drop>(ended: Ended<K, MemorySink, AnyStock>) -> K {
+fn keeper_of<K: Keeper + Drop>(ended: Ended<K, MemorySink, AnyStock>) -> K {
     ended.keeper
 }
 
@@ -139,6 +147,7 @@ fn nothing(alloc: Global) -> Told {
         status: Status::KeeperFault,
         events: 0,
         rows: Vec::new(alloc),
+        written: Vec::new(alloc),
     }
 }
 
@@ -212,5 +221,43 @@ pub(crate) fn rows_in<D: Disk + Drop>(
             Ok((rows, files_of(keeper)))
         }
         Err(files) => Ok((None, files)),
+    }
+}
+
+/// Makes these changes in the store in these files, in one commit.
+pub(crate) fn commit_in<D: Disk + Drop>(
+    alloc: Global,
+    files: Files<D>,
+    changes: Vec<Change>,
+) -> Result<Files<D>, KeepFault>
+    requires { AreOfDifferentNumbers changes.items }
+{
+    match open(alloc, files)? {
+        Ok(keeper) => {
+            let mut keeper = keeper;
+            let committed = commit(&mut keeper, changes);
+            let files = files_of(keeper);
+            match committed {
+                Ok(()) => Ok(files),
+                Err(fault) => Err(fault),
+            }
+        }
+        Err(_) => Err(KeepFault::Failed),
+    }
+}
+
+/// Runs a statement on the store in these files.
+pub(crate) fn execute_in<D: Disk + Drop>(
+    alloc: Global,
+    files: Files<D>,
+    statement: &str,
+) -> Result<Files<D>, Fail> {
+    match open(alloc, files)? {
+        Ok(keeper) => {
+            let mut connection = keeper.into_connection();
+            connection.execute_batch(statement)?;
+            Ok(connection.into_store().close())
+        }
+        Err(_) => Err(AllocError.into()),
     }
 }

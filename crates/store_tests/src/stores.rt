@@ -1,15 +1,26 @@
-//! Whole runs over SQLite stores in memory, in which rows stand that were committed before.
+//! Whole runs over SQLite stores in files, in which rows stand that were committed before.
 use crate::rows::one;
-use crate::runs::{keeper_of, run_with};
-use sqlite::{Connection, MemStore};
+use crate::runs::{Told, commit_in, execute_in, rows_in, run_over};
+use sqlite_disk::{Files, Fuse, Memory};
 use std::alloc::{AllocError, Global};
-use std::sync::Wait;
+use std::process::Abort;
 use std::test::Fail;
-use std::thread::Threads;
 use wm_cli::Status;
 use wm_collections::{Items, Text};
-use wm_keeper::{Change, KeepFault, Keeper, Row};
-use wm_sqlite::SqliteKeeper;
+use wm_keeper::{Change, KeepFault, Row};
+
+/// The files of a store in memory, which don't fail. The disk is the one that the sweep takes, so that
+/// a run over it is proved and built once.
+type Store = Files<Fuse<Memory>>;
+
+/// A store without a file.
+fn empty(alloc: Global) -> Store {
+    let disk = || Fuse::new(Memory::new(alloc), u64::MAX);
+    Files {
+        log: disk(),
+        db: disk(),
+    }
+}
 
 /// The id of the work that is stored.
 const ID: [u8; 16] = [0, 0, 0, 0, 0, 0, 0, 0, 0, 0, 0, 0, 0, 0, 0, 1];
@@ -54,26 +65,10 @@ fn row_of(alloc: Global, stored: &Stored<'_>) -> Result<Row, AllocError> {
     })
 }
 
-/// A store in memory to which a keeper committed this row.
-fn store_of(alloc: Global, row: Row) -> Result<Connection<MemStore>, KeepFault> {
-    let mut keeper = SqliteKeeper::adopt(Connection::open_in_memory(alloc)?);
+/// A store to which a keeper committed this row.
+fn store_of(alloc: Global, row: Row) -> Result<Store, KeepFault> {
     let changes = one(alloc, Change::Put(row))?;
-    keeper.commit(changes.as_slice())?;
-    Ok(keeper.into_connection())
-}
-
-/// How a run of this script over a store ends, what it writes, and the store.
-fn run_over<R: Threads + Wait + Sync>(
-    rt: &R,
-    alloc: Global,
-    store: Connection<MemStore>,
-    script: &str,
-) -> Result<(Status, Vec<u8>, Connection<MemStore>), AllocError> {
-    let ended = run_with(rt, alloc, SqliteKeeper::adopt(store), script)?;
-    let status = ended.status;
-    let written = Vec::from_slice(alloc, ended.sink.bytes());
-    let store = keeper_of(ended).into_connection();
-    Ok((status, written?, store))
+    commit_in(alloc, empty(alloc), changes)
 }
 
 /// The number, the phase and the attempt of each row.
@@ -85,11 +80,14 @@ fn standings(alloc: Global, rows: &[Row]) -> Result<Vec<(i64, i64, i64)>, AllocE
     Ok(standings)
 }
 
-/// Those of the rows of a store.
-fn rows_in(alloc: Global, store: Connection<MemStore>) -> Result<Vec<(i64, i64, i64)>, KeepFault> {
-    let mut keeper = SqliteKeeper::adopt(store);
-    let rows = keeper.load("any name")?;
-    Ok(standings(alloc, rows.as_slice())?)
+/// Those of the rows of a store; none where it can't be loaded.
+fn standings_in(alloc: Global, store: Store) -> Result<Vec<(i64, i64, i64)>, AllocError> {
+    let (rows, store) = rows_in(alloc, store)?;
+    drop(store);
+    match rows {
+        Some(rows) => standings(alloc, rows.as_slice()),
+        None => Ok(Vec::new(alloc)),
+    }
 }
 
 const QUERY: &str = "{\"cmd\":\"query\"}";
@@ -149,15 +147,20 @@ fn cases() -> [(
     ]
 }
 
+/// A run ended so, and wrote this.
+fn expect(rt: &impl Abort, told: &Told, status: Status, written: &str) {
+    assert_eq!(rt; told.status, status);
+    assert_eq!(rt; told.written.as_slice(), written.as_bytes());
+}
+
 #[test]
 fn a_stored_row_is_opened_or_refused(rt: HostRuntime) -> Result<(), Fail> {
     let alloc = rt.alloc();
     for (stored, script, status, replies, row) in cases() {
         let store = store_of(alloc, row_of(alloc, &stored)?)?;
-        let (ended, written, store) = run_over(&rt, alloc, store, script)?;
-        assert_eq!(rt; ended, status);
-        assert_eq!(rt; written.as_slice(), replies.as_bytes());
-        let rows = rows_in(alloc, store)?;
+        let left = run_over(&rt, alloc, store, script)?;
+        expect(&rt, &left.told, status, replies);
+        let rows = standings_in(alloc, left.files)?;
         assert_eq!(rt; rows.as_slice(), [row].as_slice());
     }
     Ok(())
@@ -178,18 +181,16 @@ fn finished() -> Stored<'static> {
 fn a_row_with_seven_bytes_of_prerequisites_is_refused(rt: HostRuntime) -> Result<(), Fail> {
     let alloc = rt.alloc();
     let store = store_of(alloc, row_of(alloc, &finished())?)?;
-    let (ended, written, mut store) = run_over(&rt, alloc, store, "")?;
-    assert_eq!(rt; ended, Status::Done);
-    assert!(rt; written.is_empty());
-    store.execute_batch("UPDATE work SET prior = x'01020304050607'")?;
-    let (ended, written, store) = run_over(&rt, alloc, store, QUERY)?;
+    let left = run_over(&rt, alloc, store, "")?;
+    expect(&rt, &left.told, Status::Done, "");
+    let statement = "UPDATE work SET prior = x'01020304050607'";
+    let store = execute_in(alloc, left.files, statement)?;
+    let left = run_over(&rt, alloc, store, QUERY)?;
     let refused = Status::BadStore {
         seq: 7,
         bad_row: true,
     };
-    assert_eq!(rt; ended, refused);
-    assert!(rt; written.is_empty());
-    drop(store);
+    expect(&rt, &left.told, refused, "");
     Ok(())
 }
 
@@ -215,14 +216,10 @@ const THOUSAND_ENQUEUED: &str =
 #[test]
 fn a_thousand_works_of_one_line_are_there_in_the_next_run(rt: HostRuntime) -> Result<(), Fail> {
     let alloc = rt.alloc();
-    let store = Connection::open_in_memory(alloc)?;
     let line = enqueue_of(alloc, 1_000)?;
-    let (ended, written, store) = run_over(&rt, alloc, store, line.as_str())?;
-    assert_eq!(rt; ended, Status::Done);
-    drop(written);
-    let (ended, written, store) = run_over(&rt, alloc, store, SUMMARY)?;
-    assert_eq!(rt; ended, Status::Done);
-    assert_eq!(rt; written.as_slice(), THOUSAND_ENQUEUED.as_bytes());
-    drop(store);
+    let left = run_over(&rt, alloc, empty(alloc), line.as_str())?;
+    assert_eq!(rt; left.told.status, Status::Done);
+    let left = run_over(&rt, alloc, left.files, SUMMARY)?;
+    expect(&rt, &left.told, Status::Done, THOUSAND_ENQUEUED);
     Ok(())
 }

@@ -17,6 +17,14 @@ const SCRIPT: &str =
 {"cmd":"enqueue","works":[{"class":"RetryUntil","id":"00000000-0000-0000-0000-000000000009"}]}
 "#;
 
+/// A script one of whose events both takes a row away and puts one: a name whose work succeeded passes
+/// to another work.
+const REPLACES: &str =
+    r#"{"cmd":"enqueue","works":[{"class":"Echo","id":"00000000-0000-0000-0000-000000000001"}],"name":"a","policy":"REPLACE"}
+{"cmd":"settle"}
+{"cmd":"enqueue","works":[{"class":"Echo","id":"00000000-0000-0000-0000-000000000002"}],"name":"a","policy":"REPLACE"}
+"#;
+
 /// A disk that fails from some call on.
 trait Stopping: Crash {
     /// An empty one, with so many calls left.
@@ -39,24 +47,24 @@ impl Stopping for Fuse<Memory> {
     }
 }
 
-/// The one of the two files that fails.
+/// Which of the two files fail.
 #[derive(Clone, Copy)]
 enum Failing {
-    /// The log.
-    Log,
-    /// The database file.
+    /// The log and the database file, each after as many calls of its own.
+    Both,
+    /// The database file, whose calls are few: where both fail, the log is first.
     Database,
 }
 
-/// New files, of which the failing one has so many calls left.
+/// New files, of which those that fail have so many calls left.
 fn new_files<D: Stopping>(alloc: Global, failing: Failing, calls: u64) -> Files<D> {
-    let (log, db) = match failing {
-        Failing::Log => (calls, u64::MAX),
-        Failing::Database => (u64::MAX, calls),
+    let log = match failing {
+        Failing::Both => calls,
+        Failing::Database => u64::MAX,
     };
     Files {
         log: D::with_calls(alloc, log),
-        db: D::with_calls(alloc, db),
+        db: D::with_calls(alloc, calls),
     }
 }
 
@@ -104,13 +112,14 @@ struct Stop {
     synced: Option<Vec<Row>>,
 }
 
-/// A run of the script over new files, and what the next one finds in them and in copies of them.
+/// A run of a script over new files, and what the next one finds in them and in copies of them.
 fn stop_in<R: Threads + Wait + Sync, D: Stopping + Send + Drop>(
     rt: &R,
     alloc: Global,
     files: Files<D>,
+    script: &str,
 ) -> Result<Stop, AllocError> {
-    let left = run_over(rt, alloc, files, SCRIPT)?;
+    let left = run_over(rt, alloc, files, script)?;
     let copies = copies_of(alloc, &left.files);
     let Left { told, files } = left;
     let synced = next_finds(rt, alloc, crashed(files));
@@ -135,16 +144,17 @@ fn written_in<R: Threads + Wait + Sync, D: Disk + Send + Drop>(
     }
 }
 
-/// The runs that are stopped after 0, 1, 2 and so on calls of the failing file, up to the one that
-/// isn't stopped.
+/// The runs of a script that are stopped after 0, 1, 2 and so on calls of the files that fail, up to
+/// the one that isn't stopped.
 fn stops<R: Threads + Wait + Sync, D: Stopping + Send + Drop>(
     rt: &R,
     alloc: Global,
     failing: Failing,
+    script: &str,
 ) -> Result<Vec<Stop>, AllocError> {
     let mut stops = Vec::new(alloc);
     for calls in 0..10_000 {
-        let stop = stop_in(rt, alloc, new_files::<D>(alloc, failing, calls))?;
+        let stop = stop_in(rt, alloc, new_files::<D>(alloc, failing, calls), script)?;
         let status = stop.told.status;
         stops.push(stop)?;
         if status != Status::KeeperFault {
@@ -159,8 +169,9 @@ fn stops_in_memory<R: Threads + Wait + Sync>(
     rt: &R,
     alloc: Global,
     failing: Failing,
+    script: &str,
 ) -> Result<Vec<Stop>, AllocError> {
-    stops::<R, Fuse<Memory>>(rt, alloc, failing)
+    stops::<R, Fuse<Memory>>(rt, alloc, failing, script)
 }
 
 /// What is found after a stop.
@@ -168,7 +179,7 @@ fn stops_in_memory<R: Threads + Wait + Sync>(
 enum Found {
     /// The rows of the log that the run handed back.
     Log,
-    /// Those with one further event.
+    /// Those with the one further event that an undisturbed run has next.
     Further,
     /// Other rows, or none, since the next run wasn't done.
     Other,
@@ -182,7 +193,7 @@ fn finds(found: &Option<Vec<Row>>, rows: &[Row]) -> bool {
     }
 }
 
-/// What is found after a stop, before the first one with a longer log.
+/// What is found after a stop, before one whose log has one event more.
 fn found_after(found: &Option<Vec<Row>>, stop: &Stop, further: Option<&Stop>) -> Found {
     if finds(found, stop.told.rows.as_slice()) {
         return Found::Log;
@@ -197,9 +208,11 @@ fn found_after(found: &Option<Vec<Row>>, stop: &Stop, further: Option<&Stop>) ->
     }
 }
 
-/// The first of the stops with a longer log than so many events.
+/// The first of the stops whose log has one event more than so many.
 fn further(stops: &[Stop], events: usize) -> Option<&Stop> {
-    stops.iter().find(|stop| stop.told.events > events)
+    stops
+        .iter()
+        .find(|stop| stop.told.events == events.saturating_add(1))
 }
 
 /// How many stops find the rows of the log, those with one further event, and others.
@@ -234,9 +247,11 @@ fn end_of(stop: &Stop) -> End {
     (stop.told.status, stop.told.events)
 }
 
-/// What the stops of one file come to.
+/// What the stops of a script come to.
 #[derive(Clone, Copy, Debug, PartialEq, Eq)]
 struct Outcome {
+    /// How many runs there are, the last of which isn't stopped.
+    runs: usize,
     /// The end of the first.
     first: Option<End>,
     /// The end of the last.
@@ -251,6 +266,7 @@ struct Outcome {
 fn outcome_of(stops: &[Stop]) -> Outcome {
     let (written, synced) = count(stops);
     Outcome {
+        runs: stops.len(),
         first: stops.first().map(end_of),
         last: stops.last().map(end_of),
         written: (written.1, written.2),
@@ -258,34 +274,38 @@ fn outcome_of(stops: &[Stop]) -> Outcome {
     }
 }
 
-/// What the stops of this file come to.
+/// What the stops of a script come to, where these files fail.
 fn swept<R: Threads + Wait + Sync>(
     rt: &R,
     alloc: Global,
     failing: Failing,
+    script: &str,
 ) -> Result<Outcome, AllocError> {
-    let stops = stops_in_memory(rt, alloc, failing)?;
+    let stops = stops_in_memory(rt, alloc, failing, script)?;
     Ok(outcome_of(stops.as_slice()))
 }
 
-/// What the stops of a file should come to, of which so many find the rows with one further event
-/// after the process ended.
-fn sound(further: usize) -> Outcome {
-    Outcome {
-        first: Some((Status::KeeperFault, 0)),
-        last: Some((Status::Done, 13)),
-        written: (further, 0),
-        synced: (0, 0),
-    }
-}
+/// The scripts, which of the files fail, how many runs there are then, how many events the last of
+/// them has, and how many stops find the rows with one further event after the process ended.
+const SWEEPS: [(&str, Failing, usize, usize, usize); 3] = [
+    (SCRIPT, Failing::Both, 89, 13, 11),
+    (SCRIPT, Failing::Database, 19, 13, 0),
+    (REPLACES, Failing::Both, 60, 7, 5),
+];
 
 #[test]
-fn a_stop_at_any_call_of_a_file_leaves_the_log_or_one_event_more(
+fn a_stop_at_any_call_of_the_files_leaves_the_log_or_one_event_more(
     rt: HostRuntime,
 ) -> Result<(), Fail> {
-    let log = swept(&rt, rt.alloc(), Failing::Log)?;
-    assert_eq!(rt; log, sound(11));
-    let database = swept(&rt, rt.alloc(), Failing::Database)?;
-    assert_eq!(rt; database, sound(0));
+    for (script, failing, runs, events, further) in SWEEPS {
+        let sound = Outcome {
+            runs,
+            first: Some((Status::KeeperFault, 0)),
+            last: Some((Status::Done, events)),
+            written: (further, 0),
+            synced: (0, 0),
+        };
+        assert_eq!(rt; swept(&rt, rt.alloc(), failing, script)?, sound);
+    }
     Ok(())
 }
