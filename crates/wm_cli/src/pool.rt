@@ -171,7 +171,7 @@ fn gather<M: Mark, L: Ledger>(all: &mut Share<L>, mut parts: Vec<Part<M, L>>)
 }
 
 /// Has so many threads drive the book, with a ledger of as many parts, until the session is over.
-/// Where memory for the shares is refused, the book comes back as it was.
+/// Where memory for the shares is refused, or no thread can be made, the book comes back as it was.
 fn drive_counted<
     K: Keeper + Send,
     W: Sink + Send,
@@ -195,7 +195,7 @@ fn drive_counted<
     ensures { result.table.roll ≡ [] }
 {
     let (out, mut all) = blank.open::<L>();
-    let Ok(mut parts) = cut(alloc, &mut all, threads) else {
+    let Ok(parts) = cut(alloc, &mut all, threads) else {
         return book;
     };
     let pool = Pool {
@@ -205,7 +205,7 @@ fn drive_counted<
         desk: Mutex::new(Desk::new(book, out)),
         changed: Condvar::new(),
     };
-    drive(rt, &pool, &mut parts);
+    let (parts, _) = drive(rt, &pool, parts);
     gather(&mut all, parts);
     let Pool {
         rt: _,
@@ -220,7 +220,8 @@ fn drive_counted<
 /// Executes the lines of a book with so many worker threads, 1 to 64. One thread in front executes
 /// the lines, waiting where one can't come yet; the others claim works, have their workers take
 /// turn after turn, and report. Once all of them have stopped, no ticket is out, and what is left is
-/// done as a serial run does it; where memory for the threads' shares is refused, that is all.
+/// done as a serial run does it; where memory for the threads' shares is refused, or no thread can be
+/// made, that is all.
 ///
 /// The gate is passed before each line and each turn, with no lock held. That the call returns isn't
 /// promised, nor who comes first.

@@ -1,6 +1,6 @@
 //! The driving of a pool: a thread for each share, and one in front.
 ghost use Rattle.std.specs.Thread.{IsSync, IsSend};
-ghost use Rattle.std.specs.Prelude.{◌≡◌, ◌+◌, ◌<◌, true, false, All, map};
+ghost use Rattle.std.specs.Prelude.{◌≡◌, ◌+◌, ◌<◌, true, false, All, IsFalse, IsTrue, OnErr, OnOk, map};
 
 use crate::shared::Shared;
 use std::sync::Wait;
@@ -71,25 +71,38 @@ fn serve_all<R: Threads + Wait + Sync, S: Shared>(rt: &R, shared: &S, shares: &m
     );
 }
 
-/// Has every share serve in a thread of its own while this thread leads, and returns when all have
-/// stopped. Each share comes back ended, with no work in its thread's hands, and as the portion of
-/// its ledger that it was.
+/// Has every share serve, all but one in a thread of its own, while one thread more leads, and gives
+/// the shares back when all have stopped, and whether they were led. Each share that was comes back
+/// ended. None has a work in its thread's hands, and each is the portion of its ledger that it was.
 ///
-/// It takes no memory. Where no thread can be made the calls run one after another, and it may then
-/// wait for ever; that it returns isn't promised.
-pub fn drive<R: Threads + Wait + Sync, S: Shared>(rt: &R, shared: &S, shares: &mut [S::Share])
-    requires idle { All (λ share. S.number share ≡ 0) shares.old }
-    requires going { All (λ share. S.is_ended share ≡ false) shares.old }
-    ensures spent { All (λ share. S.number share ≡ 0) shares.new }
-    ensures ended { All (λ share. S.is_ended share ≡ true) shares.new }
-    ensures portions { map S.portion shares.new ≡ map S.portion shares.old }
+/// It allocates nothing itself. Where no thread can be made that leads, it makes no call, and the
+/// shares come back as they were. Where one for a share can't be made, another thread serves with that
+/// share after its own. That it returns isn't promised.
+pub fn drive<R: Threads + Wait + Sync, S: Shared>(
+    rt: &R,
+    shared: &S,
+    shares: Vec<S::Share>,
+) -> (Vec<S::Share>, bool)
+    requires idle { All (λ share. S.number share ≡ 0) shares.items }
+    requires going { All (λ share. S.is_ended share ≡ false) shares.items }
+    ensures spent { All (λ share. S.number share ≡ 0) result.0.items }
+    ensures ended { IsTrue result.1 → All (λ share. S.is_ended share ≡ true) result.0.items }
+    ensures portions { map S.portion result.0.items ≡ map S.portion shares.items }
+    ensures unled { IsFalse result.1 → result.0.items ≡ shares.items }
 {
-    thread::join_mut(
+    thread::scope(
+        thread::scope_env(),
         rt,
-        &mut ||
-            requires { IsSync R.row × IsSync S.row × IsSend S.Share.row × All (λ share. S.number share ≡ 0) shares.now × All (λ share. S.is_ended share ≡ false) shares.now }
-            ensures { All (λ share. S.number share ≡ 0) shares.exit.now × All (λ share. S.is_ended share ≡ true) shares.exit.now × (map S.portion shares.exit.now ≡ map S.portion shares.entry.now) }
-        { serve_all(rt, shared, shares) },
-        &mut || lead(rt, shared),
-    );
+        move |scope|
+            requires { IsSync R.row × IsSync S.row × IsSend S.Share.row × All (λ share. S.number share ≡ 0) shares.items × All (λ share. S.is_ended share ≡ false) shares.items }
+            ensures { All (λ share. S.number share ≡ 0) result.0.items × (IsTrue result.1 → All (λ share. S.is_ended share ≡ true) result.0.items) × (map S.portion result.0.items ≡ map S.portion shares.items) × (IsFalse result.1 → result.0.items ≡ shares.items) }
+        {
+            let mut shares = shares;
+            let is_led = scope.spawn(move || lead(rt, shared)).is_ok();
+            if is_led {
+                serve_all(rt, shared, &mut shares);
+            }
+            (shares, is_led)
+        },
+    )
 }

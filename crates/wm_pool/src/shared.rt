@@ -14,7 +14,7 @@ pub trait Shared: Sync {
     type Work: Send;
 
     /// What a thread holds beside its works: a portion of a ledger.
-    type Share: Send;
+    type Share: Send + Drop;
 
     /// How many works the thread of a share holds: its amount in the ledger.
     ghost number: { Self.Share → ℕ };

@@ -84,14 +84,14 @@ fn run<L: Ledger + Send + Sync, R: Threads + Wait + Sync, G: Gate + Sync>(
     ensures { IfOk result (λ told. told.1 ≡ 0) }
 {
     let (count, mut all) = blank.open::<L>();
-    let mut parts = cut(alloc, &mut all, threads)?;
+    let parts = cut(alloc, &mut all, threads)?;
     let pool = Pool {
         rt,
         gate,
         queue: Mutex::new(Queue::new(lines, count)),
         changed: Condvar::new(),
     };
-    drive(rt, &pool, &mut parts);
+    let (parts, _) = drive(rt, &pool, parts);
     gather(&mut all, parts);
     let Pool {
         rt: _,
