@@ -9,7 +9,8 @@
 # and the rows kept are those of its log. Where the program itself has no memory, to read the case or to tell what came of
 # it, that is counted apart. Prints for each script how many runs ended in each way, how many were refused memory
 # inside the sink's write, and how many while the text of an event grew that was written all the same in the end.
-# Ends with status 1 where a run ended otherwise, or none was refused inside the sink's write.
+# A run that takes longer than 20 seconds is ended, and counts as one that ended otherwise. Ends with status 1
+# where a run ended otherwise, none was refused inside the sink's write, or no text was tried again.
 set -euo pipefail
 root=$(cd "$(dirname "${BASH_SOURCE[0]}")/.." && pwd)
 work=$(mktemp -d)
@@ -24,6 +25,7 @@ import collections, json, os, re, subprocess, sys
 
 PROGRAM, SHIM = sys.argv[1:3]
 MOST = 200_000
+SECONDS = 20
 
 
 def identifier(number):
@@ -119,11 +121,18 @@ def fail_after(seq, rows, priors):
 
 
 def run(number):
-    """A run that is refused its allocation of this number: what it told, its status, and where it was refused."""
+    """A run that is refused its allocation of this number: what it told, its status, and where it was refused.
+
+    Its status is None where it doesn't end.
+    """
     environment = {**os.environ, "LD_PRELOAD": SHIM, "REFUSE": str(number)}
-    ran = subprocess.run([PROGRAM], env=environment, capture_output=True, timeout=120)
-    refused = re.search(r"^refused: (\w+)$", ran.stderr.decode("utf-8", "replace"), re.M)
-    return Outcome(ran.stdout.decode("utf-8", "replace")), ran.returncode, refused and refused[1]
+    try:
+        ran = subprocess.run([PROGRAM], env=environment, capture_output=True, timeout=SECONDS)
+        output, errors, status = ran.stdout, ran.stderr, ran.returncode
+    except subprocess.TimeoutExpired as late:
+        output, errors, status = late.stdout or b"", late.stderr or b"", None
+    refused = re.search(r"^refused: (\w+)$", errors.decode("utf-8", "replace"), re.M)
+    return Outcome(output.decode("utf-8", "replace")), status, refused and refused[1]
 
 
 def is_front(outcome, whole, priors, threads):
@@ -138,7 +147,7 @@ def is_front(outcome, whole, priors, threads):
 
 def way_of(outcome, status, whole, priors, threads):
     """In which way a run ended."""
-    if status < 0:
+    if status is None or status < 0:
         return "otherwise"
     if outcome.status is None or status != 0:
         return "harness"
@@ -173,20 +182,22 @@ def refuse_each(name, words, lines, priors):
     ways, inside, again = collections.Counter(), 0, 0
     for number in range(1, MOST):
         outcome, status, refused = run(number)
-        if refused is None:
+        if refused is None and status is not None:
             break
         way = way_of(outcome, status, whole, priors, bool(words))
         ways[way] += 1
         inside += refused == "sink" and way == "Memory"
         again += refused == "text" and way == "Memory" and 0 < lines_of_log(outcome) == replies_in(outcome)
         if way == "otherwise":
-            print(f"{name}: refused allocation {number}: status {outcome.status}, exit status {status}", flush=True)
+            how = "it doesn't end" if status is None else f"status {outcome.status}, exit status {status}"
+            print(f"{name}: refused allocation {number}: {how}", flush=True)
     print(f"{name}: {sum(ways.values())} refused: Done {ways['Done']}, Memory {ways['Memory']}, inside the program around it {ways['harness']}, otherwise {ways['otherwise']}")
     print(f"  inside the sink's write {inside}, a text that was tried again {again}", flush=True)
-    return ways["otherwise"] == 0, inside
+    return ways["otherwise"] == 0, inside, again
 
 
 os.mkdir("faulty")
 ended = [refuse_each(name, *script) for name, script in SCRIPTS.items()]
-sys.exit(0 if all(right for right, _ in ended) and sum(inside for _, inside in ended) > 0 else 1)
+right, inside, again = zip(*ended)
+sys.exit(0 if all(right) and sum(inside) > 0 and sum(again) > 0 else 1)
 PYTHON
