@@ -1,0 +1,6 @@
+mod Bools
+mod Founds
+mod Kepts
+mod Lists
+mod Numbers
+mod Tables
