@@ -1,0 +1,99 @@
+//! The entries of works that may start.
+ghost use Rattle.std.specs.Prelude.{◌≡◌, ◌&&◌, ◌||◌, ◌≤◌, false, true, not, MatchOption, OnErr, OnOk, [], ◌<◌};
+ghost use Rattle.wm_ready.specs.Entries.{has, is_later, is_same, is_startable, Entry, IsFirstMoment, IsFirstNumber, NonePasses};
+ghost use Rattle.wm_ready.specs.Keys.{entries_of, AreKeys};
+ghost use Rattle.wm_ready.specs.Puts.{entry, IsDropped, IsPut};
+
+use crate::keys::{Key, least};
+use std::alloc::{AllocError, Global};
+use std::collections::BTreeSet;
+use std::marker::Model;
+
+/// The works that may start once they are due, their constraints are met and an instance of their
+/// class is idle, each with its moment, its number, the signature of its constraints and the number
+/// of its class. A contract sees it as the list of these entries.
+#[derive(Debug, Drop)]
+pub struct Ready {
+    keys: BTreeSet<Key>,
+}
+
+impl Model for Ready {
+    ghost use Rattle.std.specs.Prelude.{List};
+    ghost use Rattle.wm_ready.specs.Entries.{Entry};
+    ghost use Rattle.wm_ready.specs.Keys.{entries_of, AreKeys};
+
+    ghost Value = { List Entry };
+
+    ghost view = { λ r. entries_of r.keys };
+
+    ghost invariant = { λ r. AreKeys r.keys };
+}
+
+/// The least moment above now, which isn't the last one, of a key whose signature's bit is set and
+/// whose class isn't busy.
+fn moment_after(keys: &BTreeSet<Key>, now: u64, met: u128, busy: &[u32]) -> Option<u64>
+    requires keys { AreKeys keys.now }
+    requires before_end { now < 18446744073709551615 }
+    ensures { MatchOption result (NonePasses (entries_of keys.now) (is_later now met busy.now))
+        (IsFirstMoment (entries_of keys.now) (is_later now met busy.now)) }
+{
+    match least(keys, now + 1, u64::MAX, met, busy) {
+        Some(key) => Some(key.2),
+        None => None,
+    }
+}
+
+impl Ready {
+    /// No entry, which takes no memory.
+    pub fn new(alloc: Global) -> Ready
+        ensures { result ≡ [] }
+    {
+        Ready {
+            keys: BTreeSet::new(alloc),
+        }
+    }
+
+    /// Adds an entry. Where memory is refused, the entries are as they were.
+    pub fn put(&mut self, due: u64, seq: u64, sig: u8, class: u32) -> Result<(), AllocError>
+        requires signature { sig ≤ 79 }
+        requires absent { has self.old (entry due seq sig class) ≡ false }
+        ensures ok { OnOk result (IsPut (entry due seq sig class) self.old self.new) }
+        ensures err { OnErr result (self.new ≡ self.old) }
+    {
+        self.keys.insert((class, sig, due, seq))?;
+        Ok(())
+    }
+
+    /// Takes an entry away. It takes no memory.
+    pub fn drop_entry(&mut self, due: u64, seq: u64, sig: u8, class: u32)
+        requires there { has self.old (entry due seq sig class) ≡ true }
+        ensures { IsDropped (entry due seq sig class) self.old self.new }
+    {
+        self.keys.remove(&(class, sig, due, seq));
+    }
+
+    /// The number of the entry with the least moment and number that is due, whose signature's bit
+    /// is set and whose class isn't busy. It takes no memory.
+    pub fn first(&self, now: u64, met: u128, busy: &[u32]) -> Option<u64>
+        ensures { MatchOption result (NonePasses self.now (is_startable now met busy.now))
+            (IsFirstNumber self.now (is_startable now met busy.now)) }
+    {
+        match least(&self.keys, 0, now, met, busy) {
+            Some(key) => Some(key.3),
+            None => None,
+        }
+    }
+
+    /// The least moment above now of an entry whose signature's bit is set and whose class isn't
+    /// busy. It takes no memory.
+    pub fn wake(&self, now: u64, met: u128, busy: &[u32]) -> Option<u64>
+        ensures { MatchOption result (NonePasses self.now (is_later now met busy.now))
+            (IsFirstMoment self.now (is_later now met busy.now)) }
+    {
+        let keys = &self.keys;
+        if now == u64::MAX {
+            return None;
+        }
+        moment_after(keys, now, met, busy)
+    }
+}
