@@ -179,7 +179,7 @@ fn stops_in_memory<R: Threads + Wait + Sync>(
 enum Found {
     /// The rows of the log that the run handed back.
     Log,
-    /// Those with the one further event that an undisturbed run has next.
+    /// Those with the one event further that changes rows next.
     Further,
     /// Other rows, or none, since the next run wasn't done.
     Other,
@@ -193,7 +193,7 @@ fn finds(found: &Option<Vec<Row>>, rows: &[Row]) -> bool {
     }
 }
 
-/// What is found after a stop, before one whose log has one event more.
+/// What is found after a stop, before one whose log is longer.
 fn found_after(found: &Option<Vec<Row>>, stop: &Stop, further: Option<&Stop>) -> Found {
     if finds(found, stop.told.rows.as_slice()) {
         return Found::Log;
@@ -208,11 +208,10 @@ fn found_after(found: &Option<Vec<Row>>, stop: &Stop, further: Option<&Stop>) ->
     }
 }
 
-/// The first of the stops whose log has one event more than so many.
+/// The first of the stops with a longer log than so many events. An event that changes no row makes no
+/// call of the disk, so just one of those that it has more changes rows.
 fn further(stops: &[Stop], events: usize) -> Option<&Stop> {
-    stops
-        .iter()
-        .find(|stop| stop.told.events == events.saturating_add(1))
+    stops.iter().find(|stop| stop.told.events > events)
 }
 
 /// How many stops find the rows of the log, those with one further event, and others.
@@ -290,7 +289,7 @@ fn swept<R: Threads + Wait + Sync>(
 const SWEEPS: [(&str, Failing, usize, usize, usize); 3] = [
     (SCRIPT, Failing::Both, 89, 13, 11),
     (SCRIPT, Failing::Database, 19, 13, 0),
-    (REPLACES, Failing::Both, 60, 7, 5),
+    (REPLACES, Failing::Both, 64, 7, 6),
 ];
 
 #[test]
