@@ -48,7 +48,7 @@ pub fn execute<K: Keeper, B: Worker, M: Mark>(
 }
 
 /// Retires a class on the bench, where the table's last event is a line that retires it.
-fn retire_last<K: Keeper, B: Worker, M: Mark>(table: &Table<K, M>, bench: &mut Bench<B>)
+pub fn retire_last<K: Keeper, B: Worker, M: Mark>(table: &Table<K, M>, bench: &mut Bench<B>)
     ensures { (line : ℕ) (asked : Command) (reply : Reply)
         → last_of table.now.log ≡ Some (event.Command line asked reply)
         → bench.new ≡ places_after B.kind_of asked bench.old }
