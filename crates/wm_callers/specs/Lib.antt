@@ -1,0 +1,11 @@
+pub mod Calls
+pub mod Closing
+pub mod History
+pub mod Idle
+pub mod Inputs
+pub mod Invariants
+pub mod Openings
+pub mod PassState
+pub mod Places
+pub mod Rule
+pub mod Told
