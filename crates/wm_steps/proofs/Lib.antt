@@ -1,3 +1,4 @@
+pub mod ByNumbers
 pub mod Lookups
 pub mod ManyRows
 pub mod Nodes

@@ -1,5 +1,5 @@
 -- The records that take the place of others.
-use Rattle.std.specs.Prelude.{ℕ, ◌+◌, List, [], ◌∷◌, Option, Some, None}
+use Rattle.std.specs.Prelude.{ℕ, ◌+◌, ◌==◌, List, [], ◌∷◌, filter_map, if◌then◌else◌, Option, Some, None, option_map}
 use Rattle.wm_machine.specs.declared.record.Record.{Record}
 use Rattle.wm_steps.specs.declared.change.Replacement.{Replacement}
 
@@ -12,6 +12,17 @@ at_index index (Some work) later = record { index = index; work = work } ∷ lat
 abbrev pub replacements : (Record → Option Record) → ℕ → List Record → List Replacement
 replacements change index [] = []
 replacements change index (work ∷ works) = at_index index (change work) (replacements change (index + 1) works)
+
+-- the record that a change gives for the one of a number, among these, which stand from this index on
+abbrev pub replacement_of : (Record → Option Record) → ℕ → List Record → ℕ → Option Replacement
+replacement_of change index [] number = None
+replacement_of change index (work ∷ works) number =
+    if work.seq == number then option_map (λ (new : Record). record { index = index; work = new }) (change work)
+    else replacement_of change (index + 1) works number
+
+-- those that a change gives for the records of some numbers, one after another
+abbrev pub by_numbers : (Record → Option Record) → List ℕ → List Record → List Replacement
+by_numbers change numbers works = filter_map (replacement_of change 0 works) numbers
 
 -- a record, or the one that a change gives for it
 abbrev pub or_same : Record → Option Record → Record
