@@ -1,4 +1,5 @@
 pub mod ByNumbers
+pub mod ListedNumbers
 pub mod Lookups
 pub mod ManyRows
 pub mod Nodes

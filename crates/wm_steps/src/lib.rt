@@ -7,8 +7,10 @@
 
 pub mod change;
 pub mod joins;
+pub mod numbers;
 pub mod view;
 
 pub use change::{Replacement, RunChange, SettingChange, StepChange};
 pub use joins::{at, both, copied, one};
+pub use numbers::is_listed;
 pub use view::View;
