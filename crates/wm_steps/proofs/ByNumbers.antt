@@ -1,11 +1,13 @@
 -- The records that a change gives for others are found by the numbers beyond which nothing changes.
-use Rattle.std.proofs.Common.{◌≡◌, ℕ, ◌+◌, ◌<◌, false, List, [], ◌∷◌, filter_map, slice_get, Option, Some, None, option_map, refl, sym, ◌∙◌, ap, subst, arith, zero, suc, inl, inr}
+use Rattle.std.proofs.Common.{◌≡◌, ℕ, ◌+◌, ◌<◌, false, eqb, List, [], ◌∷◌, filter_map, slice_get, Option, Some, None, option_map, refl, sym, ◌∙◌, ap, subst, arith, zero, suc, inl, inr}
 use Rattle.std.specs.List.{cons_option, AllByRecursion}
-use Rattle.std.proofs.lemmas.Bool.{cases_order, eq-eqb, ne_eqb}
+use Rattle.std.proofs.lemmas.Bool.{cases_Bool, cases_order, eq-eqb, eqb-true, ne_eqb}
 use Rattle.std.proofs.lemmas.Option.{none-some, same_Some}
-use Rattle.wm_collections.proofs.Lists.{All-weaker, All-with2, filter_map-same}
+use Rattle.wm_collections.proofs.Lists.{All-weaker, All-with2, filter_map-same, find-passes}
 use Rattle.wm_collections.specs.Lists.{is_among, AllLater}
-use Rattle.wm_machine.proofs.Runnings.{WorksAscend}
+use Rattle.wm_machine.proofs.Runnings.{WorksAscend, WorksAscend-in_order}
+use Rattle.wm_machine.specs.Input.{work_numbered}
+use Rattle.wm_machine.specs.Valid.{IsBefore}
 use Rattle.wm_machine.specs.declared.record.Record.{Record}
 use Rattle.wm_steps.proofs.Lookups.{All-at}
 use Rattle.wm_steps.specs.Replacements.{at_index, by_numbers, replacement_of, replacements}
@@ -43,6 +45,26 @@ replacement-at change i (first ∷ works) (suc index) work ascend is =
     let behind : i + 1 + index ≡ i + suc index = omega arith in
     rw other (replacement-at change (i + 1) works index work ascend.1 is
     ∙ ap (λ (n : ℕ). option_map (λ (new : Record). record { index = n; work = new }) (change work)) behind)
+
+-- that of the one that is found at an index by its number
+pub replacement-found : (change : Record → Option Record) (number : ℕ) (works : List Record) (index : ℕ) (work : Record) → AllLater IsBefore works
+    → work_numbered number works ≡ slice_get works index → slice_get works index ≡ Some work
+    → replacement_of change 0 works number ≡ option_map (λ (new : Record). record { index = index; work = new }) (change work)
+replacement-found change number works index work in_order found at =
+    let hit = find-passes (λ (one : Record). eqb one.seq number) works work (found ∙ at) in
+    let here : 0 + index ≡ index = omega arith in
+    ap (replacement_of change 0 works) (sym (eqb-true work.seq number hit))
+    ∙ replacement-at change 0 works index work (WorksAscend-in_order works in_order) at
+    ∙ ap (λ (n : ℕ). option_map (λ (new : Record). record { index = n; work = new }) (change work)) here
+
+-- and none where none is found
+pub replacement-none : (change : Record → Option Record) (number i : ℕ) (works : List Record) → work_numbered number works ≡ None
+    → replacement_of change i works number ≡ None
+replacement-none change number i [] none = refl
+replacement-none change number i (work ∷ works) none = elim (cases_Bool (eqb work.seq number)) [
+  | inl hit ↦ let found : Some work ≡ None = rw hit at none in absurd (none-some work (sym found))
+  | inr miss ↦ rw miss (replacement-none change number (i + 1) works (rw miss at none))
+]
 
 -- ---- those of several
 
