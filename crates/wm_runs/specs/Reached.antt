@@ -1,6 +1,7 @@
 -- What the end of a work makes of the records: of the work itself, and of those that it reaches.
-use Rattle.std.specs.Prelude.{ℕ, ◌==◌, ◌&&◌, List, [], ◌∷◌, if◌then◌else◌, Option, Some, None}
-use Rattle.wm_collections.specs.Lists.{is_among}
+use Rattle.std.specs.Prelude.{ℕ, ◌==◌, ◌<◌, ◌≤◌, ◌&&◌, not, List, [], filter, ◌∷◌, if◌then◌else◌, Option, Some, None}
+use Rattle.std.specs.List.{AllByRecursion}
+use Rattle.wm_collections.specs.Lists.{is_among, AllLater}
 use Rattle.wm_graph.specs.Marks.{freed_by}
 use Rattle.wm_graph.specs.Nodes.{NodeFields}
 use Rattle.wm_machine.specs.Closed.{closed, is_open}
@@ -33,6 +34,21 @@ change_by itself reach work = if work.seq == itself.seq then Some itself else re
 
 abbrev pub replaced_by : Record → Reach → List Record → List Replacement
 replaced_by itself reach works = replacements (change_by itself reach) 0 works
+
+-- the numbers of those that may be reached
+abbrev pub numbers_of : Reach → List ℕ
+numbers_of reach.Stays = []
+numbers_of (reach.Closes how numbers) = numbers
+numbers_of (reach.Frees numbers now) = numbers
+
+-- numbers ascend, and none is below this one
+pub record RiseFrom (seq : ℕ) (numbers : List ℕ) : Type 0 where
+  pub ascending : AllLater (λ number later. number < later) numbers
+  pub least : AllByRecursion (λ number. seq ≤ number) numbers
+
+-- numbers but for this one
+abbrev pub others : ℕ → List ℕ → List ℕ
+others seq numbers = filter (λ number. not (number == seq)) numbers
 
 -- ---- the ends, where these are the nodes of the records
 

@@ -1,18 +1,22 @@
 //! What the end of a work makes of the records: of the work itself, and of those that it reaches.
 //!
 //! After the guide's page "Chaining work". Which those are is asked of the graph of the records.
-ghost use Rattle.std.specs.Prelude.{◌≡◌, ◌∷◌, [], is_some, Some, IfOk, IsSome};
+ghost use Rattle.std.specs.Prelude.{◌≡◌, ◌∷◌, ◌++◌, [], is_some, Some, IfOk, IsSome, OnOk};
+ghost use Rattle.wm_collections.specs.Lists.{AllLater};
 ghost use Rattle.wm_graph.specs.Marks.{freed_by};
 ghost use Rattle.wm_graph.specs.Nodes.{HasNode};
-ghost use Rattle.wm_runs.specs.Reached.{change_by, end_reach, not_started_reach, reached_by, replaced_by};
+ghost use Rattle.wm_machine.specs.Valid.{IsBefore};
+ghost use Rattle.wm_steps.specs.Replacements.{by_numbers};
+ghost use Rattle.wm_runs.specs.Reached.{change_by, end_reach, not_started_reach, numbers_of, others, reached_by, replaced_by, RiseFrom};
 ghost use Rattle.wm_steps.specs.Nodes.{nodes_of, reached_from, IsUnmarked};
+ghost use Rattle.wm_steps.specs.Numbers.{Ascend};
 
 use std::alloc::{AllocError, Global};
-use wm_collections::{Items, Replica, is_among};
+use wm_collections::{Items, Replica};
 use wm_graph::Graph;
 use wm_lifecycle::{closed, freed};
-use wm_machine::{End, How, Record};
-use wm_steps::{Replacement, View};
+use wm_machine::{End, How, Record, index_numbered};
+use wm_steps::{Replacement, View, at, is_listed};
 
 /// What the end of a work makes of the other records.
 #[derive(Drop)]
@@ -28,9 +32,10 @@ pub enum Reach {
 /// What the end of a run of a work reaches.
 pub fn end_reach(view: &View, work: &Record, end: &End) -> Result<Reach, AllocError>
     requires { IsUnmarked (nodes_of view.now.works) work.now.seq }
-    ensures { IfOk result (λ reach. reach
+    ensures reach { IfOk result (λ reach. reach
         ≡ end_reach work.entry.now.request.period view.entry.now.now work.entry.now.seq end.now
         (nodes_of view.entry.now.works)) }
+    ensures rises { IfOk result (λ reach. RiseFrom work.entry.now.seq (numbers_of reach)) }
 {
     match end {
         End::Retry => Ok(Reach::Stays),
@@ -43,8 +48,9 @@ pub fn end_reach(view: &View, work: &Record, end: &End) -> Result<Reach, AllocEr
 /// What a failed start of a work reaches.
 pub fn not_started_reach(view: &View, work: &Record) -> Result<Reach, AllocError>
     requires { HasNode (nodes_of view.now.works) work.now.seq }
-    ensures { IfOk result (λ reach. reach
+    ensures reach { IfOk result (λ reach. reach
         ≡ not_started_reach work.entry.now.request.period work.entry.now.seq (nodes_of view.entry.now.works)) }
+    ensures rises { IfOk result (λ reach. RiseFrom work.entry.now.seq (numbers_of reach)) }
 {
     if work.request.period().is_some() {
         Ok(Reach::Stays)
@@ -56,8 +62,9 @@ pub fn not_started_reach(view: &View, work: &Record) -> Result<Reach, AllocError
 /// The closing of the descendants of a work.
 pub fn closing(graph: &Graph, seq: u64, how: How) -> Result<Reach, AllocError>
     requires { HasNode graph.now seq }
-    ensures { IfOk result (λ reach. reach
+    ensures reach { IfOk result (λ reach. reach
         ≡ Reach.Closes how (reached_from (seq ∷ []) graph.entry.now)) }
+    ensures rises { IfOk result (λ reach. RiseFrom seq (numbers_of reach)) }
 {
     let numbers = Items::from_vec(graph.descendants(seq)?);
     Ok(Reach::Closes { how, numbers })
@@ -66,36 +73,98 @@ pub fn closing(graph: &Graph, seq: u64, how: How) -> Result<Reach, AllocError>
 /// The freeing of those that have a work, which hasn't succeeded, as their last missing
 /// prerequisite.
 fn freeing(graph: &Graph, seq: u64, now: u64) -> Result<Reach, AllocError>
-    requires { IsUnmarked graph.now seq }
-    ensures { IfOk result (λ reach. reach ≡ Reach.Frees (freed_by graph.entry.now seq) now) }
+    requires node { IsUnmarked graph.now seq }
+    requires rises { RiseFrom seq (freed_by graph.now seq) }
+    ensures reach { IfOk result (λ reach. reach ≡ Reach.Frees (freed_by graph.entry.now seq) now) }
+    ensures rises { IfOk result (λ reach. RiseFrom seq (numbers_of reach)) }
 {
     let numbers = Items::from_vec(graph.frees(seq)?);
     Ok(Reach::Frees { numbers, now })
 }
 
+impl Reach {
+    /// The numbers of the works that it may change.
+    fn numbers(&self) -> &[u64]
+        ensures { result.now ≡ numbers_of self.now }
+    {
+        match self {
+            Reach::Stays => &[],
+            Reach::Closes { numbers, .. } => numbers.as_slice(),
+            Reach::Frees { numbers, .. } => numbers.as_slice(),
+        }
+    }
+}
+
 /// The records that take the place of others where a work comes to an end: the work itself, and
-/// those that it reaches.
+/// those that it reaches. Only their records are looked at.
 pub fn replaced_by(
     alloc: Global,
     itself: &Record,
     reach: &Reach,
     works: &[Record],
 ) -> Result<Items<Replacement>, AllocError>
+    requires order { AllLater IsBefore works.now }
+    requires rises { RiseFrom itself.now.seq (numbers_of reach.now) }
     ensures { IfOk result (λ replaced. replaced
         ≡ replaced_by itself.entry.now reach.entry.now works.entry.now) }
 {
     let mut replaced = Items::new(alloc);
-    for (index, work) in works.iter().enumerate() {
-        if is_changed(itself, reach, work) {
-            let work = changed(alloc, itself, reach, work)?;
-            replaced.push(Replacement { index, work })?;
+    add_replacement(alloc, &mut replaced, itself, reach, works, itself.seq)?;
+    add_others(alloc, &mut replaced, itself, reach, works, reach.numbers())?;
+    Ok(replaced)
+}
+
+/// Adds the records that take the places of those of these numbers, but for that of the work
+/// itself.
+fn add_others(
+    alloc: Global,
+    replaced: &mut Items<Replacement>,
+    itself: &Record,
+    reach: &Reach,
+    works: &[Record],
+    numbers: &[u64],
+) -> Result<(), AllocError>
+    requires order { AllLater IsBefore works.now }
+    requires ascend { Ascend (numbers_of reach.now) }
+    ensures { OnOk result (replaced.new ≡ replaced.old
+        ++ by_numbers (change_by itself.entry.now reach.entry.now) (others itself.entry.now.seq numbers.entry.now) works.entry.now) }
+{
+    for number in numbers {
+        if *number != itself.seq {
+            add_replacement(alloc, replaced, itself, reach, works, *number)?;
         }
     }
-    Ok(replaced)
+    Ok(())
+}
+
+/// Adds the record that takes the place of the one of a number, where that becomes another one.
+fn add_replacement(
+    alloc: Global,
+    replaced: &mut Items<Replacement>,
+    itself: &Record,
+    reach: &Reach,
+    works: &[Record],
+    number: u64,
+) -> Result<(), AllocError>
+    requires order { AllLater IsBefore works.now }
+    requires ascend { Ascend (numbers_of reach.now) }
+    ensures { OnOk result (replaced.new ≡ replaced.old
+        ++ by_numbers (change_by itself.entry.now reach.entry.now) (number ∷ []) works.entry.now) }
+{
+    let Some(index) = index_numbered(works, number) else {
+        return Ok(());
+    };
+    let work = at(works, index);
+    if is_changed(itself, reach, work) {
+        let work = changed(alloc, itself, reach, work)?;
+        replaced.push(Replacement { index, work })?;
+    }
+    Ok(())
 }
 
 /// Whether one of the records becomes another one.
 fn is_changed(itself: &Record, reach: &Reach, work: &Record) -> bool
+    requires { Ascend (numbers_of reach.now) }
     ensures { result ≡ is_some (change_by itself.now reach.now work.now) }
 {
     work.seq == itself.seq || is_reached(reach, work)
@@ -103,15 +172,16 @@ fn is_changed(itself: &Record, reach: &Reach, work: &Record) -> bool
 
 /// Whether another record becomes another one.
 fn is_reached(reach: &Reach, work: &Record) -> bool
+    requires { Ascend (numbers_of reach.now) }
     ensures { result ≡ is_some (reached_by reach.now work.now) }
 {
     match reach {
         Reach::Stays => false,
         Reach::Closes { numbers, .. } => {
-            work.phase.is_open() && is_among(numbers.as_slice(), work.seq)
+            work.phase.is_open() && is_listed(numbers.as_slice(), work.seq)
         }
         Reach::Frees { numbers, .. } => {
-            work.phase.is_waiting() && is_among(numbers.as_slice(), work.seq)
+            work.phase.is_waiting() && is_listed(numbers.as_slice(), work.seq)
         }
     }
 }
