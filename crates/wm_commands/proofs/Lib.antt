@@ -1,8 +1,10 @@
 pub mod CheckedBatches
+pub mod ClearedNumbers
 pub mod Clearings
 pub mod ClearingSteps
 pub mod Enqueueing
 pub mod MemberUpdates
+pub mod MergedNumbers
 pub mod NamedPlans
 pub mod Placings
 pub mod Updating

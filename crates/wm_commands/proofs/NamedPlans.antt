@@ -4,6 +4,7 @@ use Rattle.std.specs.List.{AllByRecursion, list_any}
 use Rattle.std.specs.Prelude.{option_map}
 use Rattle.std.proofs.lemmas.Bool.{cond_both}
 use Rattle.wm_collections.specs.Lists.{AllLater}
+use Rattle.wm_commands.proofs.ClearedNumbers.{none-numbers}
 use Rattle.wm_commands.specs.Planned.{kind_refused_in}
 use Rattle.wm_collections.proofs.Lists.{All-kept, All-map}
 use Rattle.wm_machine.specs.Enqueued.{carried_out, enqueued, outcome_by, plan_in, refusal_by, updated_by}
@@ -74,6 +75,40 @@ after-there policy.AppendOrReplace works name =
 after-there policy.Update works name =
     let members = members_of works name in
     updates-after works (find is_unfinished members) members
+
+-- ---- what it lets go
+
+-- those that a plan lets go
+abbrev let_go_of : Plan → List ℕ
+let_go_of planned = (plan_fields planned).let_go
+
+updates-let_go : (works : List Record) (found : Option Record) (members : List Record) → AreNumbersOf works (numbers_in members)
+    → AreNumbersOf works (let_go_of (updating found members))
+updates-let_go works (Some member) members all = none-numbers works
+updates-let_go works None members all = all
+
+-- they are works
+pub let_go-numbers : (by : Policy) (works : List Record) (name : List ℕ) → AllLater IsBefore works
+    → AreNumbersOf works (let_go_of (plan_of by (members_of works name)))
+let_go-numbers by works name order = let_go-by by
+  where
+    members : List Record
+    members = members_of works name
+
+    all : AreNumbersOf works (numbers_in members)
+    all = numbers_filter (λ work. is_name name work.name) works order
+
+    let_go-by : (by : Policy) → AreNumbersOf works (let_go_of (plan_of by members))
+    let_go-by policy.Keep =
+        cond_both (list_any is_unfinished members) plan.Keeps (plan.Places (replacing members)) (λ (p : Plan). AreNumbersOf works (let_go_of p))
+        (λ e. none-numbers works) (λ e. all)
+    let_go-by policy.Replace = all
+    let_go-by policy.CancelAndReenqueue = all
+    let_go-by policy.Append = none-numbers works
+    let_go-by policy.AppendOrReplace =
+        cond_both (list_any (λ work. is_lost work.phase) (leaves_of members)) (replacing members) (appending members)
+        (λ (by : Placing). AreNumbersOf works by.let_go) (λ e. all) (λ e. none-numbers works)
+    let_go-by policy.Update = updates-let_go works (find is_unfinished members) members all
 
 -- ---- the outcome
 

@@ -13,6 +13,7 @@ use Rattle.wm_machine.specs.declared.record.Record.{Record}
 use Rattle.wm_machine.specs.declared.state.Run.{Run}
 use Rattle.wm_machine.specs.declared.state.State.{State}
 use Rattle.wm_steps.specs.Nodes.{nodes_of, reached_from}
+use Rattle.wm_steps.specs.Numbers.{Ascend}
 use Rattle.wm_steps.specs.Replacements.{replacements}
 use Rattle.wm_steps.specs.declared.change.Replacement.{Replacement}
 
@@ -32,6 +33,10 @@ phase_then cancelled work = if becomes_cancelled cancelled work then phase.Done 
 abbrev pub is_needed_then : List ℕ → List Record → ℕ → Bool
 is_needed_then cancelled works number = list_any (λ work. is_open (phase_then cancelled work) && is_among work.prior number) works
 
+-- whether a record is finished then, and isn't needed
+abbrev pub is_removable_then : List ℕ → List Record → Record → Bool
+is_removable_then cancelled works work = not (is_open (phase_then cancelled work)) && not (is_needed_then cancelled works work.seq)
+
 -- whether a record is removed, where those of the latter numbers are let go then
 abbrev pub is_removed : List ℕ → List ℕ → List Record → Record → Bool
 is_removed cancelled let_go works work =
@@ -42,6 +47,12 @@ abbrev pub removed_by : List ℕ → List ℕ → List Record → List ℕ
 removed_by cancelled let_go works = numbers_in (filter (is_removed cancelled let_go works) works)
 
 -- ---- the records then
+
+-- the numbers of each kind ascend
+pub record IsInOrder (clearing : Clearing) : Type 0 where
+  pub cancelled : Ascend clearing.cancelled
+  pub unnamed : Ascend clearing.unnamed
+  pub removed : Ascend clearing.removed
 
 -- what becomes of the records where these works are cancelled, and then others let go
 abbrev pub clearing_of : List Record → List ℕ → List ℕ → Clearing

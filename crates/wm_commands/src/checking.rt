@@ -6,7 +6,7 @@ ghost use Rattle.wm_commands.specs.Placed.{IsPlacedBy};
 ghost use Rattle.wm_machine.specs.Outcome.{IsLegalLine};
 ghost use Rattle.wm_machine.specs.Enqueued.{refusal_of_placing};
 ghost use Rattle.wm_steps.specs.Nodes.{is_there};
-ghost use Rattle.wm_unique.specs.Plans.{placing_by};
+ghost use Rattle.wm_unique.specs.Plans.{placing_by, AreNumbersOf};
 
 use crate::placement::place;
 use std::alloc::{AllocError, Global};
@@ -27,6 +27,7 @@ pub fn check_and_place(
 ) -> Result<Executed, AllocError>
     requires asked { IsLegalLine view.now (Command.Enqueue named batch) }
     requires placed { IsPlacedBy view.now named (placing_by plan) batch.works }
+    requires let_go { AreNumbersOf view.now.works plan.let_go }
     requires after { AllByRecursion (λ number. is_there view.now.works number ≡ true) plan.after }
     ensures { IfOk result (IsExecuted view.entry.now line (Command.Enqueue named batch)) }
 {

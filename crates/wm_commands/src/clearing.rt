@@ -3,18 +3,24 @@
 //!
 //! After the guide's page "Managing work" (unique work). Nothing but the records that change is
 //! made: the others are seen through a [`Clearing`].
-ghost use Rattle.std.specs.Prelude.{◌≡◌, ◌&&◌, IfOk};
-ghost use Rattle.wm_collections.specs.Lists.{is_among};
-ghost use Rattle.wm_commands.specs.Cleared.{becomes_cancelled, cancelled_in, cancelling, cleared, clearing_of, is_needed_then, is_removed, is_run_among, is_touched, phase_then, removed_by, replaced_by_clearing, stays, stopped_by};
+ghost use Rattle.std.specs.Prelude.{◌≡◌, ◌&&◌, not, true, IfOk};
+ghost use Rattle.std.specs.List.{list_any};
+ghost use Rattle.wm_collections.specs.Lists.{AllLater};
+ghost use Rattle.wm_commands.specs.Cleared.{becomes_cancelled, cancelled_in, cancelling, cleared, cleared_by, clearing_of, is_removable_then, is_needed_then, is_run_among, is_touched, phase_then, removed_by, replaced_by_clearing, stays, stopped_by, IsInOrder};
 ghost use Rattle.wm_machine.specs.Closed.{is_open};
 ghost use Rattle.wm_machine.specs.Group.{unnamed};
-ghost use Rattle.wm_steps.specs.Nodes.{nodes_of, reached_from};
+ghost use Rattle.wm_machine.specs.Valid.{IsBefore};
+ghost use Rattle.wm_steps.specs.Nodes.{is_there, nodes_of, reached_from};
+ghost use Rattle.wm_steps.specs.Numbers.{Ascend};
+ghost use Rattle.wm_steps.specs.Replacements.{by_numbers, replacement_of};
+ghost use Rattle.wm_unique.specs.Plans.{numbered_passes, AreNumbersOf};
 
+use crate::merging::merged;
 use std::alloc::{AllocError, Global};
-use wm_collections::{Items, Replica, is_among};
+use wm_collections::{Items, Replica};
 use wm_lifecycle::closed;
-use wm_machine::{How, Phase, Record, Run};
-use wm_steps::{Replacement, View};
+use wm_machine::{How, Phase, Record, Run, index_numbered, work_numbered};
+use wm_steps::{Replacement, View, at, is_listed};
 
 /// Which records change where works are cancelled and others are let go, by their numbers.
 #[derive(Drop)]
@@ -47,15 +53,17 @@ pub fn clearing_of(
     cancel: &[u64],
     let_go: Items<u64>,
 ) -> Result<Clearing, AllocError>
-    ensures { IfOk result (λ clearing. clearing
-        ≡ clearing_of view.entry.now.works cancel.entry.now let_go) }
+    requires { AreNumbersOf view.now.works let_go }
+    ensures clearing { IfOk result (λ clearing. clearing ≡ clearing_of view.entry.now.works cancel.entry.now let_go) }
+    ensures in_order { IfOk result IsInOrder }
 {
+    // what the type of a view keeps is known where a field of it is read
+    let _reached = &view.state;
     if cancel.is_empty() && let_go.is_empty() {
         return Ok(cancelling(alloc, Items::new(alloc)));
     }
-    let works = view.state.works.as_slice();
     let cancelled = reached_from(view, cancel)?;
-    let removed = removed_by(alloc, works, cancelled.as_slice(), let_go.as_slice())?;
+    let removed = removed_by(alloc, view, cancelled.as_slice(), let_go.as_slice())?;
     Ok(Clearing {
         cancelled,
         unnamed: let_go,
@@ -65,7 +73,8 @@ pub fn clearing_of(
 
 /// The numbers of the descendants of any of these works, ascending.
 pub fn reached_from(view: &View, seqs: &[u64]) -> Result<Items<u64>, AllocError>
-    ensures { IfOk result (λ numbers. numbers ≡ reached_from seqs.now (nodes_of view.entry.now.works)) }
+    ensures reached { IfOk result (λ numbers. numbers ≡ reached_from seqs.now (nodes_of view.entry.now.works)) }
+    ensures ascend { IfOk result Ascend }
 {
     Ok(Items::from_vec(view.graph.descendants_of(seqs)?))
 }
@@ -73,6 +82,7 @@ pub fn reached_from(view: &View, seqs: &[u64]) -> Result<Items<u64>, AllocError>
 /// The numbers of the current runs whose works are cancelled, where those of these numbers are that
 /// are unfinished.
 pub fn stopped_by(alloc: Global, runs: &[Run], cancelled: &[u64]) -> Result<Items<u64>, AllocError>
+    requires { Ascend cancelled.now }
     ensures { IfOk result (λ numbers. numbers ≡ stopped_by cancelled.now runs.now) }
 {
     let mut numbers = Items::new(alloc);
@@ -86,20 +96,23 @@ pub fn stopped_by(alloc: Global, runs: &[Run], cancelled: &[u64]) -> Result<Item
 
 /// Whether a run is current, and its work is cancelled.
 fn is_stopped(cancelled: &[u64], run: &Run) -> bool
+    requires { Ascend cancelled.now }
     ensures { result ≡ (run.now.current && is_run_among cancelled.now run.now) }
 {
-    run.current && is_among(cancelled, run.seq)
+    run.current && is_listed(cancelled, run.seq)
 }
 
 /// Whether a record becomes cancelled.
 fn becomes_cancelled(cancelled: &[u64], work: &Record) -> bool
+    requires { Ascend cancelled.now }
     ensures { result ≡ becomes_cancelled cancelled.now work.now }
 {
-    work.phase.is_open() && is_among(cancelled, work.seq)
+    work.phase.is_open() && is_listed(cancelled, work.seq)
 }
 
 /// The phase of a record once works are cancelled.
 pub fn phase_then(cancelled: &[u64], work: &Record) -> Phase
+    requires { Ascend cancelled.now }
     ensures { result ≡ phase_then cancelled.now work.now }
 {
     if becomes_cancelled(cancelled, work) {
@@ -109,89 +122,172 @@ pub fn phase_then(cancelled: &[u64], work: &Record) -> Phase
     }
 }
 
-/// The numbers of the records that are removed.
+/// The numbers of the records that are removed: of those that are let go.
 fn removed_by(
     alloc: Global,
-    works: &[Record],
+    view: &View,
     cancelled: &[u64],
     let_go: &[u64],
 ) -> Result<Items<u64>, AllocError>
-    ensures { IfOk result (λ numbers. numbers ≡ removed_by cancelled.now let_go.now works.now) }
+    requires in_order { AllLater IsBefore view.now.works }
+    requires ascend { Ascend cancelled.now }
+    requires let_go { AreNumbersOf view.now.works let_go.now }
+    ensures { IfOk result (λ numbers. numbers ≡ removed_by cancelled.entry.now let_go.entry.now view.entry.now.works) }
 {
     let mut numbers = Items::new(alloc);
-    for work in works {
-        if is_removed(works, cancelled, let_go, work) {
-            numbers.push(work.seq)?;
+    for number in let_go {
+        if is_removable_then(view, cancelled, *number)? {
+            numbers.push(*number)?;
         }
     }
     Ok(numbers)
 }
 
-/// Whether a record is removed: it is let go, finished then, and not needed.
-fn is_removed(works: &[Record], cancelled: &[u64], let_go: &[u64], work: &Record) -> bool
-    ensures { result ≡ is_removed cancelled.now let_go.now works.now work.now }
+/// Whether the record of this number is finished then, and isn't needed.
+fn is_removable_then(view: &View, cancelled: &[u64], number: u64) -> Result<bool, AllocError>
+    requires { Ascend cancelled.now }
+    ensures { IfOk result (λ done. done
+        ≡ numbered_passes (is_removable_then cancelled.now view.entry.now.works) view.entry.now.works number) }
 {
-    is_among(let_go, work.seq)
-        && !phase_then(cancelled, work).is_open()
-        && !is_needed_then(works, cancelled, work.seq)
+    let works = view.state.works.as_slice();
+    if is_finished_then(works, cancelled, number) {
+        Ok(!is_needed_then(view, cancelled, number)?)
+    } else {
+        Ok(false)
+    }
 }
 
-/// Whether a record that is unfinished then has the work of this number as a prerequisite.
-fn is_needed_then(works: &[Record], cancelled: &[u64], number: u64) -> bool
-    ensures { result ≡ is_needed_then cancelled.now works.now number }
+/// Whether there is a record of this number, and it is finished then.
+fn is_finished_then(works: &[Record], cancelled: &[u64], number: u64) -> bool
+    requires in_order { AllLater IsBefore works.now }
+    requires ascend { Ascend cancelled.now }
+    ensures { result ≡ numbered_passes (λ work. not (is_open (phase_then cancelled.now work))) works.now number }
 {
-    works.iter().any(|work| needs(cancelled, work, number))
+    match work_numbered(works, number) {
+        Some(work) => !phase_then(cancelled, work).is_open(),
+        None => false,
+    }
 }
 
-/// Whether it is unfinished then, and has the work of this number as a prerequisite.
-fn needs(cancelled: &[u64], work: &Record, number: u64) -> bool
+/// Whether a record that is unfinished then comes right after the work of this number, which is there.
+pub fn is_needed_then(view: &View, cancelled: &[u64], number: u64) -> Result<bool, AllocError>
+    requires ascend { Ascend cancelled.now }
+    requires there { is_there view.now.works number ≡ true }
+    ensures { IfOk result (λ needed. needed ≡ is_needed_then cancelled.now view.entry.now.works number) }
+{
+    let dependents = view.graph.dependents(number)?;
+    let works = view.state.works.as_slice();
+    Ok(any_open_then(works, cancelled, &dependents))
+}
+
+/// Whether a record of one of these numbers is unfinished then.
+fn any_open_then(works: &[Record], cancelled: &[u64], numbers: &[u64]) -> bool
+    requires in_order { AllLater IsBefore works.now }
+    requires ascend { Ascend cancelled.now }
     ensures { result
-        ≡ (is_open (phase_then cancelled.now work.now) && is_among work.now.prior number) }
+        ≡ list_any (numbered_passes (λ work. is_open (phase_then cancelled.now work)) works.now) numbers.now }
 {
-    is_among(work.prior.as_slice(), number) && phase_then(cancelled, work).is_open()
+    numbers
+        .iter()
+        .any(|number| is_open_then(works, cancelled, *number))
+}
+
+/// Whether there is a record of this number, and it is unfinished then.
+fn is_open_then(works: &[Record], cancelled: &[u64], number: u64) -> bool
+    requires in_order { AllLater IsBefore works.now }
+    requires ascend { Ascend cancelled.now }
+    ensures { result ≡ numbered_passes (λ work. is_open (phase_then cancelled.now work)) works.now number }
+{
+    match work_numbered(works, number) {
+        Some(work) => phase_then(cancelled, work).is_open(),
+        None => false,
+    }
 }
 
 /// Whether a record isn't removed.
 pub fn stays(removed: &[u64], work: &Record) -> bool
+    requires { Ascend removed.now }
     ensures { result ≡ stays removed.now work.now }
 {
-    !is_among(removed, work.seq)
+    !is_listed(removed, work.seq)
 }
 
-/// The records that take the place of others. Where none is cancelled and none loses its name, no
-/// record is looked at.
+/// The records that take the place of others. None but the cancelled and the unnamed is looked at.
 pub fn replaced_by_clearing(
     alloc: Global,
     works: &[Record],
     clearing: &Clearing,
 ) -> Result<Items<Replacement>, AllocError>
+    requires in_order { AllLater IsBefore works.now }
+    requires numbers { IsInOrder clearing.now }
+    ensures { IfOk result (λ replaced. replaced ≡ replaced_by_clearing clearing.entry.now works.entry.now) }
+{
+    let numbers = merged(
+        alloc,
+        clearing.cancelled.as_slice(),
+        clearing.unnamed.as_slice(),
+    )?;
+    replaced_among(alloc, works, clearing, &numbers)
+}
+
+/// The records of these numbers that become other ones, with those.
+fn replaced_among(
+    alloc: Global,
+    works: &[Record],
+    clearing: &Clearing,
+    numbers: &[u64],
+) -> Result<Items<Replacement>, AllocError>
+    requires in_order { AllLater IsBefore works.now }
+    requires numbers { IsInOrder clearing.now }
     ensures { IfOk result (λ replaced. replaced
-        ≡ replaced_by_clearing clearing.entry.now works.entry.now) }
+        ≡ by_numbers (cleared_by clearing.entry.now) numbers.now works.entry.now) }
 {
     let mut replaced = Items::new(alloc);
-    if clearing.cancelled.is_empty() && clearing.unnamed.is_empty() {
-        return Ok(replaced);
-    }
-    for (index, work) in works.iter().enumerate() {
-        if is_touched(clearing, work) {
-            let work = cleared(alloc, clearing, work)?;
-            replaced.push(Replacement { index, work })?;
+    for number in numbers {
+        if let Some(replacement) = replacement_of(alloc, works, clearing, *number)? {
+            replaced.push(replacement)?;
         }
     }
     Ok(replaced)
 }
 
+/// What takes the place of the record of this number, where there is one and it becomes another one.
+fn replacement_of(
+    alloc: Global,
+    works: &[Record],
+    clearing: &Clearing,
+    number: u64,
+) -> Result<Option<Replacement>, AllocError>
+    requires in_order { AllLater IsBefore works.now }
+    requires numbers { IsInOrder clearing.now }
+    ensures { IfOk result (λ found. found
+        ≡ replacement_of (cleared_by clearing.entry.now) 0 works.entry.now number) }
+{
+    let Some(index) = index_numbered(works, number) else {
+        return Ok(None);
+    };
+    let work = at(works, index);
+    if is_touched(clearing, work) {
+        let work = cleared(alloc, clearing, work)?;
+        Ok(Some(Replacement { index, work }))
+    } else {
+        Ok(None)
+    }
+}
+
 /// Whether a record becomes another one.
 fn is_touched(clearing: &Clearing, work: &Record) -> bool
+    requires { IsInOrder clearing.now }
     ensures { result ≡ is_touched clearing.now work.now }
 {
     stays(clearing.removed.as_slice(), work)
-        && (is_among(clearing.unnamed.as_slice(), work.seq)
+        && (is_listed(clearing.unnamed.as_slice(), work.seq)
             || becomes_cancelled(clearing.cancelled.as_slice(), work))
 }
 
 /// A record that isn't removed.
 fn cleared(alloc: Global, clearing: &Clearing, work: &Record) -> Result<Record, AllocError>
+    requires { IsInOrder clearing.now }
     ensures { IfOk result (λ changed. changed ≡ cleared clearing.entry.now work.entry.now) }
 {
     let changed = cancelled_in(alloc, clearing, work)?;
@@ -200,6 +296,7 @@ fn cleared(alloc: Global, clearing: &Clearing, work: &Record) -> Result<Record, 
 
 /// A record, cancelled where it becomes so.
 fn cancelled_in(alloc: Global, clearing: &Clearing, work: &Record) -> Result<Record, AllocError>
+    requires { IsInOrder clearing.now }
     ensures { IfOk result (λ changed. changed
         ≡ cancelled_in clearing.entry.now.cancelled work.entry.now) }
 {
@@ -212,10 +309,11 @@ fn cancelled_in(alloc: Global, clearing: &Clearing, work: &Record) -> Result<Rec
 
 /// A record, without its name where it loses that.
 fn unnamed(clearing: &Clearing, work: Record) -> Record
+    requires { IsInOrder clearing.now }
     ensures { result ≡ unnamed clearing.now.unnamed work }
 {
     let mut work = work;
-    if is_among(clearing.unnamed.as_slice(), work.seq) {
+    if is_listed(clearing.unnamed.as_slice(), work.seq) {
         work.name = None;
     }
     work

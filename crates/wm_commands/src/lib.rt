@@ -14,6 +14,7 @@ mod clearing;
 mod conditions;
 mod enqueue;
 mod member;
+mod merging;
 mod naming;
 mod placement;
 mod placing;

@@ -74,6 +74,7 @@ fn planned(
     batch: &Batch,
 ) -> Result<GroupPlan, PlanFault>
     ensures ok { IfOk result (λ plan. plan ≡ plan_fields (plan_in view.entry.now unique.entry.now)) }
+    ensures let_go { IfOk result (λ plan. AreNumbersOf view.entry.now.works plan.let_go) }
     ensures fits { OnOk result (kind_refused_in view.entry.now unique.entry.now batch.entry.now.works ≡ None) }
     ensures err { IfErr result (IsPlanFault (kind_refused_in view.entry.now unique.entry.now batch.entry.now.works)) }
 {
@@ -115,6 +116,7 @@ fn carry_out(
 ) -> Result<Executed, AllocError>
     requires asked { IsLegalLine view.now (Command.Enqueue (Some unique) batch) }
     requires planned { plan ≡ plan_fields (plan_in view.now unique) }
+    requires let_go { AreNumbersOf view.now.works plan.let_go }
     requires fits { kind_refused_in view.now unique batch.works ≡ None }
     ensures { IfOk result (IsExecuted view.entry.now line (Command.Enqueue (Some unique) batch)) }
 {

@@ -6,7 +6,7 @@ ghost use Rattle.wm_commands.specs.Placed.{name_in, placement_of};
 ghost use Rattle.wm_machine.specs.Outcome.{IsLegalLine};
 ghost use Rattle.wm_machine.specs.Enqueued.{enqueued, made_ready, placing_in};
 ghost use Rattle.wm_steps.specs.Nodes.{is_there};
-ghost use Rattle.wm_unique.specs.Plans.{placing_by};
+ghost use Rattle.wm_unique.specs.Plans.{placing_by, AreNumbersOf};
 
 use crate::clearing::{clearing_of, replaced_by_clearing, stopped_by};
 use crate::placing::{placed_records, seqs_twice};
@@ -49,7 +49,8 @@ fn placement_of(
     plan: GroupPlan,
     works: &[Node],
 ) -> Result<Placement, AllocError>
-    requires { view.now.next + length works.now ≤ 2 ^ 53 }
+    requires room { view.now.next + length works.now ≤ 2 ^ 53 }
+    requires let_go { AreNumbersOf view.now.works plan.let_go }
     ensures { IfOk result (λ placement. placement
         ≡ placement_of view.entry.now (name_in named.entry.now) (placing_by plan) works.entry.now) }
 {
@@ -94,6 +95,7 @@ pub fn place(
     requires room { view.now.next + length batch.works ≤ 2 ^ 53 }
     requires places { enqueued view.now named batch.works
         ≡ placing_in (made_ready view.now (placing_by plan)) (name_in named) plan.after batch.works }
+    requires let_go { AreNumbersOf view.now.works plan.let_go }
     requires after { AllByRecursion (λ number. is_there view.now.works number ≡ true) plan.after }
     ensures { IfOk result (IsExecuted view.entry.now line (Command.Enqueue named batch)) }
 {

@@ -2,9 +2,11 @@
 ghost use Rattle.std.specs.Prelude.{◌≡◌, ◌^◌, ◌==◌, ◌≤◌, ◌+◌, ◌&&◌, ◌++◌, filter, length, map, IfOk, OnOk};
 ghost use Rattle.std.specs.List.{list_any};
 ghost use Rattle.std.specs.Str.{bytes_eq};
-ghost use Rattle.wm_commands.specs.Cleared.{cleared_state, stays, with_cleared};
+ghost use Rattle.wm_collections.specs.Lists.{AllLater};
+ghost use Rattle.wm_commands.specs.Cleared.{cleared_state, stays, with_cleared, IsInOrder};
 ghost use Rattle.wm_commands.specs.Placed.{is_done, is_then, placed_record, placed_records, with_placed};
 ghost use Rattle.wm_machine.specs.Enqueued.{any_in, first_phase, numbers_of, prior_of};
+ghost use Rattle.wm_machine.specs.Valid.{IsBefore};
 ghost use Rattle.wm_steps.specs.StepChanges.{seqs_of};
 
 use crate::clearing::{Clearing, phase_then, stays};
@@ -12,7 +14,7 @@ use std::alloc::{AllocError, Global};
 use uuid::Uuid;
 use wm_collections::{Items, Replica, Text};
 use wm_data::Data;
-use wm_machine::{How, Phase, Record, State};
+use wm_machine::{How, Phase, Record, State, work_numbered};
 use wm_request::Node;
 
 /// The records of new works, for which there are numbers, once the records are cleared. Under a name
@@ -25,7 +27,9 @@ pub fn placed_records(
     after: &[u64],
     works: &[Node],
 ) -> Result<Items<Record>, AllocError>
-    requires { state.now.next + length works.now ≤ 2 ^ 53 }
+    requires room { state.now.next + length works.now ≤ 2 ^ 53 }
+    requires in_order { AllLater IsBefore state.now.works }
+    requires numbers { IsInOrder clearing.now }
     ensures { IfOk result (λ placed. placed
         ≡ placed_records (cleared_state clearing.entry.now state.entry.now) name.entry.now after.entry.now works.now) }
 {
@@ -47,7 +51,9 @@ fn placed_record(
     placed: &[Record],
     work: &Node,
 ) -> Result<Record, AllocError>
-    requires { state.now.next + length placed.now ≤ 2 ^ 53 }
+    requires room { state.now.next + length placed.now ≤ 2 ^ 53 }
+    requires in_order { AllLater IsBefore state.now.works }
+    requires numbers { IsInOrder clearing.now }
     ensures { IfOk result (λ new. new
         ≡ placed_record (with_placed (cleared_state clearing.entry.now state.entry.now) placed.entry.now)
         name.entry.now after.entry.now work.entry.now) }
@@ -80,6 +86,7 @@ fn prior_of(
     after: &[u64],
     ids: &[Uuid],
 ) -> Result<Items<u64>, AllocError>
+    requires { IsInOrder clearing.now }
     ensures { IfOk result (λ numbers. numbers
         ≡ prior_of (with_cleared clearing.entry.now works.entry.now ++ placed.entry.now) after.entry.now ids.now) }
 {
@@ -99,6 +106,7 @@ fn numbers_of(
     placed: &[Record],
     ids: &[Uuid],
 ) -> Result<Items<u64>, AllocError>
+    requires { IsInOrder clearing.now }
     ensures { IfOk result (λ numbers. numbers
         ≡ numbers_of (with_cleared clearing.entry.now works.now ++ placed.now) ids.now) }
 {
@@ -117,6 +125,7 @@ fn add_stored(
     clearing: &Clearing,
     id: Uuid,
 ) -> Result<(), AllocError>
+    requires { IsInOrder clearing.now }
     ensures { OnOk result (numbers.new
         ≡ numbers.old ++ map (λ work. work.seq)
         (filter (λ work. bytes_eq work.request.id id && stays clearing.now.removed work) works.now)) }
@@ -144,6 +153,8 @@ fn add_placed(numbers: &mut Items<u64>, placed: &[Record], id: Uuid) -> Result<(
 
 /// The phase of new work with these prerequisites.
 fn first_phase(works: &[Record], clearing: &Clearing, placed: &[Record], prior: &[u64]) -> Phase
+    requires in_order { AllLater IsBefore works.now }
+    requires numbers { IsInOrder clearing.now }
     ensures { result ≡ first_phase (with_cleared clearing.now works.now ++ placed.now) prior.now }
 {
     if any_in(works, clearing, placed, prior, How::Failed) {
@@ -163,6 +174,8 @@ fn any_in(
     numbers: &[u64],
     how: How,
 ) -> bool
+    requires in_order { AllLater IsBefore works.now }
+    requires numbers { IsInOrder clearing.now }
     ensures { result
         ≡ any_in (is_done how) (with_cleared clearing.now works.now ++ placed.now) numbers.now }
 {
@@ -179,6 +192,8 @@ fn has_either(
     number: u64,
     how: How,
 ) -> bool
+    requires in_order { AllLater IsBefore works.now }
+    requires numbers { IsInOrder clearing.now }
     ensures { result
         ≡ list_any (λ work. work.seq == number && is_done how work.phase)
         (with_cleared clearing.now works.now ++ placed.now) }
@@ -188,16 +203,20 @@ fn has_either(
 
 /// Whether the stored record of this number stays, and is finished in this way then.
 fn has_stored(works: &[Record], clearing: &Clearing, number: u64, how: How) -> bool
+    requires in_order { AllLater IsBefore works.now }
+    requires numbers { IsInOrder clearing.now }
     ensures { result
         ≡ list_any (λ work. work.seq == number && is_then clearing.now how work) works.now }
 {
-    works
-        .iter()
-        .any(|work| work.seq == number && is_then(clearing, how, work))
+    match work_numbered(works, number) {
+        Some(work) => is_then(clearing, how, work),
+        None => false,
+    }
 }
 
 /// Whether a stored record stays, and is finished in this way then.
 fn is_then(clearing: &Clearing, how: How, work: &Record) -> bool
+    requires { IsInOrder clearing.now }
     ensures { result ≡ is_then clearing.now how work.now }
 {
     stays(clearing.removed.as_slice(), work)

@@ -1,11 +1,13 @@
 //! The finished works that no unfinished one needs are removed.
-ghost use Rattle.std.specs.Prelude.{◌≡◌, filter, IfOk};
+ghost use Rattle.std.specs.Prelude.{◌≡◌, true, filter, IfOk};
 ghost use Rattle.wm_settings.specs.Builds.{IsExecuted};
 ghost use Rattle.wm_machine.specs.Group.{numbers_in};
 ghost use Rattle.wm_machine.specs.Pruned.{is_needed, removable};
+ghost use Rattle.wm_steps.specs.Nodes.{is_there};
 
+use crate::clearing::is_needed_then;
 use std::alloc::{AllocError, Global};
-use wm_collections::{Items, is_among};
+use wm_collections::Items;
 use wm_machine::{Command, Record, Reply};
 use wm_settings::{Executed, event_of};
 use wm_steps::{StepChange, View};
@@ -14,7 +16,9 @@ use wm_steps::{StepChange, View};
 pub fn execute(alloc: Global, view: &View, line: u32) -> Result<Executed, AllocError>
     ensures { IfOk result (IsExecuted view.entry.now line Command.Prune) }
 {
-    let removed = removable_numbers(alloc, view.state.works.as_slice())?;
+    // what the type of a view keeps is known where a field of it is read
+    let _reached = &view.state;
+    let removed = removable_numbers(alloc, view)?;
     let count = removed.len() as u64;
     let event = event_of(line, Command::Prune, Reply::Pruned(count));
     let change = StepChange::removing(alloc, removed, event);
@@ -23,31 +27,37 @@ pub fn execute(alloc: Global, view: &View, line: u32) -> Result<Executed, AllocE
 }
 
 /// The numbers of the records that may be removed, ascending.
-fn removable_numbers(alloc: Global, works: &[Record]) -> Result<Items<u64>, AllocError>
+fn removable_numbers(alloc: Global, view: &View) -> Result<Items<u64>, AllocError>
     ensures { IfOk result (λ numbers. numbers
-        ≡ numbers_in (filter (removable works.now) works.now)) }
+        ≡ numbers_in (filter (removable view.entry.now.works) view.entry.now.works)) }
 {
+    let works = view.state.works.as_slice();
     let mut numbers = Items::new(alloc);
     for work in works {
-        if is_removable(works, work) {
+        if is_removable(view, work)? {
             numbers.push(work.seq)?;
         }
     }
     Ok(numbers)
 }
 
-/// Whether a record may be removed: it is finished, and no unfinished one needs it.
+/// Whether a record, which is there, may be removed: it is finished, and no unfinished one needs it.
 #[tactic(auto, unfolding(wm_machine::specs::Pruned::removable))]
-fn is_removable(works: &[Record], work: &Record) -> bool
-    ensures { result ≡ removable works.now work.now }
+fn is_removable(view: &View, work: &Record) -> Result<bool, AllocError>
+    requires { is_there view.now.works work.now.seq ≡ true }
+    ensures { IfOk result (λ may. may ≡ removable view.entry.now.works work.entry.now) }
 {
-    !work.phase.is_open() && !is_needed(works, work.seq)
+    if work.phase.is_open() {
+        Ok(false)
+    } else {
+        Ok(!is_needed(view, work.seq)?)
+    }
 }
 
-/// Whether an unfinished record has the work of this number as a prerequisite.
-#[tactic(auto, unfolding(wm_machine::specs::Pruned::is_needed))]
-fn is_needed(works: &[Record], number: u64) -> bool
-    ensures { result ≡ is_needed works.now number }
+/// Whether an unfinished record has the work of this number, which is there, as a prerequisite.
+fn is_needed(view: &View, number: u64) -> Result<bool, AllocError>
+    requires { is_there view.now.works number ≡ true }
+    ensures { IfOk result (λ needed. needed ≡ is_needed view.entry.now.works number) }
 {
-    works.iter().any(|work| work.phase.is_open() && is_among(work.prior.as_slice(), number))
+    is_needed_then(view, &[], number)
 }

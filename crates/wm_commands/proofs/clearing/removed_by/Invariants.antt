@@ -1,8 +1,9 @@
 use Rattle.std.proofs.Common.{◌≡◌, filter, take}
-use Rattle.wm_commands.specs.Cleared.{is_removed}
-use Rattle.wm_machine.specs.Group.{numbers_in}
+use Rattle.wm_commands.specs.Cleared.{is_removable_then}
+use Rattle.wm_unique.specs.Plans.{numbered_passes}
 use Rattle.wm_commands.proofs.clearing.removed_by.Given as goal
 
--- the numbers of those so far that are removed are there
-abbrev pub invariant-loop-work : goal.invariant-loop-work
-invariant-loop-work l = l.numbers ≡ numbers_in (filter (is_removed l.cancelled l.let_go l.works) (take l.work-index l.works))
+-- those of the numbers so far that are removed are there
+abbrev pub invariant-loop-number : goal.invariant-loop-number
+invariant-loop-number l =
+    l.numbers ≡ filter (numbered_passes (is_removable_then l.cancelled l.view.works) l.view.works) (take l.number-index l.let_go)

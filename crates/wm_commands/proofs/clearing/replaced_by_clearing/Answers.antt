@@ -1,9 +1,19 @@
-use Rattle.std.proofs.Common.{◌≡◌, length, rules, sym, ◌∙◌}
-use Rattle.wm_commands.proofs.Clearings.{none-cleared}
+use Rattle.std.proofs.Common.{◌≡◌, ℕ, List, ◌∙◌, ap}
+use Rattle.std.proofs.lemmas.Result.{IfOk-weaker}
+use Rattle.wm_commands.proofs.ClearedNumbers.{cleared-numbered}
+use Rattle.wm_commands.specs.Cleared.{cleared_by, replaced_by_clearing}
+use Rattle.wm_commands.specs.Merged.{AreMerged}
+use Rattle.wm_steps.specs.Replacements.{by_numbers}
 use Rattle.wm_commands.proofs.clearing.replaced_by_clearing.Goals as goal
 
-pub returns-then-is_empty-2 : goal.returns-then-is_empty-2
-returns-then-is_empty-2 c =
-    let no_cancel : length c.args.clearing.now.cancelled ≡ 0 = search rules in
-    let no_unnamed : length c.args.clearing.now.unnamed ≡ 0 = search rules in
-    c.new-replaced.ensures ∙ sym (none-cleared c.args.clearing.now c.args.works.now no_cancel no_unnamed)
+pub returns : goal.returns
+returns c =
+    let works = c.args.works.now in
+    let clearing = c.args.clearing.now in
+    let change = cleared_by clearing in
+    let numbers = c.in_ok-numbers.numbers.items in
+    let merged : AreMerged clearing.cancelled clearing.unnamed numbers = rw (c.as_slice.ensures, c.as_slice-2.ensures) at c.in_ok-numbers.ensures in
+    IfOk-weaker c.replaced_among.result (λ replaced. replaced ≡ by_numbers change c.deref.result.now works)
+    (λ replaced. replaced ≡ replaced_by_clearing clearing works)
+    (λ replaced is. is ∙ ap (λ (found : List ℕ). by_numbers change found works) c.deref.ensures.value
+    ∙ cleared-numbered clearing numbers works c.requires.in_order merged) c.replaced_among.ensures

@@ -5,4 +5,4 @@ use Rattle.wm_commands.proofs.prune.removable_numbers.Given as goal
 
 -- the numbers of the removable works so far are there
 abbrev pub invariant-loop-work : goal.invariant-loop-work
-invariant-loop-work l = l.numbers ≡ numbers_in (filter (removable l.works) (take l.work-index l.works))
+invariant-loop-work l = l.numbers ≡ numbers_in (filter (removable l.view.works) (take l.work-index l.works))
