@@ -1,8 +1,10 @@
 pub mod Acknowledged
 pub mod Claims
 pub mod Images
+pub mod InstancePlaces
 pub mod NoLines
 pub mod Parts
+pub mod RemovedWorks
 pub mod Returns
 pub mod StepNodes
 pub mod StepRows

@@ -1,6 +1,6 @@
 //! How the change of a step is carried out: first all that takes memory, then the commit of the
 //! rows, and the state last.
-ghost use Rattle.std.specs.Prelude.{◌≡◌, ◌≢◌, ◌+◌, ◌^◌, ◌<◌, ◌≤◌, ◌∷◌, ◌++◌, [], length, map, take, vec_len, vec_capacity, false, Err, OnOk, OnErr};
+ghost use Rattle.std.specs.Prelude.{◌≡◌, ◌≢◌, ◌+◌, ◌^◌, ◌<◌, ◌≤◌, ◌∷◌, ◌++◌, [], length, filter, map, take, vec_len, vec_capacity, false, not, Err, OnOk, OnErr};
 ghost use Rattle.std.specs.List.{AllByRecursion};
 ghost use Rattle.wm_collections.specs.Lists.{is_among};
 ghost use Rattle.wm_keeper.specs.Keeper.{AreOfDifferentNumbers};
@@ -10,7 +10,9 @@ ghost use Rattle.wm_machine.specs.Retired.{with_retired};
 ghost use Rattle.wm_machine.specs.Rows.{rows_of};
 ghost use Rattle.wm_machine.specs.Runs.{other_runs, with_out, with_stopped};
 ghost use Rattle.wm_machine.specs.Turns.{with_turned};
-ghost use Rattle.wm_steps.specs.StepChanges.{changed_state, instances_by, new_observers, next_run_by, observers_by, other_works, row_changes, runs_by, set_by, with_replaced, without, IsStepOf};
+ghost use Rattle.wm_machine.specs.Valid.{AreNumberedInOrder};
+ghost use Rattle.wm_steps.specs.Numbers.{Ascend};
+ghost use Rattle.wm_steps.specs.StepChanges.{changed_state, instances_by, new_observers, next_run_by, observers_by, row_changes, runs_by, set_by, with_replaced, without, IsStepOf};
 ghost use Rattle.wm_machine.specs.declared.event.Event.TheVariants as event;
 ghost use Rattle.wm_runs.specs.Reports.{IsOut};
 ghost use Rattle.wm_table.specs.Following.{placed_node, AreAddable};
@@ -28,7 +30,7 @@ use wm_graph::Graph;
 use wm_keeper::{Change, Keeper};
 use wm_machine::{Event, Instance, Record, Run, State, WorkQuery};
 use wm_runs::returned;
-use wm_steps::{Replacement, RunChange, SettingChange, StepChange, View};
+use wm_steps::{Replacement, RunChange, SettingChange, StepChange, View, is_listed};
 
 /// The lists that a step adds to, while their room counts.
 #[derive(Drop)]
@@ -98,6 +100,7 @@ impl Lists {
         requires turns { AllByRecursion (λ run. run.turn ≤ 999) self.old.runs.items }
         requires next { state.old.next + length change.placed ≤ 2 ^ 53 }
         requires few_runs { state.old.next_run ≤ vec_len self.old.log + 1 }
+        requires instances { AreNumberedInOrder 0 state.old.instances }
         requires works_room { vec_len self.old.works + length change.placed ≤ vec_capacity self.old.works }
         requires run_room { vec_len self.old.runs + new_runs change.run ≤ vec_capacity self.old.runs }
         requires observer_room { vec_len self.old.observers + new_observers change.setting ≤ vec_capacity self.old.observers }
@@ -128,7 +131,7 @@ impl Lists {
         state.next += placed.len() as u64;
         replace_works(&mut self.works, told.into_vec());
         replace_works(&mut self.works, replaced.into_vec());
-        remove_works(&mut self.works, removed.as_slice());
+        remove_works(&mut self.works, removed);
         append(&mut self.works, placed);
         change_runs(alloc, &mut self.runs, state, run, next_run);
         change_setting(alloc, state, &mut self.observers, setting);
@@ -158,24 +161,28 @@ fn replace_works(works: &mut Vec<Record>, replaced: Vec<Replacement>)
     }
 }
 
-/// Takes the records of these numbers out.
-fn remove_works(works: &mut Vec<Record>, numbers: &[u64])
-    ensures works { works.new.items ≡ without numbers.now works.old.items }
+/// Takes the records of these numbers out, in one pass. It takes no memory.
+fn remove_works(works: &mut Vec<Record>, removed: Items<u64>)
+    ensures works { works.new.items ≡ without removed works.old.items }
     ensures len { vec_len works.new ≤ vec_len works.old }
     ensures capacity { vec_capacity works.new ≡ vec_capacity works.old }
 {
-    for number in numbers {
-        remove_work(works, *number);
+    if removed.is_empty() {
+        return;
     }
+    let mut numbers = removed.into_vec();
+    numbers.sort_unstable();
+    remove_listed(works, &numbers);
 }
 
-/// Takes the record of this number out.
-fn remove_work(works: &mut Vec<Record>, number: u64)
-    ensures works { works.new.items ≡ other_works number works.old.items }
+/// Takes the records of these numbers out, which ascend.
+fn remove_listed(works: &mut Vec<Record>, numbers: &[u64])
+    requires { Ascend numbers.now }
+    ensures works { works.new.items ≡ filter (λ work. not (is_among numbers.now work.seq)) works.old.items }
     ensures len { vec_len works.new ≤ vec_len works.old }
     ensures capacity { vec_capacity works.new ≡ vec_capacity works.old }
 {
-    works.retain(|work| work.seq != number);
+    works.retain(|work| !is_listed(numbers, work.seq));
 }
 
 /// Adds values at the end. There is room for them.
@@ -198,6 +205,7 @@ fn change_runs(
     requires room { vec_len runs.old + new_runs change ≤ vec_capacity runs.old }
     requires turns { AllByRecursion (λ run. run.turn ≤ 999) runs.old.items }
     requires next { next_run ≡ state.old.next_run + 1 }
+    requires instances { AreNumberedInOrder 0 state.old.instances }
     ensures runs { runs.new.items ≡ runs_by change runs.old.items }
     ensures state { state.new ≡ record state.old {
       instances = instances_by change state.old.instances;
@@ -303,21 +311,22 @@ fn remove_run(runs: &mut Vec<Run>, number: u64)
 
 /// Has the instance of this number out or not. It takes no memory.
 fn set_out(alloc: Global, instances: &mut Items<Instance>, number: u32, out: bool)
+    requires { AreNumberedInOrder 0 instances.old }
     ensures { instances.new ≡ with_out out number instances.old }
 {
     let mut elements = mem::replace(instances, Items::new(alloc)).into_vec();
-    set_each_out(elements.as_mut_slice(), number, out);
+    set_at_out(elements.as_mut_slice(), number, out);
     *instances = Items::from_vec(elements);
 }
 
-/// Has the instance of this number out or not.
-fn set_each_out(instances: &mut [Instance], number: u32, out: bool)
+/// Has the instance of this number out or not, which stands at the number.
+fn set_at_out(instances: &mut [Instance], number: u32, out: bool)
+    requires { AreNumberedInOrder 0 instances.old }
     ensures { instances.new ≡ with_out out number instances.old }
 {
-    for instance in instances.iter_mut() {
-        if instance.number == number {
-            instance.out = out;
-        }
+    let index = number as usize;
+    if index < instances.len() {
+        instances[index].out = out;
     }
 }
 

@@ -9,6 +9,7 @@ use Rattle.wm_steps.specs.Nodes.{nodes_of}
 use Rattle.wm_steps.specs.StepChanges.{changed_state, Fits, IsStepOf}
 use Rattle.wm_steps.specs.declared.change.StepChange.{StepChange}
 use Rattle.wm_table.proofs.Images.{images-kept, images-made}
+use Rattle.wm_table.proofs.InstancePlaces.{ordered-is}
 use Rattle.wm_table.proofs.StepNodes.{step-addable, step-grown, step-nodes, step-removed, step-replaced, viewed-step}
 use Rattle.wm_table.proofs.StepRows.{removed_fit, replaced_within, rows-made, told_within, turns_left, new_runs-few, runs-changed}
 use Rattle.wm_table.specs.Following.{nodes_by, placed_node, AreAddable}
@@ -77,6 +78,10 @@ change-requires-clause-turns g c =
     let s = c.view.inside.state in
     let runs : c.store.new.lists.runs.items ≡ s.runs = search rules in
     subst (λ (runs : List Run). AllByRecursion (λ run. run.turn ≤ 999) runs) (sym runs) (turns_left s c.view.invariant.valid)
+
+pub change-requires-clause-instances : goal.change-requires-clause-instances
+change-requires-clause-instances g c =
+    ordered-is _ c.view.inside.state.instances (search rules) c.view.invariant.valid.instances.numbered
 
 pub change-requires-clause-run_room : goal.change-requires-clause-run_room
 change-requires-clause-run_room g c = omega (arith, c.in-Ok.ensures.run_room, new_runs-few c.args.change.run)

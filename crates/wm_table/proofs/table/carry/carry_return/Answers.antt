@@ -2,8 +2,12 @@ use Rattle.std.proofs.Common.{◌≡◌, ◌+◌, arith, length, rules, sym, ap,
 use Rattle.wm_machine.specs.declared.state.State.{State}
 use Rattle.wm_runs.specs.Builds.{IsReturn}
 use Rattle.wm_steps.specs.StepChanges.{changed_state}
+use Rattle.wm_table.proofs.InstancePlaces.{ordered-is}
 use Rattle.wm_table.proofs.Returns.{return-fewer, return-viewed}
 use Rattle.wm_table.proofs.table.carry.carry_return.Goals as goal
+
+pub change-requires-clause-instances : goal.change-requires-clause-instances
+change-requires-clause-instances c = ordered-is _ c.view.inside.state.instances (search rules) c.view.invariant.valid.instances.numbered
 
 pub invariant_of-view : goal.invariant_of-view
 invariant_of-view c =
