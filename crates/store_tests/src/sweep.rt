@@ -304,7 +304,9 @@ fn a_stop_at_any_call_of_the_files_leaves_the_log_or_one_event_more(
             written: (further, 0),
             synced: (0, 0),
         };
-        assert_eq!(rt; swept(&rt, rt.alloc(), failing, script)?, sound);
+        let outcome = swept(&rt, rt.alloc(), failing, script)?;
+        println!(rt; "{outcome:?}")?;
+        assert_eq!(rt; outcome, sound);
     }
     Ok(())
 }

@@ -1,3 +1,4 @@
+pub mod Ascending
 pub mod Lists
 pub mod Options
 pub mod Places

@@ -1,5 +1,5 @@
 -- What holds of each element of a list and of those after it, or of one of them, and which is the last.
-use Rattle.std.specs.Prelude.{◌≡◌, ◌⊎◌, ℕ, ◌==◌, Bool, List, [], ◌∷◌, Option, Some, None}
+use Rattle.std.specs.Prelude.{◌≡◌, ◌⊎◌, ℕ, ◌<◌, ◌==◌, Bool, List, [], ◌∷◌, Option, Some, None}
 use Rattle.std.specs.Cmp.Lexicographic.{slice_cmp}
 use Rattle.std.specs.List.{AllByRecursion, list_any}
 use Rattle.std.specs.Ordering.{nat_cmp}
@@ -24,6 +24,10 @@ last_of (x ∷ y ∷ xs) = last_of (y ∷ xs)
 -- whether a number is one of these
 abbrev pub is_among : List ℕ → ℕ → Bool
 is_among numbers number = list_any (λ one. one == number) numbers
+
+-- numbers in strictly ascending order
+abbrev pub NumbersAscend : List ℕ → Type 0
+NumbersAscend numbers = AllLater (λ number later. number < later) numbers
 
 -- texts in strictly ascending order of their bytes
 abbrev pub AscendByBytes : List (List ℕ) → Type 0

@@ -3,7 +3,7 @@ use Rattle.std.proofs.Common.{◌≡◌, ℕ, ◌<◌, ◌==◌, List, filter, s
 use Rattle.std.specs.BTreeSet.{BTreeSet}
 use Rattle.wm_collections.specs.Lists.{is_among}
 use Rattle.wm_collections.proofs.Lists.{AllLater-filter, AllLater-map, list_any-kept, list_any_after}
-use Rattle.wm_graph.proofs.Found.{ascending-same}
+use Rattle.wm_collections.proofs.Ascending.{ascending-same}
 use Rattle.wm_graph.specs.Descendants.{dependents}
 use Rattle.wm_graph.specs.Edges.{has_edge, AreAfter, AreEdgesOf, Edge}
 use Rattle.wm_graph.specs.Nodes.{IsGraph, NodeFields}

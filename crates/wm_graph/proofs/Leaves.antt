@@ -15,7 +15,8 @@ use Rattle.std.specs.BTreeMap.{is_at}
 use Rattle.std.specs.BTreeSet.{BTreeSet, IsOrdered, Updates}
 use Rattle.wm_collections.specs.Lists.{AllLater, is_among}
 use Rattle.wm_collections.proofs.Lists.{All-any, All-weaker, AllLater-filter, AllLater-map, list_any-agree, list_any-kept, list_any_after}
-use Rattle.wm_graph.proofs.Found.{any-swap, ascending-same, names-none}
+use Rattle.wm_collections.proofs.Ascending.{ascending-same}
+use Rattle.wm_graph.proofs.Found.{any-swap, names-none}
 use Rattle.wm_graph.proofs.Tests.{any-and, eq-swap, under}
 use Rattle.wm_graph.specs.Edges.{has_number, names, BeginsAt, IsListOf}
 use Rattle.wm_graph.specs.Leaves.{is_before_any, is_leaf, is_needed, leaves}

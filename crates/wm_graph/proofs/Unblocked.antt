@@ -11,7 +11,7 @@ use Rattle.std.specs.BTreeSet.{BTreeSet, IsOrdered}
 use Rattle.wm_collections.specs.Lists.{is_among}
 use Rattle.wm_collections.proofs.Lists.{All-any, All-weaker, AllLater-filter, AllLater-map, list_any-agree, list_any-kept, list_any_after}
 use Rattle.wm_graph.proofs.Dependents.{any-from, from_number}
-use Rattle.wm_graph.proofs.Found.{ascending-same}
+use Rattle.wm_collections.proofs.Ascending.{ascending-same}
 use Rattle.wm_graph.proofs.Lowered.{from-rises}
 use Rattle.wm_graph.proofs.Unmet.{freed-counted}
 use Rattle.wm_graph.specs.Edges.{edge_cmp, has_edge, Edge}

@@ -15,9 +15,9 @@ use Rattle.std.specs.declared.cmp.Ordering.TheVariants.{Greater, Less}
 use Rattle.wm_collections.specs.Lists.{is_among}
 use Rattle.wm_collections.proofs.Lists.{All-weaker, AllLater-filter, AllLater-map, filter-each, find-fails, list_any-false, list_any-kept, list_any_after}
 use Rattle.wm_index.specs.Entries.{changed_at, has_seq, numbers_of, with_entry, without, Entry}
-use Rattle.wm_index.specs.Groups.{Ascend}
+use Rattle.wm_collections.specs.Lists.{NumbersAscend}
 use Rattle.wm_index.specs.Works.{at, entries_of, entry_of, AreAscending, Kept}
-use Rattle.wm_index.proofs.Numbers.{ascending-same}
+use Rattle.wm_collections.proofs.Ascending.{ascending-same}
 use Rattle.wm_index.proofs.Bools.{same-test}
 
 less-is : (a b : ℕ) → nat_cmp a b ≡ Less → a < b
@@ -163,7 +163,7 @@ numbers-among test entries number =
     list_any_after (λ one. one == number) (λ (entry : Entry). entry.seq) (filter test entries) ∙ list_any-kept (λ entry. entry.seq == number) test entries
 
 -- the numbers in ascending order of the works of which a test holds
-pub numbers-are : (test : Entry → Bool) (works : List (ℕ × Kept)) (numbers : List ℕ) → AreAscending (entries_of works) → Ascend numbers
+pub numbers-are : (test : Entry → Bool) (works : List (ℕ × Kept)) (numbers : List ℕ) → AreAscending (entries_of works) → NumbersAscend numbers
     → ((number : ℕ) → is_among numbers number ≡ option_map_or (λ (kept : Kept). test (entry_of (number, kept))) (at works number) false)
     → numbers ≡ numbers_of (filter test (entries_of works))
 numbers-are test works numbers up ascending are =

@@ -10,9 +10,9 @@ use Rattle.std.specs.List.{AllByRecursion, HoldsAt}
 use Rattle.std.specs.List.Sorted.{IsNonDecreasingBy, IsPartitionPoint}
 use Rattle.std.specs.Ordering.{nat_cmp, ordering_index}
 use Rattle.std.specs.declared.cmp.Ordering.TheVariants.{Equal, Greater, Less}
-use Rattle.wm_collections.specs.Lists.{is_among}
+use Rattle.wm_collections.specs.Lists.{is_among, NumbersAscend}
 use Rattle.wm_collections.proofs.Lists.{All-any, All-weaker, AllLater-filter, any_passes, filter-each, list_any-agree, list_any-false, list_any-kept, one_gives}
-use Rattle.wm_index.specs.Groups.{is_just, Ascend, IsGroup}
+use Rattle.wm_index.specs.Groups.{is_just, IsGroup}
 use Rattle.wm_index.proofs.Bools.{any-and, or-comm, under}
 
 -- ---- a search
@@ -22,7 +22,7 @@ at_place P [] i d all within = absurd (omega arith)
 at_place P (x ∷ xs) zero d all within = all.0
 at_place P (x ∷ xs) (suc i) d all within = at_place P xs i d all.1 (omega arith)
 
-rises : (xs : List ℕ) (i j d : ℕ) → Ascend xs → i ≤ j → j < length xs → get_or xs i d ≤ get_or xs j d
+rises : (xs : List ℕ) (i j d : ℕ) → NumbersAscend xs → i ≤ j → j < length xs → get_or xs i d ≤ get_or xs j d
 rises [] i j d up le within = absurd (omega arith)
 rises (x ∷ xs) zero zero d up le within = omega arith
 rises (x ∷ xs) zero (suc j) d up le within = let later = at_place (λ y. x < y) xs j d up.0 (omega arith) in omega (arith, later)
@@ -33,7 +33,7 @@ order_rises : (a b x : ℕ) → a ≤ b → ordering_index (nat_cmp a x) ≤ ord
 order_rises a b x le = grind (arith, nat_tests)
 
 -- a search may rely on the order
-pub searchable : (x : ℕ) (xs : List ℕ) → Ascend xs → IsNonDecreasingBy (λ y. ordering_index (nat_cmp y x)) xs
+pub searchable : (x : ℕ) (xs : List ℕ) → NumbersAscend xs → IsNonDecreasingBy (λ y. ordering_index (nat_cmp y x)) xs
 searchable x xs up i j d le within = order_rises _ _ x (rises xs i j d up le within)
 
 equal-is : (a b : ℕ) → nat_cmp a b ≡ Equal → a ≡ b
@@ -66,7 +66,7 @@ IsGap x xs i = IsPartitionPoint (λ y. nat_cmp y x ≡ Less) (λ y. nat_cmp y x 
 tail-gap : (x y : ℕ) (ys : List ℕ) (i : ℕ) → IsGap x (y ∷ ys) (suc i) → IsGap x ys i
 tail-gap x y ys i gap = (λ k d from to. gap.0 (suc k) d (omega arith) (omega arith), λ k d from to. gap.1 (suc k) d (omega arith) (omega arith))
 
-pub insert-ascends : (xs : List ℕ) (i x : ℕ) → i ≤ length xs → IsGap x xs i → Ascend xs → Ascend (insert xs i x)
+pub insert-ascends : (xs : List ℕ) (i x : ℕ) → i ≤ length xs → IsGap x xs i → NumbersAscend xs → NumbersAscend (insert xs i x)
 insert-ascends [] zero x le gap up = (tt, tt)
 insert-ascends [] (suc i) x le gap up = absurd (omega arith)
 insert-ascends (y ∷ ys) zero x le gap up =
@@ -80,7 +80,7 @@ pub insert-among : (xs : List ℕ) (i x number : ℕ) → is_among (insert xs i 
 insert-among xs i x number =
     sym (list_any-IsPermutation (λ one. one == number) (x ∷ xs) (insert xs i x) (IsPermutation-insert xs i x)) ∙ or-comm (x == number) (is_among xs number)
 
-pub inserted-group : (xs : List ℕ) (i x : ℕ) → i ≤ length xs → IsGap x xs i → Ascend xs → IsGroup (insert xs i x)
+pub inserted-group : (xs : List ℕ) (i x : ℕ) → i ≤ length xs → IsGap x xs i → NumbersAscend xs → IsGroup (insert xs i x)
 inserted-group xs i x le gap up = record {
   ascending = insert-ascends xs i x le gap up;
   some = let size = length-insert xs i x le in omega (arith, size);
@@ -99,7 +99,7 @@ same-among xs x number there =
 abbrev others : ℕ → List ℕ → List ℕ
 others x xs = filter (λ y. not (x == y)) xs
 
-pub remove-is : (xs : List ℕ) (i x : ℕ) → i < length xs → HoldsAt (λ y. nat_cmp y x ≡ Equal) xs i → Ascend xs → remove xs i ≡ others x xs
+pub remove-is : (xs : List ℕ) (i x : ℕ) → i < length xs → HoldsAt (λ y. nat_cmp y x ≡ Equal) xs i → NumbersAscend xs → remove xs i ≡ others x xs
 remove-is [] i x within at up = absurd (omega arith)
 remove-is (y ∷ ys) zero x within at up =
     let is : x ≡ y = sym (equal-is y x (at x)) in
@@ -126,13 +126,13 @@ removed-some (y ∷ []) zero x within at others = absurd (false≢true (sym othe
 removed-some (y ∷ []) (suc i) x within at others = absurd (omega arith)
 removed-some (y ∷ z ∷ zs) i x within at others = some-left y z zs i within
 
-pub removed-group : (xs : List ℕ) (i x : ℕ) → i < length xs → HoldsAt (λ y. nat_cmp y x ≡ Equal) xs i → is_just x xs ≡ false → Ascend xs → IsGroup (remove xs i)
+pub removed-group : (xs : List ℕ) (i x : ℕ) → i < length xs → HoldsAt (λ y. nat_cmp y x ≡ Equal) xs i → is_just x xs ≡ false → NumbersAscend xs → IsGroup (remove xs i)
 removed-group xs i x within at more up = record {
-  ascending = subst Ascend (sym (remove-is xs i x within at up)) (AllLater-filter (λ y z. y < z) (λ y. not (x == y)) xs up);
+  ascending = subst NumbersAscend (sym (remove-is xs i x within at up)) (AllLater-filter (λ y z. y < z) (λ y. not (x == y)) xs up);
   some = removed-some xs i x within at more;
 }
 
-pub removed-among : (xs : List ℕ) (i x number : ℕ) → i < length xs → HoldsAt (λ y. nat_cmp y x ≡ Equal) xs i → Ascend xs
+pub removed-among : (xs : List ℕ) (i x number : ℕ) → i < length xs → HoldsAt (λ y. nat_cmp y x ≡ Equal) xs i → NumbersAscend xs
     → is_among (remove xs i) number ≡ (is_among xs number && not (x == number))
 removed-among xs i x number within at up = ap (λ list. is_among list number) (remove-is xs i x within at up) ∙ others-among xs x number
 
@@ -156,46 +156,3 @@ absent-left xs x number absent =
           none ∙ sym (and_left (is_among xs number) (not (x == number)) none))
       | inr isnt ↦ sym (ap (λ b. is_among xs number && not b) isnt ∙ and-true (is_among xs number))
     ]
-
--- ---- two lists of the same numbers
-
-none_below : (x : ℕ) (xs : List ℕ) → AllByRecursion (λ later. x < later) xs → is_among xs x ≡ false
-none_below x xs above = list_any-false (λ one. one == x) xs (All-weaker xs (λ one less. ne_eqb one x (λ e. absurd (omega (arith, less, e)))) above)
-
-among_above : (x n : ℕ) (xs : List ℕ) → AllByRecursion (λ later. x < later) xs → is_among xs n ≡ true → x < n
-among_above x n xs above has =
-    one_gives xs (λ one less here. subst (λ m. x < m) (eqb-true one n here) less) above (any_passes (λ one. one == n) xs has)
-
-not_both : (a b : ℕ) → a < b → b < a → ⊥
-not_both a b one other = absurd (omega arith)
-
-module _ (x y : ℕ) (xs ys : List ℕ) (above : AllByRecursion (λ later. x < later) xs) (above_other : AllByRecursion (λ later. y < later) ys)
-    (same : (n : ℕ) → is_among (x ∷ xs) n ≡ is_among (y ∷ ys) n) where
-  heads : x ≡ y
-  heads =
-      elim (or_cases (y == x) (is_among ys x) (sym (same x) ∙ or_left _ _ (eq-eqb x x refl))) as (λ _. x ≡ y) [
-        | inl here ↦ sym (eqb-true y x here)
-        | inr later ↦ elim (or_cases (x == y) (is_among xs y) (same y ∙ or_left _ _ (eq-eqb y y refl))) as (λ _. x ≡ y) [
-          | inl here ↦ eqb-true x y here
-          | inr also ↦ absurd (not_both x y (among_above x y xs above also) (among_above y x ys above_other later))
-        ]
-      ]
-
-  split_other : (b c d : Bool) → (b || c) ≡ (b || d) → (b ≡ true → c ≡ false) → (b ≡ true → d ≡ false) → c ≡ d
-  split_other true c d given one other = one refl ∙ sym (other refl)
-  split_other false c d given one other = given
-
-  tails : (n : ℕ) → is_among xs n ≡ is_among ys n
-  tails n =
-      split_other (x == n) (is_among xs n) (is_among ys n) (same n ∙ ap (λ m. (m == n) || is_among ys n) (sym heads))
-      (λ e. subst (λ m. is_among xs m ≡ false) (eqb-true x n e) (none_below x xs above))
-      (λ e. subst (λ m. is_among ys m ≡ false) (sym heads ∙ eqb-true x n e) (none_below y ys above_other))
-
-pub ascending-same : (xs ys : List ℕ) → Ascend xs → Ascend ys → ((n : ℕ) → is_among xs n ≡ is_among ys n) → xs ≡ ys
-ascending-same [] [] one other same = refl
-ascending-same [] (y ∷ ys) one other same = absurd (false≢true (same y ∙ or_left _ _ (eq-eqb y y refl)))
-ascending-same (x ∷ xs) [] one other same = absurd (false≢true (sym (same x) ∙ or_left _ _ (eq-eqb x x refl)))
-ascending-same (x ∷ xs) (y ∷ ys) one other same =
-    let rest = ascending-same xs ys one.1 other.1 (tails x y xs ys one.0 other.0 same) in
-    let first = heads x y xs ys one.0 other.0 same in
-    cc

@@ -4,14 +4,11 @@ use Rattle.std.specs.BTreeMap.{get_by_text, BTreeMap}
 use Rattle.std.specs.Map.{lookup}
 use Rattle.std.specs.Option.{option_map_or, unwrap_or}
 use Rattle.std.specs.Str.{bytes_eq}
-use Rattle.wm_collections.specs.Lists.{is_among, AllLater}
-
-abbrev pub Ascend : List ℕ → Type 0
-Ascend numbers = AllLater (λ number later. number < later) numbers
+use Rattle.wm_collections.specs.Lists.{is_among, NumbersAscend}
 
 -- numbers in ascending order, of which there is one at least
 pub record IsGroup (numbers : List ℕ) : Type 0 where
-  pub ascending : Ascend numbers
+  pub ascending : NumbersAscend numbers
   pub some : 0 < length numbers
 
 -- the list is this number alone

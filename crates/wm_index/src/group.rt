@@ -1,7 +1,7 @@
 //! The numbers of the works that have one text.
 ghost use Rattle.std.specs.Prelude.{◌≡◌, ◌==◌, ◌&&◌, ◌||◌, ◌∷◌, ℕ, [], false, not, IfOk, OnErr, OnOk};
-ghost use Rattle.wm_collections.specs.Lists.{is_among, AllLater};
-ghost use Rattle.wm_index.specs.Groups.{is_just, Ascend};
+ghost use Rattle.wm_collections.specs.Lists.{is_among, AllLater, NumbersAscend};
+ghost use Rattle.wm_index.specs.Groups.{is_just};
 
 use std::alloc::{AllocError, Global};
 use std::marker::Model;
@@ -36,7 +36,7 @@ impl Group {
 
     pub(crate) fn as_slice(&self) -> &[u64]
         ensures numbers { result.now ≡ self.now }
-        ensures ascending { Ascend self.now }
+        ensures ascending { NumbersAscend self.now }
     {
         self.numbers.as_slice()
     }

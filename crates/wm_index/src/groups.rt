@@ -1,8 +1,9 @@
 //! The groups of works by their texts, each text of which some work has.
 ghost use Rattle.std.specs.Prelude.{◌≡◌, OnOk};
 ghost use Rattle.std.specs.Str.{bytes_eq};
+ghost use Rattle.wm_collections.specs.Lists.{NumbersAscend};
 ghost use Rattle.wm_index.specs.Entries.{has_tag};
-ghost use Rattle.wm_index.specs.Groups.{has, is_just, numbers_at, Ascend, IsJoined, IsParted, KeepsOthers};
+ghost use Rattle.wm_index.specs.Groups.{has, is_just, numbers_at, IsJoined, IsParted, KeepsOthers};
 
 use crate::group::Group;
 use std::alloc::{AllocError, Global};
@@ -15,7 +16,7 @@ pub type Groups = BTreeMap<String, Group>;
 /// The numbers of the works of a text, ascending. It takes no memory.
 pub fn numbers_at<'a>(groups: &'a Groups, text: &str) -> &'a [u64]
     ensures numbers { result.now ≡ numbers_at groups.now text.now }
-    ensures ascending { Ascend result.now }
+    ensures ascending { NumbersAscend result.now }
 {
     match groups.get(text) {
         Some(group) => group.as_slice(),

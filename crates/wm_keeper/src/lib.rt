@@ -12,5 +12,5 @@ pub mod sure;
 
 pub use keeper::{KeepFault, Keeper};
 pub use memory::MemoryKeeper;
-pub use row::{Change, Row};
+pub use row::{Change, Row, do_ascend};
 pub use sure::SureKeeper;

@@ -1,4 +1,7 @@
 //! The row of a work, and a change of the rows that are kept.
+ghost use Rattle.std.specs.Prelude.{◌↔◌, IsTrue};
+ghost use Rattle.wm_keeper.specs.Keeper.{Ascends};
+
 use std::alloc::{AllocError, Global};
 use wm_collections::{Items, Replica, Text};
 
@@ -102,4 +105,11 @@ impl Replica for Change {
             Change::Remove(seq) => Ok(Change::Remove(*seq)),
         }
     }
+}
+
+/// Whether the numbers of the rows rise strictly, as those of a keeper do.
+pub fn do_ascend(rows: &[Row]) -> bool
+    ensures { IsTrue result ↔ Ascends rows.now }
+{
+    rows.is_sorted_by(|row, next| row.seq < next.seq)
 }

@@ -10,7 +10,6 @@ mod file;
 mod form;
 mod keeper;
 mod look;
-mod numbers;
 mod reading;
 mod refusal;
 mod standing;

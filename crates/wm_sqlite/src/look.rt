@@ -8,13 +8,12 @@ ghost use Rattle.wm_sqlite.specs.Standing.{ShowsTable};
 ghost use Rattle.wm_sqlite.specs.Told.{rows_told, told_of, AreShown, AreThere, IsKnownStill, IsLookedAt, IsSeenAs, Knows};
 
 use crate::form::{has_work_table, is_blank, is_of_work_alone};
-use crate::numbers::do_ascend;
 use crate::reading::rows_of;
 use crate::refusal::{Refusal, refused};
 use crate::standing::Standing;
 use crate::table::{make_work_table, read_work_table};
 use sqlite::{Alter, Connection, Row as ShownRow};
-use wm_keeper::Row;
+use wm_keeper::{Row, do_ascend};
 
 /// What is known of the table, from the schema alone.
 pub(crate) fn standing_of<A: Alter>(connection: &Connection<A>) -> Standing

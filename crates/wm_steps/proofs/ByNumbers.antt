@@ -4,7 +4,7 @@ use Rattle.std.specs.List.{cons_option, AllByRecursion}
 use Rattle.std.proofs.lemmas.Bool.{cases_Bool, cases_order, eq-eqb, eqb-true, ne_eqb}
 use Rattle.std.proofs.lemmas.Option.{none-some, same_Some}
 use Rattle.wm_collections.proofs.Lists.{All-weaker, All-with2, filter_map-same, find-passes}
-use Rattle.wm_collections.specs.Lists.{is_among, AllLater}
+use Rattle.wm_collections.specs.Lists.{is_among, NumbersAscend}
 use Rattle.wm_machine.proofs.Runnings.{WorksAscend, WorksAscend-in_order}
 use Rattle.wm_machine.specs.Input.{work_numbered}
 use Rattle.wm_machine.specs.Valid.{IsBefore}
@@ -12,9 +12,6 @@ use Rattle.wm_machine.specs.declared.record.Record.{Record}
 use Rattle.wm_steps.proofs.Lookups.{All-at}
 use Rattle.wm_steps.specs.Replacements.{at_index, by_numbers, replacement_of, replacements}
 use Rattle.wm_steps.specs.declared.change.Replacement.{Replacement}
-
-abbrev pub NumbersAscend : List ℕ → Type 0
-NumbersAscend numbers = AllLater (λ number later. number < later) numbers
 
 -- nothing changes but records of these numbers
 abbrev pub ChangesAmong : (Record → Option Record) → List ℕ → List Record → Type 0

@@ -7,7 +7,7 @@ use Rattle.std.specs.List.{IsAllAdjacentAnswer}
 use Rattle.wm_collections.proofs.Lists.{All-weaker}
 use Rattle.wm_keeper.specs.Keeper.{Ascends}
 use Rattle.wm_keeper.specs.declared.row.Row.{Row}
-use Rattle.wm_sqlite.proofs.numbers.do_ascend.Goals as goal
+use Rattle.wm_keeper.proofs.row.do_ascend.Goals as goal
 
 -- rows of which each has a lower number than the next ascend
 Ascends-adjacent : (rows : List Row) → ((k : ℕ) (d : Row) → suc k < length rows → (get_or rows k d).seq <ℤ (get_or rows (suc k) d).seq) → Ascends rows
