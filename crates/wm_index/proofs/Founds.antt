@@ -1,17 +1,18 @@
 -- What the tables find after a change of one work, and of what is kept of it.
-use Rattle.std.proofs.Common.{◌≡◌, ℕ, ◌==◌, ◌&&◌, ◌||◌, Bool, true, false, not, cond, List, filter, refl, sym, ap, subst, ◌∙◌, inl, inr, Option, Some, None, Result, Ok, Err, IsOk, OnErr, OnOk}
+use Rattle.std.proofs.Common.{◌≡◌, ℕ, ◌==◌, ◌&&◌, ◌||◌, Bool, true, false, not, cond, List, [], ◌∷◌, filter, refl, sym, ap, subst, ◌∙◌, inl, inr, Option, Some, None, Result, Ok, Err, IsOk, OnErr, OnOk}
 use Rattle.std.proofs.Math.Bool.{and-false, and-true, or-false}
-use Rattle.std.proofs.lemmas.Bool.{and_parts, cases_Bool, eq-eqb, eqb-true, not-true}
+use Rattle.std.proofs.lemmas.Bool.{and_parts, cases_Bool, eq-eqb, eqb-true, not-true, or_left, or_right}
+use Rattle.std.specs.List.{AllByRecursion}
 use Rattle.std.specs.Map.{lookup}
 use Rattle.std.specs.Option.{option_map_or}
 use Rattle.std.specs.Result.{is_err}
 use Rattle.std.specs.Str.{bytes_eq}
-use Rattle.wm_collections.proofs.Lists.{All-any, list_any-agree, list_any-kept}
+use Rattle.wm_collections.proofs.Lists.{All-any, All-weaker, filter-each, filter-none, list_any-agree, list_any-kept}
 use Rattle.wm_index.specs.Entries.{has_tag}
 use Rattle.wm_index.specs.Groups.{has_id, IsJoined, IsParted, KeepsOthers, Table}
 use Rattle.wm_index.specs.Works.{at, AreFound, IsSetAt, Kept}
 use Rattle.wm_index.proofs.Tables.{joined-others, parted-others}
-use Rattle.wm_index.proofs.Bools.{and-not, any-and, at-test, bytes-same, under}
+use Rattle.wm_index.proofs.Bools.{any-and, at-test, bytes-refl, bytes-same, under}
 
 pub ok_given : {A E : Type 0} (r : Result A E) (P : Type 0) → OnOk r P → is_err r ≡ false → P
 ok_given (Ok x) P given not_err = given
@@ -111,27 +112,6 @@ ids-joined id seq old new absent set q number =
       | inr isnt ↦ rw isnt (sym (ap (λ b. has_id old q number || b) (and-false (seq == number)) ∙ or-false (has_id old q number)))
     ]
 
-id-gone : (b : Bool) (number : ℕ) (found : Option ℕ) → option_map_or (λ n. n == number) (cond b None found) false
-    ≡ cond b false (option_map_or (λ n. n == number) found false)
-id-gone true number found = refl
-id-gone false number found = refl
-
-one-id : (found : Option ℕ) (seq number : ℕ) → option_map_or (λ n. n == seq) found false ≡ true
-    → false ≡ (option_map_or (λ n. n == number) found false && not (seq == number))
-one-id None seq number is = refl
-one-id (Some n) seq number is = subst (λ m. false ≡ ((m == number) && not (seq == number))) (sym (eqb-true n seq is)) (sym (and-not (seq == number)))
-
-pub ids-parted : (id : List ℕ) (seq : ℕ) (old new : List (List ℕ × ℕ)) → has_id old id seq ≡ true
-    → ((q : List ℕ) → lookup (bytes_eq q) new ≡ cond (bytes_eq id q) None (lookup (bytes_eq q) old)) → IsParted (bytes_eq id) seq (has_id old) (has_id new)
-ids-parted id seq old new there set q number =
-    ap (λ found. option_map_or (λ n. n == number) found false) (set q) ∙ id-gone (bytes_eq id q) number (lookup (bytes_eq q) old)
-    ∙ elim (cases_Bool (bytes_eq id q)) as (λ _. cond (bytes_eq id q) false (has_id old q number) ≡ (has_id old q number && not (seq == number && bytes_eq id q))) [
-      | inl is ↦
-          (let same : has_id old q seq ≡ true = subst (λ t. has_id old t seq ≡ true) (bytes-same id q is) there in
-          rw is (one-id (lookup (bytes_eq q) old) seq number same ∙ ap (λ b. has_id old q number && not b) (sym (and-true (seq == number)))))
-      | inr isnt ↦ rw isnt (sym (ap (λ b. has_id old q number && not b) (and-false (seq == number)) ∙ and-true (has_id old q number)))
-    ]
-
 -- ---- tags
 
 tag-swap : (tags : List (List ℕ)) (one other : List ℕ) → bytes_eq one other ≡ true → has_tag tags one ≡ has_tag tags other
@@ -157,3 +137,14 @@ tags-kept tags own text =
     ∙ list_any-agree (λ tag. bytes_eq tag text && has_tag tags tag) (λ tag. bytes_eq tag text && has_tag tags text) own
     (All-any own (λ tag. under (bytes_eq tag text) (has_tag tags tag) (has_tag tags text) (λ is. tag-swap tags tag text is)))
     ∙ any-and (λ tag. bytes_eq tag text) (has_tag tags text) own ∙ both-kept (has_tag own text) (has_tag tags text)
+
+each-has : (tags all : List (List ℕ)) → ((text : List ℕ) → has_tag tags text ≡ true → has_tag all text ≡ true) → AllByRecursion (λ tag. has_tag all tag ≡ true) tags
+each-has [] all wider = tt
+each-has (tag ∷ tags) all wider = (wider tag (or_left _ _ (bytes-refl tag)), each-has tags all (λ text has. wider text (or_right _ _ has)))
+
+-- a list has each of its own tags
+pub own-kept : (tags : List (List ℕ)) → filter (has_tag tags) tags ≡ tags
+own-kept tags = filter-each (has_tag tags) tags (each-has tags tags (λ text has. has))
+
+pub none-missing : (tags : List (List ℕ)) → filter (λ tag. not (has_tag tags tag)) tags ≡ []
+none-missing tags = filter-none (λ tag. not (has_tag tags tag)) tags (All-weaker tags (λ tag has. ap not has) (each-has tags tags (λ text has. has)))

@@ -1,5 +1,5 @@
 -- What is kept, with its tables, after each change.
-use Rattle.std.proofs.Common.{◌≡◌, ℕ, ◌&&◌, Bool, true, false, not, cond, List, refl, sym, ap, ◌∙◌, Some, None}
+use Rattle.std.proofs.Common.{◌≡◌, ◌≤◌, ℕ, ◌&&◌, Bool, true, false, not, cond, List, refl, sym, ap, ◌∙◌, Some, None}
 use Rattle.std.proofs.lemmas.List.Folds.{list_any-append}
 use Rattle.std.specs.BTreeMap.{is_at, BTreeMap, WritesThrough}
 use Rattle.std.specs.List.Sorted.{IsStrictlySortedBy}
@@ -8,14 +8,12 @@ use Rattle.std.specs.Option.{option_map_or}
 use Rattle.std.specs.Ordering.{is_eq, nat_cmp}
 use Rattle.std.specs.Str.{bytes_eq}
 use Rattle.wm_index.specs.Entries.{changed_at, has_tag, is_name, Entry}
-use Rattle.wm_index.specs.Groups.{IsJoined, IsParted, KeepsOthers, Table}
-use Rattle.wm_index.specs.Works.{at, entries_of, entry_of, keeping, nameless, with_tags, AreAscending, IsChanged, IsKept, IsSetAt, Kept}
+use Rattle.wm_index.specs.Groups.{Ids, IsJoined, IsParted, KeepsOthers, Table}
+use Rattle.wm_index.specs.Works.{at, entries_of, entry_of, keeping, nameless, with_id, with_tags, AreAscending, AreKnown, IsChanged, IsKept, IsSetAt, Kept}
 use Rattle.wm_index.proofs.Founds.{found-joined, found-parted, found-restored, found-same, taken-back, tags-kept}
+use Rattle.wm_index.proofs.Known.{known-kept, known-roomier}
 use Rattle.wm_index.proofs.Lists.{set-changed, sorted-ascends}
 use Rattle.wm_index.proofs.Bools.{and-not}
-
-abbrev pub id_is : List ℕ → Kept → Bool
-id_is id kept = bytes_eq kept.id id
 
 abbrev pub name_is : List ℕ → Kept → Bool
 name_is name kept = is_name name kept.name
@@ -30,7 +28,7 @@ pub changed-list : (change : Kept → Kept) (seq : ℕ) (kept : Kept) (old new :
 changed-list change seq kept old new then_is is up found changed =
     ap entries_of (changed.list kept found) ∙ set-changed seq then_is kept (change kept) is old up found
 
-module _ (seq : ℕ) (old new : List (ℕ × Kept)) (ids names tags : Table) (is : IsKept old ids names tags) where
+module _ (seq : ℕ) (old new : List (ℕ × Kept)) (ids : Ids) (names tags : Table) (is : IsKept old ids names tags) where
   -- ---- a work that is there
 
   module _ (kept : Kept) (found : at old seq ≡ Some kept) where
@@ -39,7 +37,7 @@ module _ (seq : ℕ) (old new : List (ℕ × Kept)) (ids names tags : Table) (is
         let set = changed.each kept found in
         record {
           ascending = changed.ascending;
-          ids_are = found-same id_is seq kept (nameless kept) old new ids is.ids_are set found (λ text. refl);
+          ids_are = known-kept seq kept old new ids is.ids_are found nameless changed refl;
           names_are = found-parted name_is seq (Some (nameless kept)) old new names left is.names_are set (Some kept) (λ name. is_name name kept.name) found
               (λ text. sym (and-not (is_name text kept.name))) parted;
           tags_are = found-same tag_is seq kept (nameless kept) old new tags is.tags_are set found (λ text. refl);
@@ -50,7 +48,7 @@ module _ (seq : ℕ) (old new : List (ℕ × Kept)) (ids names tags : Table) (is
         let set = changed.each kept found in
         record {
           ascending = changed.ascending;
-          ids_are = found-same id_is seq kept (with_tags more kept) old new ids is.ids_are set found (λ text. refl);
+          ids_are = known-kept seq kept old new ids is.ids_are found (with_tags more) changed refl;
           names_are = found-same name_is seq kept (with_tags more kept) old new names is.names_are set found (λ text. refl);
           tags_are = found-joined tag_is seq (Some (with_tags more kept)) old new tags joined is.tags_are set (Some kept) (has_tag more) found
               (λ text. list_any-append (λ own. bytes_eq own text) kept.tags more) is_joined;
@@ -62,7 +60,7 @@ module _ (seq : ℕ) (old new : List (ℕ × Kept)) (ids names tags : Table) (is
         let set = changed.each kept found in
         record {
           ascending = changed.ascending;
-          ids_are = found-same id_is seq kept (keeping others kept) old new ids is.ids_are set found (λ text. refl);
+          ids_are = known-kept seq kept old new ids is.ids_are found (keeping others) changed refl;
           names_are = found-same name_is seq kept (keeping others kept) old new names is.names_are set found (λ text. refl);
           tags_are = found-parted tag_is seq (Some (keeping others kept)) old new tags left is.tags_are set (Some kept)
               (λ tag. has_tag kept.tags tag && not (has_tag others tag)) found (λ text. tags-kept others kept.tags text) parted;
@@ -79,12 +77,23 @@ module _ (seq : ℕ) (old new : List (ℕ × Kept)) (ids names tags : Table) (is
           (λ text has. is.tags_are text seq ∙ ap (λ found. option_map_or (tag_is text) found false) found ∙ others text has));
     }
 
-    pub removed-kept : (some_ids some_names some_tags : Table) → AreAscending (entries_of new) → IsSetAt seq None old new
-        → IsParted (bytes_eq kept.id) seq ids some_ids → IsParted (λ name. is_name name kept.name) seq names some_names → IsParted (has_tag kept.tags) seq tags some_tags
+    -- an id comes
+    pub identified-kept : (id : List ℕ) (more : Ids) → IsChanged (with_id id) seq old new → AreKnown new more → IsKept new more names tags
+    identified-kept id more changed known =
+        let set = changed.each kept found in
+        record {
+          ascending = changed.ascending;
+          ids_are = known;
+          names_are = found-same name_is seq kept (with_id id kept) old new names is.names_are set found (λ text. refl);
+          tags_are = found-same tag_is seq kept (with_id id kept) old new tags is.tags_are set found (λ text. refl);
+        }
+
+    pub removed-kept : (some_ids : Ids) (some_names some_tags : Table) → AreAscending (entries_of new) → IsSetAt seq None old new
+        → AreKnown new some_ids → IsParted (λ name. is_name name kept.name) seq names some_names → IsParted (has_tag kept.tags) seq tags some_tags
         → IsKept new some_ids some_names some_tags
-    removed-kept some_ids some_names some_tags up set parted_ids parted_names parted_tags = record {
+    removed-kept some_ids some_names some_tags up set known parted_names parted_tags = record {
       ascending = up;
-      ids_are = found-parted id_is seq None old new ids some_ids is.ids_are set (Some kept) (bytes_eq kept.id) found (λ text. sym (and-not (bytes_eq kept.id text))) parted_ids;
+      ids_are = known;
       names_are = found-parted name_is seq None old new names some_names is.names_are set (Some kept) (λ name. is_name name kept.name) found
           (λ text. sym (and-not (is_name text kept.name))) parted_names;
       tags_are = found-parted tag_is seq None old new tags some_tags is.tags_are set (Some kept) (has_tag kept.tags) found
@@ -94,28 +103,38 @@ module _ (seq : ℕ) (old new : List (ℕ × Kept)) (ids names tags : Table) (is
   -- ---- a work that isn't there
 
   module _ (kept : Kept) (none : at old seq ≡ None) where
-    pub added-kept : (more_ids more_names more_tags : Table) → AreAscending (entries_of new) → IsSetAt seq (Some kept) old new
-        → IsJoined (bytes_eq kept.id) seq ids more_ids → IsJoined (λ name. is_name name kept.name) seq names more_names → IsJoined (has_tag kept.tags) seq tags more_tags
+    pub added-kept : (more_ids : Ids) (more_names more_tags : Table) → AreAscending (entries_of new) → IsSetAt seq (Some kept) old new
+        → AreKnown new more_ids → IsJoined (λ name. is_name name kept.name) seq names more_names → IsJoined (has_tag kept.tags) seq tags more_tags
         → IsKept new more_ids more_names more_tags
-    added-kept more_ids more_names more_tags up set joined_ids joined_names joined_tags = record {
+    added-kept more_ids more_names more_tags up set known joined_names joined_tags = record {
       ascending = up;
-      ids_are = found-joined id_is seq (Some kept) old new ids more_ids is.ids_are set None (bytes_eq kept.id) none (λ text. refl) joined_ids;
+      ids_are = known;
       names_are = found-joined name_is seq (Some kept) old new names more_names is.names_are set None (λ name. is_name name kept.name) none (λ text. refl) joined_names;
       tags_are = found-joined tag_is seq (Some kept) old new tags more_tags is.tags_are set None (has_tag kept.tags) none (λ text. refl) joined_tags;
     }
 
     -- what had begun to come is taken back
-    pub undone : (mid_names left_names mid_tags left_tags : Table) → KeepsOthers (λ name. is_name name kept.name) seq names mid_names
+    pub undone : (more : Ids) (mid_names left_names mid_tags left_tags : Table) → AreKnown old more → KeepsOthers (λ name. is_name name kept.name) seq names mid_names
         → IsParted (λ name. is_name name kept.name) seq mid_names left_names → KeepsOthers (has_tag kept.tags) seq tags mid_tags
-        → IsParted (has_tag kept.tags) seq mid_tags left_tags → IsKept old ids left_names left_tags
-    undone mid_names left_names mid_tags left_tags keeps_names parted_names keeps_tags parted_tags = record {
+        → IsParted (has_tag kept.tags) seq mid_tags left_tags → IsKept old more left_names left_tags
+    undone more mid_names left_names mid_tags left_tags known keeps_names parted_names keeps_tags parted_tags = record {
       ascending = is.ascending;
-      ids_are = is.ids_are;
+      ids_are = known;
       names_are = found-restored name_is old names left_names is.names_are (taken-back (λ name. is_name name kept.name) seq names mid_names left_names keeps_names parted_names
           (λ text has. is.names_are text seq ∙ ap (λ found. option_map_or (name_is text) found false) none));
       tags_are = found-restored tag_is old tags left_tags is.tags_are (taken-back (has_tag kept.tags) seq tags mid_tags left_tags keeps_tags parted_tags
           (λ text has. is.tags_are text seq ∙ ap (λ found. option_map_or (tag_is text) found false) none));
     }
+
+-- more room for ids changes nothing
+pub with-ids : (works : List (ℕ × Kept)) (ids more : Ids) (names tags : Table) → IsKept works ids names tags → more.has ≡ ids.has → more.known ≡ ids.known
+    → ids.room ≤ more.room → IsKept works more names tags
+with-ids works ids more names tags is same_has same_known room = record {
+  ascending = is.ascending;
+  ids_are = known-roomier works ids more is.ids_are same_has same_known room;
+  names_are = is.names_are;
+  tags_are = is.tags_are;
+}
 
 -- ---- what a write through a reference leaves
 

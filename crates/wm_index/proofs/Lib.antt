@@ -1,6 +1,7 @@
 mod Bools
 mod Founds
 mod Kepts
+mod Known
 mod Lists
 mod Numbers
 mod Tables

@@ -1,7 +1,7 @@
 -- The list of the works after one is added, taken away or changed, and what is found in it.
-use Rattle.std.proofs.Common.{◌≡◌, ℕ, ◌<◌, ◌==◌, ◌&&◌, ◌||◌, Bool, true, false, not, List, [], ◌∷◌, filter, find, refl, sym, ap, subst, ◌∙◌, arith, inl, inr, Option, Some, None, option_map}
+use Rattle.std.proofs.Common.{◌≡◌, ℕ, ◌<◌, ◌==◌, ◌&&◌, ◌||◌, Bool, true, false, not, cond, List, [], ◌∷◌, filter, find, is_none, is_some, refl, sym, ap, subst, ◌∙◌, arith, inl, inr, Option, Some, None, option_map}
 use Rattle.std.proofs.Math.Bool.{or-false}
-use Rattle.std.proofs.lemmas.Bool.{and_from, and_right, cases_Bool, eq-eqb, eqb-true, false≢true, ne_eqb, or_left, or_parts}
+use Rattle.std.proofs.lemmas.Bool.{and_from, and_right, cases_Bool, eq-eqb, eqb-true, false≢true, ne_eqb, or_left, or_parts, or_right}
 use Rattle.std.proofs.lemmas.Bool.Decides.{nat_tests}
 use Rattle.std.proofs.lemmas.Map.Keys.{sorted_head, sorted_tail}
 use Rattle.std.specs.BTreeMap.{insert_entry, is_at}
@@ -14,7 +14,7 @@ use Rattle.std.specs.Prelude.{nat_lt}
 use Rattle.std.specs.declared.cmp.Ordering.TheVariants.{Greater, Less}
 use Rattle.wm_collections.specs.Lists.{is_among}
 use Rattle.wm_collections.proofs.Lists.{All-weaker, AllLater-filter, AllLater-map, filter-each, find-fails, list_any-false, list_any-kept, list_any_after}
-use Rattle.wm_index.specs.Entries.{changed_at, has_seq, numbers_of, with_entry, without, Entry}
+use Rattle.wm_index.specs.Entries.{changed_at, has_seq, has_unidentified, identified, numbers_of, with_entry, without, Entry}
 use Rattle.wm_collections.specs.Lists.{NumbersAscend}
 use Rattle.wm_index.specs.Works.{at, entries_of, entry_of, AreAscending, Kept}
 use Rattle.wm_collections.proofs.Ascending.{ascending-same}
@@ -64,6 +64,15 @@ none-absent seq (work ∷ works) none =
     elim (cases_Bool (work.0 == seq)) as (λ _. has_seq (entries_of (work ∷ works)) seq ≡ false) [
       | inl here ↦ (let some : Some work.1 ≡ None = rw (same-test seq work.0, here) at none in absurd cc)
       | inr other ↦ (let rest : at works seq ≡ None = rw (same-test seq work.0, other) at none in rw other (none-absent seq works rest))
+    ]
+
+-- a search for a number finds whether it is there
+pub is-there : (seq : ℕ) (works : List (ℕ × Kept)) → is_some (at works seq) ≡ has_seq (entries_of works) seq
+is-there seq [] = refl
+is-there seq (work ∷ works) =
+    elim (cases_Bool (work.0 == seq)) as (λ _. is_some (at (work ∷ works) seq) ≡ has_seq (entries_of (work ∷ works)) seq) [
+      | inl here ↦ rw (same-test seq work.0, here) refl
+      | inr other ↦ rw (same-test seq work.0, other) (is-there seq works)
     ]
 
 some-of : (found : Option Kept) → (found ≡ None → ⊥) → (kept : Kept) × (found ≡ Some kept)
@@ -136,6 +145,42 @@ module _ (seq : ℕ) where
               (let rest : at works seq ≡ Some kept = rw (same-test seq work.0, other) at found in
               rw (same-test seq work.0, other) (ap (λ rest. entry_of work ∷ rest) (set-changed kept new is works up.1 rest)))
         ]
+
+-- ---- one that comes without an id, and then gets it
+
+absent-changed : (change : Entry → Entry) (seq : ℕ) (entries : List Entry) → has_seq entries seq ≡ false → changed_at change seq entries ≡ entries
+absent-changed change seq [] absent = refl
+absent-changed change seq (entry ∷ entries) absent =
+    let parts = or_parts (entry.seq == seq) (has_seq entries seq) absent in
+    rw (parts.0) (ap (λ rest. entry ∷ rest) (absent-changed change seq entries parts.1))
+
+module _ (entry : Entry) where
+  pub placed-there : is_none entry.id ≡ true → (entries : List Entry) → has_unidentified (with_entry entry entries) entry.seq ≡ true
+  placed-there lacks [] = or_left _ _ (and_from _ _ (eq-eqb entry.seq entry.seq refl) lacks)
+  placed-there lacks (other ∷ others) =
+      elim (cases_Bool (nat_lt entry.seq other.seq)) as (λ _. has_unidentified (with_entry entry (other ∷ others)) entry.seq ≡ true) [
+        | inl less ↦ rw less (or_left _ _ (and_from _ _ (eq-eqb entry.seq entry.seq refl) lacks))
+        | inr more ↦ rw more (or_right _ _ (placed-there lacks others))
+      ]
+
+  pub placed-found : (test : Entry → Bool) → test entry ≡ false → (entries : List Entry) → find test (with_entry entry entries) ≡ find test entries
+  placed-found test fails [] = rw fails refl
+  placed-found test fails (other ∷ others) =
+      elim (cases_Bool (nat_lt entry.seq other.seq)) as (λ _. find test (with_entry entry (other ∷ others)) ≡ find test (other ∷ others)) [
+        | inl less ↦ rw (less, fails) refl
+        | inr more ↦ rw more (ap (λ rest. cond (test other) (Some other) rest) (placed-found test fails others))
+      ]
+
+  pub placed-identified : (id : List ℕ) (entries : List Entry) → has_seq entries entry.seq ≡ false
+      → changed_at (identified id) entry.seq (with_entry entry entries) ≡ with_entry (identified id entry) entries
+  placed-identified id [] absent = rw (eq-eqb entry.seq entry.seq refl) refl
+  placed-identified id (other ∷ others) absent =
+      let parts = or_parts (other.seq == entry.seq) (has_seq others entry.seq) absent in
+      elim (cases_Bool (nat_lt entry.seq other.seq))
+      as (λ _. changed_at (identified id) entry.seq (with_entry entry (other ∷ others)) ≡ with_entry (identified id entry) (other ∷ others)) [
+        | inl less ↦ rw (less, eq-eqb entry.seq entry.seq refl, parts.0) (ap (λ rest. identified id entry ∷ other ∷ rest) (absent-changed (identified id) entry.seq others parts.1))
+        | inr more ↦ rw (more, parts.0) (ap (λ rest. other ∷ rest) (placed-identified id others parts.1))
+      ]
 
 -- ---- what is found
 

@@ -1,16 +1,21 @@
 -- The works of an index, and those that an id, a unique name or a tag finds. After the guide's page "Managing work", where works are looked up by
 -- these.
-use Rattle.std.specs.Prelude.{ℕ, ◌==◌, Bool, false, not, List, [], ◌∷◌, ◌++◌, map, filter, find, if◌then◌else◌, nat_lt, Option, Some, None}
+use Rattle.std.specs.Prelude.{ℕ, ◌==◌, ◌&&◌, Bool, false, not, List, [], ◌∷◌, ◌++◌, map, filter, find, if◌then◌else◌, nat_lt, is_none, Option, Some, None}
 use Rattle.std.specs.List.{list_any}
 use Rattle.std.specs.Option.{option_map}
 use Rattle.std.specs.Str.{bytes_eq}
 
--- a work by its number, with its id, its unique name, if any, and its tags
+-- a work by its number, with its id and its unique name, if any, and its tags
 pub record Entry : Type 0 where
   pub seq : ℕ
-  pub id : List ℕ
+  pub id : Option (List ℕ)
   pub name : Option (List ℕ)
   pub tags : List (List ℕ)
+
+-- whether an id, which may be there, is this one
+abbrev pub is_id : List ℕ → Option (List ℕ) → Bool
+is_id id None = false
+is_id id (Some own) = bytes_eq own id
 
 -- whether a unique name, which may be there, is this one
 abbrev pub is_name : List ℕ → Option (List ℕ) → Bool
@@ -24,13 +29,17 @@ has_tag tags tag = list_any (λ own. bytes_eq own tag) tags
 abbrev pub has_seq : List Entry → ℕ → Bool
 has_seq entries seq = list_any (λ entry. entry.seq == seq) entries
 
+-- the work of this number is there, and has no id yet
+abbrev pub has_unidentified : List Entry → ℕ → Bool
+has_unidentified entries seq = list_any (λ entry. entry.seq == seq && is_none entry.id) entries
+
 -- ---- what is found
 
 abbrev pub numbers_of : List Entry → List ℕ
 numbers_of entries = map (λ entry. entry.seq) entries
 
 abbrev pub by_id : List Entry → List ℕ → Option ℕ
-by_id entries id = option_map (λ (entry : Entry). entry.seq) (find (λ entry. bytes_eq entry.id id) entries)
+by_id entries id = option_map (λ (entry : Entry). entry.seq) (find (λ entry. is_id id entry.id) entries)
 
 abbrev pub by_name : List Entry → List ℕ → List ℕ
 by_name entries name = numbers_of (filter (λ entry. is_name name entry.name) entries)
@@ -51,6 +60,9 @@ without seq entries = filter (λ entry. not (entry.seq == seq)) entries
 -- the entries with the one of a number changed
 abbrev pub changed_at : (Entry → Entry) → ℕ → List Entry → List Entry
 changed_at change seq entries = map (λ entry. if entry.seq == seq then change entry else entry) entries
+
+abbrev pub identified : List ℕ → Entry → Entry
+identified id entry = record entry { id = Some id }
 
 abbrev pub unnamed : Entry → Entry
 unnamed entry = record entry { name = None }

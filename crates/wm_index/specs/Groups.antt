@@ -4,6 +4,7 @@ use Rattle.std.specs.BTreeMap.{get_by_text, BTreeMap}
 use Rattle.std.specs.Map.{lookup}
 use Rattle.std.specs.Option.{option_map_or, unwrap_or}
 use Rattle.std.specs.Str.{bytes_eq}
+use Rattle.indexmap.specs.IndexMap.{index_map_len, spare, IndexMap}
 use Rattle.wm_collections.specs.Lists.{is_among, NumbersAscend}
 
 -- numbers in ascending order, of which there is one at least
@@ -29,6 +30,15 @@ has groups text seq = is_among (numbers_at groups text) seq
 
 abbrev pub has_id : List (List ℕ × ℕ) → Table
 has_id ids id seq = option_map_or (λ number. number == seq) (lookup (bytes_eq id) ids) false
+
+-- what finds the works by their ids: whether the work of a number has an id, of how many works an id is known, and for how many more there is room
+pub record Ids : Type 0 where
+  pub has : Table
+  pub known : ℕ
+  pub room : ℕ
+
+abbrev pub ids_of : {S : Type 0} → IndexMap (List ℕ) ℕ S → Ids
+ids_of ids = record { has = has_id ids.entries; known = index_map_len ids; room = spare ids }
 
 -- the work of a number has those texts too that pass a test
 abbrev pub IsJoined : (List ℕ → Bool) → ℕ → Table → Table → Type 0

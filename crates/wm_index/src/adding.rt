@@ -1,10 +1,11 @@
 //! How a work is added and taken away, with its places among the groups.
 ghost use Rattle.std.specs.BTreeMap.{insert_entry};
 ghost use Rattle.std.specs.Ordering.{nat_cmp};
-ghost use Rattle.std.specs.Prelude.{◌≡◌, false, None, OnErr, OnOk};
-ghost use Rattle.wm_index.specs.Entries.{by_id, has_seq, has_tag, is_name, without};
-ghost use Rattle.wm_index.specs.Groups.{has, has_id, IsJoined, IsParted, KeepsOthers};
-ghost use Rattle.wm_index.specs.Works.{entries_of, IsKept};
+ghost use Rattle.std.specs.Prelude.{◌≡◌, ◌+◌, ◌≤◌, false, true, None, is_none, if◌then◌else◌, IfSome, OnErr, OnOk};
+ghost use Rattle.indexmap.specs.IndexMap.{index_map_len, spare};
+ghost use Rattle.wm_index.specs.Entries.{by_id, changed_at, has_seq, has_tag, has_unidentified, identified, is_id, is_name, without};
+ghost use Rattle.wm_index.specs.Groups.{has, has_id, ids_of, IsJoined, IsParted, KeepsOthers, Table};
+ghost use Rattle.wm_index.specs.Works.{entries_of, AreKnown, IsKept};
 
 use crate::groups::{Groups, join, join_each, leave, leave_each};
 use crate::work::Work;
@@ -60,7 +61,8 @@ fn unlink(names: &mut Groups, tags: &mut Groups, work: &Work, seq: u64)
     leave_each(tags, work.tags(), seq);
 }
 
-/// Adds a work. Where memory is refused, all is as it was.
+/// Adds a work without an id, and makes room for its id. Where memory is refused, all works and
+/// groups are as they were.
 pub fn add_work(
     alloc: Global,
     works: &mut BTreeMap<u64, Work>,
@@ -70,29 +72,57 @@ pub fn add_work(
     seq: u64,
     work: Work,
 ) -> Result<(), AllocError>
-    requires kept { IsKept works.old.entries (has_id ids.old.entries) (has names.old) (has tags.old) }
+    requires kept { IsKept works.old.entries (ids_of ids.old) (has names.old) (has tags.old) }
     requires seq { has_seq (entries_of works.old.entries) seq ≡ false }
-    requires id { by_id (entries_of works.old.entries) work.id ≡ None }
-    ensures kept { IsKept works.new.entries (has_id ids.new.entries) (has names.new) (has tags.new) }
+    requires id { work.id ≡ None }
+    ensures kept { IsKept works.new.entries (ids_of ids.new) (has names.new) (has tags.new) }
     ensures ok { OnOk result (works.new.entries ≡ insert_entry nat_cmp works.old.entries seq work) }
     ensures err { OnErr result (works.new.entries ≡ works.old.entries) }
 {
-    let id = *work.id();
-    ids.reserve(1)?;
+    ids.reserve(works.len() - ids.len() + 1)?;
     if link(alloc, names, tags, &work, seq).is_err() {
         unlink(names, tags, &work, seq);
         return Err(AllocError);
     }
     match works.insert(seq, work) {
-        Ok(_before) => {
-            let _before = ids.insert(id, seq).unwrap();
-            Ok(())
-        }
+        Ok(_before) => Ok(()),
         Err(refused) => {
             let (_, work) = refused.value;
             unlink(names, tags, &work, seq);
             Err(AllocError)
         }
+    }
+}
+
+/// Gives a work without an id this id, for which there is room. It takes no memory.
+pub fn identify_work(
+    works: &mut BTreeMap<u64, Work>,
+    ids: &mut IndexMap<Uuid, u64>,
+    seq: u64,
+    id: Uuid,
+)
+    requires there { has_unidentified (entries_of works.old.entries) seq ≡ true }
+    requires id { by_id (entries_of works.old.entries) id ≡ None }
+    requires ids { AreKnown works.old.entries (ids_of ids.old) }
+    ensures kept { (names tags : Table) → IsKept works.old.entries (ids_of ids.old) names tags
+        → IsKept works.new.entries (ids_of ids.new) names tags }
+    ensures identified { entries_of works.new.entries ≡ changed_at (identified id) seq (entries_of works.old.entries) }
+{
+    if let Some(work) = works.get_mut(&seq) {
+        work.identify(id);
+        let _before = ids.insert(id, seq).unwrap();
+    }
+}
+
+/// Takes the id of a work away, where it has one. It takes no memory.
+fn leave_id(ids: &mut IndexMap<Uuid, u64>, work: &Work, seq: u64)
+    requires { IfSome work.now.id (λ id. has_id ids.old.entries id seq ≡ true) }
+    ensures parted { IsParted (λ id. is_id id work.now.id) seq (has_id ids.old.entries) (has_id ids.new.entries) }
+    ensures known { index_map_len ids.new + (if is_none work.now.id then 0 else 1) ≡ index_map_len ids.old }
+    ensures room { spare ids.old ≤ spare ids.new }
+{
+    if let Some(id) = work.id() {
+        ids.swap_remove(&id);
     }
 }
 
@@ -104,12 +134,12 @@ pub fn remove_work(
     tags: &mut Groups,
     seq: u64,
 )
-    requires kept { IsKept works.old.entries (has_id ids.old.entries) (has names.old) (has tags.old) }
-    ensures kept { IsKept works.new.entries (has_id ids.new.entries) (has names.new) (has tags.new) }
+    requires kept { IsKept works.old.entries (ids_of ids.old) (has names.old) (has tags.old) }
+    ensures kept { IsKept works.new.entries (ids_of ids.new) (has names.new) (has tags.new) }
     ensures without { entries_of works.new.entries ≡ without seq (entries_of works.old.entries) }
 {
     if let Some(work) = works.remove(&seq) {
         unlink(names, tags, &work, seq);
-        ids.swap_remove(work.id());
+        leave_id(ids, &work, seq);
     }
 }

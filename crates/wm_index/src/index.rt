@@ -1,9 +1,9 @@
 //! The index: works with what finds them.
 ghost use Rattle.std.specs.Option.{option_copied};
-ghost use Rattle.std.specs.Prelude.{◌≡◌, [], false, true, None, OnErr, OnOk};
-ghost use Rattle.wm_index.specs.Entries.{adding_tags, by_id, by_name, by_tag, changed_at, has_seq, keeping_tags, unnamed, with_entry, without};
+ghost use Rattle.std.specs.Prelude.{◌≡◌, [], false, true, None, Some, OnErr, OnOk};
+ghost use Rattle.wm_index.specs.Entries.{adding_tags, by_id, by_name, by_tag, changed_at, has_seq, has_unidentified, identified, keeping_tags, unnamed, with_entry, without};
 
-use crate::adding::{add_work, remove_work};
+use crate::adding::{add_work, identify_work, remove_work};
 use crate::groups::{Groups, numbers_at};
 use crate::tagging::{tag_work, unname_work, untag_work};
 use crate::work::Work;
@@ -29,14 +29,14 @@ pub struct Index {
 impl Model for Index {
     ghost use Rattle.std.specs.Prelude.{List};
     ghost use Rattle.wm_index.specs.Entries.{Entry};
-    ghost use Rattle.wm_index.specs.Groups.{has, has_id};
+    ghost use Rattle.wm_index.specs.Groups.{has, ids_of};
     ghost use Rattle.wm_index.specs.Works.{entries_of, IsKept};
 
     ghost Value = { List Entry };
 
     ghost view = { λ i. entries_of i.works.entries };
 
-    ghost invariant = { λ i. IsKept i.works.entries (has_id i.ids.entries) (has i.names) (has i.tags) };
+    ghost invariant = { λ i. IsKept i.works.entries (ids_of i.ids) (has i.names) (has i.tags) };
 }
 
 impl Index {
@@ -64,10 +64,23 @@ impl Index {
         requires new_seq { has_seq self.old seq ≡ false }
         requires new_id { by_id self.old id ≡ None }
         ensures ok { OnOk result
-            (self.new ≡ with_entry (record { seq = seq; id = id; name = option_copied name.entry; tags = tags.now }) self.old) }
+            (self.new ≡ with_entry (record { seq = seq; id = Some id; name = option_copied name.entry; tags = tags.now }) self.old) }
         ensures err { OnErr result (self.new ≡ self.old) }
     {
-        let work = Work::new(self.alloc, id, name, tags)?;
+        self.prepare(seq, name, tags)?;
+        self.identify(seq, id);
+        Ok(())
+    }
+
+    /// Adds a work that has no id yet, with copies of its texts. Where memory is refused, the index
+    /// is as it was.
+    pub fn prepare(&mut self, seq: u64, name: Option<&str>, tags: &[Text]) -> Result<(), AllocError>
+        requires { has_seq self.old seq ≡ false }
+        ensures ok { OnOk result
+            (self.new ≡ with_entry (record { seq = seq; id = None; name = option_copied name.entry; tags = tags.now }) self.old) }
+        ensures err { OnErr result (self.new ≡ self.old) }
+    {
+        let work = Work::new(self.alloc, name, tags)?;
         add_work(
             self.alloc,
             &mut self.works,
@@ -77,6 +90,15 @@ impl Index {
             seq,
             work,
         )
+    }
+
+    /// Gives a work that has no id yet its id, which no other work has. It takes no memory.
+    pub fn identify(&mut self, seq: u64, id: Uuid)
+        requires unidentified { has_unidentified self.old seq ≡ true }
+        requires new_id { by_id self.old id ≡ None }
+        ensures { self.new ≡ changed_at (identified id) seq self.old }
+    {
+        identify_work(&mut self.works, &mut self.ids, seq, id);
     }
 
     /// Takes a work away. It takes no memory.
@@ -116,6 +138,13 @@ impl Index {
         ensures { self.new ≡ changed_at (keeping_tags tags.now) seq self.old }
     {
         untag_work(&mut self.works, &mut self.tags, seq, tags);
+    }
+
+    /// Whether there is a work of this number. It takes no memory.
+    pub fn has(&self, seq: u64) -> bool
+        ensures { result ≡ has_seq self.now seq }
+    {
+        self.works.contains_key(&seq)
     }
 
     /// The number of the work of an id; none where no work has it. It takes no memory.

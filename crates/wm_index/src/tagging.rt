@@ -1,19 +1,19 @@
 //! How the name and the tags of a work that is there change.
 ghost use Rattle.std.specs.Prelude.{◌≡◌, ◌&&◌, true, not, IfOk, OnErr, OnOk};
 ghost use Rattle.wm_index.specs.Entries.{adding_tags, changed_at, has_seq, has_tag, keeping_tags, unnamed};
-ghost use Rattle.wm_index.specs.Groups.{has, IsParted, Table};
+ghost use Rattle.wm_index.specs.Groups.{has, Ids, IsParted, Table};
 ghost use Rattle.wm_index.specs.Works.{entries_of, missing_at, with_tags, AreAscending, IsChanged, IsKept};
 
 use crate::adding::leave_name;
 use crate::groups::{Groups, join_each, leave, leave_each};
-use crate::work::{Work, has_tag};
+use crate::work::{Work, are_same, has_tag};
 use std::alloc::{AllocError, Global};
 use std::collections::BTreeMap;
 use wm_collections::Text;
 
 /// Takes the name of a work away. It takes no memory.
 pub fn unname_work(works: &mut BTreeMap<u64, Work>, names: &mut Groups, seq: u64)
-    ensures kept { (ids tags : Table) → IsKept works.old.entries ids (has names.old) tags
+    ensures kept { (ids : Ids) (tags : Table) → IsKept works.old.entries ids (has names.old) tags
         → IsKept works.new.entries ids (has names.new) tags }
     ensures unnamed { entries_of works.new.entries ≡ changed_at unnamed seq (entries_of works.old.entries) }
 {
@@ -65,7 +65,7 @@ pub fn tag_work(
 ) -> Result<(), AllocError>
     requires there { has_seq (entries_of works.old.entries) seq ≡ true }
     requires ascending { AreAscending (entries_of works.old.entries) }
-    ensures kept { (ids names : Table) → IsKept works.old.entries ids names (has groups.old)
+    ensures kept { (ids : Ids) (names : Table) → IsKept works.old.entries ids names (has groups.old)
         → IsKept works.new.entries ids names (has groups.new) }
     ensures ok { OnOk result (entries_of works.new.entries
         ≡ changed_at (adding_tags tags.now) seq (entries_of works.old.entries)) }
@@ -87,6 +87,9 @@ pub fn tag_work(
 fn leave_unkept(groups: &mut Groups, own: &[Text], tags: &[Text], seq: u64)
     ensures { IsParted (λ tag. has_tag own.now tag && not (has_tag tags.now tag)) seq (has groups.old) (has groups.new) }
 {
+    if are_same(own, tags) {
+        return;
+    }
     for tag in own {
         if !has_tag(tags, tag) {
             leave(groups, tag.as_str(), seq);
@@ -96,7 +99,7 @@ fn leave_unkept(groups: &mut Groups, own: &[Text], tags: &[Text], seq: u64)
 
 /// Leaves a work only those of its tags that are among these. It takes no memory.
 pub fn untag_work(works: &mut BTreeMap<u64, Work>, groups: &mut Groups, seq: u64, tags: &[Text])
-    ensures kept { (ids names : Table) → IsKept works.old.entries ids names (has groups.old)
+    ensures kept { (ids : Ids) (names : Table) → IsKept works.old.entries ids names (has groups.old)
         → IsKept works.new.entries ids names (has groups.new) }
     ensures keeping { entries_of works.new.entries
         ≡ changed_at (keeping_tags tags.now) seq (entries_of works.old.entries) }

@@ -1,18 +1,18 @@
 //! What is kept of a work beside its number.
 ghost use Rattle.std.specs.Option.{option_copied};
-ghost use Rattle.std.specs.Prelude.{◌≡◌, filter, not, IfOk, OnErr, OnOk};
+ghost use Rattle.std.specs.Prelude.{◌≡◌, filter, not, None, IfOk, IsTrue, OnErr, OnOk};
 ghost use Rattle.wm_index.specs.Entries.{has_tag};
-ghost use Rattle.wm_index.specs.Works.{keeping, nameless, with_tags};
+ghost use Rattle.wm_index.specs.Works.{keeping, nameless, with_id, with_tags};
 
 use std::alloc::{AllocError, Global};
 use std::marker::Model;
 use uuid::Uuid;
 use wm_collections::{Items, Replica, Text};
 
-/// The id of a work, its unique name and its tags. A contract sees it as the record of its fields.
+/// The id of a work and its unique name, if any, and its tags. A contract sees it as the record of its fields.
 #[derive(Debug, Drop)]
 pub struct Work {
-    id: Uuid,
+    id: Option<Uuid>,
     name: Option<Text>,
     tags: Vec<Text>,
 }
@@ -53,27 +53,36 @@ pub(crate) fn has_tag(tags: &[Text], tag: &Text) -> bool
     tags.iter().any(|own| own == tag)
 }
 
+/// Whether two lists of tags are the same.
+pub(crate) fn are_same(own: &[Text], tags: &[Text]) -> bool
+    ensures { IsTrue result → own.now ≡ tags.now }
+{
+    own == tags
+}
+
 impl Work {
-    /// A work of these texts, which it copies.
-    pub(crate) fn new(
-        alloc: Global,
-        id: Uuid,
-        name: Option<&str>,
-        tags: &[Text],
-    ) -> Result<Work, AllocError>
-        ensures { IfOk result (λ work. work ≡ record { id = id; name = option_copied name.entry; tags = tags.now }) }
+    /// A work of these texts, which it copies. It has no id yet.
+    pub(crate) fn new(alloc: Global, name: Option<&str>, tags: &[Text]) -> Result<Work, AllocError>
+        ensures { IfOk result (λ work. work ≡ record { id = None; name = option_copied name.entry; tags = tags.now }) }
     {
         Ok(Work {
-            id,
+            id: None,
             name: copy_of(alloc, name)?,
             tags: copies_of(alloc, tags)?,
         })
     }
 
-    pub(crate) fn id(&self) -> &Uuid
-        ensures { result.now ≡ self.now.id }
+    pub(crate) fn id(&self) -> Option<Uuid>
+        ensures { result ≡ self.now.id }
     {
-        &self.id
+        self.id
+    }
+
+    /// Gives it its id.
+    pub(crate) fn identify(&mut self, id: Uuid)
+        ensures { self.new ≡ with_id id self.old }
+    {
+        self.id = Some(id);
     }
 
     pub(crate) fn name(&self) -> Option<&str>
@@ -104,6 +113,9 @@ impl Work {
             ≡ filter (λ tag. not (has_tag self.now.tags tag)) tags.now) }
     {
         let mut missing = Vec::new(alloc);
+        if are_same(self.tags.as_slice(), tags) {
+            return Ok(missing);
+        }
         for tag in tags {
             if !has_tag(self.tags.as_slice(), tag) {
                 missing.push(tag.replica(alloc)?)?;
@@ -125,6 +137,9 @@ impl Work {
     pub(crate) fn keep(&mut self, tags: &[Text])
         ensures { self.new ≡ keeping tags.now self.old }
     {
+        if are_same(self.tags.as_slice(), tags) {
+            return;
+        }
         self.tags.retain(|own| has_tag(tags, own));
     }
 }

@@ -1,17 +1,22 @@
-use Rattle.std.proofs.Common.{◌≡◌, ap, false, subst, sym, ◌∙◌}
-use Rattle.std.proofs.lemmas.Result.{on_ok_weaker}
+use Rattle.std.proofs.Common.{None, ap, option_map, refl, ◌∙◌}
 use Rattle.std.specs.Option.{option_copied}
-use Rattle.wm_index.specs.Entries.{has_seq, with_entry}
-use Rattle.wm_index.specs.Works.{entries_of, entry_of}
-use Rattle.wm_index.proofs.Lists.{inserted}
+use Rattle.wm_index.specs.Entries.{by_id, changed_at, has_unidentified, identified, is_id, Entry}
+use Rattle.wm_index.proofs.Lists.{placed-found, placed-identified, placed-there}
 use Rattle.wm_index.proofs.index.Index.insert.Goals as goal
+
+pub identify-requires-clause-unidentified : goal.identify-requires-clause-unidentified
+identify-requires-clause-unidentified c =
+    let entry : Entry = record { seq = c.args.seq; id = None; name = option_copied c.args.name; tags = c.args.tags.now } in
+    ap (λ entries. has_unidentified entries c.args.seq) c.in_ok-prepare.ensures.ok ∙ placed-there entry refl c.args.self.now
+
+pub identify-requires-clause-new_id : goal.identify-requires-clause-new_id
+identify-requires-clause-new_id c =
+    let entry : Entry = record { seq = c.args.seq; id = None; name = option_copied c.args.name; tags = c.args.tags.now } in
+    ap (λ entries. by_id entries c.args.id) c.in_ok-prepare.ensures.ok
+    ∙ ap (option_map (λ (one : Entry). one.seq)) (placed-found entry (λ one. is_id c.args.id one.id) refl c.args.self.now) ∙ c.requires.new_id
 
 pub returns-clause-ok : goal.returns-clause-ok
 returns-clause-ok c =
-    let works = c.self.inside.works.entries in
-    on_ok_weaker c.add_work.result
-    (λ is. ap entries_of is
-    ∙ inserted c.args.seq c.in_ok-work.work works (subst (λ entries. has_seq entries c.args.seq ≡ false) (sym c.self.view_is) c.requires.new_seq)
-    ∙ ap (λ kept. with_entry (entry_of (c.args.seq, kept)) (entries_of works)) c.in_ok-work.ensures
-    ∙ ap (λ entries. with_entry (entry_of (c.args.seq, record { id = c.args.id; name = option_copied c.args.name; tags = c.args.tags.now })) entries) c.self.view_is)
-    c.add_work.ensures.ok
+    let entry : Entry = record { seq = c.args.seq; id = None; name = option_copied c.args.name; tags = c.args.tags.now } in
+    c.identify.ensures ∙ ap (λ entries. changed_at (identified c.args.id) c.args.seq entries) c.in_ok-prepare.ensures.ok
+    ∙ placed-identified entry c.args.id c.args.self.now c.requires.new_seq

@@ -1,5 +1,5 @@
-use Rattle.wm_index.specs.Groups.{has, has_id}
+use Rattle.wm_index.specs.Groups.{has, ids_of}
 use Rattle.wm_index.proofs.index.Index.keep_tags.Goals as goal
 
 pub invariant_of-self : goal.invariant_of-self
-invariant_of-self c = c.untag_work.ensures.kept (has_id c.self.inside.ids.entries) (has c.self.inside.names) c.self.invariant
+invariant_of-self c = c.untag_work.ensures.kept (ids_of c.self.inside.ids) (has c.self.inside.names) c.self.invariant
