@@ -1,7 +1,7 @@
 -- The step of an event that changes the records by a clearing: some take the place of others, some are removed, and new ones are placed.
 use Rattle.std.proofs.Common.{◌≡◌, ◌≢◌, ℕ, ◌+◌, ◌^◌, ◌<◌, ◌≤◌, pos, Bool, true, false, not, eqb, List, [], ◌∷◌, ◌++◌, filter, length, map, Option, Some, None, IfSome, refl, sym, ◌∙◌, ap, subst, arith}
 use Rattle.std.specs.List.{AllByRecursion}
-use Rattle.std.proofs.lemmas.Bool.{and_parts, cond_both, eqb-false}
+use Rattle.std.proofs.lemmas.Bool.{and_parts, cond_both, eqb-false, false≢true}
 use Rattle.std.proofs.lemmas.Int.{ints}
 use Rattle.wm_collections.specs.Lists.{AllLater, HasOne, is_among}
 use Rattle.wm_commands.proofs.Clearings.{cleared-in_place, cleared-number, clearing-nodes}
@@ -11,11 +11,12 @@ use Rattle.wm_commands.specs.Placed.{with_placed}
 use Rattle.wm_commands.specs.declared.clearing.Clearing.{Clearing}
 use Rattle.wm_keeper.specs.Keeper.{changed_number, AreOfDifferentNumbers}
 use Rattle.wm_keeper.specs.declared.row.Change.{Change}
-use Rattle.wm_collections.proofs.Lists.{All-append, All-kept, All-map, All-stored, All-weaker, All-with2, AllLater-filter, AllLater-map, none_pass, one_gives}
+use Rattle.wm_collections.proofs.Lists.{All-any, All-append, All-kept, All-map, All-stored, All-weaker, All-with2, AllLater-filter, AllLater-map, none_pass, one_gives}
 use Rattle.wm_machine.proofs.Runnings.{WorksAscend-in_order}
 use Rattle.wm_machine.proofs.Stops.{stopped-among, with_stopped-none}
 use Rattle.wm_machine.specs.Closed.{closed}
-use Rattle.wm_machine.specs.Group.{numbers_in}
+use Rattle.wm_machine.specs.First.{is_succeeded}
+use Rattle.wm_machine.specs.Group.{numbers_in, unnamed}
 use Rattle.wm_machine.specs.Limits.{FitsRow}
 use Rattle.wm_machine.specs.Runs.{with_stopped}
 use Rattle.wm_machine.specs.Step.{Legal, after}
@@ -26,10 +27,11 @@ use Rattle.wm_machine.specs.declared.state.Instance.{Instance}
 use Rattle.wm_machine.specs.declared.state.Run.{Run}
 use Rattle.wm_machine.specs.declared.state.State.{State}
 use Rattle.wm_machine.specs.declared.record.How.TheVariants as how
-use Rattle.wm_steps.proofs.ManyRows.{replaced-apart, replaced-keep}
+use Rattle.wm_steps.proofs.ManyRows.{after_change, replaced-apart, replaced-keep, unsucceeding-freeing}
 use Rattle.wm_steps.proofs.Nodes.{HasOne-number}
-use Rattle.wm_steps.specs.Replacements.{at_index, replacements}
-use Rattle.wm_steps.specs.StepChanges.{instances_by, next_run_by, placing, put_replaced, put_work, remove_numbered, runs_by, HaveNextNumbers, IsStepOf, NameEarlier}
+use Rattle.wm_steps.proofs.Unsucceeding.{Unsucceeding}
+use Rattle.wm_steps.specs.Replacements.{at_index, or_same, replacements}
+use Rattle.wm_steps.specs.StepChanges.{changed_state, instances_by, next_run_by, placing, put_replaced, put_work, remove_numbered, runs_by, HaveNextNumbers, IsStepOf, NameEarlier}
 use Rattle.wm_steps.specs.declared.change.Replacement.{Replacement}
 use Rattle.wm_steps.specs.declared.change.RunChange.{RunChange}
 use Rattle.wm_steps.specs.declared.change.RunChange.TheVariants.{Stop, Unchanged}
@@ -75,6 +77,20 @@ given-cleared clearing next work is below =
       stays = ap (λ number. not (is_among clearing.removed number)) same ∙ (and_parts _ _ e).0;
       number = omega (arith, same, below);
     }) (λ e. tt)
+
+-- it hasn't succeeded where the one before hadn't
+unnamed-not : (numbers : List ℕ) (work : Record) → is_succeeded (unnamed numbers work).phase ≡ is_succeeded work.phase
+unnamed-not numbers work =
+    cond_both (is_among numbers work.seq) (record work { name = None }) work (λ (w : Record). is_succeeded w.phase ≡ is_succeeded work.phase)
+    (λ e. refl) (λ e. refl)
+
+cleared-not : (clearing : Clearing) (work : Record) → Unsucceeding work (after_change (cleared_by clearing) work)
+cleared-not clearing work =
+    let then = cancelled_in clearing.cancelled work in
+    let cancelled : Unsucceeding work then =
+    cond_both (becomes_cancelled clearing.cancelled work) (closed how.Cancelled work) work (Unsucceeding work) (λ e is. absurd (false≢true is)) (λ e is. is) in
+    cond_both (is_touched clearing work) (Some (cleared clearing work)) None (λ (o : Option Record). Unsucceeding work (or_same work o))
+    (λ e is. cancelled (sym (unnamed-not clearing.unnamed then) ∙ is)) (λ e is. is)
 
 -- ---- those that are removed
 
@@ -192,6 +208,10 @@ module _ (s : State) (clearing : Clearing) (new : List Record) (e : Event) (vali
           instances = instances_by run s.instances;
           next_run = next_run_by run s.next_run;
         }) (cleared-in_place clearing s.works) ∙ stopped_alone run stops ∙ sym then;
+    freeing =
+        let made = placing replaced clearing.removed new run e in
+        unsucceeding-freeing (cleared_by clearing) s.works (changed_state made s).works made (clearing-nodes clearing s.works)
+        (All-any s.works (cleared-not clearing));
   }
     where
       stopped_alone : (run : RunChange) → StopsAlone run clearing s → record s {

@@ -30,7 +30,8 @@ use Rattle.wm_steps.proofs.ManyRows.{after_change, replaced-all, KeepNodes}
 use Rattle.wm_steps.proofs.Nodes.{open_not_succeeded}
 use Rattle.wm_steps.proofs.ReachedNodes.{reached_any-test}
 use Rattle.wm_steps.proofs.Tests.{eqb-swap}
-use Rattle.wm_steps.specs.Nodes.{nodes_of, reached_from, KeepsNode}
+use Rattle.wm_steps.specs.Nodes.{nodes_of, reached_from}
+use Rattle.wm_steps.specs.Replacements.{MayReplace}
 use Rattle.wm_steps.specs.Replacements.{at_index, or_same, replacements}
 use Rattle.wm_steps.specs.StepChanges.{other_works, with_replaced, without}
 use Rattle.wm_unique.proofs.Numbered.{among_filter, filter_both}
@@ -231,25 +232,25 @@ cleared-phase clearing work =
     let then = cancelled-phase clearing.cancelled work in
     unnamed_each (λ w. w.phase ≡ phase_then clearing.cancelled work) clearing.unnamed (cancelled_in clearing.cancelled work) then then
 
-same-node : (work : Record) → KeepsNode work work
-same-node work = record { seq = refl; prior = refl; succeeded = λ is. is }
+same-node : (work : Record) → MayReplace work work
+same-node work = record { seq = refl; id = refl; name = inl refl; prior = refl; succeeded = λ is. is }
 
 -- what is cancelled hadn't succeeded
-cancelled-node : (cancelled : List ℕ) (work : Record) → KeepsNode work (cancelled_in cancelled work)
+cancelled-node : (cancelled : List ℕ) (work : Record) → MayReplace work (cancelled_in cancelled work)
 cancelled-node cancelled work =
-    cond_both (becomes_cancelled cancelled work) (closed how.Cancelled work) work (KeepsNode work)
-    (λ e. record { seq = refl; prior = refl; succeeded = λ is. absurd (open_not_succeeded work.phase (and_parts _ _ e).0 is) }) (λ e. same-node work)
+    cond_both (becomes_cancelled cancelled work) (closed how.Cancelled work) work (MayReplace work)
+    (λ e. record { seq = refl; id = refl; name = inl refl; prior = refl; succeeded = λ is. absurd (open_not_succeeded work.phase (and_parts _ _ e).0 is) }) (λ e. same-node work)
 
-cleared-node : (clearing : Clearing) (work : Record) → KeepsNode work (cleared clearing work)
+cleared-node : (clearing : Clearing) (work : Record) → MayReplace work (cleared clearing work)
 cleared-node clearing work =
     let kept = cancelled-node clearing.cancelled work in
-    unnamed_each (KeepsNode work) clearing.unnamed (cancelled_in clearing.cancelled work)
-    (record { seq = kept.seq; prior = kept.prior; succeeded = kept.succeeded }) kept
+    unnamed_each (MayReplace work) clearing.unnamed (cancelled_in clearing.cancelled work)
+    (record { seq = kept.seq; id = kept.id; name = inr refl; prior = kept.prior; succeeded = kept.succeeded }) kept
 
 -- a record keeps its node
-clearing-node : (clearing : Clearing) (work : Record) → KeepsNode work (after_change (cleared_by clearing) work)
+clearing-node : (clearing : Clearing) (work : Record) → MayReplace work (after_change (cleared_by clearing) work)
 clearing-node clearing work =
-    cond_both (is_touched clearing work) (Some (cleared clearing work)) None (λ (o : Option Record). KeepsNode work (or_same work o))
+    cond_both (is_touched clearing work) (Some (cleared clearing work)) None (λ (o : Option Record). MayReplace work (or_same work o))
     (λ e. cleared-node clearing work) (λ e. same-node work)
 
 pub clearing-nodes : (clearing : Clearing) (works : List Record) → KeepNodes (cleared_by clearing) works

@@ -3,6 +3,7 @@ pub mod ClearedNumbers
 pub mod Clearings
 pub mod ClearingSteps
 pub mod Enqueueing
+pub mod IndexedWorks
 pub mod MemberUpdates
 pub mod MergedNumbers
 pub mod NamedPlans

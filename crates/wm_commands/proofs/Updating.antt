@@ -27,7 +27,7 @@ use Rattle.wm_machine.specs.declared.reply.Reply.TheVariants as reply
 use Rattle.wm_request.specs.Requests.{IsRequest, RequestFields}
 use Rattle.wm_steps.proofs.Lookups.{All-at, stored-at}
 use Rattle.wm_steps.proofs.StepFits.{keeping_row-step, replacing-step}
-use Rattle.wm_steps.specs.Nodes.{KeepsNode}
+use Rattle.wm_steps.specs.Replacements.{MayReplace}
 use Rattle.wm_steps.specs.StepChanges.{row_changes, IsStepOf}
 use Rattle.wm_steps.specs.declared.change.RunChange.TheVariants.{Unchanged}
 use Rattle.wm_steps.specs.declared.change.StepChange.{StepChange}
@@ -46,8 +46,8 @@ module _ (s : State) (line : ℕ) (asked : Command) (i : ℕ) (work : Record) (r
   fine : IsRecord (updated request work)
   fine = IsRecord-updated request work within kind (All-at IsRecord s.works i work valid.works.records at)
 
-  keeps : KeepsNode work (updated request work)
-  keeps = record { seq = refl; prior = refl; succeeded = λ is. is }
+  keeps : MayReplace work (updated request work)
+  keeps = record { seq = refl; id = refl; name = inl refl; prior = refl; succeeded = λ is. is }
 
   -- where the record's row changes, the rows do
   rows_change : row_of (updated request work) ≢ row_of work → ChangesRows s asked
@@ -67,7 +67,8 @@ module _ (s : State) (line : ℕ) (asked : Command) (i : ℕ) (work : Record) (r
     | inr put ↦ record {
       event = ap (λ (change : StepChange). change.event) put.1;
       step = subst (IsStepOf s) (sym put.1)
-          (replacing-step s s i work (updated request) Unchanged (event.Command line asked executed.reply) valid at keeps fine legal refl after-is);
+          (replacing-step s s i work (updated request) Unchanged (event.Command line asked executed.reply) valid at keeps (λ is. is) fine legal refl
+          after-is);
       rows = inl (rows_change put.0);
     }
   ]

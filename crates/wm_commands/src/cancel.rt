@@ -2,17 +2,18 @@
 //! or of a unique name, or all.
 ghost use Rattle.std.specs.Prelude.{◌≡◌, IfOk, Some};
 ghost use Rattle.wm_settings.specs.Builds.{IsExecuted};
-ghost use Rattle.wm_machine.specs.Cancelled.{cancelled_each, is_cancellable, is_for, is_stored, targeted};
+ghost use Rattle.wm_machine.specs.Cancelled.{cancelled_each, is_stored, targeted};
 ghost use Rattle.wm_machine.specs.Outcome.{outcome};
+ghost use Rattle.wm_machine.specs.declared.command.Target.TheVariants as target;
 
 use crate::clearing::{cancelling, reached_from, replaced_by_clearing, stopped_by};
 use std::alloc::{AllocError, Global};
 use uuid::Uuid;
 use wm_collections::Items;
 use wm_machine::{Command, Record, Refusal, Reply, Target};
-use wm_query::{has_tag, is_name};
 use wm_settings::{Executed, event_of};
 use wm_steps::{RunChange, StepChange, View};
+use wm_unique::unfinished;
 
 /// What a cancel comes to.
 pub fn execute(
@@ -35,7 +36,7 @@ pub fn execute(
 fn cancel_id(alloc: Global, view: &View, line: u32, id: Uuid) -> Result<Executed, AllocError>
     ensures { IfOk result (IsExecuted view.entry.now line (Command.Cancel (Target.Id id))) }
 {
-    if is_stored(view.state.works.as_slice(), id) {
+    if is_stored(view, id) {
         cancel_each(alloc, view, line, Target::Id(id))
     } else {
         let command = Command::Cancel(Target::Id(id));
@@ -57,7 +58,7 @@ fn cancel_each(
     ensures { IfOk result (IsExecuted view.entry.now line (Command.Cancel target)) }
 {
     let works = view.state.works.as_slice();
-    let seqs = targeted(alloc, works, &target)?;
+    let seqs = targeted(alloc, view, &target)?;
     let cleared = cancelling(alloc, reached_from(view, seqs.as_slice())?);
     let replaced = replaced_by_clearing(alloc, works, &cleared)?;
     let stopped = stopped_by(
@@ -73,40 +74,37 @@ fn cancel_each(
 }
 
 /// The numbers of the unfinished works that a target is for, ascending.
-fn targeted(alloc: Global, works: &[Record], target: &Target) -> Result<Items<u64>, AllocError>
-    ensures { IfOk result (λ numbers. numbers ≡ targeted target.entry.now works.entry.now) }
+fn targeted(alloc: Global, view: &View, target: &Target) -> Result<Items<u64>, AllocError>
+    ensures { IfOk result (λ numbers. numbers ≡ targeted target.entry.now view.entry.now.works) }
+{
+    let works = view.state.works.as_slice();
+    match target {
+        Target::Id(id) => match view.number_of(*id) {
+            Some(number) => unfinished(alloc, works, &[number]),
+            None => Ok(Items::new(alloc)),
+        },
+        Target::Tag(tag) => unfinished(alloc, works, view.tagged(tag)),
+        Target::Name(name) => unfinished(alloc, works, view.members(name)),
+        Target::All => all_open(alloc, works),
+    }
+}
+
+/// The numbers of all unfinished works.
+fn all_open(alloc: Global, works: &[Record]) -> Result<Items<u64>, AllocError>
+    ensures { IfOk result (λ numbers. numbers ≡ targeted target.All works.now) }
 {
     let mut numbers = Items::new(alloc);
     for work in works {
-        if is_cancellable(target, work) {
+        if work.phase.is_open() {
             numbers.push(work.seq)?;
         }
     }
     Ok(numbers)
 }
 
-/// Whether a target is for a work that is unfinished.
-fn is_cancellable(target: &Target, work: &Record) -> bool
-    ensures { result ≡ is_cancellable target.now work.now }
-{
-    work.phase.is_open() && is_for(target, work)
-}
-
-/// Whether a target is for a work.
-fn is_for(target: &Target, work: &Record) -> bool
-    ensures { result ≡ is_for target.now work.now }
-{
-    match target {
-        Target::Id(id) => work.request.id() == *id,
-        Target::Tag(tag) => has_tag(work.request.tags().as_slice(), tag),
-        Target::Name(name) => is_name(name, &work.name),
-        Target::All => true,
-    }
-}
-
 /// Whether a record has this id.
-fn is_stored(works: &[Record], id: Uuid) -> bool
-    ensures { result ≡ is_stored works.now id }
+fn is_stored(view: &View, id: Uuid) -> bool
+    ensures { result ≡ is_stored view.now.works id }
 {
-    works.iter().any(|work| work.request.id() == id)
+    view.number_of(id).is_some()
 }

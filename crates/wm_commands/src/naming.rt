@@ -8,7 +8,7 @@ ghost use Rattle.wm_settings.specs.Builds.{IsExecuted};
 ghost use Rattle.wm_commands.specs.Planned.{kind_refused_in};
 ghost use Rattle.wm_machine.specs.Outcome.{IsLegalLine};
 ghost use Rattle.wm_machine.specs.Enqueued.{plan_in};
-ghost use Rattle.wm_machine.specs.Group.{members_of, numbers_in};
+ghost use Rattle.wm_machine.specs.Group.{members_of};
 ghost use Rattle.wm_collections.specs.Lists.{AllLater};
 ghost use Rattle.wm_machine.specs.Valid.{IsBefore};
 ghost use Rattle.wm_unique.specs.Plans.{grouped, plan_fields, AreNumbersOf, IsPlanFault};
@@ -16,9 +16,8 @@ ghost use Rattle.wm_unique.specs.Plans.{grouped, plan_fields, AreNumbersOf, IsPl
 use crate::checking::check_and_place;
 use crate::member::update_member;
 use std::alloc::{AllocError, Global};
-use wm_collections::{Items, Text};
-use wm_machine::{Command, Record, Refusal, Reply, UniqueName};
-use wm_query::is_name;
+use wm_collections::Text;
+use wm_machine::{Command, Refusal, Reply, UniqueName};
 use wm_request::Batch;
 use wm_settings::Executed;
 use wm_steps::View;
@@ -79,30 +78,17 @@ fn planned(
     ensures err { IfErr result (IsPlanFault (kind_refused_in view.entry.now unique.entry.now batch.entry.now.works)) }
 {
     let works = view.state.works.as_slice();
-    let group = group_of(alloc, works, &unique.name)?;
-    plan(alloc, works, group.as_slice(), unique.policy, batch)
+    let group = group_of(view, &unique.name);
+    plan(alloc, works, group, unique.policy, batch)
 }
 
 /// The group of a name, by the numbers of its works.
-fn group_of(alloc: Global, works: &[Record], name: &Text) -> Result<Items<u64>, AllocError>
-    requires { AllLater IsBefore works.now }
-    ensures numbers { IfOk result (AreNumbersOf works.now) }
-    ensures members { IfOk result (λ group. grouped works.now group ≡ members_of works.now name.now) }
+fn group_of<'a>(view: &'a View, name: &Text) -> &'a [u64]
+    requires { AllLater IsBefore view.now.works }
+    ensures numbers { AreNumbersOf view.now.works result.now }
+    ensures members { grouped view.now.works result.now ≡ members_of view.now.works name.now }
 {
-    members_of(alloc, works, name)
-}
-
-/// The numbers of the works that have a name.
-fn members_of(alloc: Global, works: &[Record], name: &Text) -> Result<Items<u64>, AllocError>
-    ensures { IfOk result (λ numbers. numbers ≡ numbers_in (members_of works.now name.now)) }
-{
-    let mut numbers = Items::new(alloc);
-    for work in works {
-        if is_name(name, &work.name) {
-            numbers.push(work.seq)?;
-        }
-    }
-    Ok(numbers)
+    view.members(name)
 }
 
 /// A plan is carried out whose kinds don't mismatch.

@@ -10,7 +10,7 @@ ghost use Rattle.wm_request.specs.Requests.{IsRequest};
 use std::alloc::{AllocError, Global};
 use uuid::Uuid;
 use wm_collections::Replica;
-use wm_machine::{Applied, Command, Event, Phase, Record, Refusal, Reply};
+use wm_machine::{Applied, Command, Event, Phase, Record, Refusal, Reply, index_numbered};
 use wm_request::Request;
 use wm_rows::have_one_row;
 use wm_schedule::Period;
@@ -30,7 +30,7 @@ pub fn execute(
     requires asked { IsRequest request }
     ensures { IfOk result (IsExecuted view.entry.now line (Command.Update request)) }
 {
-    match index_with_id(view.state.works.as_slice(), request.id()) {
+    match index_with_id(view, request.id()) {
         Some(index) => update_at(alloc, view, line, index, request),
         None => {
             let refusal = Refusal::NoSuchWork { id: request.id() };
@@ -41,11 +41,14 @@ pub fn execute(
 }
 
 /// The index of the record with this id.
-fn index_with_id(works: &[Record], id: Uuid) -> Option<usize>
-    ensures { MatchOption result (work_with_id works.now id ≡ None)
-        (λ index. (index < length works.now) × (work_with_id works.now id ≡ slice_get works.now index)) }
+fn index_with_id(view: &View, id: Uuid) -> Option<usize>
+    ensures { MatchOption result (work_with_id view.now.works id ≡ None) (λ index.
+        (index < length view.now.works) × (work_with_id view.now.works id ≡ slice_get view.now.works index)) }
 {
-    works.iter().position(|work| work.request.id() == id)
+    match view.number_of(id) {
+        Some(number) => index_numbered(view.state.works.as_slice(), number),
+        None => None,
+    }
 }
 
 /// What the update of the work at an index comes to, which has the request's id: a finished one is

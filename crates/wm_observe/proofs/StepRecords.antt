@@ -15,8 +15,9 @@ use Rattle.wm_machine.specs.declared.state.State.{State}
 use Rattle.wm_query.proofs.NumbersDone.{has_done, has_succeeded-numbered}
 use Rattle.wm_steps.specs.StepChanges.{changed_state, IsStepOf}
 use Rattle.wm_steps.specs.declared.change.StepChange.{StepChange}
-use Rattle.wm_observe.proofs.NotedRecords.{numbered-after, records-after, All-left}
-use Rattle.wm_observe.specs.Compared.{succeeds, then_of, StaysRecord}
+use Rattle.wm_steps.proofs.RecordsAfter.{numbered-after, records-after, All-left}
+use Rattle.wm_observe.specs.Compared.{succeeds, StaysRecord}
+use Rattle.wm_steps.specs.Touched.{then_of}
 
 -- ---- what is left
 

@@ -1,7 +1,6 @@
 -- Which records a change may tell another thing of.
-use Rattle.std.specs.Prelude.{ℕ, ◌==◌, ◌||◌, Bool, false, List, [], ◌∷◌, ◌++◌, map, filter, if◌then◌else◌, Option, Some, None, option_map, IfSome}
+use Rattle.std.specs.Prelude.{◌||◌, Bool, false, List, ◌++◌, map, filter, Option, Some, None, option_map, IfSome}
 use Rattle.std.specs.List.{list_any}
-use Rattle.wm_collections.specs.Lists.{is_among}
 use Rattle.wm_machine.specs.First.{is_succeeded}
 use Rattle.wm_machine.specs.Shown.{info_of}
 use Rattle.wm_machine.specs.Valid.{IsRecord}
@@ -9,19 +8,10 @@ use Rattle.wm_machine.specs.declared.record.Record.{Record}
 use Rattle.wm_machine.specs.declared.state.State.{State}
 use Rattle.wm_observe.specs.declared.note.Pair.{Pair}
 use Rattle.wm_steps.specs.StepChanges.{changed_state}
-use Rattle.wm_steps.specs.declared.change.Replacement.{Replacement}
+use Rattle.wm_steps.specs.Touched.{then_of, touches}
 use Rattle.wm_steps.specs.declared.change.StepChange.{StepChange}
 
 -- ---- a record after a change
-
--- the last of these that is put in the place of a record, and the record where none is
-abbrev pub put_in : List Replacement → Record → Record
-put_in [] work = work
-put_in (replaced ∷ later) work = put_in later (if replaced.work.seq == work.seq then replaced.work else work)
-
--- the record after the change; none where it is removed
-abbrev pub then_of : StepChange → Record → Option Record
-then_of change work = if is_among change.removed work.seq then None else Some (put_in change.replaced (put_in change.told work))
 
 -- whether a record is there, and has succeeded
 abbrev pub succeeds : Option Record → Bool
@@ -34,12 +24,6 @@ pub record StaysRecord (change : StepChange) (work : Record) : Type 0 where
   pub after : IfSome (then_of change work) IsRecord
 
 -- ---- what may differ
-
--- whether the record of this number is another one after the change, or is gone
-abbrev pub touches : StepChange → ℕ → Bool
-touches change number =
-    is_among change.removed number
-    || (list_any (λ replaced. replaced.work.seq == number) change.told || list_any (λ replaced. replaced.work.seq == number) change.replaced)
 
 -- whether what is told of a record may be another thing then: it is touched, or one of its prerequisites is
 abbrev pub may_differ : StepChange → Record → Bool

@@ -6,9 +6,10 @@ ghost use Rattle.std.specs.Prelude.{◌≡◌, ◌==◌, ◌++◌, filter, map, 
 ghost use Rattle.wm_machine.specs.First.{all_met, has_succeeded};
 ghost use Rattle.wm_machine.specs.Shown.{info_of};
 ghost use Rattle.wm_machine.specs.Valid.{IsRecord};
-ghost use Rattle.wm_observe.specs.Compared.{compared_pairs, may_differ, new_pair, pair_at, put_in, succeeds, then_of, touches, StaysRecord};
+ghost use Rattle.wm_observe.specs.Compared.{compared_pairs, may_differ, new_pair, pair_at, succeeds, StaysRecord};
 ghost use Rattle.wm_observe.specs.Notes.{notes_between};
 ghost use Rattle.wm_steps.specs.StepChanges.{changed_state, IsStepOf};
+ghost use Rattle.wm_steps.specs.Touched.{put_in, then_of, touches};
 
 use crate::note::{Note, Pair};
 use crate::noting::notes;

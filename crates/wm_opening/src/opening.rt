@@ -16,6 +16,7 @@ use wm_keeper::{Change, Row};
 use wm_machine::{Instance, Record, State};
 use wm_rows::{RowFault, check_all};
 use wm_steps::View;
+use wm_steps::entries::index_of;
 
 /// What a store opens to.
 #[derive(Drop)]
@@ -75,9 +76,17 @@ fn states_of(
     ensures { IfOk result (λ both. (both.0 ≡ opening_state works instances) × (both.1 ≡ opening_state works instances)) }
 {
     let graph = graph_of(alloc, works.as_slice())?;
+    let index = index_of(alloc, works.as_slice())?;
     let first = opening_state(alloc, works.replica(alloc)?, instances.replica(alloc)?);
     let state = opening_state(alloc, works, instances);
-    Ok((first, View { state, graph }))
+    Ok((
+        first,
+        View {
+            state,
+            graph,
+            index,
+        },
+    ))
 }
 
 /// The opening state of these records, which stand in order.

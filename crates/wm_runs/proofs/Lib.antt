@@ -1,3 +1,4 @@
+pub mod Freeing
 pub mod Reaching
 pub mod Reporting
 pub mod RunLookups

@@ -1,5 +1,5 @@
 -- What is touched where a work comes to an end, and that the machine changes just that.
-use Rattle.std.proofs.Common.{◌≡◌, ℕ, ◌&&◌, Bool, true, false, cond, eqb, List, [], ◌∷◌, Option, Some, None, refl, sym, ◌∙◌, ap, subst}
+use Rattle.std.proofs.Common.{◌≡◌, ℕ, ◌&&◌, Bool, true, false, cond, eqb, List, [], ◌∷◌, Option, Some, None, refl, sym, ◌∙◌, ap, subst, inl}
 use Rattle.std.specs.List.{AllByRecursion}
 use Rattle.std.proofs.lemmas.Bool.{and_parts, cond_both, eq-eqb, eqb-false, eqb-true, ne_eqb}
 use Rattle.wm_collections.specs.Lists.{AllLater, HasOne, is_among}
@@ -25,10 +25,17 @@ use Rattle.wm_runs.specs.declared.reach.Reach.TheVariants as reach
 use Rattle.wm_steps.proofs.ManyRows.{after_change}
 use Rattle.wm_steps.proofs.Nodes.{freed-nodes, itself_reached, open_not_succeeded}
 use Rattle.wm_steps.proofs.ReachedNodes.{reached-test}
-use Rattle.wm_steps.specs.Nodes.{nodes_of, KeepsNode, reached_from}
-use Rattle.wm_steps.specs.Replacements.{or_same}
+use Rattle.wm_steps.specs.Nodes.{nodes_of, reached_from}
+use Rattle.wm_steps.specs.Replacements.{or_same, MayReplace}
 
 -- ---- a change of some records
+
+-- a record is of the same work as another
+pub record IsSameWork (work itself : Record) : Type 0 where
+  pub seq : itself.seq ≡ work.seq
+  pub id : itself.request.id ≡ work.request.id
+  pub name : itself.name ≡ work.name
+  pub prior : itself.prior ≡ work.prior
 
 -- a record that is changed where a test says so
 or_same-cond : (test : Bool) (work new : Record) → or_same work (cond test (Some new) None) ≡ cond test new work
@@ -36,16 +43,16 @@ or_same-cond true work new = refl
 or_same-cond false work new = refl
 
 -- each keeps its node, and what has succeeded stays so
-reached-keeps : (to : Reach) (work : Record) → KeepsNode work (or_same work (reached_by to work))
-reached-keeps reach.Stays work = record { seq = refl; prior = refl; succeeded = λ is. is }
+reached-keeps : (to : Reach) (work : Record) → MayReplace work (or_same work (reached_by to work))
+reached-keeps reach.Stays work = record { seq = refl; id = refl; name = inl refl; prior = refl; succeeded = λ is. is }
 reached-keeps (reach.Closes way numbers) work =
-    cond_both (is_open work.phase && is_among numbers work.seq) (Some (closed way work)) None (λ (o : Option Record). KeepsNode work (or_same work o))
-    (λ e. record { seq = refl; prior = refl; succeeded = λ is. absurd (open_not_succeeded work.phase (and_parts _ _ e).0 is) })
-    (λ e. record { seq = refl; prior = refl; succeeded = λ is. is })
+    cond_both (is_open work.phase && is_among numbers work.seq) (Some (closed way work)) None (λ (o : Option Record). MayReplace work (or_same work o))
+    (λ e. record { seq = refl; id = refl; name = inl refl; prior = refl; succeeded = λ is. absurd (open_not_succeeded work.phase (and_parts _ _ e).0 is) })
+    (λ e. record { seq = refl; id = refl; name = inl refl; prior = refl; succeeded = λ is. is })
 reached-keeps (reach.Frees numbers now) work =
     cond_both (is_waiting work.phase && is_among numbers work.seq) (Some (record work { enqueued_at = now })) None
-    (λ (o : Option Record). KeepsNode work (or_same work o)) (λ e. record { seq = refl; prior = refl; succeeded = λ is. is })
-    (λ e. record { seq = refl; prior = refl; succeeded = λ is. is })
+    (λ (o : Option Record). MayReplace work (or_same work o)) (λ e. record { seq = refl; id = refl; name = inl refl; prior = refl; succeeded = λ is. is })
+    (λ e. record { seq = refl; id = refl; name = inl refl; prior = refl; succeeded = λ is. is })
 
 -- What holds of the record that is stored under a number, and of those of other numbers, holds of each. The record may have been changed.
 itself-or-other : (P : Record → Option Record → Type 0) (itself work : Record) (to : Reach) (works : List Record) → AllLater IsBefore works
@@ -58,11 +65,11 @@ itself-or-other P itself work to works order stored same here others =
 
 -- the work that comes to an end keeps its node, as all others do
 pub change-keeps : (itself work : Record) (to : Reach) (works : List Record) → AllLater IsBefore works → HasOne (λ other. other ≡ work) works
-    → is_open work.phase ≡ true → itself.seq ≡ work.seq → itself.prior ≡ work.prior
-    → AllByRecursion (λ w. KeepsNode w (after_change (change_by itself to) w)) works
-change-keeps itself work to works order stored unfinished same prior =
-    itself-or-other (λ w o. KeepsNode w (or_same w o)) itself work to works order stored same
-    (record { seq = same; prior = prior; succeeded = λ is. absurd (open_not_succeeded work.phase unfinished is) })
+    → is_open work.phase ≡ true → IsSameWork work itself
+    → AllByRecursion (λ w. MayReplace w (after_change (change_by itself to) w)) works
+change-keeps itself work to works order stored unfinished same =
+    itself-or-other (λ w o. MayReplace w (or_same w o)) itself work to works order stored same.seq
+    (record { seq = same.seq; id = same.id; name = inl same.name; prior = same.prior; succeeded = λ is. absurd (open_not_succeeded work.phase unfinished is) })
     (All-any works (λ w differs. reached-keeps to w))
 
 -- a change of one record leaves those of other numbers
@@ -126,20 +133,18 @@ frees-agree now output work works order sound stored =
 -- ---- the ends
 
 -- the work of a run that ends keeps its number and its prerequisites
-pub ended-same : (period : Option Period) (now : ℕ) (end : End) (work : Record)
-    → ((ended_as period now end work).seq ≡ work.seq) × ((ended_as period now end work).prior ≡ work.prior)
-ended-same None now Retry work = (refl, refl)
-ended-same None now (Success output) work = (refl, refl)
-ended-same None now (Failure output) work = (refl, refl)
-ended-same (Some period) now Retry work = (refl, refl)
-ended-same (Some period) now (Success output) work = (refl, refl)
-ended-same (Some period) now (Failure output) work = (refl, refl)
+pub ended-same : (period : Option Period) (now : ℕ) (end : End) (work : Record) → IsSameWork work (ended_as period now end work)
+ended-same None now Retry work = record { seq = refl; id = refl; name = refl; prior = refl }
+ended-same None now (Success output) work = record { seq = refl; id = refl; name = refl; prior = refl }
+ended-same None now (Failure output) work = record { seq = refl; id = refl; name = refl; prior = refl }
+ended-same (Some period) now Retry work = record { seq = refl; id = refl; name = refl; prior = refl }
+ended-same (Some period) now (Success output) work = record { seq = refl; id = refl; name = refl; prior = refl }
+ended-same (Some period) now (Failure output) work = record { seq = refl; id = refl; name = refl; prior = refl }
 
 -- and so does one that can't start
-pub not_started-same : (period : Option Period) (now : ℕ) (work : Record)
-    → ((not_started_as period now work).seq ≡ work.seq) × ((not_started_as period now work).prior ≡ work.prior)
-not_started-same None now work = (refl, refl)
-not_started-same (Some period) now work = (refl, refl)
+pub not_started-same : (period : Option Period) (now : ℕ) (work : Record) → IsSameWork work (not_started_as period now work)
+not_started-same None now work = record { seq = refl; id = refl; name = refl; prior = refl }
+not_started-same (Some period) now work = record { seq = refl; id = refl; name = refl; prior = refl }
 
 -- the end of a run changes just what is touched
 pub end-agree : (period : Option Period) (now : ℕ) (end : End) (work : Record) (works : List Record) → AllLater IsBefore works

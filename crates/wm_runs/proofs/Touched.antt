@@ -14,7 +14,7 @@ use Rattle.wm_machine.proofs.Runnings.{WorksAscend-in_order}
 use Rattle.wm_machine.specs.Closed.{closed, is_open}
 use Rattle.wm_machine.specs.First.{is_waiting}
 use Rattle.wm_machine.specs.Input.{work_numbered}
-use Rattle.wm_machine.specs.Valid.{IsBefore, IsRecord}
+use Rattle.wm_machine.specs.Valid.{IsBefore, IsRecord, Valid}
 use Rattle.wm_machine.specs.declared.record.Record.{Record}
 use Rattle.wm_machine.specs.declared.state.State.{State}
 use Rattle.wm_steps.proofs.ByNumbers.{replacement-found, replacements-numbered}
@@ -24,7 +24,6 @@ use Rattle.wm_runs.specs.declared.reach.Reach.{Reach}
 use Rattle.wm_runs.specs.declared.reach.Reach.TheVariants as reach
 use Rattle.wm_steps.proofs.Tests.{eqb-swap}
 use Rattle.wm_steps.specs.Nodes.{is_there, node_of, nodes_of}
-use Rattle.wm_steps.specs.Views.{IsViewed}
 use Rattle.wm_steps.specs.declared.change.Replacement.{Replacement}
 
 -- ---- the record of one number
@@ -152,9 +151,9 @@ freed-rise works seq order are =
     }
 
 -- and so they do in the graph of a view
-pub viewed-rise : (s now : State) (graph : List NodeFields) (seq : ℕ) → s ≡ now → IsViewed s graph → RiseFrom seq (freed_by graph seq)
-viewed-rise s now graph seq is viewed =
-    rw (viewed.graph_is) (freed-rise s.works seq viewed.valid.works.in_order viewed.valid.works.records)
+pub viewed-rise : (s now : State) (graph : List NodeFields) (seq : ℕ) → s ≡ now → Valid s → graph ≡ nodes_of s.works → RiseFrom seq (freed_by graph seq)
+viewed-rise s now graph seq is valid graph_is =
+    rw (graph_is) (freed-rise s.works seq valid.works.in_order valid.works.records)
 
 -- and from the number of a record that has the same one
 pub same-rise : (seq : ℕ) (itself new : Record) (numbers : List ℕ) → itself ≡ new → new.seq ≡ seq → RiseFrom seq numbers → RiseFrom itself.seq numbers

@@ -4,7 +4,7 @@ use Rattle.std.specs.List.{cons_option, AllByRecursion}
 use Rattle.std.proofs.lemmas.Bool.{cases_Bool, cases_order, eq-eqb, eqb-true, ne_eqb}
 use Rattle.std.proofs.lemmas.Option.{none-some, same_Some}
 use Rattle.wm_collections.proofs.Lists.{All-weaker, All-with2, filter_map-same, find-passes}
-use Rattle.wm_collections.specs.Lists.{is_among, NumbersAscend}
+use Rattle.wm_collections.specs.Lists.{is_among, AllLater, NumbersAscend}
 use Rattle.wm_machine.proofs.Runnings.{WorksAscend, WorksAscend-in_order}
 use Rattle.wm_machine.specs.Input.{work_numbered}
 use Rattle.wm_machine.specs.Valid.{IsBefore}

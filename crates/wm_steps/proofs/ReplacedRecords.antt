@@ -1,9 +1,10 @@
 -- Records that take the place of others keep the numbers, those that are removed leave the others, and those that are placed have greater numbers.
-use Rattle.std.proofs.Common.{◌≡◌, ℕ, zero, suc, ◌+◌, ◌<◌, ◌≤◌, pos, List, [], ◌∷◌, map, set, slice_get, Some, refl, sym, ◌∙◌, ap, subst, arith}
+use Rattle.std.proofs.Common.{◌≡◌, ℕ, zero, suc, ◌+◌, ◌<◌, ◌≤◌, pos, List, [], ◌∷◌, length, map, set, slice_get, Some, refl, sym, ◌∙◌, ap, subst, arith}
 use Rattle.std.specs.List.{AllByRecursion}
 use Rattle.std.proofs.lemmas.Bool.{ne_eqb}
 use Rattle.std.proofs.lemmas.Int.{ints}
-use Rattle.std.proofs.lemmas.Option.{none-some, same_Some}
+use Rattle.std.proofs.lemmas.List.{length-map}
+use Rattle.std.proofs.lemmas.Option.{none-some, same_Some, slice_get_within}
 use Rattle.wm_collections.proofs.Lists.{All-weaker}
 use Rattle.wm_keeper.specs.declared.row.Row.{Row}
 use Rattle.wm_machine.proofs.Runnings.{WorksAscend}
@@ -85,9 +86,27 @@ number-kept (work ∷ works) zero new is =
     ap (λ (n : ℕ). Some n) same
 number-kept (work ∷ works) (suc i) new is = number-kept works i new is
 
+pub rows-set : (works : List Record) (i : ℕ) (new : Record) → slice_get (map row_of works) i ≡ Some (row_of new)
+    → map row_of (set works i new) ≡ map row_of works
+rows-set [] i new is = refl
+rows-set (work ∷ works) zero new is = ap (λ (row : Row). row ∷ map row_of works) (sym (same_Some (row_of work) (row_of new) is))
+rows-set (work ∷ works) (suc i) new is = ap (λ rest. row_of work ∷ rest) (rows-set works i new is)
+
 -- records that tell something keep their numbers too
 pub told_keep : (works : List Record) (told : List Replacement) → AllByRecursion (KeepsRow works) told → AllByRecursion (KeepsNumber works) told
 told_keep works told keep = All-weaker told (λ r is. number-kept works r.index r.work is) keep
+
+-- the records that are replaced are there
+pub replaced_within : (works : List Record) (replaced : List Replacement) → AllByRecursion (KeepsPlace works) replaced
+    → AllByRecursion (λ r. r.index < length works) replaced
+replaced_within works replaced keep =
+    All-weaker replaced (λ r is.
+    omega (arith, slice_get_within (seqs_of works) r.index r.work.seq (keeps_number works r is), length-map works (λ (work : Record). work.seq))) keep
+
+-- and so are those that tell something
+pub told_within : (works : List Record) (told : List Replacement) → AllByRecursion (KeepsRow works) told → AllByRecursion (λ r. r.index < length works) told
+told_within works told keep =
+    All-weaker told (λ r is. omega (arith, slice_get_within (map row_of works) r.index (row_of r.work) is, length-map works row_of)) keep
 
 -- ---- records that are removed, and those that are placed
 

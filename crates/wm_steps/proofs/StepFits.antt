@@ -12,17 +12,18 @@ use Rattle.wm_machine.specs.Rows.{row_of}
 use Rattle.wm_machine.specs.Runs.{changed_work}
 use Rattle.wm_machine.specs.Step.{Legal, after}
 use Rattle.wm_machine.specs.Valid.{IsRecord, Valid}
-use Rattle.wm_steps.proofs.Lookups.{changed_work-at}
-use Rattle.wm_steps.specs.Nodes.{KeepsNode}
+use Rattle.wm_steps.proofs.Lookups.{changed_work-at, stored-at}
+use Rattle.wm_steps.proofs.Unsucceeding.{unsucceeding-not, Unsucceeding}
+use Rattle.wm_steps.specs.Replacements.{MayReplace}
 use Rattle.wm_steps.specs.StepChanges.{changed_state, keeping_row, replacing, Fits, IsStepOf}
 use Rattle.wm_steps.specs.declared.change.RunChange.{RunChange}
 
 -- one record that is replaced by one that keeps its node
 Fits-replacing : (s : State) (i : ℕ) (work new : Record) (run : RunChange) (e : Event) → Valid s → slice_get s.works i ≡ Some work
-    → KeepsNode work new → IsRecord new → Fits s (replacing i new run e)
+    → MayReplace work new → IsRecord new → Fits s (replacing i new run e)
 Fits-replacing s i work new run e valid at keeps is = record {
   told = tt;
-  replaced = (subst (λ (o : Option Record). IsSomeAnd o (λ old. KeepsNode old new)) (sym at) keeps, tt);
+  replaced = (subst (λ (o : Option Record). IsSomeAnd o (λ old. MayReplace old new)) (sym at) keeps, tt);
   removed = tt;
   placed = tt;
   named = tt;
@@ -63,13 +64,14 @@ state-replacing s t i work change valid at =
 
 -- a legal event that changes one record, and what its change says of the runs, is made by the change that replaces it
 pub replacing-step : (s t : State) (i : ℕ) (work : Record) (change : Record → Record) (run : RunChange) (e : Event) → Valid s
-    → slice_get s.works i ≡ Some work → KeepsNode work (change work) → IsRecord (change work) → Legal s e
+    → slice_get s.works i ≡ Some work → MayReplace work (change work) → Unsucceeding work (change work) → IsRecord (change work) → Legal s e
     → changed_state (replacing i (change work) run e) s ≡ record t { works = set s.works i (change work) ++ []; next = t.next + 0 }
     → after s e ≡ record t { works = changed_work change work.seq s.works } → IsStepOf s (replacing i (change work) run e)
-replacing-step s t i work change run e valid at keeps fine legal made then = record {
+replacing-step s t i work change run e valid at keeps none fine legal made then = record {
   fits = Fits-replacing s i work (change work) run e valid at keeps fine;
   legal = legal;
   state = made ∙ state-replacing s t i work change valid at ∙ sym then;
+  freeing = (λ is. absurd (unsucceeding-not work (change work) s.works (stored-at s.works i work at) keeps.seq none is), tt);
 }
 
 -- and one that leaves the record's row, by the change that keeps it
@@ -81,4 +83,5 @@ keeping_row-step s t i work change run e valid at keeps legal made then = record
   fits = Fits-keeping_row s i work (change work) run e valid at keeps;
   legal = legal;
   state = made ∙ state-replacing s t i work change valid at ∙ sym then;
+  freeing = tt;
 }

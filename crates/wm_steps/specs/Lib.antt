@@ -1,5 +1,9 @@
+pub mod Entries
+pub mod Following
 pub mod Nodes
 pub mod Numbers
+pub mod Readiness
 pub mod Replacements
 pub mod StepChanges
+pub mod Touched
 pub mod Views

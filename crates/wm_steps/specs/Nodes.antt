@@ -29,13 +29,6 @@ nodes_of works = map (node_of works) works
 abbrev pub reached_from : List ℕ → List NodeFields → List ℕ
 reached_from seqs nodes = reverse (descendants seqs (reverse nodes))
 
--- A record that may take the place of another leaves the graph as it is, or marks its node: it has the same number and the same prerequisites, and
--- what has succeeded stays so.
-pub record KeepsNode (old new : Record) : Type 0 where
-  pub seq : new.seq ≡ old.seq
-  pub prior : new.prior ≡ old.prior
-  pub succeeded : is_succeeded old.phase ≡ true → is_succeeded new.phase ≡ true
-
 -- a node that is there and isn't marked
 pub record IsUnmarked (nodes : List NodeFields) (seq : ℕ) : Type 0 where
   pub there : HasNode nodes seq

@@ -1,5 +1,6 @@
 -- The records that take the place of others.
-use Rattle.std.specs.Prelude.{ℕ, ◌+◌, ◌==◌, List, [], ◌∷◌, filter_map, if◌then◌else◌, Option, Some, None, option_map}
+use Rattle.std.specs.Prelude.{◌≡◌, ◌⊎◌, ℕ, ◌+◌, ◌==◌, true, List, [], ◌∷◌, filter_map, if◌then◌else◌, Option, Some, None, option_map}
+use Rattle.wm_machine.specs.First.{is_succeeded}
 use Rattle.wm_machine.specs.declared.record.Record.{Record}
 use Rattle.wm_steps.specs.declared.change.Replacement.{Replacement}
 
@@ -28,3 +29,11 @@ by_numbers change numbers works = filter_map (replacement_of change 0 works) num
 abbrev pub or_same : Record → Option Record → Record
 or_same work None = work
 or_same work (Some changed) = changed
+
+-- A record that may take the place of another has its number, its id and its prerequisites, and its unique name or none. What has succeeded stays so.
+pub record MayReplace (old new : Record) : Type 0 where
+  pub seq : new.seq ≡ old.seq
+  pub id : new.request.id ≡ old.request.id
+  pub name : (new.name ≡ old.name) ⊎ (new.name ≡ None)
+  pub prior : new.prior ≡ old.prior
+  pub succeeded : is_succeeded old.phase ≡ true → is_succeeded new.phase ≡ true

@@ -18,7 +18,9 @@ use Rattle.wm_machine.specs.declared.state.Instance.{Instance}
 use Rattle.wm_machine.specs.declared.state.Run.{Run}
 use Rattle.wm_machine.specs.declared.state.State.{State}
 use Rattle.wm_machine.specs.declared.state.WorkQuery.{WorkQuery}
-use Rattle.wm_steps.specs.Nodes.{AreThere, KeepsNode}
+use Rattle.wm_steps.specs.Nodes.{AreThere}
+use Rattle.wm_steps.specs.Readiness.{TouchesAllFreed}
+use Rattle.wm_steps.specs.Replacements.{MayReplace}
 use Rattle.wm_steps.specs.declared.change.Replacement.{Replacement}
 use Rattle.wm_steps.specs.declared.change.RunChange.{RunChange}
 use Rattle.wm_steps.specs.declared.change.RunChange.TheVariants.{Unchanged, Begin, Turn, End, Stop}
@@ -105,10 +107,14 @@ set_by to s = record s {
   hushed = hushed_by to s.hushed;
 }
 
--- the state after a change: works without the removed ones, with the told and the replaced ones in place and the placed ones at the end
+-- the works after a change: without the removed ones, with the told and the replaced ones in place and the placed ones at the end
+abbrev pub changed_works : StepChange → List Record → List Record
+changed_works change works = without change.removed (with_replaced change.replaced (with_replaced change.told works)) ++ change.placed
+
+-- the state after a change
 abbrev pub changed_state : StepChange → State → State
 changed_state change s = set_by change.setting (record s {
-  works = without change.removed (with_replaced change.replaced (with_replaced change.told s.works)) ++ change.placed;
+  works = changed_works change s.works;
   runs = runs_by change.run s.runs;
   instances = instances_by change.run s.instances;
   next = s.next + length change.placed;
@@ -137,7 +143,7 @@ seqs_of works = map (λ work. work.seq) works
 
 -- a record takes the place of one whose node it keeps
 abbrev pub KeepsPlace : List Record → Replacement → Type 0
-KeepsPlace works replaced = IsSomeAnd (slice_get works replaced.index) (λ old. KeepsNode old replaced.work)
+KeepsPlace works replaced = IsSomeAnd (slice_get works replaced.index) (λ old. MayReplace old replaced.work)
 
 -- and one of its row
 abbrev pub KeepsRow : List Record → Replacement → Type 0
@@ -171,6 +177,8 @@ pub record IsStepOf (s : State) (change : StepChange) : Type 0 where
   pub fits : Fits s change
   pub legal : Legal s change.event
   pub state : changed_state change s ≡ after s change.event
+  -- it touches the works that it frees
+  pub freeing : TouchesAllFreed s.works (changed_state change s).works change
 
 -- ---- changes
 

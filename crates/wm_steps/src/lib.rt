@@ -6,7 +6,10 @@
 #![tactic(auto)]
 
 pub mod change;
+pub mod entries;
+pub mod follow;
 pub mod joins;
+pub mod laws;
 pub mod numbers;
 pub mod view;
 

@@ -6,6 +6,5 @@ pub mod NoLines
 pub mod Parts
 pub mod RemovedWorks
 pub mod Returns
-pub mod StepNodes
 pub mod StepRows
 pub mod TableSteps

@@ -17,17 +17,20 @@ use Rattle.wm_machine.specs.declared.state.Run.{Run}
 use Rattle.wm_machine.specs.declared.state.State.{State}
 use Rattle.wm_machine.specs.declared.state.WorkQuery.{WorkQuery}
 use Rattle.wm_observe.proofs.ComparedPairs.{compared-told}
-use Rattle.wm_observe.specs.Compared.{compared_pairs, may_differ, pair_at, touches}
+use Rattle.wm_observe.specs.Compared.{compared_pairs, may_differ, pair_at}
+use Rattle.wm_steps.specs.Touched.{touches}
 use Rattle.wm_observe.specs.Notes.{notes, notes_between, notes_from}
 use Rattle.wm_runs.specs.Builds.{IsReturn}
 use Rattle.wm_steps.specs.Nodes.{nodes_of}
 use Rattle.wm_steps.specs.StepChanges.{changed_state, runs_by, setting}
+use Rattle.wm_index.specs.Entries.{Entry}
+use Rattle.wm_steps.specs.Entries.{AreEntriesOf}
 use Rattle.wm_steps.specs.Views.{IsViewed}
 use Rattle.wm_steps.specs.declared.change.RunChange.{RunChange}
 use Rattle.wm_steps.specs.declared.change.RunChange.TheVariants as runs
 use Rattle.wm_steps.specs.declared.change.SettingChange.TheVariants as set
 use Rattle.wm_steps.specs.declared.change.StepChange.{StepChange}
-use Rattle.wm_table.proofs.StepNodes.{viewed-step}
+use Rattle.wm_steps.proofs.StepNodes.{viewed-step}
 use Rattle.wm_table.proofs.StepRows.{next_run-changed}
 use Rattle.wm_table.specs.Returns.{IsReturnMade}
 use Rattle.wm_table.specs.Table.{HoldsRowsOf, IsOneStep}
@@ -63,11 +66,13 @@ return_works s number change is =
     ap (λ (t : State). t.works) is.step.state ∙ ap (λ (c : StepChange). (after s c.event).works) is.change_is
     ∙ ap (λ (found : Option Run). (returned_of s found).works) is.found
 
--- and so does the graph
-pub return-viewed : (s made : State) (graph : List NodeFields) (number : ℕ) (change : StepChange) → IsViewed s graph → IsReturn s number change
-    → made ≡ changed_state change s → IsViewed made graph
-return-viewed s made graph number change viewed is made_is =
-    viewed-step s made graph graph change viewed is.step made_is (viewed.graph_is ∙ ap nodes_of (sym (return_works s number change is)))
+-- and so do the graph and the index
+pub return-viewed : (s made : State) (graph : List NodeFields) (index : List Entry) (number : ℕ) (change : StepChange) → IsViewed s graph index
+    → IsReturn s number change → made ≡ changed_state change s → IsViewed made graph index
+return-viewed s made graph index number change viewed is made_is =
+    let works = return_works s number change is in
+    viewed-step s made graph graph index index change viewed is.step made_is (viewed.graph_is ∙ ap nodes_of (sym works))
+    (subst (λ (works : List Record). AreEntriesOf works index) (sym works) viewed.entries_are)
 
 -- one run fewer is there
 others-fewer : (number : ℕ) (runs : List Run) (run : Run) → run_numbered number runs ≡ Some run → length (other_runs number runs) + 1 ≤ length runs

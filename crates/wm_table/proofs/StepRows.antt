@@ -23,7 +23,7 @@ use Rattle.wm_machine.proofs.Stops.{stopped_in}
 use Rattle.wm_machine.proofs.Turns.{turned_at}
 use Rattle.wm_machine.specs.Rows.{row_of, rows_of}
 use Rattle.wm_machine.specs.Valid.{Valid}
-use Rattle.wm_steps.proofs.ReplacedRecords.{keeps_number, number-kept, other_works-above, seqs-set, still_keep, All-seq, All-set, KeepsNumber, WorksAscend-set}
+use Rattle.wm_steps.proofs.ReplacedRecords.{keeps_number, number-kept, other_works-above, rows-set, seqs-set, still_keep, All-seq, All-set, KeepsNumber, WorksAscend-set}
 use Rattle.wm_steps.specs.StepChanges.{changed_state, next_run_by, other_works, put_replaced, put_work, remove_numbered, row_changes, runs_by, seqs_of, with_replaced, without, HaveNextNumbers, Fits, KeepsPlace, KeepsRow}
 use Rattle.wm_table.specs.Returns.{new_runs}
 use Rattle.wm_table.specs.Table.{HoldsRowsOf}
@@ -63,12 +63,6 @@ rows-replaced next (replaced ∷ later) works keep below =
     (ap (changed (map put_replaced later)) (put_row-at works replaced.index replaced.work keep.0 below.0) ∙ rest.0, rest.1)
 
 -- ---- a record that takes the place of one of its row
-
-pub rows-set : (works : List Record) (i : ℕ) (new : Record) → slice_get (map row_of works) i ≡ Some (row_of new)
-    → map row_of (set works i new) ≡ map row_of works
-rows-set [] i new is = refl
-rows-set (work ∷ works) zero new is = ap (λ (row : Row). row ∷ map row_of works) (sym (same_Some (row_of work) (row_of new) is))
-rows-set (work ∷ works) (suc i) new is = ap (λ rest. row_of work ∷ rest) (rows-set works i new is)
 
 -- records that tell something have the same rows and numbers
 record IsTold (next : ℕ) (works new : List Record) : Type 0 where
@@ -201,18 +195,6 @@ new_runs-few (Stop numbers) = omega arith
 pub removed_fit : (s : State) (change : StepChange) → Valid s → Fits s change → AllByRecursion (λ number. number < 2 ^ 53) change.removed
 removed_fit s change valid fits =
     All-weaker change.removed (λ number one. one_gives s.works (λ work below is. omega (arith, valid.works.fits)) valid.works.numbers one) fits.removed
-
--- the records that are replaced are there
-pub replaced_within : (works : List Record) (replaced : List Replacement) → AllByRecursion (KeepsPlace works) replaced
-    → AllByRecursion (λ r. r.index < length works) replaced
-replaced_within works replaced keep =
-    All-weaker replaced (λ r is.
-    omega (arith, slice_get_within (seqs_of works) r.index r.work.seq (keeps_number works r is), length-map works (λ (work : Record). work.seq))) keep
-
--- and so are those that tell something
-pub told_within : (works : List Record) (told : List Replacement) → AllByRecursion (KeepsRow works) told → AllByRecursion (λ r. r.index < length works) told
-told_within works told keep =
-    All-weaker told (λ r is. omega (arith, slice_get_within (map row_of works) r.index (row_of r.work) is, length-map works row_of)) keep
 
 -- each run is at one of its turns
 pub turns_left : (s : State) → Valid s → AllByRecursion (λ run. run.turn ≤ 999) s.runs

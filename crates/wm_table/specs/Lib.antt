@@ -1,5 +1,4 @@
 pub mod Acknowledged
-pub mod Following
 pub mod Images
 pub mod Inputs
 pub mod Parts

@@ -23,7 +23,6 @@ ghost use Rattle.wm_machine.specs.Step.{role_of};
 ghost use Rattle.wm_roll.specs.Parts.{without};
 
 mod carry;
-mod follow;
 mod row_changes;
 pub mod ticket;
 
@@ -447,7 +446,11 @@ impl<K: Keeper, M: Mark> Table<K, M> {
             roll: _,
             of: _,
         } = self;
-        let View { state, graph: _ } = view;
+        let View {
+            state,
+            graph: _,
+            index: _,
+        } = view;
         TableEnd {
             first,
             last: state,

@@ -15,5 +15,6 @@ mod named;
 mod plans;
 
 pub use checks::check;
+pub use members::unfinished;
 pub use named::named_by;
 pub use plans::{GroupPlan, PlanFault, plan};

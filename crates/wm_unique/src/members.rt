@@ -97,7 +97,8 @@ pub fn first_unfinished(works: &[Record], group: &[u64]) -> Option<u64>
     first_number_unfinished(works, group)
 }
 
-/// The numbers of the members that aren't finished.
+/// The numbers of those works of a group that aren't finished. `group` has the numbers of some of
+/// the records, ascending. Memory that is refused is the only error.
 pub fn unfinished(alloc: Global, works: &[Record], group: &[u64]) -> Result<Items<u64>, AllocError>
     requires in_order { AllLater IsBefore works.now }
     requires group { AreNumbersOf works.now group.now }

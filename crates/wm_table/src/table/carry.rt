@@ -11,25 +11,28 @@ ghost use Rattle.wm_machine.specs.Rows.{rows_of};
 ghost use Rattle.wm_machine.specs.Runs.{other_runs, with_out, with_stopped};
 ghost use Rattle.wm_machine.specs.Turns.{with_turned};
 ghost use Rattle.wm_machine.specs.Valid.{AreNumberedInOrder};
+ghost use Rattle.wm_steps.specs.Entries.{prepared_entries, AreEntriesOf, IsFollowable};
 ghost use Rattle.wm_steps.specs.Numbers.{Ascend};
 ghost use Rattle.wm_steps.specs.StepChanges.{changed_state, instances_by, new_observers, next_run_by, observers_by, row_changes, runs_by, set_by, with_replaced, without, IsStepOf};
 ghost use Rattle.wm_machine.specs.declared.event.Event.TheVariants as event;
 ghost use Rattle.wm_runs.specs.Reports.{IsOut};
-ghost use Rattle.wm_table.specs.Following.{placed_node, AreAddable};
+ghost use Rattle.wm_steps.specs.Following.{placed_node, AreAddable};
 ghost use Rattle.wm_table.specs.Images.{KeepsImages, LeavesBefore, LeavesOnly, MakesImages};
 ghost use Rattle.wm_table.specs.Returns.{new_runs, IsReturnMade};
 ghost use Rattle.wm_table.specs.Table.{HasRoom, HoldsRowsOf, TroubleCause};
 
 use crate::table::Trouble;
-use crate::table::follow::{add_nodes, change_nodes};
 use crate::table::row_changes::row_changes;
 use std::alloc::{AllocError, Global};
 use std::mem;
 use wm_collections::{Items, Text, is_among};
 use wm_graph::Graph;
+use wm_index::Index;
 use wm_keeper::{Change, Keeper};
 use wm_machine::{Event, Instance, Record, Run, State, WorkQuery};
 use wm_runs::returned;
+use wm_steps::entries::{prepare_entries, settle_entries, undo_entries};
+use wm_steps::follow::{add_nodes, change_nodes};
 use wm_steps::{Replacement, RunChange, SettingChange, StepChange, View, is_listed};
 
 /// The lists that a step adds to, while their room counts.
@@ -348,11 +351,13 @@ pub(crate) fn commit<K: Keeper>(keeper: &mut K, changes: &[Change]) -> Result<()
     Ok(())
 }
 
-/// Takes all memory that a change needs, and then commits its rows.
+/// Takes all memory that a change needs, and then commits its rows. Where there is trouble, the index
+/// has the entries of the works still.
 fn store<K: Keeper>(
     alloc: Global,
     lists: &mut Lists,
     graph: &mut Graph,
+    index: &mut Index,
     keeper: &mut K,
     change: &StepChange,
 ) -> Result<(), Trouble>
@@ -361,6 +366,8 @@ fn store<K: Keeper>(
     requires placed { AllByRecursion FitsRow change.now.placed }
     requires apart { AreOfDifferentNumbers (row_changes change.now) }
     requires addable { AreAddable graph.old (map placed_node change.now.placed) }
+    requires entries { AreEntriesOf lists.old.works.items index.old }
+    requires follows { IsFollowable lists.old.works.items change.now }
     ensures works { lists.new.works.items ≡ lists.old.works.items }
     ensures runs { lists.new.runs.items ≡ lists.old.runs.items }
     ensures observers { lists.new.observers.items ≡ lists.old.observers.items }
@@ -374,6 +381,8 @@ fn store<K: Keeper>(
     ensures log_room { OnOk result (vec_len lists.new.log + (vec_len lists.new.runs + 2) ≤ vec_capacity lists.new.log) }
     ensures nodes { OnOk result (graph.new ≡ graph.old ++ map placed_node change.now.placed) }
     ensures first_nodes { take (length graph.old) graph.new ≡ graph.old }
+    ensures entries { OnOk result (index.new ≡ prepared_entries change.now index.old) }
+    ensures entries_err { OnErr result (AreEntriesOf lists.old.works.items index.new) }
     ensures ok { OnOk result (IsAtMost (changed_rows (row_changes change.now) (K.store keeper.old)) (K.store keeper.new).rows) }
     ensures err { OnErr result (IsAtMost (K.store keeper.old).rows (K.store keeper.new).rows) }
     ensures images { OnOk result (MakesImages (row_changes change.now) (K.store keeper.old) (K.store keeper.new)) }
@@ -386,7 +395,14 @@ fn store<K: Keeper>(
     let changes = row_changes(alloc, change)?;
     lists.reserve(change.placed.len(), new_observers(&change.setting))?;
     add_nodes(graph, change.placed.as_slice())?;
-    commit(keeper, &changes)
+    prepare_entries(index, lists.works.as_slice(), change)?;
+    match commit(keeper, &changes) {
+        Ok(()) => Ok(()),
+        Err(trouble) => {
+            undo_entries(index, lists.works.as_slice(), change);
+            Err(trouble)
+        }
+    }
 }
 
 /// Carries the change of a step out: the event is appended, the rows that change are committed at
@@ -420,9 +436,17 @@ pub fn carry_out<K: Keeper>(
 {
     let count = view.graph.len();
     let mut lists = Lists::take(alloc, &mut view.state, log);
-    match store(alloc, &mut lists, &mut view.graph, keeper, &change) {
+    match store(
+        alloc,
+        &mut lists,
+        &mut view.graph,
+        &mut view.index,
+        keeper,
+        &change,
+    ) {
         Ok(()) => {
             change_nodes(&mut view.graph, &change);
+            settle_entries(&mut view.index, lists.works.as_slice(), &change);
             lists.change(alloc, &mut view.state, change);
             lists.put_back(&mut view.state, log);
             Ok(())

@@ -27,14 +27,16 @@ use Rattle.wm_machine.specs.declared.record.Record.{Record}
 use Rattle.wm_machine.specs.declared.reply.Reply.TheVariants as reply
 use Rattle.wm_machine.specs.declared.state.Run.{Run}
 use Rattle.wm_machine.specs.declared.state.State.{State}
-use Rattle.wm_steps.proofs.ManyRows.{setting_with-step, KeepNodes}
+use Rattle.wm_steps.proofs.ManyRows.{setting_with-step, unsucceeding-freeing, KeepNodes}
+use Rattle.wm_steps.proofs.Unsucceeding.{Unsucceeding}
 use Rattle.wm_steps.proofs.Views.{reached-view}
-use Rattle.wm_steps.specs.Nodes.{KeepsNode}
-use Rattle.wm_steps.specs.Replacements.{at_index, or_same, replacements}
-use Rattle.wm_steps.specs.StepChanges.{row_changes, setting_with, with_replaced}
+use Rattle.wm_steps.specs.Readiness.{TouchesFreed}
+use Rattle.wm_steps.specs.Replacements.{at_index, or_same, replacements, MayReplace}
+use Rattle.wm_steps.specs.StepChanges.{changed_state, row_changes, setting_with, with_replaced}
 use Rattle.wm_steps.specs.declared.change.Replacement.{Replacement}
 use Rattle.wm_steps.specs.declared.change.RunChange.TheVariants.{Stop}
 use Rattle.wm_steps.specs.declared.change.SettingChange.TheVariants as set
+use Rattle.wm_steps.specs.declared.change.StepChange.{StepChange}
 use Rattle.wm_commands.proofs.conditions.execute.Goals as goal
 
 -- ---- the runs
@@ -66,9 +68,17 @@ where_or_same false new work = refl
 put_back-nodes : (s : State) (conditions : Conditions) → Valid s → KeepNodes (put_back_where conditions s.runs) s.works
 put_back-nodes s conditions valid =
     All-weaker s.works (λ work running. cond_both (is_put_back_by conditions s.runs work) (Some (put_back work)) None
-    (λ (o : Option Record). KeepsNode work (or_same work o))
-    (λ e. record { seq = refl; prior = refl; succeeded = λ is. absurd (false≢true (sym (ap is_succeeded (running e)) ∙ is)) })
-    (λ e. record { seq = refl; prior = refl; succeeded = λ is. is })) (put_back-running s conditions valid)
+    (λ (o : Option Record). MayReplace work (or_same work o))
+    (λ e. record { seq = refl; id = refl; name = inl refl; prior = refl; succeeded = λ is. absurd (false≢true (sym (ap is_succeeded (running e)) ∙ is)) })
+    (λ e. record { seq = refl; id = refl; name = inl refl; prior = refl; succeeded = λ is. is })) (put_back-running s conditions valid)
+
+-- and doesn't succeed
+put_back-freeing : (s : State) (conditions : Conditions) (change : StepChange) → Valid s
+    → AllByRecursion (λ r. TouchesFreed s.works (changed_state change s).works change r.work) (put_back_by conditions s.runs s.works)
+put_back-freeing s conditions change valid =
+    unsucceeding-freeing (put_back_where conditions s.runs) s.works (changed_state change s).works change (put_back-nodes s conditions valid)
+    (All-any s.works (λ work. cond_both (is_put_back_by conditions s.runs work) (Some (put_back work)) None
+    (λ (o : Option Record). Unsucceeding work (or_same work o)) (λ e is. absurd (false≢true is)) (λ e is. is)))
 
 -- where none is put back, none takes the place of another
 none-replaced : (conditions : Conditions) (runs : List Run) (i : ℕ) (works : List Record)
@@ -125,7 +135,7 @@ conditions-executed s line conditions valid =
             runs = runs;
             works = with_replaced replaced s.works ++ [];
             next = s.next + 0;
-          }) (stopped-under s conditions valid)) refl;
+          }) (stopped-under s conditions valid)) refl (put_back-freeing s conditions (setting_with (set.Conditions conditions) replaced (Stop stopped) e) valid);
       rows = rows-put_back s conditions e valid;
     }
 

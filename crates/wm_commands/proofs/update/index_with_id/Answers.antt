@@ -1,14 +1,11 @@
-use Rattle.std.proofs.Common.{Bool, rules, tests}
-use Rattle.std.proofs.lemmas.Iterator.{YieldsList-from_slice}
-use Rattle.std.proofs.lemmas.Iterator.Search.{position_from_yields_List}
-use Rattle.std.specs.Str.{bytes_eq}
-use Rattle.wm_machine.specs.declared.record.Record.{Record}
-use Rattle.wm_steps.proofs.Lookups.{searched}
+use Rattle.std.proofs.Common.{◌≡◌, rules, sym, ◌∙◌}
+use Rattle.wm_commands.proofs.IndexedWorks.{index-found}
+use Rattle.wm_steps.proofs.Views.{reached-view}
 use Rattle.wm_commands.proofs.update.index_with_id.Goals as goal
 
-pub returns : goal.returns
-returns c =
-    let works = c.args.works.now in
-    let test : Record → Bool = λ work. bytes_eq work.request.id c.args.id in
-    searched test works c.position.result
-    (position_from_yields_List test _ _ c.position.result c.position.ensures.ran (YieldsList-from_slice works cc) (λ x b q k. search (rules, tests)))
+pub returns-in-Some : goal.returns-in-Some
+returns-in-Some c =
+    let s = c.args.view.now in
+    let works : c.as_slice.result.now ≡ s.works = search rules in
+    index-found c.as_slice.result.now s.works c.args.id c.in-Some.number c.index_numbered.result works
+    (reached-view _ s _ c.view.view_is c.view.invariant).works.in_order (sym c.in-Some.is ∙ c.number_of.ensures) c.index_numbered.ensures

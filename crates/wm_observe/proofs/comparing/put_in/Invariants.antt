@@ -1,5 +1,5 @@
 use Rattle.std.proofs.Common.{◌≡◌, drop}
-use Rattle.wm_observe.specs.Compared.{put_in}
+use Rattle.wm_steps.specs.Touched.{put_in}
 use Rattle.wm_observe.proofs.comparing.put_in.Given as goal
 
 -- what the others leave of the last so far is what all leave of the record

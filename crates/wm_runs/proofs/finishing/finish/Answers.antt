@@ -20,7 +20,8 @@ use Rattle.wm_machine.specs.Step.{IsEnd, IsReport, IsTimeout}
 use Rattle.wm_machine.specs.Valid.{IsWorkOf, Valid}
 use Rattle.wm_machine.specs.declared.event.End.TheVariants.{Retry}
 use Rattle.wm_machine.specs.declared.event.Event.TheVariants as event
-use Rattle.wm_runs.proofs.Reaching.{change-keeps, end-agree, ended-same}
+use Rattle.wm_runs.proofs.Freeing.{end-freeing, retry-freeing}
+use Rattle.wm_runs.proofs.Reaching.{change-keeps, end-agree, ended-same, IsSameWork}
 use Rattle.wm_runs.proofs.Reporting.{counted, may-give}
 use Rattle.wm_runs.proofs.RunLookups.{found-numbered}
 use Rattle.wm_runs.specs.Builds.{over, IsFinish}
@@ -69,9 +70,9 @@ ends-agree s i run work end valid at of =
 
 -- each record keeps its node where a run of a work ends
 run-keeps : (s : State) (i : ℕ) (run : Run) (work itself : Record) (to : Reach) → Valid s → slice_get s.works i ≡ Some work → IsWorkOf run work
-    → itself.seq ≡ work.seq → itself.prior ≡ work.prior → KeepNodes (change_by itself to) s.works
-run-keeps s i run work itself to reached at of seq prior =
-    change-keeps itself work to s.works reached.works.in_order (stored-at s.works i work at) (ap is_open of.running) seq prior
+    → IsSameWork work itself → KeepNodes (change_by itself to) s.works
+run-keeps s i run work itself to reached at of same =
+    change-keeps itself work to s.works reached.works.in_order (stored-at s.works i work at) (ap is_open of.running) same
 
 -- the run is over by this end
 finish-step : (s : State) (number i : ℕ) (told : Report) (run : Run) (work : Record) (end : End) → IsReported s number i told run work
@@ -91,6 +92,9 @@ finish-step s number i told run work end is told_is =
     let itself = ended_as work.request.period s.now end work in
     let to = end_reach work.request.period s.now work.seq end (nodes_of s.works) in
     let same = ended-same work.request.period s.now end work in
+    let keeps = run-keeps s i run work itself to is.is_found.valid is.is_found.at is.is_found.of same in
+    let freeing =
+    end-freeing s work work.request.period end (over run) (event.Finish run.run end) is.is_found.valid (stored-at s.works i work is.is_found.at) keeps in
     record {
       reported = This (given_by end);
       gave = given_by end;
@@ -99,10 +103,9 @@ finish-step s number i told run work end is told_is =
       ends = ap (λ n. role.Ends n (This (given_by end))) named;
       how = refl;
       step =
-          replacing_all-step s gone (change_by itself to) (end_in s run end) (over run) (event.Finish run.run end) valid legal
-          (run-keeps s i run work itself to is.is_found.valid is.is_found.at is.is_found.of same.0 same.1)
+          replacing_all-step s gone (change_by itself to) (end_in s run end) (over run) (event.Finish run.run end) valid legal keeps
           (ends-agree s i run work end is.is_found.valid is.is_found.at is.is_found.of) refl
-          (after_finish s run.run end legal);
+          (after_finish s run.run end legal) freeing;
     }
 
 -- a report that asks for one more turn where the run doesn't go on is in the last one
@@ -131,6 +134,8 @@ timeout-step s number i told run work progress is stays told_is =
     let legal : IsTimeout s run.run = record { progress = progress; report = report; none_left = omega arith } in
     let gone : State = record s { runs = other_runs run.run s.runs; instances = with_out false run.instance s.instances } in
     let touch = change_by (retried s.now work) reach.Stays in
+    let keeps = run-keeps s i run work (retried s.now work) reach.Stays is.is_found.valid is.is_found.at is.is_found.of
+    (record { seq = refl; id = refl; name = refl; prior = refl }) in
     record {
       reported = SomeMore;
       gave = More progress;
@@ -139,10 +144,9 @@ timeout-step s number i told run work progress is stays told_is =
       ends = ap (λ n. role.Ends n SomeMore) named;
       how = refl;
       step =
-          replacing_all-step s gone touch (end_in s run Retry) (over run) (event.TimedOut run.run) valid legal
-          (run-keeps s i run work (retried s.now work) reach.Stays is.is_found.valid is.is_found.at is.is_found.of refl refl)
+          replacing_all-step s gone touch (end_in s run Retry) (over run) (event.TimedOut run.run) valid legal keeps
           (ends-agree s i run work Retry is.is_found.valid is.is_found.at is.is_found.of) refl
-          (after_timed_out s run.run legal);
+          (after_timed_out s run.run legal) (retry-freeing s work (over run) (event.TimedOut run.run) keeps);
     }
 
 -- the wish for one more turn comes with what is told of the progress

@@ -16,4 +16,4 @@ replaced_by-requires-clause-rises c =
     let came : c.end_reach.result ≡ Ok to = search rules in
     let rise : RiseFrom work.seq (numbers_of to) =
     subst (λ found. IfOk found (λ reach. RiseFrom work.seq (numbers_of reach))) came c.end_reach.ensures.rises in
-    same-rise work.seq itself (ended s.now end work) (numbers_of to) is (ended-same work.request.period s.now end work).0 rise
+    same-rise work.seq itself (ended s.now end work) (numbers_of to) is (ended-same work.request.period s.now end work).seq rise

@@ -40,6 +40,7 @@ return-step s number run valid found stopped =
       state =
           unplaced gone s.works s.works refl ∙ ap (λ n. record s { runs = other_runs n s.runs; instances = with_out false run.instance s.instances }) (sym named)
           ∙ sym (ap (returned_of s) found);
+      freeing = tt;
     }
 
 pub returns : goal.returns

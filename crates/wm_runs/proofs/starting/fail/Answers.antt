@@ -13,6 +13,7 @@ use Rattle.wm_machine.specs.declared.event.Cause.{Cause}
 use Rattle.wm_machine.specs.declared.record.Record.{Record}
 use Rattle.wm_machine.specs.declared.state.State.{State}
 use Rattle.wm_machine.specs.declared.event.Event.TheVariants as event
+use Rattle.wm_runs.proofs.Freeing.{no_start-freeing}
 use Rattle.wm_runs.proofs.Reaching.{change-keeps, no_start-agree, not_started-same}
 use Rattle.wm_runs.specs.Builds.{IsClaiming}
 use Rattle.wm_runs.specs.Reached.{change_by, not_started_reach, replaced_by_no_start}
@@ -41,12 +42,12 @@ failure-claims s work cause valid first refused =
     let unfinished = open-waiting work.phase (first_of-waiting s work first) in
     let same = not_started-same work.request.period s.now work in
     let agree = no_start-agree work.request.period s.now work s.works valid.works.in_order stored unfinished in
+    let keeps = change-keeps itself work to s.works valid.works.in_order stored unfinished same in
     record {
       step =
-          replacing_all-step s s touch (not_started_in s work) Unchanged (event.StartFailed work.seq cause) valid legal
-          (change-keeps itself work to s.works valid.works.in_order stored unfinished same.0 same.1)
+          replacing_all-step s s touch (not_started_in s work) Unchanged (event.StartFailed work.seq cause) valid legal keeps
           (subst (λ kind. AllByRecursion (λ w. after_change touch w ≡ not_started_by s.now work.seq kind s.works w) s.works) period agree) refl
-          (after_start_failed s work.seq cause legal);
+          (after_start_failed s work.seq cause legal) (no_start-freeing s work Unchanged (event.StartFailed work.seq cause) keeps);
       claimed = refl;
     }
 

@@ -15,4 +15,4 @@ replaced_by-requires-clause-rises c =
     let came : c.not_started_reach.result ≡ Ok to = search rules in
     let rise : RiseFrom work.seq (numbers_of to) =
     subst (λ found. IfOk found (λ reach. RiseFrom work.seq (numbers_of reach))) came c.not_started_reach.ensures.rises in
-    same-rise work.seq itself (not_started s.now work) (numbers_of to) is (not_started-same work.request.period s.now work).0 rise
+    same-rise work.seq itself (not_started s.now work) (numbers_of to) is (not_started-same work.request.period s.now work).seq rise

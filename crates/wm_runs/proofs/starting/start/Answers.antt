@@ -1,4 +1,5 @@
-use Rattle.std.proofs.Common.{◌≡◌, ℕ, List, Option, Some, Ok, rules, refl, sym, subst}
+use Rattle.std.proofs.Common.{◌≡◌, ℕ, List, Option, Some, Ok, rules, refl, sym, subst, inl}
+use Rattle.std.proofs.lemmas.Bool.{false≢true}
 use Rattle.std.specs.Prelude.{IsSomeAnd}
 use Rattle.wm_data.specs.declared.data.DataEntry.{DataEntry}
 use Rattle.wm_machine.specs.declared.event.Event.{Event}
@@ -24,7 +25,7 @@ use Rattle.wm_steps.proofs.Lookups.{All-at}
 use Rattle.wm_steps.proofs.Nodes.{open_not_succeeded}
 use Rattle.wm_steps.proofs.StepFits.{replacing-step}
 use Rattle.wm_steps.proofs.Views.{reached-view}
-use Rattle.wm_steps.specs.Nodes.{KeepsNode}
+use Rattle.wm_steps.specs.Replacements.{MayReplace}
 use Rattle.wm_steps.specs.StepChanges.{replacing}
 use Rattle.wm_steps.specs.declared.change.RunChange.TheVariants.{Begin}
 use Rattle.wm_runs.proofs.starting.start.Goals as goal
@@ -63,15 +64,17 @@ start-claims s i work idle input valid first is_idle takes =
     let reached = after_start s s.next_run work.seq idle.number input legal in
     let fine = IsRecord-started work (first_of-waiting s work first.is_first) (All-at IsRecord s.works i work valid.works.records first.at) in
     let unfinished = open-waiting work.phase (first_of-waiting s work first.is_first) in
-    let keeps : KeepsNode work (started work) = record {
+    let keeps : MayReplace work (started work) = record {
       seq = refl;
+      id = refl;
+      name = inl refl;
       prior = refl;
       succeeded = λ is. absurd (open_not_succeeded work.phase unfinished is);
     } in
     record {
       step =
-          replacing-step s (with_start s work idle input) i work started (Begin run) (start_event s work idle input) valid first.at keeps fine legal refl
-          reached;
+          replacing-step s (with_start s work idle input) i work started (Begin run) (start_event s work idle input) valid first.at keeps
+          (λ is. absurd (false≢true is)) fine legal refl reached;
       claimed = subst (λ (t : State). IsClaimOf t (start_event s work idle input) (claimed.Run s.next_run input)) (sym reached) (begun s work idle input valid);
     }
 

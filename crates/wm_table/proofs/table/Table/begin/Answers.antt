@@ -28,3 +28,6 @@ returns-clause-images_err g c =
     (unopened-left store rows instances opening.changes.items opening.first c.args.keeper now c.in-Err-commit.trouble c.requires.rows
     (rw c.deref.ensures.value at c.in-Ok.ensures.changes) (rw c.deref.ensures.value at c.in-Ok.ensures.opened)
     (rw c.deref-2.ensures.value at c.in-Err-commit.ensures.images_err))
+
+pub returns-in-Ok-commit-clause-sound : goal.returns-in-Ok-commit-clause-sound
+returns-in-Ok-commit-clause-sound g c = rw c.deref.ensures.value at c.in-Ok.ensures.sound

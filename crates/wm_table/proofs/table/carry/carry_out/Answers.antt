@@ -5,14 +5,18 @@ use Rattle.wm_machine.specs.Rows.{rows_of}
 use Rattle.wm_machine.specs.Valid.{Valid}
 use Rattle.wm_machine.specs.declared.state.Run.{Run}
 use Rattle.wm_machine.specs.declared.state.State.{State}
+use Rattle.wm_index.specs.Entries.{Entry}
+use Rattle.wm_machine.specs.declared.record.Record.{Record}
+use Rattle.wm_steps.specs.Entries.{AreEntriesOf, IsFollowable}
 use Rattle.wm_steps.specs.Nodes.{nodes_of}
-use Rattle.wm_steps.specs.StepChanges.{changed_state, Fits, IsStepOf}
+use Rattle.wm_steps.specs.StepChanges.{changed_state, changed_works, Fits, IsStepOf}
 use Rattle.wm_steps.specs.declared.change.StepChange.{StepChange}
 use Rattle.wm_table.proofs.Images.{images-kept, images-made}
 use Rattle.wm_table.proofs.InstancePlaces.{ordered-is}
-use Rattle.wm_table.proofs.StepNodes.{step-addable, step-grown, step-nodes, step-removed, step-replaced, viewed-step}
-use Rattle.wm_table.proofs.StepRows.{removed_fit, replaced_within, rows-made, told_within, turns_left, new_runs-few, runs-changed}
-use Rattle.wm_table.specs.Following.{nodes_by, placed_node, AreAddable}
+use Rattle.wm_steps.proofs.StepNodes.{step-addable, step-follows, step-grown, step-nodes, step-removed, step-replaced, viewed-step}
+use Rattle.wm_steps.proofs.ReplacedRecords.{replaced_within, told_within}
+use Rattle.wm_table.proofs.StepRows.{removed_fit, rows-made, turns_left, new_runs-few, runs-changed}
+use Rattle.wm_steps.specs.Following.{nodes_by, placed_node, AreAddable}
 use Rattle.wm_table.specs.Images.{LeavesBefore, LeavesOnly}
 use Rattle.wm_table.specs.Returns.{new_runs}
 use Rattle.wm_table.specs.Table.{HoldsRowsOf}
@@ -40,6 +44,34 @@ store-requires-clause-removed g c =
     let s = c.view.inside.state in
     let is = step-inside s _ c.args.change c.view.view_is c.requires.step in
     removed_fit s c.args.change c.view.invariant.valid is.fits
+
+-- the works stand in the lists
+works-are : (s : State) (works : List Record) (index : List Entry) → works ≡ s.works → AreEntriesOf s.works index → AreEntriesOf works index
+works-are s works index is are = subst (λ (all : List Record). AreEntriesOf all index) (sym is) are
+
+can-follow : (s now : State) (works : List Record) (change : StepChange) → s ≡ now → Valid s → IsStepOf now change → works ≡ s.works
+    → IsFollowable works change
+can-follow s now works change same valid is works_are =
+    subst (λ (all : List Record). IsFollowable all change) (sym works_are) (step-follows s change valid (step-inside s now change same is))
+
+pub store-requires-clause-entries : goal.store-requires-clause-entries
+store-requires-clause-entries g c =
+    works-are c.view.inside.state c.take-lists.result.works.items c.view.inside.index (search rules) c.view.invariant.entries_are
+
+pub store-requires-clause-follows : goal.store-requires-clause-follows
+store-requires-clause-follows g c =
+    can-follow c.view.inside.state _ c.take-lists.result.works.items c.args.change c.view.view_is c.view.invariant.valid c.requires.step (search rules)
+
+pub settle_entries-requires-clause-prepared : goal.settle_entries-requires-clause-prepared
+settle_entries-requires-clause-prepared g c = record {
+  before = c.view.inside.index;
+  were = works-are c.view.inside.state c.as_slice.result.now c.view.inside.index (search rules) c.view.invariant.entries_are;
+  are = c.in-Ok.ensures.entries;
+}
+
+pub settle_entries-requires-clause-follows : goal.settle_entries-requires-clause-follows
+settle_entries-requires-clause-follows g c =
+    can-follow c.view.inside.state _ c.as_slice.result.now c.args.change c.view.view_is c.view.invariant.valid c.requires.step (search rules)
 
 pub change_nodes-requires-clause-there : goal.change_nodes-requires-clause-there
 change_nodes-requires-clause-there g c =
@@ -93,8 +125,10 @@ invariant_of-view g c =
     let is = step-inside s _ change c.view.view_is c.requires.step in
     let all = grown-nodes s change c.view.inside.graph c.store.new.graph c.view.invariant.valid is.fits c.view.invariant.graph_is c.in-Ok.ensures.nodes in
     let made_is : c.put_back.new.state ≡ changed_state change s = search rules in
-    viewed-step s c.put_back.new.state c.view.inside.graph c.change_nodes.new.graph change c.view.invariant is made_is
-    (c.change_nodes.ensures ∙ ap (nodes_by change) all ∙ step-nodes s change c.view.invariant.valid is.fits)
+    let works : c.as_slice.result.now ≡ s.works = search rules in
+    let entries = subst (λ (works : List Record). AreEntriesOf (changed_works change works) c.settle_entries.new.index) works c.settle_entries.ensures in
+    viewed-step s c.put_back.new.state c.view.inside.graph c.change_nodes.new.graph c.view.inside.index c.settle_entries.new.index change c.view.invariant is
+    made_is (c.change_nodes.ensures ∙ ap (nodes_by change) all ∙ step-nodes s change c.view.invariant.valid is.fits) entries
 
 pub returns-in-Ok-clause-room : goal.returns-in-Ok-clause-room
 returns-in-Ok-clause-room g c =

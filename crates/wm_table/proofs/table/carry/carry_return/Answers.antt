@@ -16,7 +16,7 @@ invariant_of-view c =
     let is : IsReturn s c.args.number change =
     subst (λ (t : State). IsReturn t c.args.number change) (sym c.view.view_is) c.returned-change.ensures in
     let made_is : c.put_back.new.state ≡ changed_state change s = search rules in
-    return-viewed s c.put_back.new.state c.view.inside.graph c.args.number change c.view.invariant is made_is
+    return-viewed s c.put_back.new.state c.view.inside.graph c.view.inside.index c.args.number change c.view.invariant is made_is
 
 pub returns-clause-room : goal.returns-clause-room
 returns-clause-room c =

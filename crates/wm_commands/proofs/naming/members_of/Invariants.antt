@@ -1,7 +1,0 @@
-use Rattle.std.proofs.Common.{◌≡◌, take}
-use Rattle.wm_machine.specs.Group.{members_of, numbers_in}
-use Rattle.wm_commands.proofs.naming.members_of.Given as goal
-
--- the numbers of the members so far are there
-abbrev pub invariant-loop-work : goal.invariant-loop-work
-invariant-loop-work l = l.numbers ≡ numbers_in (members_of (take l.work-index l.works) l.name)

@@ -1,0 +1,21 @@
+use Rattle.std.proofs.Common.{◌≡◌, true, Result, Ok, Err, OnErr, sym}
+use Rattle.std.specs.Result.{is_err}
+use Rattle.wm_steps.proofs.EntryChanges.{entries-ascend, replaced-there}
+use Rattle.wm_steps.proofs.entries.prepare_entries.Goals as goal
+
+err_given : {A E : Type 0} (r : Result A E) (P : Type 0) → OnErr r P → is_err r ≡ true → P
+err_given (Ok x) P given err = absurd cc
+err_given (Err e) P given err = given
+
+pub put_each-requires-clause-there : goal.put_each-requires-clause-there
+put_each-requires-clause-there c = replaced-there c.args.works.now c.args.change.now c.requires.follows c.args.index.now c.requires.entries
+
+pub put_each-requires-clause-ascending : goal.put_each-requires-clause-ascending
+put_each-requires-clause-ascending c = entries-ascend c.args.works.now c.args.change.now c.requires.follows c.args.index.now c.requires.entries
+
+pub undo_entries-requires-clause-begun : goal.undo_entries-requires-clause-begun
+undo_entries-requires-clause-begun c = record {
+  before = c.args.index.now;
+  were = c.requires.entries;
+  begun = err_given c.put_each.result _ c.put_each.ensures.err (sym c.if-is_err.ensures.value);
+}

@@ -1,0 +1,20 @@
+use Rattle.std.proofs.Common.{List, take, sym, ap, ◌∙◌}
+use Rattle.wm_index.specs.Entries.{changed_at, has_seq, Entry}
+use Rattle.wm_steps.specs.Entries.{settling}
+use Rattle.wm_steps.proofs.EntryLists.{at-there, has-with_changed, settling-keeps, with_changed-more}
+use Rattle.wm_steps.proofs.entries.settle_each.Goals as goal
+
+pub settle_entry-requires : goal.settle_entry-requires
+settle_entry-requires c =
+    let replaced = c.args.replaced.now in
+    let i = c.loop-replacement.replacement-index in
+    let r = c.replacement-item.result in
+    ap (λ (entries : List Entry). has_seq entries r.work.seq) c.loop-replacement.invariant
+    ∙ has-with_changed settling (take i replaced) c.args.index.now r.work.seq settling-keeps
+    ∙ at-there replaced i r c.args.index.now c.loop-replacement-test.true c.replacement-item.is c.requires
+
+pub loop-replacement-preserved : goal.loop-replacement-preserved
+loop-replacement-preserved c =
+    let r = c.replacement-item.result in
+    c.settle_entry.ensures ∙ ap (changed_at (settling r.work) r.work.seq) c.loop-replacement.invariant
+    ∙ sym (with_changed-more settling c.args.replaced.now c.loop-replacement.replacement-index r c.args.index.now c.loop-replacement-test.true c.replacement-item.is)
