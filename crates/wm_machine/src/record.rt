@@ -3,6 +3,7 @@ ghost use Rattle.std.specs.Prelude.{◌≡◌};
 ghost use Rattle.wm_machine.specs.Closed.{is_open};
 ghost use Rattle.wm_machine.specs.Due.{due_of, times_of};
 ghost use Rattle.wm_machine.specs.First.{is_succeeded, is_waiting};
+ghost use Rattle.wm_machine.specs.Shown.{shown_in};
 ghost use Rattle.wm_machine.specs.Valid.{IsRecord};
 
 use std::alloc::{AllocError, Global};
@@ -47,6 +48,20 @@ impl Phase {
         ensures { result ≡ is_succeeded self }
     {
         matches!(self, Phase::Done(How::Succeeded))
+    }
+
+    /// The state shown of work in this phase, whose prerequisites have all succeeded or haven't.
+    pub fn shown(self, all_met: bool) -> Shown
+        ensures { result ≡ shown_in self all_met }
+    {
+        match self {
+            Phase::Waiting if all_met => Shown::Enqueued,
+            Phase::Waiting => Shown::Blocked,
+            Phase::Running => Shown::Running,
+            Phase::Done(How::Succeeded) => Shown::Succeeded,
+            Phase::Done(How::Failed) => Shown::Failed,
+            Phase::Done(How::Cancelled) => Shown::Cancelled,
+        }
     }
 }
 

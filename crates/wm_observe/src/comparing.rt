@@ -16,7 +16,7 @@ use crate::noting::notes;
 use std::alloc::{AllocError, Global};
 use wm_collections::{Items, is_among};
 use wm_machine::{Record, WorkInfo, work_numbered};
-use wm_query::{has_succeeded, info, shown_in, shown_of};
+use wm_query::{has_succeeded, info, shown_of};
 use wm_steps::{Replacement, StepChange, View, both};
 
 /// What the observers of a state are told of the step of a change. Without an observer nothing is
@@ -159,7 +159,7 @@ fn info_then(
     ensures { IfOk result (λ info. info
         ≡ info_of (changed_state change.entry.now view.entry.now).works then.entry.now) }
 {
-    let shown = shown_in(then.phase, all_met_then(view, change, then));
+    let shown = then.phase.shown(all_met_then(view, change, then));
     info(alloc, then, shown)
 }
 

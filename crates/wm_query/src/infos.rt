@@ -1,34 +1,20 @@
 //! What is told of a work.
 ghost use Rattle.std.specs.Prelude.{◌≡◌, IfOk};
 ghost use Rattle.wm_collections.specs.Lists.{AllLater};
-ghost use Rattle.wm_machine.specs.Shown.{due_shown, info_in, shown_in, shown_of};
+ghost use Rattle.wm_machine.specs.Shown.{due_shown, info_in, shown_of};
 ghost use Rattle.wm_machine.specs.Valid.{IsBefore, IsRecord};
 
 use crate::scan::all_met;
 use std::alloc::{AllocError, Global};
 use wm_collections::Replica;
-use wm_machine::{How, Phase, Record, Shown, WorkInfo};
-
-/// The state shown of a work in this phase, whose prerequisites have all succeeded or haven't.
-pub fn shown_in(phase: Phase, all_met: bool) -> Shown
-    ensures { result ≡ shown_in phase all_met }
-{
-    match phase {
-        Phase::Waiting if all_met => Shown::Enqueued,
-        Phase::Waiting => Shown::Blocked,
-        Phase::Running => Shown::Running,
-        Phase::Done(How::Succeeded) => Shown::Succeeded,
-        Phase::Done(How::Failed) => Shown::Failed,
-        Phase::Done(How::Cancelled) => Shown::Cancelled,
-    }
-}
+use wm_machine::{Record, Shown, WorkInfo};
 
 /// The state shown of a work among these.
 pub fn shown_of(works: &[Record], work: &Record) -> Shown
     requires { AllLater IsBefore works.now }
     ensures { result ≡ shown_of works.now work.now }
 {
-    shown_in(work.phase, all_met(works, work))
+    work.phase.shown(all_met(works, work))
 }
 
 /// When a work in this shown state is due, where that is told.

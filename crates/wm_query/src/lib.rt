@@ -13,7 +13,7 @@ mod queries;
 mod scan;
 
 pub use counts::counts_of;
-pub use infos::{info, shown_in, shown_of};
+pub use infos::{info, shown_of};
 pub use inputs::input_among;
 pub use queries::{answer, answer_to, has_tag, is_name, matches};
 pub use scan::{all_met, first_index, has_succeeded, idle_in, is_idle, is_live};
