@@ -5,14 +5,11 @@ use Rattle.std.proofs.lemmas.List.{map-append, take_more}
 use Rattle.wm_collections.proofs.Lists.{All-weaker, map-same}
 use Rattle.wm_collections.proofs.Places.{above-at}
 use Rattle.wm_graph.specs.Nodes.{NodeFields}
-use Rattle.wm_index.specs.Entries.{Entry}
 use Rattle.wm_machine.proofs.Runnings.{WorksAscend}
 use Rattle.wm_machine.specs.First.{is_succeeded}
 use Rattle.wm_machine.specs.Valid.{Valid}
 use Rattle.wm_machine.specs.declared.record.Record.{Record}
-use Rattle.wm_steps.specs.Entries.{AreEntriesOf}
 use Rattle.wm_steps.specs.Nodes.{node_of, nodes_of}
-use Rattle.wm_steps.specs.Views.{IsViewed}
 use Rattle.command_tests.specs.Waiting.{waiting_state, AreWaiting}
 
 pub waiting_valid : (works : List Record) (next : ℕ) → AreWaiting works → length works ≤ 100000 → length works < next → next ≤ 2 ^ 53
@@ -31,15 +28,6 @@ waiting_valid works next waiting few above fits = record {
   instances = record { few = omega arith; out = tt; numbered = tt };
   few_observers = omega arith;
   now = omega arith;
-}
-
--- such a state is seen through a view with the graph and the index of the works
-pub waiting_viewed : (works : List Record) (next : ℕ) (graph : List NodeFields) (index : List Entry) → AreWaiting works → length works ≤ 100000
-    → length works < next → next ≤ 2 ^ 53 → graph ≡ nodes_of works → AreEntriesOf works index → IsViewed (waiting_state works next) graph index
-waiting_viewed works next graph index waiting few above fits is are = record {
-  valid = waiting_valid works next waiting few above fits;
-  graph_is = is;
-  entries_are = are;
 }
 
 -- ---- the graph

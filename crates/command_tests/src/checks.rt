@@ -1,10 +1,14 @@
 //! The checks of an enqueue, of `wm_unique`, where several of them refuse a batch.
 ghost use Rattle.std.specs.Int.{to_be_bytes, w128};
-ghost use Rattle.std.specs.Prelude.{◌≡◌, ◌^◌, ◌≤◌, length, IfOk};
+ghost use Rattle.std.specs.Prelude.{◌≡◌, ◌||◌, ◌^◌, ◌≤◌, filter, length, IfOk};
+ghost use Rattle.std.specs.Str.{bytes_eq};
 ghost use Rattle.command_tests.specs.Waiting.{AreWaiting, IsNumbered};
 ghost use Rattle.wm_collections.specs.Lists.{AllLater};
+ghost use Rattle.wm_machine.specs.Group.{numbers_in};
 ghost use Rattle.wm_machine.specs.Valid.{IsBefore};
+ghost use Rattle.wm_request.specs.Batches.{has_id};
 ghost use Rattle.wm_request.specs.Requests.{IsRequest, IsShortText};
+ghost use Rattle.wm_unique.specs.Plans.{is_named_by, names_id};
 
 use crate::unique::{record, record_of, request};
 use part_tests::requests::within;
@@ -15,9 +19,9 @@ use uuid::Uuid;
 use wm_chain::batch_of;
 use wm_collections::{Items, Text};
 use wm_machine::{Phase, Record, Refusal};
-use wm_request::{Batch, Builder, Node, Request};
+use wm_request::{Batch, Builder, Node, Request, has_id};
 use wm_steps::{both, one};
-use wm_unique::{GroupPlan, check, named_by};
+use wm_unique::{GroupPlan, check};
 
 /// The number after the greatest that a work has.
 pub const NUMBERS_END: u64 = 1 << 53;
@@ -163,6 +167,33 @@ fn told_if(refusal: &Option<Refusal>) -> (&'static str, u128) {
         Some(refusal) => told(refusal),
         None => ("placed", 0),
     }
+}
+
+/// Whether a work has this id or comes after it.
+fn has_or_follows(node: &Node, id: Uuid) -> bool
+    ensures { result ≡ (bytes_eq node.now.request.id id || has_id node.now.after id) }
+{
+    node.request.id() == id || has_id(node.after.as_slice(), id)
+}
+
+/// Whether a work of a batch has this id or comes after it.
+fn names_id(nodes: &[Node], id: Uuid) -> bool
+    ensures { result ≡ names_id nodes.now id }
+{
+    nodes.iter().any(|node| has_or_follows(node, id))
+}
+
+/// The numbers of the records that a batch of these works names.
+fn named_by(alloc: Global, works: &[Record], nodes: &[Node]) -> Result<Items<u64>, AllocError>
+    ensures { IfOk result (λ numbers. numbers ≡ numbers_in (filter (is_named_by nodes.now) works.now)) }
+{
+    let mut numbers = Items::new(alloc);
+    for work in works {
+        if names_id(nodes, work.request.id()) {
+            numbers.push(work.seq)?;
+        }
+    }
+    Ok(numbers)
 }
 
 /// What a batch is told where the next new work gets this number.

@@ -3,7 +3,6 @@
 ghost use Rattle.std.specs.Prelude.{◌≡◌, ◌^◌, ◌<◌, ◌≤◌, [], length, IfOk, IfSome};
 ghost use Rattle.command_tests.specs.Waiting.{waiting_state, AreWaiting, ComesAnywhere};
 ghost use Rattle.wm_machine.specs.Built.{AreAsked};
-ghost use Rattle.wm_steps.specs.Entries.{AreEntriesOf};
 ghost use Rattle.wm_steps.specs.Nodes.{nodes_of};
 ghost use Rattle.wm_request.specs.Requests.{IsRequest, IsShortText};
 
@@ -18,10 +17,8 @@ use wm_collections::Items;
 use wm_commands::execute;
 use wm_conditions::Conditions;
 use wm_graph::Graph;
-use wm_index::Index;
 use wm_machine::{Command, Policy, Record, Reply, State, UniqueName};
 use wm_request::{Batch, Node, Request};
-use wm_steps::entries::index_of;
 use wm_steps::{View, both, one};
 
 /// A state of these works, where the next new work gets this number: it has no run, instance or
@@ -54,16 +51,6 @@ fn graph_of(alloc: Global, works: &[Record]) -> Result<Graph, AllocError>
     Ok(graph)
 }
 
-/// The graph of works that wait, and the index of them.
-fn parts_of(alloc: Global, works: &[Record]) -> Result<(Graph, Index), AllocError>
-    requires { AreWaiting works.now }
-    ensures { IfOk result (λ parts. (parts.0 ≡ nodes_of works.entry.now) × AreEntriesOf works.entry.now parts.1) }
-{
-    let graph = graph_of(alloc, works)?;
-    let index = index_of(alloc, works)?;
-    Ok((graph, index))
-}
-
 /// The view of such a state of works that wait.
 fn view(alloc: Global, works: Items<Record>, next: u64) -> Result<View, AllocError>
     requires waiting { AreWaiting works }
@@ -71,15 +58,9 @@ fn view(alloc: Global, works: Items<Record>, next: u64) -> Result<View, AllocErr
     requires above { length works < next }
     requires next { next ≤ 2 ^ 53 }
 {
-    let parts = parts_of(alloc, works.as_slice());
-    let (works, parts) = both(works, parts)?;
-    let (graph, index) = parts;
-    let state = state_of(alloc, works, next);
-    Ok(View {
-        state,
-        graph,
-        index,
-    })
+    let graph = graph_of(alloc, works.as_slice());
+    let (works, graph) = both(works, graph)?;
+    View::new(alloc, state_of(alloc, works, next), graph)
 }
 
 /// The request of the new work.

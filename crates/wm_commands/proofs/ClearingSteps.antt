@@ -1,5 +1,5 @@
 -- The step of an event that changes the records by a clearing: some take the place of others, some are removed, and new ones are placed.
-use Rattle.std.proofs.Common.{◌≡◌, ◌≢◌, ℕ, ◌+◌, ◌^◌, ◌<◌, ◌≤◌, pos, Bool, true, false, not, eqb, List, [], ◌∷◌, ◌++◌, filter, length, map, Option, Some, None, IfSome, refl, sym, ◌∙◌, ap, subst, arith}
+use Rattle.std.proofs.Common.{◌≡◌, ◌≢◌, ℕ, ◌+◌, ◌^◌, ◌<◌, ◌≤◌, pos, Bool, true, false, not, eqb, List, [], ◌∷◌, ◌++◌, filter, length, map, Option, Some, None, IfSome, refl, sym, ◌∙◌, ap, subst, arith, inl}
 use Rattle.std.specs.List.{AllByRecursion}
 use Rattle.std.proofs.lemmas.Bool.{and_parts, cond_both, eqb-false, false≢true}
 use Rattle.std.proofs.lemmas.Int.{ints}
@@ -198,6 +198,7 @@ module _ (s : State) (clearing : Clearing) (new : List Record) (e : Event) (vali
       replaced_rows = All-weaker replaced (λ r is. is.fits) given;
       placed_rows = fit;
       apart = all-apart;
+      alone = inl refl;
     };
     legal = legal;
     state =

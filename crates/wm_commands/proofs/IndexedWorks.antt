@@ -1,23 +1,21 @@
 -- What is found by an id, among works of different ids in ascending number.
-use Rattle.std.proofs.Common.{◌≡◌, ◌&&◌, ℕ, ◌<◌, Bool, true, false, cond, List, [], ◌∷◌, filter, slice_get, length, Option, Some, None, option_map, refl, sym, ◌∙◌, ap, subst, arith, inl, inr}
+use Rattle.std.proofs.Common.{◌≡◌, ◌&&◌, ℕ, ◌<◌, Bool, true, false, cond, List, [], ◌∷◌, filter, not, slice_get, length, Option, Some, None, option_map, refl, sym, ◌∙◌, ap, subst, arith, inl, inr}
 use Rattle.std.specs.List.{AllByRecursion}
 use Rattle.std.specs.Option.{is_some, MatchOption}
 use Rattle.std.specs.Str.{bytes_eq}
 use Rattle.std.proofs.lemmas.Bool.{cases_Bool, eq-eqb, ne_eqb}
-use Rattle.std.proofs.lemmas.Slice.Eq.{bytes_eq-Decides}
-use Rattle.wm_collections.specs.Lists.{AllLater}
+use Rattle.wm_collections.specs.Lists.{AllLater, is_among}
 use Rattle.wm_collections.proofs.Lists.{All-find, All-weaker}
+use Rattle.wm_commands.specs.Cleared.{stays}
 use Rattle.wm_machine.specs.Cancelled.{is_stored, work_with_id}
 use Rattle.wm_machine.specs.Group.{numbers_in}
 use Rattle.wm_machine.specs.Input.{work_numbered}
 use Rattle.wm_machine.specs.Plan.{is_unfinished}
 use Rattle.wm_machine.specs.Valid.{IsBefore}
 use Rattle.wm_machine.specs.declared.record.Record.{Record}
-use Rattle.wm_unique.proofs.Numbered.{filter_both, grouped_filter, numbers_filter}
+use Rattle.wm_steps.proofs.IdNumbers.{has_id, id-none, id-number, number_with_id}
+use Rattle.wm_unique.proofs.Numbered.{filter_both, grouped_filter, numbers_filter, numbers_passing}
 use Rattle.wm_unique.specs.Plans.{grouped, AreNumbersOf}
-
-abbrev pub number_with_id : List Record → List ℕ → Option ℕ
-number_with_id works id = option_map (λ (work : Record). work.seq) (work_with_id works id)
 
 -- an id is stored where a number is found by it
 pub stored-found : (works : List Record) (id : List ℕ) → is_some (number_with_id works id) ≡ is_stored works id
@@ -98,35 +96,20 @@ pub are-numbers : (test : Record → Bool) (works : List Record) (numbers : List
     → AreNumbersOf works numbers
 are-numbers test works numbers order are = subst (AreNumbersOf works) (sym are) (numbers_filter test works order)
 
-abbrev pub has_id : List ℕ → Record → Bool
-has_id id work = bytes_eq work.request.id id
-
-other_ids : (id : List ℕ) (work : Record) (works : List Record) → bytes_eq work.request.id id ≡ true → AllByRecursion (IsBefore work) works
-    → filter (has_id id) works ≡ []
-other_ids id work [] is order = refl
-other_ids id work (later ∷ works) is order =
-    let differs : bytes_eq later.request.id id ≡ false = elim (cases_Bool (bytes_eq later.request.id id)) as (λ _. bytes_eq later.request.id id ≡ false) [
-      | inl also ↦ absurd (order.0.id ((bytes_eq-Decides work.request.id id).0 is ∙ sym ((bytes_eq-Decides later.request.id id).0 also)))
-      | inr isnt ↦ isnt
-    ] in
-    rw differs (other_ids id work works is order.1)
-
-abbrev numbers_of_id : Option ℕ → List ℕ
+abbrev pub numbers_of_id : Option ℕ → List ℕ
 numbers_of_id None = []
 numbers_of_id (Some number) = number ∷ []
 
 -- no two works have one id
-pub id-numbers : (works : List Record) (id : List ℕ) → AllLater IsBefore works → numbers_of_id (number_with_id works id) ≡ numbers_in (filter (has_id id) works)
-id-numbers [] id order = refl
-id-numbers (work ∷ works) id order =
-    elim (cases_Bool (bytes_eq work.request.id id)) as (λ _. numbers_of_id (number_with_id (work ∷ works) id) ≡ numbers_in (filter (has_id id) (work ∷ works))) [
-      | inl is ↦ rw is (ap (λ (rest : List Record). work.seq ∷ numbers_in rest) (sym (other_ids id work works is order.0)))
-      | inr isnt ↦ rw isnt (id-numbers works id order.1)
-    ]
+found-numbers : (works : List Record) (id : List ℕ) (found : Option ℕ) → AllLater IsBefore works → found ≡ number_with_id works id
+    → numbers_of_id found ≡ numbers_in (filter (has_id id) works)
+found-numbers works id None order none = id-none works id order none
+found-numbers works id (Some number) order is = id-number works id number order is
 
-pub id-number : (works : List Record) (id : List ℕ) (number : ℕ) → AllLater IsBefore works → Some number ≡ number_with_id works id
-    → number ∷ [] ≡ numbers_in (filter (has_id id) works)
-id-number works id number order found = ap numbers_of_id found ∙ id-numbers works id order
-
-pub id-none : (works : List Record) (id : List ℕ) → AllLater IsBefore works → None ≡ number_with_id works id → [] ≡ numbers_in (filter (has_id id) works)
-id-none works id order none = ap numbers_of_id none ∙ id-numbers works id order
+-- those of an id that stay
+pub id-stays : (works : List Record) (removed id : List ℕ) → AllLater IsBefore works
+    → filter (λ number. not (is_among removed number)) (numbers_of_id (number_with_id works id))
+    ≡ numbers_in (filter (λ work. bytes_eq work.request.id id && stays removed work) works)
+id-stays works removed id order =
+    ap (filter (λ number. not (is_among removed number))) (found-numbers works id (number_with_id works id) order refl)
+    ∙ numbers_passing (λ number. not (is_among removed number)) (filter (has_id id) works) ∙ ap numbers_in (filter_both (has_id id) (stays removed) works)

@@ -5,7 +5,6 @@ pub mod ClearingSteps
 pub mod Enqueueing
 pub mod IndexedWorks
 pub mod MemberUpdates
-pub mod MergedNumbers
 pub mod NamedPlans
 pub mod Placings
 pub mod Updating

@@ -13,8 +13,8 @@ use std::alloc::{AllocError, Global};
 use wm_machine::{Command, Refusal, Reply, UniqueName};
 use wm_request::Batch;
 use wm_settings::Executed;
-use wm_steps::{View, both};
-use wm_unique::{GroupPlan, check, named_by};
+use wm_steps::{View, both, numbers_with_ids};
+use wm_unique::{GroupPlan, check, ids_named_by};
 
 /// Checks a batch, and places it by a plan where no check refuses it.
 pub fn check_and_place(
@@ -52,7 +52,8 @@ fn checked(
     ensures { IfOk result (λ found. found
         ≡ refusal_of_placing view.entry.now (placing_by plan.entry.now) batch.entry.now.works) }
 {
+    let ids = ids_named_by(alloc, batch.works().as_slice())?;
+    let known = numbers_with_ids(alloc, view, ids.as_slice())?;
     let works = view.state.works.as_slice();
-    let known = named_by(alloc, works, batch.works().as_slice())?;
     Ok(check(works, known.as_slice(), batch, plan, view.state.next))
 }

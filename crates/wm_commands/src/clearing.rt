@@ -15,12 +15,11 @@ ghost use Rattle.wm_steps.specs.Numbers.{Ascend};
 ghost use Rattle.wm_steps.specs.Replacements.{by_numbers, replacement_of};
 ghost use Rattle.wm_unique.specs.Plans.{numbered_passes, AreNumbersOf};
 
-use crate::merging::merged;
 use std::alloc::{AllocError, Global};
 use wm_collections::{Items, Replica};
 use wm_lifecycle::closed;
 use wm_machine::{How, Phase, Record, Run, index_numbered, work_numbered};
-use wm_steps::{Replacement, View, at, is_listed};
+use wm_steps::{Replacement, View, at, is_listed, merged};
 
 /// Which records change where works are cancelled and others are let go, by their numbers.
 #[derive(Drop)]

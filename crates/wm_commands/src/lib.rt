@@ -14,7 +14,6 @@ mod clearing;
 mod conditions;
 mod enqueue;
 mod member;
-mod merging;
 mod naming;
 mod placement;
 mod placing;

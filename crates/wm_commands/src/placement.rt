@@ -63,14 +63,7 @@ fn placement_of(
     let stored = view.state.works.as_slice();
     let name = name_in(alloc, named)?;
     let clearing = clearing_of(alloc, view, cancel.as_slice(), let_go)?;
-    let placed = placed_records(
-        alloc,
-        &view.state,
-        &clearing,
-        &name,
-        after.as_slice(),
-        works,
-    )?;
+    let placed = placed_records(alloc, view, &clearing, &name, after.as_slice(), works)?;
     let replaced = replaced_by_clearing(alloc, stored, &clearing)?;
     let runs = view.state.runs.as_slice();
     let stopped = stopped_by(alloc, runs, clearing.cancelled.as_slice())?;

@@ -1,12 +1,13 @@
 //! The records of new works, each placed after those before it.
-ghost use Rattle.std.specs.Prelude.{◌≡◌, ◌^◌, ◌==◌, ◌≤◌, ◌+◌, ◌&&◌, ◌++◌, filter, length, map, IfOk, OnOk};
+ghost use Rattle.std.specs.Prelude.{◌≡◌, ◌^◌, ◌==◌, ◌≤◌, ◌+◌, ◌&&◌, ◌∷◌, ◌++◌, [], filter, length, map, not, IfOk, OnOk};
 ghost use Rattle.std.specs.List.{list_any};
 ghost use Rattle.std.specs.Str.{bytes_eq};
-ghost use Rattle.wm_collections.specs.Lists.{AllLater};
+ghost use Rattle.wm_collections.specs.Lists.{AllLater, is_among};
 ghost use Rattle.wm_commands.specs.Cleared.{cleared_state, stays, with_cleared, IsInOrder};
 ghost use Rattle.wm_commands.specs.Placed.{is_done, is_then, placed_record, placed_records, with_placed};
 ghost use Rattle.wm_machine.specs.Enqueued.{any_in, first_phase, numbers_of, prior_of};
 ghost use Rattle.wm_machine.specs.Valid.{IsBefore};
+ghost use Rattle.wm_steps.specs.Numbers.{Ascend};
 ghost use Rattle.wm_steps.specs.StepChanges.{seqs_of};
 
 use crate::clearing::{Clearing, phase_then, stays};
@@ -14,28 +15,28 @@ use std::alloc::{AllocError, Global};
 use uuid::Uuid;
 use wm_collections::{Items, Replica, Text};
 use wm_data::Data;
-use wm_machine::{How, Phase, Record, State, work_numbered};
+use wm_machine::{How, Phase, Record, work_numbered};
 use wm_request::Node;
+use wm_steps::{View, is_listed};
 
 /// The records of new works, for which there are numbers, once the records are cleared. Under a name
 /// each that names no other comes after the works of these numbers.
 pub fn placed_records(
     alloc: Global,
-    state: &State,
+    view: &View,
     clearing: &Clearing,
     name: &Option<Text>,
     after: &[u64],
     works: &[Node],
 ) -> Result<Items<Record>, AllocError>
-    requires room { state.now.next + length works.now ≤ 2 ^ 53 }
-    requires in_order { AllLater IsBefore state.now.works }
+    requires room { view.now.next + length works.now ≤ 2 ^ 53 }
     requires numbers { IsInOrder clearing.now }
     ensures { IfOk result (λ placed. placed
-        ≡ placed_records (cleared_state clearing.entry.now state.entry.now) name.entry.now after.entry.now works.now) }
+        ≡ placed_records (cleared_state clearing.entry.now view.entry.now) name.entry.now after.entry.now works.now) }
 {
     let mut placed = Items::new(alloc);
     for work in works {
-        let new = placed_record(alloc, state, clearing, name, after, placed.as_slice(), work)?;
+        let new = placed_record(alloc, view, clearing, name, after, placed.as_slice(), work)?;
         placed.push(new)?;
     }
     Ok(placed)
@@ -44,25 +45,24 @@ pub fn placed_records(
 /// The record of a new work, after those that are placed.
 fn placed_record(
     alloc: Global,
-    state: &State,
+    view: &View,
     clearing: &Clearing,
     name: &Option<Text>,
     after: &[u64],
     placed: &[Record],
     work: &Node,
 ) -> Result<Record, AllocError>
-    requires room { state.now.next + length placed.now ≤ 2 ^ 53 }
-    requires in_order { AllLater IsBefore state.now.works }
+    requires room { view.now.next + length placed.now ≤ 2 ^ 53 }
     requires numbers { IsInOrder clearing.now }
     ensures { IfOk result (λ new. new
-        ≡ placed_record (with_placed (cleared_state clearing.entry.now state.entry.now) placed.entry.now)
+        ≡ placed_record (with_placed (cleared_state clearing.entry.now view.entry.now) placed.entry.now)
         name.entry.now after.entry.now work.entry.now) }
 {
-    let works = state.works.as_slice();
-    let prior = prior_of(alloc, works, clearing, placed, after, work.after.as_slice())?;
+    let prior = prior_of(alloc, view, clearing, placed, after, work.after.as_slice())?;
+    let works = view.state.works.as_slice();
     let phase = first_phase(works, clearing, placed, prior.as_slice());
     Ok(Record {
-        seq: state.next + placed.len() as u64,
+        seq: view.state.next + placed.len() as u64,
         name: name.replica(alloc)?,
         request: work.request.replica(alloc)?,
         prior,
@@ -71,7 +71,7 @@ fn placed_record(
         backoff_n: 0,
         runs: 0,
         generation: 0,
-        enqueued_at: state.now,
+        enqueued_at: view.state.now,
         output: Data::empty(alloc),
         progress: Data::empty(alloc),
     })
@@ -80,7 +80,7 @@ fn placed_record(
 /// The numbers of the prerequisites of a work that names these.
 fn prior_of(
     alloc: Global,
-    works: &[Record],
+    view: &View,
     clearing: &Clearing,
     placed: &[Record],
     after: &[u64],
@@ -88,12 +88,12 @@ fn prior_of(
 ) -> Result<Items<u64>, AllocError>
     requires { IsInOrder clearing.now }
     ensures { IfOk result (λ numbers. numbers
-        ≡ prior_of (with_cleared clearing.entry.now works.entry.now ++ placed.entry.now) after.entry.now ids.now) }
+        ≡ prior_of (with_cleared clearing.entry.now view.entry.now.works ++ placed.entry.now) after.entry.now ids.now) }
 {
     if ids.is_empty() {
         Ok(Items::from_vec(Vec::from_slice(alloc, after)?))
     } else {
-        numbers_of(alloc, works, clearing, placed, ids)
+        numbers_of(alloc, view, clearing, placed, ids)
     }
 }
 
@@ -101,18 +101,18 @@ fn prior_of(
 /// of those that are placed.
 fn numbers_of(
     alloc: Global,
-    works: &[Record],
+    view: &View,
     clearing: &Clearing,
     placed: &[Record],
     ids: &[Uuid],
 ) -> Result<Items<u64>, AllocError>
     requires { IsInOrder clearing.now }
     ensures { IfOk result (λ numbers. numbers
-        ≡ numbers_of (with_cleared clearing.entry.now works.now ++ placed.now) ids.now) }
+        ≡ numbers_of (with_cleared clearing.entry.now view.entry.now.works ++ placed.now) ids.now) }
 {
     let mut numbers = Items::new(alloc);
     for id in ids {
-        add_stored(&mut numbers, works, clearing, *id)?;
+        add_stored(&mut numbers, view, clearing, *id)?;
         add_placed(&mut numbers, placed, *id)?;
     }
     Ok(numbers)
@@ -121,19 +121,31 @@ fn numbers_of(
 /// Adds the numbers of the stored records with this id that stay.
 fn add_stored(
     numbers: &mut Items<u64>,
-    works: &[Record],
+    view: &View,
     clearing: &Clearing,
     id: Uuid,
 ) -> Result<(), AllocError>
     requires { IsInOrder clearing.now }
     ensures { OnOk result (numbers.new
         ≡ numbers.old ++ map (λ work. work.seq)
-        (filter (λ work. bytes_eq work.request.id id && stays clearing.now.removed work) works.now)) }
+        (filter (λ work. bytes_eq work.request.id id && stays clearing.now.removed work) view.now.works)) }
 {
-    for work in works {
-        if work.request.id() == id && stays(clearing.removed.as_slice(), work) {
-            numbers.push(work.seq)?;
-        }
+    // what the type of a view keeps is known where a field of it is read
+    let _reached = &view.state;
+    match view.number_of(id) {
+        Some(number) => add_kept(numbers, clearing.removed.as_slice(), number),
+        None => Ok(()),
+    }
+}
+
+/// Adds a number, where it isn't among those that are removed.
+fn add_kept(numbers: &mut Items<u64>, removed: &[u64], number: u64) -> Result<(), AllocError>
+    requires { Ascend removed.now }
+    ensures { OnOk result (numbers.new
+        ≡ numbers.old ++ filter (λ one. not (is_among removed.now one)) (number ∷ [])) }
+{
+    if !is_listed(removed, number) {
+        numbers.push(number)?;
     }
     Ok(())
 }

@@ -1,6 +1,6 @@
 -- What is told of each work before and after a change differs for no other works than those that are compared.
 use Rattle.std.proofs.Common.{◌≡◌, ℕ, ◌<◌, ◌≤◌, Bool, false, not, cond, eqb, List, [], ◌∷◌, ◌++◌, filter, filter_map, find, map, nat_le, Some, None, option_map, refl, sym, ◌∙◌, ap, arith, inl, inr}
-use Rattle.std.specs.List.{AllByRecursion, list_all, list_any}
+use Rattle.std.specs.List.{AllByRecursion, list_any}
 use Rattle.std.proofs.lemmas.Bool.{cases_Bool, le-leb, leb-true, or_parts}
 use Rattle.std.proofs.lemmas.List.Elements.{filter-append}
 use Rattle.wm_collections.proofs.Lists.{All-weaker, All-with2, filter-each, filter-none, list_all-agree, map-filter, map-same, map-twice, none_pass}

@@ -1,23 +1,29 @@
 //! What the observers are told of a step, made before the step is carried out. Only the records that
-//! the change touches, or whose prerequisites it touches, are compared.
-ghost use Rattle.std.specs.List.{list_any, AllByRecursion};
+//! the change touches, or whose prerequisites it touches, are looked up and compared.
+ghost use Rattle.std.specs.List.{AllByRecursion};
 ghost use Rattle.std.specs.Option.{option_copied};
-ghost use Rattle.std.specs.Prelude.{◌≡◌, ◌==◌, ◌++◌, filter, map, option_map, IfOk, OnOk};
+ghost use Rattle.std.specs.Prelude.{◌≡◌, ◌++◌, ◌∷◌, [], filter, map, option_map, Some, IfOk, OnOk};
 ghost use Rattle.wm_machine.specs.First.{all_met, has_succeeded};
+ghost use Rattle.wm_machine.specs.Input.{work_numbered};
 ghost use Rattle.wm_machine.specs.Shown.{info_of};
-ghost use Rattle.wm_machine.specs.Valid.{IsRecord};
+ghost use Rattle.wm_machine.specs.Valid.{IsRecord, Valid};
 ghost use Rattle.wm_observe.specs.Compared.{compared_pairs, may_differ, new_pair, pair_at, succeeds, StaysRecord};
+ghost use Rattle.wm_observe.specs.Near.{numbered, HaveDiffering};
 ghost use Rattle.wm_observe.specs.Notes.{notes_between};
+ghost use Rattle.wm_observe.specs.Put.{ArePlacesOf};
 ghost use Rattle.wm_steps.specs.StepChanges.{changed_state, IsStepOf};
-ghost use Rattle.wm_steps.specs.Touched.{put_in, then_of, touches};
+ghost use Rattle.wm_steps.specs.Touched.{then_of};
 
+use crate::nearby::nearby;
 use crate::note::{Note, Pair};
 use crate::noting::notes;
+use crate::places::{Places, places_of, then_of};
 use std::alloc::{AllocError, Global};
-use wm_collections::{Items, is_among};
+use std::collections::BTreeSet;
+use wm_collections::Items;
 use wm_machine::{Record, WorkInfo, work_numbered};
-use wm_query::{has_succeeded, info, shown_of};
-use wm_steps::{Replacement, StepChange, View, both};
+use wm_query::{has_succeeded, info};
+use wm_steps::{StepChange, View, both};
 
 /// What the observers of a state are told of the step of a change. Without an observer nothing is
 /// compared, and no memory is taken.
@@ -44,35 +50,73 @@ fn compared_pairs(
     view: &View,
     change: &StepChange,
 ) -> Result<Items<Pair>, AllocError>
-    requires { IsStepOf view.now change.now }
+    requires valid { Valid view.now }
+    requires step { IsStepOf view.now change.now }
     ensures { IfOk result (λ pairs. pairs ≡ compared_pairs change.entry.now view.entry.now) }
 {
+    let places = places_of(alloc, change)?;
+    let numbers = nearby(alloc, view, change)?;
     let mut pairs = Items::new(alloc);
-    add_old(alloc, &mut pairs, view, change, view.state.works.as_slice())?;
-    add_new(alloc, &mut pairs, view, change, change.placed.as_slice())?;
+    add_old(alloc, &mut pairs, view, change, &places, &numbers)?;
+    add_new(
+        alloc,
+        &mut pairs,
+        view,
+        change,
+        &places,
+        change.placed.as_slice(),
+    )?;
     Ok(pairs)
 }
 
-/// Adds what is told before and after of each of these records of which it may differ.
+/// Adds what is told before and after of each record of which it may differ, which are those of these
+/// numbers.
 fn add_old(
     alloc: Global,
     pairs: &mut Items<Pair>,
     view: &View,
     change: &StepChange,
-    works: &[Record],
+    places: &Places,
+    numbers: &BTreeSet<u64>,
 ) -> Result<(), AllocError>
     requires step { IsStepOf view.now change.now }
-    requires records { AllByRecursion (StaysRecord change.now) works.now }
+    requires places { ArePlacesOf change.now places.now }
+    requires valid { Valid view.now }
+    requires records { AllByRecursion (StaysRecord change.now) view.now.works }
+    requires numbers { HaveDiffering change.now view.now.works numbers.now }
     ensures { OnOk result (pairs.new ≡ pairs.old ++ map
         (pair_at change.entry.now view.entry.now.works (changed_state change.entry.now view.entry.now).works)
-        (filter (may_differ change.entry.now) works.entry.now)) }
+        (filter (may_differ change.entry.now) view.entry.now.works)) }
 {
-    for work in works {
-        if may_differ(change, work) {
-            pairs.push(pair_at(alloc, view, change, work)?)?;
-        }
+    for number in numbers {
+        add_numbered(alloc, pairs, view, change, places, *number)?;
     }
     Ok(())
+}
+
+/// Adds what is told before and after of the record of a number, where it is there.
+fn add_numbered(
+    alloc: Global,
+    pairs: &mut Items<Pair>,
+    view: &View,
+    change: &StepChange,
+    places: &Places,
+    number: u64,
+) -> Result<(), AllocError>
+    requires step { IsStepOf view.now change.now }
+    requires places { ArePlacesOf change.now places.now }
+    requires records { AllByRecursion (StaysRecord change.now) view.now.works }
+    ensures { OnOk result (pairs.new ≡ pairs.old ++ map
+        (pair_at change.entry.now view.entry.now.works (changed_state change.entry.now view.entry.now).works)
+        (numbered view.entry.now.works (number ∷ []))) }
+{
+    match view.work(number) {
+        Some(work) => {
+            pairs.push(pair_at(alloc, view, change, places, work)?)?;
+            Ok(())
+        }
+        None => Ok(()),
+    }
 }
 
 /// Adds what is told of each of these new records.
@@ -81,15 +125,17 @@ fn add_new(
     pairs: &mut Items<Pair>,
     view: &View,
     change: &StepChange,
+    places: &Places,
     placed: &[Record],
 ) -> Result<(), AllocError>
     requires step { IsStepOf view.now change.now }
+    requires places { ArePlacesOf change.now places.now }
     requires records { AllByRecursion IsRecord placed.now }
     ensures { OnOk result (pairs.new ≡ pairs.old
         ++ map (new_pair (changed_state change.entry.now view.entry.now).works) placed.entry.now) }
 {
     for work in placed {
-        let after = info_then(alloc, view, change, work)?;
+        let after = info_then(alloc, view, change, places, work)?;
         pairs.push(Pair {
             before: None,
             after: Some(after),
@@ -103,15 +149,18 @@ fn pair_at(
     alloc: Global,
     view: &View,
     change: &StepChange,
+    places: &Places,
     work: &Record,
 ) -> Result<Pair, AllocError>
     requires step { IsStepOf view.now change.now }
+    requires places { ArePlacesOf change.now places.now }
+    requires there { work_numbered work.now.seq view.now.works ≡ Some work.now }
     requires record { StaysRecord change.now work.now }
     ensures { IfOk result (λ pair. pair ≡ pair_at change.entry.now view.entry.now.works
         (changed_state change.entry.now view.entry.now).works work.entry.now) }
 {
     let before = info_now(alloc, view, work)?;
-    let after = info_after(alloc, view, change, work);
+    let after = info_after(alloc, view, change, places, work);
     let (before, after) = both(before, after)?;
     Ok(Pair {
         before: Some(before),
@@ -121,11 +170,11 @@ fn pair_at(
 
 /// What is told of a record before the change.
 fn info_now(alloc: Global, view: &View, work: &Record) -> Result<WorkInfo, AllocError>
+    requires there { work_numbered work.now.seq view.now.works ≡ Some work.now }
     requires record { IsRecord work.now }
     ensures { IfOk result (λ info. info ≡ info_of view.entry.now.works work.entry.now) }
 {
-    let shown = shown_of(view.state.works.as_slice(), work);
-    info(alloc, work, shown)
+    info(alloc, work, view.shown_of(work))
 }
 
 /// What is told of a record after the change; nothing where it is removed.
@@ -133,16 +182,18 @@ fn info_after(
     alloc: Global,
     view: &View,
     change: &StepChange,
+    places: &Places,
     work: &Record,
 ) -> Result<Option<WorkInfo>, AllocError>
     requires step { IsStepOf view.now change.now }
+    requires places { ArePlacesOf change.now places.now }
     requires record { StaysRecord change.now work.now }
     ensures { IfOk result (λ info. info
         ≡ option_map (info_of (changed_state change.entry.now view.entry.now).works)
         (then_of change.entry.now work.entry.now)) }
 {
-    match then_of(change, work) {
-        Some(then) => Ok(Some(info_then(alloc, view, change, then)?)),
+    match then_of(change, places, work) {
+        Some(then) => Ok(Some(info_then(alloc, view, change, places, then)?)),
         None => Ok(None),
     }
 }
@@ -152,100 +203,51 @@ fn info_then(
     alloc: Global,
     view: &View,
     change: &StepChange,
+    places: &Places,
     then: &Record,
 ) -> Result<WorkInfo, AllocError>
     requires step { IsStepOf view.now change.now }
+    requires places { ArePlacesOf change.now places.now }
     requires record { IsRecord then.now }
     ensures { IfOk result (λ info. info
         ≡ info_of (changed_state change.entry.now view.entry.now).works then.entry.now) }
 {
-    let shown = then.phase.shown(all_met_then(view, change, then));
+    let shown = then.phase.shown(all_met_then(view, change, places, then));
     info(alloc, then, shown)
 }
 
 /// Whether every prerequisite of a work has succeeded after the change.
 #[tactic(auto, unfolding(wm_machine::specs::First::all_met))]
-fn all_met_then(view: &View, change: &StepChange, work: &Record) -> bool
-    requires { IsStepOf view.now change.now }
+fn all_met_then(view: &View, change: &StepChange, places: &Places, work: &Record) -> bool
+    requires step { IsStepOf view.now change.now }
+    requires places { ArePlacesOf change.now places.now }
     ensures { result ≡ all_met (changed_state change.now view.now).works work.now }
 {
     work.prior
         .as_slice()
         .iter()
-        .all(|number| has_succeeded_then(view, change, *number))
+        .all(|number| has_succeeded_then(view, change, places, *number))
 }
 
 /// Whether the record of this number has succeeded after the change.
-fn has_succeeded_then(view: &View, change: &StepChange, number: u64) -> bool
-    requires { IsStepOf view.now change.now }
+fn has_succeeded_then(view: &View, change: &StepChange, places: &Places, number: u64) -> bool
+    requires step { IsStepOf view.now change.now }
+    requires places { ArePlacesOf change.now places.now }
     ensures { result ≡ has_succeeded (changed_state change.now view.now).works number }
 {
     match work_numbered(view.state.works.as_slice(), number) {
-        Some(work) => succeeds(change, work),
+        Some(work) => succeeds(change, places, work),
         None => has_succeeded(change.placed.as_slice(), number),
     }
 }
 
 /// Whether a record is there after the change, and has succeeded.
-fn succeeds(change: &StepChange, work: &Record) -> bool
+fn succeeds(change: &StepChange, places: &Places, work: &Record) -> bool
+    requires { ArePlacesOf change.now places.now }
     ensures { result ≡ succeeds (then_of change.now work.now) }
 {
-    match then_of(change, work) {
+    match then_of(change, places, work) {
         Some(then) => then.phase.is_succeeded(),
         None => false,
     }
-}
-
-/// Whether the record of this number is another one after the change, or is gone.
-fn touches(change: &StepChange, number: u64) -> bool
-    ensures { result ≡ touches change.now number }
-{
-    is_among(change.removed.as_slice(), number)
-        || puts(change.told.as_slice(), number)
-        || puts(change.replaced.as_slice(), number)
-}
-
-/// Whether one of these is put in the place of the record of this number.
-fn puts(replaced: &[Replacement], number: u64) -> bool
-    ensures { result ≡ list_any (λ replaced. replaced.work.seq == number) replaced.now }
-{
-    replaced.iter().any(|replaced| replaced.work.seq == number)
-}
-
-/// Whether what is told of a record may be another thing after the change.
-fn may_differ(change: &StepChange, work: &Record) -> bool
-    ensures { result ≡ may_differ change.now work.now }
-{
-    touches(change, work.seq) || touches_any(change, work.prior.as_slice())
-}
-
-/// Whether the record of one of these numbers is another one after the change, or is gone.
-fn touches_any(change: &StepChange, numbers: &[u64]) -> bool
-    ensures { result ≡ list_any (touches change.now) numbers.now }
-{
-    numbers.iter().any(|number| touches(change, *number))
-}
-
-/// The record after the change; none where it is removed.
-fn then_of<'a>(change: &'a StepChange, work: &'a Record) -> Option<&'a Record>
-    ensures { option_copied result ≡ then_of change.now work.now }
-{
-    if is_among(change.removed.as_slice(), work.seq) {
-        return None;
-    }
-    let told = put_in(change.told.as_slice(), work);
-    Some(put_in(change.replaced.as_slice(), told))
-}
-
-/// The last of these that is put in the place of a record, and the record where none is.
-fn put_in<'a>(replaced: &'a [Replacement], work: &'a Record) -> &'a Record
-    ensures { result.now ≡ put_in replaced.now work.now }
-{
-    let mut last = work;
-    for replaced in replaced {
-        if replaced.work.seq == last.seq {
-            last = &replaced.work;
-        }
-    }
-    last
 }

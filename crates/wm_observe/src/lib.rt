@@ -4,8 +4,10 @@
 #![tactic(auto)]
 
 mod comparing;
+mod nearby;
 pub mod note;
 mod noting;
+mod places;
 
 pub use comparing::step_notes;
 pub use note::{Note, Pair};

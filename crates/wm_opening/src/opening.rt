@@ -15,8 +15,7 @@ use wm_conditions::Conditions;
 use wm_keeper::{Change, Row};
 use wm_machine::{Instance, Record, State};
 use wm_rows::{RowFault, check_all};
-use wm_steps::View;
-use wm_steps::entries::index_of;
+use wm_steps::{View, both};
 
 /// What a store opens to.
 #[derive(Drop)]
@@ -76,17 +75,9 @@ fn states_of(
     ensures { IfOk result (λ both. (both.0 ≡ opening_state works instances) × (both.1 ≡ opening_state works instances)) }
 {
     let graph = graph_of(alloc, works.as_slice())?;
-    let index = index_of(alloc, works.as_slice())?;
     let first = opening_state(alloc, works.replica(alloc)?, instances.replica(alloc)?);
-    let state = opening_state(alloc, works, instances);
-    Ok((
-        first,
-        View {
-            state,
-            graph,
-            index,
-        },
-    ))
+    let view = View::new(alloc, opening_state(alloc, works, instances), graph);
+    both(first, view)
 }
 
 /// The opening state of these records, which stand in order.

@@ -1,4 +1,3 @@
-pub mod Counting
 pub mod Groups
 pub mod NumbersDone
 pub mod ScanLemmas

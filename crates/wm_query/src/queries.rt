@@ -2,16 +2,14 @@
 ghost use Rattle.std.specs.List.{list_any};
 ghost use Rattle.std.specs.Prelude.{◌≡◌, ◌&&◌, filter, IfOk};
 ghost use Rattle.std.specs.Str.{bytes_eq};
-ghost use Rattle.wm_machine.specs.Queried.{answer_to, any_or_empty, has_tag, is_state, matches};
+ghost use Rattle.wm_machine.specs.Queried.{any_or_empty, has_tag, is_state, matches};
 ghost use Rattle.wm_machine.specs.Group.{is_name};
 ghost use Rattle.wm_machine.specs.Shown.{info_in};
-ghost use Rattle.wm_machine.specs.Valid.{Valid};
 
-use crate::infos::{info, shown_of};
 use std::alloc::{AllocError, Global};
 use uuid::Uuid;
 use wm_collections::{Items, Replica, Text};
-use wm_machine::{Record, Shown, State, WorkInfo, WorkQuery};
+use wm_machine::{Record, Shown, WorkInfo, WorkQuery};
 
 /// Whether this id is one of those asked for, or none is.
 #[tactic(auto, using(crate::proofs::Groups::any_or_empty_is))]
@@ -97,9 +95,9 @@ pub fn matches(query: &WorkQuery, info: &WorkInfo) -> bool
     matches_parts(query, info.id, &info.name, info.state, info.tags.as_slice())
 }
 
-/// Whether a work in this shown state has one of each group that a query names.
+/// Whether a work in this shown state has one of each group that a query names. It takes no memory.
 #[tactic(auto, unfolding(wm_machine::specs::Queried::matches))]
-fn matches_work(query: &WorkQuery, work: &Record, state: Shown) -> bool
+pub fn matches_work(query: &WorkQuery, work: &Record, state: Shown) -> bool
     ensures { result ≡ matches query.now (info_in work.now state) }
 {
     let tags = work.request.tags().as_slice();
@@ -119,28 +117,6 @@ pub fn answer(
     for info in infos {
         if matches(query, info) {
             kept.push(info.replica(alloc)?)?;
-        }
-    }
-    Ok(kept)
-}
-
-/// What is told of the works of a state that a query asks for, in ascending number. Nothing is
-/// copied of the others. Memory that is refused is the only error.
-#[tactic(auto, unfolding(wm_machine::specs::Shown::infos_of))]
-pub fn answer_to(
-    alloc: Global,
-    state: &State,
-    query: &WorkQuery,
-) -> Result<Items<WorkInfo>, AllocError>
-    requires valid { Valid state.now }
-    ensures { IfOk result (λ works. works ≡ answer_to state.entry.now query.entry.now) }
-{
-    let works = state.works.as_slice();
-    let mut kept = Items::new(alloc);
-    for work in works {
-        let shown = shown_of(works, work);
-        if matches_work(query, work, shown) {
-            kept.push(info(alloc, work, shown)?)?;
         }
     }
     Ok(kept)

@@ -58,7 +58,7 @@ pub fn idle_in<'a>(instances: &'a [Instance], class: &str) -> Option<&'a Instanc
 }
 
 /// Whether a class has an idle instance, or no worker at all.
-fn has_room(instances: &[Instance], class: &str) -> bool
+pub fn has_room(instances: &[Instance], class: &str) -> bool
     ensures { result ≡ has_room instances.now class.now }
 {
     idle_in(instances, class).is_some() || !is_live(instances, class)

@@ -53,10 +53,9 @@ impl Ready {
         }
     }
 
-    /// Adds an entry. Where memory is refused, the entries are as they were.
+    /// Adds an entry, where it isn't there. Where memory is refused, the entries are as they were.
     pub fn put(&mut self, due: u64, seq: u64, sig: u8, class: u32) -> Result<(), AllocError>
         requires signature { sig ≤ 79 }
-        requires absent { has self.old (entry due seq sig class) ≡ false }
         ensures ok { OnOk result (IsPut (entry due seq sig class) self.old self.new) }
         ensures err { OnErr result (self.new ≡ self.old) }
     {
@@ -64,9 +63,8 @@ impl Ready {
         Ok(())
     }
 
-    /// Takes an entry away. It takes no memory.
+    /// Takes an entry away, where it is there. It takes no memory.
     pub fn drop_entry(&mut self, due: u64, seq: u64, sig: u8, class: u32)
-        requires there { has self.old (entry due seq sig class) ≡ true }
         ensures { IsDropped (entry due seq sig class) self.old self.new }
     {
         self.keys.remove(&(class, sig, due, seq));

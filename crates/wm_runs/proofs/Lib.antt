@@ -1,3 +1,4 @@
+pub mod FirstPlaces
 pub mod Freeing
 pub mod Reaching
 pub mod Reporting

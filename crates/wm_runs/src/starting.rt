@@ -1,5 +1,5 @@
 //! How the work that is first starts: its run begins, or it can't start.
-ghost use Rattle.std.specs.Prelude.{◌≡◌, Ok, Some, None, IfOk, MatchOption};
+ghost use Rattle.std.specs.Prelude.{◌≡◌, ◌<◌, length, slice_get, Ok, Some, None, IfOk, MatchOption};
 ghost use Rattle.wm_graph.specs.Nodes.{HasNode};
 ghost use Rattle.wm_machine.specs.First.{first_of, idle_instance};
 ghost use Rattle.wm_machine.specs.Input.{input_of};
@@ -13,8 +13,8 @@ use std::alloc::{AllocError, Global};
 use wm_collections::{Items, Replica};
 use wm_data::Data;
 use wm_lifecycle::{not_started, started};
-use wm_machine::{Cause, Event, Instance, Record, Run, State};
-use wm_query::{first_index, idle_in, input_among};
+use wm_machine::{Cause, Event, Instance, Record, Run, State, index_numbered};
+use wm_query::{idle_in, input_among};
 use wm_steps::{Replacement, RunChange, StepChange, View, at, both, copied};
 
 /// What becomes of the work that is first.
@@ -37,7 +37,7 @@ pub struct Claiming {
 pub fn claim_first(alloc: Global, view: &View) -> Result<Option<Claiming>, AllocError>
     ensures { IfOk result (λ found. MatchOption found (first_of view.entry.now ≡ None) (IsClaiming view.entry.now)) }
 {
-    let Some(index) = first_index(&view.state) else {
+    let Some(index) = first_index(view) else {
         return Ok(None);
     };
     let work = at(view.state.works.as_slice(), index);
@@ -48,6 +48,15 @@ pub fn claim_first(alloc: Global, view: &View) -> Result<Option<Claiming>, Alloc
         Some(idle) => Ok(Some(start_merged(alloc, view, index, work, idle)?)),
         None => Ok(Some(fail(alloc, view, work, Cause::NoWorker)?)),
     }
+}
+
+/// The index of the work that is first; none where nothing is startable. It takes no memory.
+fn first_index(view: &View) -> Option<usize>
+    ensures { MatchOption result (first_of view.now ≡ None) (λ index. (index < length view.now.works)
+        × (first_of view.now ≡ slice_get view.now.works index)) }
+{
+    let number = view.first()?;
+    index_numbered(view.state.works.as_slice(), number)
 }
 
 /// The start of a work on an instance, or its failure where its inputs don't become one.

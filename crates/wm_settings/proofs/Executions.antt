@@ -43,6 +43,7 @@ setting-executed s line asked answer to valid is =
           replaced_rows = tt;
           placed_rows = tt;
           apart = tt;
+          alone = inl refl;
         };
         legal = (is.askable, Answers-outcome s asked answer out is.is refl);
         state = ap (set_by to) (unplaced s s.works s.works refl) ∙ sym (ap (state_by s) is.is);

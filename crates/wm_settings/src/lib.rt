@@ -5,6 +5,8 @@
 //! [`Executed`] is what any command comes to.
 #![tactic(auto)]
 
+mod answering;
+mod counts;
 pub mod executed;
 pub mod faulty;
 pub mod hush;

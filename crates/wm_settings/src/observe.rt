@@ -4,11 +4,11 @@
 ghost use Rattle.std.specs.Prelude.{IfOk};
 ghost use Rattle.wm_settings.specs.Builds.{IsExecuted};
 
+use crate::answering::answer_to;
 use crate::executed::Executed;
 use std::alloc::{AllocError, Global};
 use wm_collections::Replica;
 use wm_machine::{Command, Refusal, Reply, WorkQuery};
-use wm_query::answer_to;
 use wm_steps::{SettingChange, View};
 
 /// The most observers that there are.
@@ -29,7 +29,7 @@ pub fn execute(
         let reply = Reply::Refused(Refusal::TooManyObservers { count });
         return Executed::answering(alloc, view, line, Command::Observe(query), reply);
     }
-    let works = answer_to(alloc, &view.state, &query)?;
+    let works = answer_to(alloc, view, &query)?;
     let to = SettingChange::Observe(query.replica(alloc)?);
     let observer = count as u32 + 1;
     let reply = Reply::Observing { observer, works };

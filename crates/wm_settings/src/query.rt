@@ -2,10 +2,10 @@
 ghost use Rattle.std.specs.Prelude.{IfOk};
 ghost use Rattle.wm_settings.specs.Builds.{IsExecuted};
 
+use crate::answering::answer_to;
 use crate::executed::Executed;
 use std::alloc::{AllocError, Global};
 use wm_machine::{Command, Reply, WorkQuery};
-use wm_query::answer_to;
 use wm_steps::View;
 
 /// What a query comes to.
@@ -17,7 +17,7 @@ pub fn execute(
 ) -> Result<Executed, AllocError>
     ensures { IfOk result (IsExecuted view.entry.now line (Command.Query query)) }
 {
-    let works = answer_to(alloc, &view.state, &query)?;
+    let works = answer_to(alloc, view, &query)?;
     let reply = Reply::Query(works);
     Executed::answering(alloc, view, line, Command::Query(query), reply)
 }

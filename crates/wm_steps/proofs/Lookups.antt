@@ -6,6 +6,7 @@ use Rattle.std.proofs.lemmas.Bool.{eq-eqb, ltb-true, ltb-false, ne_eqb}
 use Rattle.std.proofs.lemmas.List.Folds.{find_at}
 use Rattle.std.proofs.lemmas.Option.{cond_some, none-some, same_Some, slice_get_past}
 use Rattle.wm_collections.proofs.Lists.{All-stored}
+use Rattle.wm_collections.proofs.Lists as lists
 use Rattle.wm_machine.proofs.Runnings.{WorksAscend}
 use Rattle.wm_machine.specs.Runs.{changed_work}
 use Rattle.wm_collections.specs.Lists.{HasOne}
@@ -35,6 +36,17 @@ find-none test xs none =
       | true ↦ λ e is. absurd (none-some n (sym is))
       | false ↦ λ e is. slice_get_past xs n (ltb-false n (length xs) e)
     ]) refl none
+
+-- the first place at which a test passes, or the length
+pub found-place : {T : Type 0} (test : T → Bool) (xs : List T) (place : ℕ) → Some place ≡ position test xs → place ≡ position_or_len test xs
+found-place test xs place is = sym (cond_some (ltb (position_or_len test xs) (length xs)) (position_or_len test xs) place (sym is)).1
+
+past-all : {T : Type 0} (test : T → Bool) (xs : List T) → AllByRecursion (λ x. test x ≡ false) xs → length xs ≡ position_or_len test xs
+past-all test [] fails = refl
+past-all test (x ∷ xs) fails = let rest = past-all test xs fails.1 in rw (fails.0) (omega (arith, rest))
+
+pub no-place : {T : Type 0} (test : T → Bool) (xs : List T) → None ≡ position test xs → length xs ≡ position_or_len test xs
+no-place test xs none = past-all test xs (lists.find-none test xs (find-none test xs (sym none)))
 
 -- what a search by a test gives
 pub searched : {T : Type 0} (test : T → Bool) (xs : List T) (found : Option ℕ) → found ≡ position test xs

@@ -192,6 +192,7 @@ setting_with-step to s t touch change run e valid legal keeps agree made then fr
         placed_rows = tt;
         apart = subst AreOfDifferentNumbers (sym (append-nil (map put_replaced replaced ++ []) ∙ append-nil (map put_replaced replaced)))
             (replaced-apart touch 0 s.works keeps (WorksAscend-in_order s.works valid.works.in_order));
+        alone = inl refl;
       };
       legal = legal;
       state = made ∙ unplaced t (with_replaced replaced s.works) (map change s.works) (replaced-all touch s.works ∙ same) ∙ sym then;

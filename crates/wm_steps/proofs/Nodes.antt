@@ -97,13 +97,13 @@ prerequisite-there number works one =
     list_any-one (λ work. eqb work.seq number) works (HasOne-weaker works (λ work is. eq-eqb work.seq number is.seq) one)
 
 -- all prerequisites of waiting work are there
-waiting-there : (works : List Record) (p : Phase) (prior : List ℕ) → is_waiting p ≡ true → ArePriorSound works p prior → filter (is_there works) prior ≡ prior
+pub waiting-there : (works : List Record) (p : Phase) (prior : List ℕ) → is_waiting p ≡ true → ArePriorSound works p prior → filter (is_there works) prior ≡ prior
 waiting-there works phase.Waiting prior waits sound =
     filter-each (is_there works) prior (All-weaker prior (λ number one. prerequisite-there number works one) sound)
 waiting-there works phase.Running prior waits sound = absurd (false≢true waits)
 waiting-there works (phase.Done how) prior waits sound = absurd (false≢true waits)
 
-and-when : (a x y : Bool) → (a ≡ true → x ≡ y) → (a && x) ≡ (a && y)
+pub and-when : (a x y : Bool) → (a ≡ true → x ≡ y) → (a && x) ≡ (a && y)
 and-when true x y same = same refl
 and-when false x y same = refl
 

@@ -74,7 +74,7 @@ put-seq (replaced ∷ later) work =
     ∙ cond_both (eqb replaced.work.seq work.seq) replaced.work work (λ (w : Record). w.seq ≡ work.seq) (λ e. eqb-true replaced.work.seq work.seq e) (λ e. refl)
 
 -- nothing is put where none has its number
-put-none : (replaced : List Replacement) (work : Record) → list_any (λ (r : Replacement). eqb r.work.seq work.seq) replaced ≡ false
+pub put-none : (replaced : List Replacement) (work : Record) → list_any (λ (r : Replacement). eqb r.work.seq work.seq) replaced ≡ false
     → put_in replaced work ≡ work
 put-none [] work none = refl
 put-none (replaced ∷ later) work none =

@@ -1,5 +1,5 @@
 -- A change of one record fits the state, and is that of the step of its event.
-use Rattle.std.proofs.Common.{◌≡◌, ℕ, ◌+◌, List, [], ◌++◌, set, slice_get, Option, Some, option_map, sym, ◌∙◌, ap, subst, arith}
+use Rattle.std.proofs.Common.{◌≡◌, ℕ, ◌+◌, List, [], ◌++◌, set, slice_get, Option, Some, option_map, refl, sym, ◌∙◌, ap, subst, arith, inl, inr}
 use Rattle.std.specs.Prelude.{IsSomeAnd}
 use Rattle.std.proofs.lemmas.List.{append-nil}
 use Rattle.std.proofs.lemmas.Option.{slice_get-map}
@@ -31,6 +31,7 @@ Fits-replacing s i work new run e valid at keeps is = record {
   replaced_rows = (is.fits, tt);
   placed_rows = tt;
   apart = (tt, tt);
+  alone = inl refl;
 }
 
 -- one record that is replaced by one of its row
@@ -46,6 +47,7 @@ Fits-keeping_row s i work new run e valid at keeps = record {
   replaced_rows = tt;
   placed_rows = tt;
   apart = tt;
+  alone = inr (record { one = omega arith; none_replaced = refl; none_removed = refl; none_placed = refl });
 }
 
 -- where nothing is placed, the works have their end and the next number stays

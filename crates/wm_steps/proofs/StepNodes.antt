@@ -24,6 +24,9 @@ use Rattle.wm_machine.specs.Rows.{row_of}
 use Rattle.wm_machine.specs.Valid.{Valid}
 use Rattle.wm_steps.proofs.KeptRows.{code-succeeded}
 use Rattle.wm_steps.proofs.Nodes.{nodes-there}
+use Rattle.wm_steps.specs.Readied.{AreReady}
+use Rattle.wm_steps.specs.Startables.{HaveRooms}
+use Rattle.wm_steps.specs.declared.startable.Startable.{Startable}
 use Rattle.wm_steps.specs.Nodes.{is_there, node_of, nodes_of, AreThere}
 use Rattle.wm_steps.specs.Replacements.{MayReplace}
 use Rattle.wm_steps.specs.StepChanges.{changed_state, changed_works, other_works, put_replaced, put_work, remove_numbered, with_replaced, without, HaveNextNumbers, Fits, IsStepOf, KeepsPlace, KeepsRow, NameEarlier}
@@ -528,11 +531,18 @@ step-follows s change valid is =
     }
 
 -- what is made of a view is one again
-pub viewed-step : (s made : State) (graph made_graph : List NodeFields) (index made_index : List Entry) (change : StepChange) → IsViewed s graph index
-    → IsStepOf s change → made ≡ changed_state change s → made_graph ≡ nodes_of (changed_state change s).works
-    → AreEntriesOf (changed_works change s.works) made_index → IsViewed made made_graph made_index
-viewed-step s made graph made_graph index made_index change viewed is made_is graph_is entries_are = record {
-  valid = subst Valid (sym (made_is ∙ is.state)) (Valid-after s change.event viewed.valid is.legal);
-  graph_is = graph_is ∙ ap (λ (t : State). nodes_of t.works) (sym made_is);
-  entries_are = subst (λ (works : List Record). AreEntriesOf works made_index) (ap (λ (t : State). t.works) (sym made_is)) entries_are;
-}
+pub viewed-step : (s made : State) (graph made_graph : List NodeFields) (index made_index : List Entry) (startable made_startable : Startable) (change : StepChange)
+    → IsViewed s graph index startable → IsStepOf s change → made ≡ changed_state change s → made_graph ≡ nodes_of (changed_state change s).works
+    → AreEntriesOf (changed_works change s.works) made_index → HaveRooms made made_startable
+    → AreReady made_startable.classes (changed_works change s.works) made_startable.ready → IsViewed made made_graph made_index made_startable
+viewed-step s made graph made_graph index made_index startable made_startable change viewed is made_is graph_is entries_are rooms ready_are =
+    let works : changed_works change s.works ≡ made.works = ap (λ (t : State). t.works) (sym made_is) in
+    record {
+      valid = subst Valid (sym (made_is ∙ is.state)) (Valid-after s change.event viewed.valid is.legal);
+      graph_is = graph_is ∙ ap (λ (t : State). nodes_of t.works) (sym made_is);
+      entries_are = subst (λ (works : List Record). AreEntriesOf works made_index) works entries_are;
+      startable_are = record {
+        rooms = rooms;
+        ready_are = subst (λ (works : List Record). AreReady made_startable.classes works made_startable.ready) works ready_are;
+      };
+    }

@@ -1,9 +1,12 @@
 pub mod Entries
 pub mod Following
+pub mod Merged
 pub mod Nodes
 pub mod Numbers
+pub mod Readied
 pub mod Readiness
 pub mod Replacements
+pub mod Startables
 pub mod StepChanges
 pub mod Touched
 pub mod Views

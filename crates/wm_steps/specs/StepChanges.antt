@@ -1,5 +1,5 @@
 -- What the change of a step makes of a state and of the rows held, and when it fits a state.
-use Rattle.std.specs.Prelude.{◌≡◌, ℕ, ◌+◌, ◌^◌, ◌==◌, ◌≤◌, pos, Bool, true, false, not, List, [], ◌∷◌, ◌++◌, length, map, filter, slice_get, slice_set, Some, IsSomeAnd}
+use Rattle.std.specs.Prelude.{◌≡◌, ◌⊎◌, ℕ, ◌+◌, ◌^◌, ◌==◌, ◌≤◌, pos, Bool, true, false, not, List, [], ◌∷◌, ◌++◌, length, map, filter, slice_get, slice_set, Some, IsSomeAnd}
 use Rattle.std.specs.List.{AllByRecursion}
 use Rattle.wm_conditions.specs.declared.conditions.Conditions.{Conditions}
 use Rattle.wm_keeper.specs.Keeper.{AreOfDifferentNumbers}
@@ -159,6 +159,13 @@ abbrev pub NameEarlier : List Record → List Record → Type 0
 NameEarlier works [] = Unit {0}
 NameEarlier works (work ∷ placed) = AreThere works work.prior × NameEarlier (works ++ work ∷ []) placed
 
+-- a record that keeps its row is told alone: no other is, and nothing else becomes of records
+pub record IsToldAlone (change : StepChange) : Type 0 where
+  pub one : length change.told ≤ 1
+  pub none_replaced : change.replaced ≡ []
+  pub none_removed : change.removed ≡ []
+  pub none_placed : change.placed ≡ []
+
 pub record Fits (s : State) (change : StepChange) : Type 0 where
   pub told : AllByRecursion (KeepsRow s.works) change.told
   pub replaced : AllByRecursion (KeepsPlace s.works) change.replaced
@@ -169,8 +176,9 @@ pub record Fits (s : State) (change : StepChange) : Type 0 where
   pub numbers : s.next + length change.placed ≤ 2 ^ 53
   pub replaced_rows : AllByRecursion (λ replaced. FitsRow replaced.work) change.replaced
   pub placed_rows : AllByRecursion FitsRow change.placed
-  -- no row is changed twice
+  -- no row is changed twice, and a record that is told stands alone
   pub apart : AreOfDifferentNumbers (row_changes change)
+  pub alone : (change.told ≡ []) ⊎ IsToldAlone change
 
 -- the change is that of a legal step
 pub record IsStepOf (s : State) (change : StepChange) : Type 0 where

@@ -6,9 +6,12 @@ use Rattle.wm_machine.specs.Valid.{Valid}
 use Rattle.wm_machine.specs.declared.state.State.{State}
 use Rattle.wm_steps.specs.Entries.{AreEntriesOf}
 use Rattle.wm_steps.specs.Nodes.{nodes_of}
+use Rattle.wm_steps.specs.Startables.{AreStartable}
+use Rattle.wm_steps.specs.declared.startable.Startable.{Startable}
 
--- the state is valid, and the graph and the index are those of its records
-pub record IsViewed (s : State) (graph : List NodeFields) (index : List Entry) : Type 0 where
+-- the state is valid, the graph and the index are those of its records, and its works that are ready are those that are kept
+pub record IsViewed (s : State) (graph : List NodeFields) (index : List Entry) (startable : Startable) : Type 0 where
   pub valid : Valid s
   pub graph_is : graph ≡ nodes_of s.works
   pub entries_are : AreEntriesOf s.works index
+  pub startable_are : AreStartable s startable

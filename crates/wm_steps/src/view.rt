@@ -1,21 +1,31 @@
-//! The view: a state with the graph and the index of its records.
-ghost use Rattle.std.specs.Prelude.{◌≡◌, filter};
-ghost use Rattle.std.specs.Option.{option_map};
+//! The view: a state with the graph and the index of its records, and those that are ready.
+ghost use Rattle.std.specs.Prelude.{◌≡◌, filter, Some, IfOk};
+ghost use Rattle.std.specs.Option.{option_copied, option_map};
 ghost use Rattle.wm_machine.specs.Cancelled.{work_with_id};
 ghost use Rattle.wm_machine.specs.Group.{members_of, numbers_in};
+ghost use Rattle.wm_machine.specs.Input.{work_numbered};
 ghost use Rattle.wm_machine.specs.Queried.{has_tag};
+ghost use Rattle.wm_machine.specs.Shown.{shown_of};
 ghost use Rattle.wm_machine.specs.declared.record.Record.{Record};
+ghost use Rattle.wm_machine.specs.Valid.{Valid};
+ghost use Rattle.wm_steps.specs.Nodes.{nodes_of};
+ghost use Rattle.wm_steps.specs.Readied.{IsFirstOf};
+ghost use Rattle.wm_steps.specs.Readiness.{is_ready_in};
 
+use crate::entries::index_of;
+use crate::joins::both;
+use crate::startable::Startable;
+use std::alloc::{AllocError, Global};
 use std::marker::Model;
 use uuid::Uuid;
 use wm_collections::Text;
 use wm_graph::Graph;
 use wm_index::Index;
-use wm_machine::State;
+use wm_machine::{Record, Shown, State, work_numbered};
 
-/// The state with what is kept beside it, by which an event finds what it changes: the graph and the
-/// index of its records. Its type keeps that the state is valid, and that the rest agrees with it. A contract
-/// sees the state alone.
+/// The state with what is kept beside it, by which an event finds what it changes and what starts
+/// next: the graph and the index of its records, and those that are ready. Its type keeps that the
+/// state is valid, and that the rest agrees with it. A contract sees the state alone.
 #[derive(Drop)]
 pub struct View {
     pub state: State,
@@ -23,6 +33,8 @@ pub struct View {
     pub graph: Graph,
     /// The records by their ids, their unique names and their tags.
     pub index: Index,
+    /// The records that are ready, by what they wait for.
+    pub startable: Startable,
 }
 
 impl Model for View {
@@ -33,10 +45,76 @@ impl Model for View {
 
     ghost view = { λ v. v.state };
 
-    ghost invariant = { λ v. IsViewed v.state v.graph v.index };
+    ghost invariant = { λ v. IsViewed v.state v.graph v.index v.startable };
 }
 
 impl View {
+    /// The view of a state. The graph has the nodes of its records. Memory that is refused is the only
+    /// error.
+    pub fn new(alloc: Global, state: State, graph: Graph) -> Result<View, AllocError>
+        requires valid { Valid state }
+        requires graph { graph ≡ nodes_of state.works }
+        ensures { IfOk result (λ view. view ≡ state) }
+    {
+        let index = index_of(alloc, state.works.as_slice());
+        let startable = Startable::new(alloc, &state, &graph);
+        let ((state, graph), index) = both((state, graph), index)?;
+        let ((state, graph, index), startable) = both((state, graph, index), startable)?;
+        Ok(View {
+            state,
+            graph,
+            index,
+            startable,
+        })
+    }
+
+    /// The state, without what is kept beside it. It takes no memory.
+    pub fn into_state(self) -> State
+        ensures { result ≡ self }
+    {
+        let View {
+            state,
+            graph: _,
+            index: _,
+            startable: _,
+        } = self;
+        state
+    }
+
+    /// The number of the work that starts first; none where nothing is startable. It takes no memory.
+    pub fn first(&self) -> Option<u64>
+        ensures { IsFirstOf self.now result }
+    {
+        let startable = &self.startable;
+        startable
+            .ready
+            .first(self.state.now, startable.tracker.met(), &startable.busy)
+    }
+
+    /// The work of a number; none where no work has it. It takes no memory.
+    pub fn work(&self, number: u64) -> Option<&Record>
+        ensures { option_copied result ≡ work_numbered number self.now.works }
+    {
+        work_numbered(self.state.works.as_slice(), number)
+    }
+
+    /// Whether a work waits, and each of its prerequisites has succeeded: none of them is unmet. It
+    /// takes no memory.
+    pub fn is_ready(&self, work: &Record) -> bool
+        requires there { work_numbered work.now.seq self.now.works ≡ Some work.now }
+        ensures { result ≡ is_ready_in self.now.works work.now }
+    {
+        work.phase.is_waiting() && self.graph.unmet(work.seq) == 0
+    }
+
+    /// The state shown of a work. It takes no memory.
+    pub fn shown_of(&self, work: &Record) -> Shown
+        requires there { work_numbered work.now.seq self.now.works ≡ Some work.now }
+        ensures { result ≡ shown_of self.now.works work.now }
+    {
+        work.phase.shown(self.is_ready(work))
+    }
+
     /// The number of the work of an id; none where no work has it. It takes no memory.
     pub fn number_of(&self, id: Uuid) -> Option<u64>
         ensures { result ≡ option_map (λ (work : Record). work.seq) (work_with_id self.now.works id) }

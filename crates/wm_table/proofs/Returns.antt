@@ -25,7 +25,11 @@ use Rattle.wm_steps.specs.Nodes.{nodes_of}
 use Rattle.wm_steps.specs.StepChanges.{changed_state, runs_by, setting}
 use Rattle.wm_index.specs.Entries.{Entry}
 use Rattle.wm_steps.specs.Entries.{AreEntriesOf}
+use Rattle.wm_ready.specs.Entries as ready
+use Rattle.wm_steps.specs.Readied.{AreReady}
+use Rattle.wm_steps.specs.Startables.{HaveRooms}
 use Rattle.wm_steps.specs.Views.{IsViewed}
+use Rattle.wm_steps.specs.declared.startable.Startable.{Startable}
 use Rattle.wm_steps.specs.declared.change.RunChange.{RunChange}
 use Rattle.wm_steps.specs.declared.change.RunChange.TheVariants as runs
 use Rattle.wm_steps.specs.declared.change.SettingChange.TheVariants as set
@@ -66,13 +70,17 @@ return_works s number change is =
     ap (λ (t : State). t.works) is.step.state ∙ ap (λ (c : StepChange). (after s c.event).works) is.change_is
     ∙ ap (λ (found : Option Run). (returned_of s found).works) is.found
 
--- and so do the graph and the index
-pub return-viewed : (s made : State) (graph : List NodeFields) (index : List Entry) (number : ℕ) (change : StepChange) → IsViewed s graph index
-    → IsReturn s number change → made ≡ changed_state change s → IsViewed made graph index
-return-viewed s made graph index number change viewed is made_is =
+-- and so do the graph, the index and the works that are ready
+pub return-viewed : (s made : State) (graph : List NodeFields) (index : List Entry) (startable made_startable : Startable) (number : ℕ) (change : StepChange)
+    → IsViewed s graph index startable → IsReturn s number change → made ≡ changed_state change s → HaveRooms made made_startable
+    → made_startable.ready ≡ startable.ready → made_startable.classes ≡ startable.classes → IsViewed made graph index made_startable
+return-viewed s made graph index startable made_startable number change viewed is made_is rooms same_ready same_classes =
     let works = return_works s number change is in
-    viewed-step s made graph graph index index change viewed is.step made_is (viewed.graph_is ∙ ap nodes_of (sym works))
-    (subst (λ (works : List Record). AreEntriesOf works index) (sym works) viewed.entries_are)
+    let waiting = subst (λ (works : List Record). AreReady startable.classes works startable.ready) (sym works) viewed.startable_are.ready_are in
+    let named = subst (λ (names : List (List ℕ)). AreReady names (changed_state change s).works startable.ready) (sym same_classes) waiting in
+    viewed-step s made graph graph index index startable made_startable change viewed is.step made_is (viewed.graph_is ∙ ap nodes_of (sym works))
+    (subst (λ (works : List Record). AreEntriesOf works index) (sym works) viewed.entries_are) rooms
+    (subst (λ (entries : List ready.Entry). AreReady made_startable.classes (changed_state change s).works entries) (sym same_ready) named)
 
 -- one run fewer is there
 others-fewer : (number : ℕ) (runs : List Run) (run : Run) → run_numbered number runs ≡ Some run → length (other_runs number runs) + 1 ≤ length runs

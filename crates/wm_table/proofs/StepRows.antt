@@ -4,7 +4,7 @@ use Rattle.std.specs.List.{AllByRecursion}
 use Rattle.std.proofs.lemmas.Bool.{cases_order, eq-eqb, ne_eqb}
 use Rattle.std.proofs.lemmas.Int.{ints}
 use Rattle.std.proofs.lemmas.List.{map-append, append-nil, length-map}
-use Rattle.std.proofs.lemmas.Option.{none-some, same_Some, slice_get_within}
+use Rattle.std.proofs.lemmas.Option.{none-some, same_Some}
 use Rattle.wm_keeper.proofs.Ascending.{int_lt-true, int_lt-false, put_row-above}
 use Rattle.std.specs.Prelude.{IfSome}
 use Rattle.wm_keeper.proofs.Stores.{IfSome-still}
@@ -24,7 +24,7 @@ use Rattle.wm_machine.proofs.Turns.{turned_at}
 use Rattle.wm_machine.specs.Rows.{row_of, rows_of}
 use Rattle.wm_machine.specs.Valid.{Valid}
 use Rattle.wm_steps.proofs.ReplacedRecords.{keeps_number, number-kept, other_works-above, rows-set, seqs-set, still_keep, All-seq, All-set, KeepsNumber, WorksAscend-set}
-use Rattle.wm_steps.specs.StepChanges.{changed_state, next_run_by, other_works, put_replaced, put_work, remove_numbered, row_changes, runs_by, seqs_of, with_replaced, without, HaveNextNumbers, Fits, KeepsPlace, KeepsRow}
+use Rattle.wm_steps.specs.StepChanges.{changed_state, next_run_by, other_works, put_replaced, put_work, remove_numbered, row_changes, runs_by, seqs_of, with_replaced, without, HaveNextNumbers, Fits, KeepsRow}
 use Rattle.wm_table.specs.Returns.{new_runs}
 use Rattle.wm_table.specs.Table.{HoldsRowsOf}
 use Rattle.wm_steps.specs.declared.change.Replacement.{Replacement}

@@ -1,6 +1,6 @@
 -- What the calls of the table make is one step, and what a table keeps is kept by one step.
-use Rattle.std.proofs.Common.{◌≡◌, ℕ, zero, suc, ◌+◌, ◌-◌, ◌<◌, ◌≤◌, Bool, true, false, not, List, [], ◌∷◌, ◌++◌, length, length-append, slice_get, Option, Some, None, Vec, Global, refl, sym, ◌∙◌, ap, subst, arith, inl, inr}
-use Rattle.std.specs.Prelude.{◌↔◌, is_some, IsTrue, MatchOption}
+use Rattle.std.proofs.Common.{◌≡◌, ℕ, suc, ◌+◌, ◌-◌, ◌≤◌, Bool, true, false, not, List, [], ◌∷◌, ◌++◌, length, length-append, slice_get, Option, Some, None, Vec, Global, refl, sym, ◌∙◌, ap, subst, arith, inl, inr}
+use Rattle.std.specs.Prelude.{◌↔◌, is_some, IsSomeAnd, IsTrue}
 use Rattle.std.proofs.lemmas.Bool.{true≢false}
 use Rattle.std.proofs.lemmas.Option.{none-some}
 use Rattle.wm_keeper.proofs.Stores.{IfSome-still, IsAtMost-same, TellsOn-then}
@@ -20,8 +20,10 @@ use Rattle.wm_observe.specs.Notes.{last_notes, notes_between}
 use Rattle.wm_observe.specs.declared.note.Note.{Note}
 use Rattle.wm_machine.specs.Step.{role_of}
 use Rattle.wm_machine.specs.Valid.{Valid}
+use Rattle.wm_machine.specs.declared.record.Record.{Record}
 use Rattle.wm_roll.specs.Views.{RollView}
 use Rattle.wm_roll.specs.declared.part.Part.{Part}
+use Rattle.wm_steps.specs.Readied.{IsFirstOf}
 use Rattle.wm_steps.specs.StepChanges.{changed_state, IsStepOf}
 use Rattle.wm_steps.specs.declared.change.StepChange.{StepChange}
 use Rattle.wm_table.proofs.Images.{would_leave, WouldLeave-as}
@@ -184,18 +186,15 @@ valid-kept run first s log notes store roll kept =
 
 -- ---- rest
 
--- something stands at each index
-none-within : {T : Type 0} (xs : List T) (i : ℕ) → i < length xs → slice_get xs i ≡ None → ⊥
-none-within [] i within none = omega arith
-none-within (x ∷ xs) zero within none = none-some x (sym none)
-none-within (x ∷ xs) (suc i) within none = none-within xs i (omega arith) none
+-- the number of a first work isn't found where there is none
+none-first : (found : Option Record) (number : ℕ) → IsSomeAnd found (λ work. work.seq ≡ number) → found ≡ None → ⊥
+none-first None number is none = is
+none-first (Some work) number is none = none-some work (sym none)
 
--- where no run is unreturned, nothing is left to do exactly where no index of a work that is first was found
-pub quiet-told : (s : State) (found : Option ℕ) (told : Bool)
-    → MatchOption found (first_of s ≡ None) (λ i. (i < length s.works) × (first_of s ≡ slice_get s.works i)) → is_some found ≡ not told → s.runs ≡ []
-    → IsTrue told ↔ IsQuiet s
+-- where no run is unreturned, nothing is left to do exactly where no work that is first was found
+pub quiet-told : (s : State) (found : Option ℕ) (told : Bool) → IsFirstOf s found → is_some found ≡ not told → s.runs ≡ [] → IsTrue told ↔ IsQuiet s
 quiet-told s None true is none no_run = (λ t. record { nothing_startable = is; no_run = no_run }, λ q. refl)
 quiet-told s None false is none no_run = absurd (true≢false (sym none))
-quiet-told s (Some i) true is none no_run = absurd (true≢false none)
-quiet-told s (Some i) false is none no_run =
-    (λ t. absurd (true≢false (sym t)), λ quiet. absurd (none-within s.works i is.0 (sym is.1 ∙ quiet.nothing_startable)))
+quiet-told s (Some number) true is none no_run = absurd (true≢false none)
+quiet-told s (Some number) false is none no_run =
+    (λ t. absurd (true≢false (sym t)), λ quiet. absurd (none-first (first_of s) number is quiet.nothing_startable))

@@ -37,7 +37,6 @@ use wm_keeper::{KeepFault, Keeper, Row};
 use wm_machine::{Cause, Command, Event, Instance, Reply, State};
 use wm_observe::{Note, step_notes};
 use wm_opening::{Opening, open};
-use wm_query::first_index;
 use wm_roll::Roll;
 use wm_rows::RowFault;
 use wm_runs::{
@@ -144,7 +143,7 @@ pub enum Claim<M: Mark> {
 fn is_quiet(view: &View) -> bool
     ensures { IsTrue result ↔ IsQuiet view.now }
 {
-    view.state.runs.is_empty() && first_index(&view.state).is_none()
+    view.state.runs.is_empty() && view.first().is_none()
 }
 
 /// What became of a run whose worker reported.
@@ -446,14 +445,9 @@ impl<K: Keeper, M: Mark> Table<K, M> {
             roll: _,
             of: _,
         } = self;
-        let View {
-            state,
-            graph: _,
-            index: _,
-        } = view;
         TableEnd {
             first,
-            last: state,
+            last: view.into_state(),
             log: Items::from_vec(log),
             keeper,
         }

@@ -1,6 +1,8 @@
 -- What is planned and checked of an enqueue by the numbers of works: those of a group, and those that a batch names.
-use Rattle.std.specs.Prelude.{◌≡◌, ◌||◌, ℕ, Bool, true, false, List, [], filter, Option, Some, None}
-use Rattle.std.specs.List.{list_any}
+use Rattle.std.specs.Prelude.{◌≡◌, ◌||◌, ℕ, Bool, true, false, List, [], ◌∷◌, filter, Option, Some, None}
+use Rattle.std.specs.BTreeSet.{contains, BTreeSet}
+use Rattle.std.specs.List.{flat_map, list_any}
+use Rattle.std.specs.Ordering.{nat_cmp}
 use Rattle.std.specs.Str.{bytes_eq}
 use Rattle.wm_collections.specs.Lists.{is_among}
 use Rattle.wm_machine.specs.Group.{numbers_in}
@@ -38,6 +40,10 @@ numbered_passes test works number = passes test (work_numbered number works)
 abbrev pub is_prior_number : List Record → ℕ → Bool
 is_prior_number members number = list_any (λ member. is_among member.prior number) members
 
+-- the numbers of a set are those of the prerequisites of these works
+abbrev pub ArePriorTo : List Record → BTreeSet ℕ → Type 0
+ArePriorTo members prior = (number : ℕ) → contains nat_cmp prior number ≡ is_prior_number members number
+
 -- ---- plans
 
 -- the work of this number is updated
@@ -71,6 +77,10 @@ IsPlanFault refused (fault.KindMismatch id) = refused ≡ Some id
 IsPlanFault refused fault.Memory = Unit {0}
 
 -- ---- what a batch names
+
+-- the ids of the works of a batch, each with those that it comes after
+abbrev pub ids_named : List Node → List (List ℕ)
+ids_named works = flat_map (λ node. node.request.id ∷ node.after) works
 
 -- whether a work of a batch has this id or comes after it
 abbrev pub names_id : List Node → List ℕ → Bool

@@ -1,14 +1,18 @@
 //! Works by their numbers: the members of a group, looked up among the records in ascending number.
-ghost use Rattle.std.specs.Prelude.{◌≡◌, filter, find, option_map, IfOk};
+ghost use Rattle.std.specs.BTreeSet.{contains};
 ghost use Rattle.std.specs.List.{list_any};
+ghost use Rattle.std.specs.Ordering.{nat_cmp};
+ghost use Rattle.std.specs.Prelude.{◌≡◌, ◌||◌, ℕ, filter, find, option_map, IfOk, OnOk};
 ghost use Rattle.wm_collections.specs.Lists.{AllLater, is_among};
 ghost use Rattle.wm_machine.specs.Group.{leaves_of, numbers_in};
 ghost use Rattle.wm_machine.specs.Plan.{is_lost, is_unfinished};
 ghost use Rattle.wm_machine.specs.Valid.{IsBefore};
-ghost use Rattle.wm_unique.specs.Plans.{AreNumbersOf, grouped, is_prior_number, numbered_passes};
+ghost use Rattle.wm_unique.specs.Plans.{AreNumbersOf, ArePriorTo, grouped, numbered_passes};
 
+use crate::sets::add_each;
 use std::alloc::{AllocError, Global};
-use wm_collections::{Items, is_among};
+use std::collections::BTreeSet;
+use wm_collections::Items;
 use wm_machine::{How, Phase, Record, work_numbered};
 
 /// Whether work in this phase has failed or was cancelled.
@@ -113,45 +117,42 @@ pub fn unfinished(alloc: Global, works: &[Record], group: &[u64]) -> Result<Item
     Ok(numbers)
 }
 
-/// Whether the work of the one number comes after that of the other.
-fn comes_after(works: &[Record], number: u64, other: u64) -> bool
+/// Adds the prerequisites of the work of this number to a set.
+fn add_prior(prior: &mut BTreeSet<u64>, works: &[Record], number: u64) -> Result<(), AllocError>
     requires { AllLater IsBefore works.now }
-    ensures { result ≡ numbered_passes (λ work. is_among work.prior other) works.now number }
+    ensures { OnOk result ((other : ℕ) → contains nat_cmp prior.new other
+        ≡ (contains nat_cmp prior.old other || numbered_passes (λ work. is_among work.prior other) works.now number)) }
 {
     match work_numbered(works, number) {
-        Some(work) => is_among(work.prior.as_slice(), other),
-        None => false,
+        Some(work) => add_each(prior, work.prior.as_slice()),
+        None => Ok(()),
     }
 }
 
-/// Whether one of the works of these numbers comes after the other.
-fn any_number_after(works: &[Record], numbers: &[u64], other: u64) -> bool
-    requires { AllLater IsBefore works.now }
-    ensures { result ≡ list_any (numbered_passes (λ work. is_among work.prior other) works.now) numbers.now }
-{
-    numbers
-        .iter()
-        .any(|number| comes_after(works, *number, other))
-}
-
-/// Whether a member comes after the work of this number.
-fn is_prior(works: &[Record], group: &[u64], number: u64) -> bool
+/// The numbers of the prerequisites of the members.
+fn prior_of(alloc: Global, works: &[Record], group: &[u64]) -> Result<BTreeSet<u64>, AllocError>
     requires in_order { AllLater IsBefore works.now }
     requires group { AreNumbersOf works.now group.now }
-    ensures { result ≡ is_prior_number (grouped works.now group.now) number }
+    ensures { IfOk result (ArePriorTo (grouped works.now group.now)) }
 {
-    any_number_after(works, group, number)
+    let mut prior = BTreeSet::new(alloc);
+    for number in group {
+        add_prior(&mut prior, works, *number)?;
+    }
+    Ok(prior)
 }
 
-/// The numbers of the leaves, the members that no member comes after.
+/// The numbers of the leaves, the members that no member comes after. Memory that is refused is the
+/// only error.
 pub fn leaves(alloc: Global, works: &[Record], group: &[u64]) -> Result<Items<u64>, AllocError>
     requires in_order { AllLater IsBefore works.now }
     requires group { AreNumbersOf works.now group.now }
     ensures { IfOk result (λ numbers. numbers ≡ numbers_in (leaves_of (grouped works.now group.now))) }
 {
+    let prior = prior_of(alloc, works, group)?;
     let mut numbers = Items::new(alloc);
     for number in group {
-        if !is_prior(works, group, *number) {
+        if !prior.contains(number) {
             numbers.push(*number)?;
         }
     }

@@ -1,40 +1,31 @@
-//! The records that a batch names.
-ghost use Rattle.std.specs.Prelude.{◌≡◌, ◌||◌, filter, IfOk};
-ghost use Rattle.std.specs.Str.{bytes_eq};
-ghost use Rattle.wm_machine.specs.Group.{numbers_in};
-ghost use Rattle.wm_request.specs.Batches.{has_id};
-ghost use Rattle.wm_unique.specs.Plans.{is_named_by, names_id};
+//! The ids that a batch names.
+ghost use Rattle.std.specs.Prelude.{◌≡◌, ◌++◌, IfOk, OnOk};
+ghost use Rattle.wm_unique.specs.Plans.{ids_named};
 
 use std::alloc::{AllocError, Global};
 use uuid::Uuid;
 use wm_collections::Items;
-use wm_machine::Record;
-use wm_request::{Node, has_id};
+use wm_request::Node;
 
-/// The numbers of the records that a batch of these works names, by the id of a work or of one that
-/// a work comes after, in the order of the records. Memory that is refused is the only error.
-pub fn named_by(alloc: Global, works: &[Record], nodes: &[Node]) -> Result<Items<u64>, AllocError>
-    ensures { IfOk result (λ numbers. numbers ≡ numbers_in (filter (is_named_by nodes.now) works.now)) }
+/// The ids that a batch of these works names: that of each work, and those that it comes after.
+/// Memory that is refused is the only error.
+pub fn ids_named_by(alloc: Global, nodes: &[Node]) -> Result<Items<Uuid>, AllocError>
+    ensures { IfOk result (λ ids. ids ≡ ids_named nodes.now) }
 {
-    let mut numbers = Items::new(alloc);
-    for work in works {
-        if names_id(nodes, work.request.id()) {
-            numbers.push(work.seq)?;
-        }
+    let mut ids = Items::new(alloc);
+    for node in nodes {
+        ids.push(node.request.id())?;
+        add_ids(&mut ids, node.after.as_slice())?;
     }
-    Ok(numbers)
+    Ok(ids)
 }
 
-/// Whether a work of a batch has this id or comes after it.
-fn names_id(nodes: &[Node], id: Uuid) -> bool
-    ensures { result ≡ names_id nodes.now id }
+/// Adds ids at the end.
+fn add_ids(ids: &mut Items<Uuid>, others: &[Uuid]) -> Result<(), AllocError>
+    ensures { OnOk result (ids.new ≡ ids.old ++ others.now) }
 {
-    nodes.iter().any(|node| has_or_follows(node, id))
-}
-
-/// Whether a work has this id or comes after it.
-fn has_or_follows(node: &Node, id: Uuid) -> bool
-    ensures { result ≡ (bytes_eq node.now.request.id id || has_id node.now.after id) }
-{
-    node.request.id() == id || has_id(node.after.as_slice(), id)
+    for other in others {
+        ids.push(*other)?;
+    }
+    Ok(())
 }

@@ -10,9 +10,10 @@ ghost use Rattle.wm_machine.specs.Retired.{with_retired};
 ghost use Rattle.wm_machine.specs.Rows.{rows_of};
 ghost use Rattle.wm_machine.specs.Runs.{other_runs, with_out, with_stopped};
 ghost use Rattle.wm_machine.specs.Turns.{with_turned};
-ghost use Rattle.wm_machine.specs.Valid.{AreNumberedInOrder};
+ghost use Rattle.wm_machine.specs.Valid.{AreNumberedInOrder, IsRecord};
 ghost use Rattle.wm_steps.specs.Entries.{prepared_entries, AreEntriesOf, IsFollowable};
 ghost use Rattle.wm_steps.specs.Numbers.{Ascend};
+ghost use Rattle.wm_steps.specs.Readied.{comes, ArePut, IsPutSome};
 ghost use Rattle.wm_steps.specs.StepChanges.{changed_state, instances_by, new_observers, next_run_by, observers_by, row_changes, runs_by, set_by, with_replaced, without, IsStepOf};
 ghost use Rattle.wm_machine.specs.declared.event.Event.TheVariants as event;
 ghost use Rattle.wm_runs.specs.Reports.{IsOut};
@@ -30,9 +31,11 @@ use wm_graph::Graph;
 use wm_index::Index;
 use wm_keeper::{Change, Keeper};
 use wm_machine::{Event, Instance, Record, Run, State, WorkQuery};
+use wm_ready::Ready;
 use wm_runs::returned;
 use wm_steps::entries::{prepare_entries, settle_entries, undo_entries};
 use wm_steps::follow::{add_nodes, change_nodes};
+use wm_steps::readying::{prepare_ready, settle_ready, undo_ready};
 use wm_steps::{Replacement, RunChange, SettingChange, StepChange, View, is_listed};
 
 /// The lists that a step adds to, while their room counts.
@@ -358,9 +361,15 @@ fn store<K: Keeper>(
     lists: &mut Lists,
     graph: &mut Graph,
     index: &mut Index,
+    ready: &mut Ready,
+    classes: &[Text],
     keeper: &mut K,
     change: &StepChange,
 ) -> Result<(), Trouble>
+    requires few_classes { length classes.now ≤ 10000 }
+    requires told_records { AllByRecursion (λ told. IsRecord told.work) change.now.told }
+    requires replaced_records { AllByRecursion (λ replaced. IsRecord replaced.work) change.now.replaced }
+    requires placed_records { AllByRecursion IsRecord change.now.placed }
     requires replaced { AllByRecursion (λ replaced. FitsRow replaced.work) change.now.replaced }
     requires removed { AllByRecursion (λ number. number < 2 ^ 53) change.now.removed }
     requires placed { AllByRecursion FitsRow change.now.placed }
@@ -381,6 +390,8 @@ fn store<K: Keeper>(
     ensures log_room { OnOk result (vec_len lists.new.log + (vec_len lists.new.runs + 2) ≤ vec_capacity lists.new.log) }
     ensures nodes { OnOk result (graph.new ≡ graph.old ++ map placed_node change.now.placed) }
     ensures first_nodes { take (length graph.old) graph.new ≡ graph.old }
+    ensures ready { OnOk result (ArePut (comes classes.now change.now) ready.old ready.new) }
+    ensures ready_some { IsPutSome (comes classes.now change.now) ready.old ready.new }
     ensures entries { OnOk result (index.new ≡ prepared_entries change.now index.old) }
     ensures entries_err { OnErr result (AreEntriesOf lists.old.works.items index.new) }
     ensures ok { OnOk result (IsAtMost (changed_rows (row_changes change.now) (K.store keeper.old)) (K.store keeper.new).rows) }
@@ -395,6 +406,7 @@ fn store<K: Keeper>(
     let changes = row_changes(alloc, change)?;
     lists.reserve(change.placed.len(), new_observers(&change.setting))?;
     add_nodes(graph, change.placed.as_slice())?;
+    prepare_ready(ready, classes, change)?;
     prepare_entries(index, lists.works.as_slice(), change)?;
     match commit(keeper, &changes) {
         Ok(()) => Ok(()),
@@ -441,19 +453,36 @@ pub fn carry_out<K: Keeper>(
         &mut lists,
         &mut view.graph,
         &mut view.index,
+        &mut view.startable.ready,
+        view.startable.classes.as_slice(),
         keeper,
         &change,
     ) {
         Ok(()) => {
             change_nodes(&mut view.graph, &change);
             settle_entries(&mut view.index, lists.works.as_slice(), &change);
+            settle_ready(
+                &mut view.startable.ready,
+                view.startable.classes.as_slice(),
+                &view.graph,
+                lists.works.as_slice(),
+                &change,
+            );
             lists.change(alloc, &mut view.state, change);
             lists.put_back(&mut view.state, log);
+            view.startable.follow(&view.state);
             Ok(())
         }
         Err(trouble) => {
-            drop(change);
             view.graph.truncate(count);
+            undo_ready(
+                &mut view.startable.ready,
+                view.startable.classes.as_slice(),
+                &view.graph,
+                lists.works.as_slice(),
+                &change,
+            );
+            drop(change);
             lists.put_back(&mut view.state, log);
             Err(trouble)
         }
@@ -474,4 +503,5 @@ pub fn carry_return(alloc: Global, view: &mut View, log: &mut Vec<Event>, number
     let mut lists = Lists::take(alloc, &mut view.state, log);
     lists.change(alloc, &mut view.state, change);
     lists.put_back(&mut view.state, log);
+    view.startable.follow(&view.state);
 }

@@ -1,7 +1,7 @@
 use Rattle.std.proofs.Common.{◌≡◌, ℕ, ◌&&◌, Bool, List, [], ◌∷◌, filter, rules, refl, sym, ap, subst, ◌∙◌}
 use Rattle.std.proofs.lemmas.Result.{IfOk-weaker}
 use Rattle.wm_collections.specs.Lists.{AllLater}
-use Rattle.wm_commands.proofs.IndexedWorks.{are-numbers, has_id, id-none, id-number, open-found}
+use Rattle.wm_commands.proofs.IndexedWorks.{are-numbers, open-found}
 use Rattle.wm_machine.specs.Cancelled.{targeted}
 use Rattle.wm_machine.specs.Group.{is_name, numbers_in}
 use Rattle.wm_machine.specs.Plan.{is_unfinished}
@@ -10,6 +10,7 @@ use Rattle.wm_machine.specs.Valid.{IsBefore}
 use Rattle.wm_machine.specs.declared.command.Target.{Target}
 use Rattle.wm_machine.specs.declared.command.Target.TheVariants as target
 use Rattle.wm_machine.specs.declared.record.Record.{Record}
+use Rattle.wm_steps.proofs.IdNumbers.{has_id, id-none, id-number}
 use Rattle.wm_steps.proofs.Views.{reached-view}
 use Rattle.wm_unique.specs.Plans.{grouped, AreNumbersOf}
 use Rattle.wm_commands.proofs.cancel.targeted.Goals as goal

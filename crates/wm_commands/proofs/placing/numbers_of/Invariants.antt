@@ -5,4 +5,4 @@ use Rattle.wm_commands.proofs.placing.numbers_of.Given as goal
 
 -- the numbers of the ids so far are there
 abbrev pub invariant-loop-id : goal.invariant-loop-id
-invariant-loop-id l = l.numbers ≡ numbers_of (with_cleared l.clearing l.works ++ l.placed) (take l.id-index l.ids)
+invariant-loop-id l = l.numbers ≡ numbers_of (with_cleared l.clearing l.view.works ++ l.placed) (take l.id-index l.ids)

@@ -7,7 +7,7 @@ use Rattle.wm_commands.proofs.placing.placed_records.Goals as goal
 
 pub loop-work-preserved : goal.loop-work-preserved
 loop-work-preserved c =
-    let s = cleared_state c.args.clearing.now c.args.state.now in
+    let s = cleared_state c.args.clearing.now c.args.view.now in
     let name = c.args.name.now in
     let after = c.args.after.now in
     let before = c.loop-work.placed in

@@ -7,6 +7,6 @@ use Rattle.wm_commands.proofs.placing.placed_records.Given as goal
 abbrev pub invariant-loop-work : goal.invariant-loop-work
 invariant-loop-work l = record {
   count : length l.placed ≡ l.work-index;
-  done : l.placed ++ placed_records (with_placed (cleared_state l.clearing l.state) l.placed) l.name l.after (drop l.work-index l.works)
-      ≡ placed_records (cleared_state l.clearing l.state) l.name l.after l.works;
+  done : l.placed ++ placed_records (with_placed (cleared_state l.clearing l.view) l.placed) l.name l.after (drop l.work-index l.works)
+      ≡ placed_records (cleared_state l.clearing l.view) l.name l.after l.works;
 }

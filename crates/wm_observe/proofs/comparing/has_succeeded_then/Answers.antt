@@ -10,14 +10,14 @@ pub has_succeeded-requires : goal.has_succeeded-requires
 has_succeeded-requires c =
     let s = c.args.view.now in
     let reached = reached-view _ s _ c.view.view_is c.view.invariant in
-    rw c.as_slice-in-None.ensures (new-in_order s c.args.change.now reached c.requires)
+    rw c.as_slice-in-None.ensures (new-in_order s c.args.change.now reached c.requires.step)
 
 pub returns-in-Some : goal.returns-in-Some
 returns-in-Some c =
     let s = c.args.view.now in
     let reached = reached-view _ s _ c.view.view_is c.view.invariant in
     let found : work_numbered c.args.number s.works ≡ Some c.in-Some.work.now = search rules in
-    c.succeeds.ensures ∙ found-succeeded s c.args.change.now reached c.requires c.args.number c.in-Some.work.now found
+    c.succeeds.ensures ∙ found-succeeded s c.args.change.now reached c.requires.step c.args.number c.in-Some.work.now found
 
 pub returns-in-None : goal.returns-in-None
 returns-in-None c =
@@ -25,4 +25,4 @@ returns-in-None c =
     let reached = reached-view _ s _ c.view.view_is c.view.invariant in
     let none : work_numbered c.args.number s.works ≡ None = search rules in
     c.has_succeeded.ensures ∙ ap (λ (placed : List Record). has_succeeded placed c.args.number) c.as_slice-in-None.ensures
-    ∙ new-succeeded s c.args.change.now reached c.requires c.args.number none
+    ∙ new-succeeded s c.args.change.now reached c.requires.step c.args.number none

@@ -1,4 +1,4 @@
-use Rattle.std.proofs.Common.{◌≡◌, ℕ, false, Option, Some, refl, sym, ◌∙◌, ap, subst, arith, rules}
+use Rattle.std.proofs.Common.{◌≡◌, ℕ, false, Option, Some, refl, sym, ◌∙◌, ap, subst, arith, rules, inl}
 use Rattle.std.specs.Prelude.{IsSomeAnd}
 use Rattle.wm_machine.specs.Ends.{returned_of}
 use Rattle.wm_machine.specs.Runs.{other_runs, run_numbered, with_out}
@@ -35,6 +35,7 @@ return-step s number run valid found stopped =
         replaced_rows = tt;
         placed_rows = tt;
         apart = tt;
+        alone = inl refl;
       };
       legal = record { run = run; is_running = found; is_stopped = stopped };
       state =

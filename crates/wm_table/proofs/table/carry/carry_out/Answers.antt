@@ -1,4 +1,4 @@
-use Rattle.std.proofs.Common.{◌≡◌, ◌+◌, ◌<◌, ◌≤◌, List, ◌++◌, arith, length, map, vec_capacity, vec_len, rules, sym, ◌∙◌, ap, subst}
+use Rattle.std.proofs.Common.{◌≡◌, ℕ, ◌+◌, ◌<◌, ◌≤◌, List, ◌++◌, arith, length, map, vec_capacity, vec_len, rules, sym, ◌∙◌, ap, subst}
 use Rattle.std.specs.List.{AllByRecursion}
 use Rattle.wm_graph.specs.Nodes.{HasNode, NamesNodes, NodeFields}
 use Rattle.wm_machine.specs.Rows.{rows_of}
@@ -7,7 +7,15 @@ use Rattle.wm_machine.specs.declared.state.Run.{Run}
 use Rattle.wm_machine.specs.declared.state.State.{State}
 use Rattle.wm_index.specs.Entries.{Entry}
 use Rattle.wm_machine.specs.declared.record.Record.{Record}
+use Rattle.wm_ready.specs.Entries as ready
+use Rattle.wm_steps.proofs.BusyClasses.{step-named}
+use Rattle.wm_collections.proofs.Lists.{All-stored, All-weaker}
+use Rattle.wm_steps.proofs.Moves.{placed-nodes, placed-records, replaced-nodes, replaced-records, told-nodes, told-records}
+use Rattle.wm_steps.proofs.Nodes.{node-stored}
+use Rattle.wm_steps.specs.Views.{IsViewed}
+use Rattle.wm_steps.proofs.Readyings.{settled-ready, undone-ready}
 use Rattle.wm_steps.specs.Entries.{AreEntriesOf, IsFollowable}
+use Rattle.wm_steps.specs.Readied.{comes, is_left_by, is_left_undone, AreLeft, AreNamed, ArePut, AreReady, IsPutSome}
 use Rattle.wm_steps.specs.Nodes.{nodes_of}
 use Rattle.wm_steps.specs.StepChanges.{changed_state, changed_works, Fits, IsStepOf}
 use Rattle.wm_steps.specs.declared.change.StepChange.{StepChange}
@@ -65,13 +73,13 @@ store-requires-clause-follows g c =
 pub settle_entries-requires-clause-prepared : goal.settle_entries-requires-clause-prepared
 settle_entries-requires-clause-prepared g c = record {
   before = c.view.inside.index;
-  were = works-are c.view.inside.state c.as_slice.result.now c.view.inside.index (search rules) c.view.invariant.entries_are;
+  were = works-are c.view.inside.state c.as_slice-in-Ok.result.now c.view.inside.index (search rules) c.view.invariant.entries_are;
   are = c.in-Ok.ensures.entries;
 }
 
 pub settle_entries-requires-clause-follows : goal.settle_entries-requires-clause-follows
 settle_entries-requires-clause-follows g c =
-    can-follow c.view.inside.state _ c.as_slice.result.now c.args.change c.view.view_is c.view.invariant.valid c.requires.step (search rules)
+    can-follow c.view.inside.state _ c.as_slice-in-Ok.result.now c.args.change c.view.view_is c.view.invariant.valid c.requires.step (search rules)
 
 pub change_nodes-requires-clause-there : goal.change_nodes-requires-clause-there
 change_nodes-requires-clause-there g c =
@@ -125,10 +133,150 @@ invariant_of-view g c =
     let is = step-inside s _ change c.view.view_is c.requires.step in
     let all = grown-nodes s change c.view.inside.graph c.store.new.graph c.view.invariant.valid is.fits c.view.invariant.graph_is c.in-Ok.ensures.nodes in
     let made_is : c.put_back.new.state ≡ changed_state change s = search rules in
-    let works : c.as_slice.result.now ≡ s.works = search rules in
+    let works : c.as_slice-in-Ok.result.now ≡ s.works = search rules in
     let entries = subst (λ (works : List Record). AreEntriesOf (changed_works change works) c.settle_entries.new.index) works c.settle_entries.ensures in
-    viewed-step s c.put_back.new.state c.view.inside.graph c.change_nodes.new.graph c.view.inside.index c.settle_entries.new.index change c.view.invariant is
-    made_is (c.change_nodes.ensures ∙ ap (nodes_by change) all ∙ step-nodes s change c.view.invariant.valid is.fits) entries
+    let nodes = c.change_nodes.ensures ∙ ap (nodes_by change) all ∙ step-nodes s change c.view.invariant.valid is.fits in
+    let kept = c.view.inside.startable in
+    let put : ArePut (comes kept.classes change) kept.ready c.store.new.ready =
+    subst (λ (names : List (List ℕ)). ArePut (comes names change) kept.ready c.store.new.ready) (search rules) c.in-Ok.ensures.ready in
+    let names_are : c.as_slice-in-Ok-2.result.now ≡ kept.classes = search rules in
+    let works_are : c.as_slice-in-Ok-3.result.now ≡ s.works = search rules in
+    let left : AreLeft (is_left_by kept.classes c.change_nodes.new.graph s.works change) c.store.new.ready c.settle_ready.new.ready =
+    subst (λ (works : List Record). AreLeft (is_left_by kept.classes c.change_nodes.new.graph works change) c.store.new.ready c.settle_ready.new.ready) works_are
+    (subst (λ (names : List (List ℕ)). AreLeft (is_left_by names c.change_nodes.new.graph c.as_slice-in-Ok-3.result.now change) c.store.new.ready c.settle_ready.new.ready)
+    names_are c.settle_ready.ensures) in
+    let settled = settled-ready kept.classes s change c.view.invariant.valid is c.change_nodes.new.graph nodes kept.ready c.store.new.ready c.settle_ready.new.ready
+    c.view.invariant.startable_are.ready_are put left in
+    let waiting = subst (λ (names : List (List ℕ)). AreReady names (changed_works change s.works) c.settle_ready.new.ready) (sym c.follow.ensures.classes) settled in
+    viewed-step s c.put_back.new.state c.view.inside.graph c.change_nodes.new.graph c.view.inside.index c.settle_entries.new.index kept c.follow.new.self change
+    c.view.invariant is made_is nodes entries c.follow.ensures.rooms
+    (subst (λ (found : List ready.Entry). AreReady c.follow.new.self.classes (changed_works change s.works) found) (sym c.follow.ensures.ready) waiting)
+
+pub settle_ready-requires-clause-told_nodes : goal.settle_ready-requires-clause-told_nodes
+settle_ready-requires-clause-told_nodes g c =
+    let s = c.view.inside.state in
+    let change = c.args.change in
+    let is = step-inside s _ change c.view.view_is c.requires.step in
+    let all = grown-nodes s change c.view.inside.graph c.store.new.graph c.view.invariant.valid is.fits c.view.invariant.graph_is c.in-Ok.ensures.nodes in
+    let nodes = c.change_nodes.ensures ∙ ap (nodes_by change) all ∙ step-nodes s change c.view.invariant.valid is.fits in
+    subst (λ (nodes : List NodeFields). AllByRecursion (λ told. HasNode nodes told.work.seq) change.told) (sym nodes) (told-nodes s change c.view.invariant.valid is)
+
+pub settle_ready-requires-clause-replaced_nodes : goal.settle_ready-requires-clause-replaced_nodes
+settle_ready-requires-clause-replaced_nodes g c =
+    let s = c.view.inside.state in
+    let change = c.args.change in
+    let is = step-inside s _ change c.view.view_is c.requires.step in
+    let all = grown-nodes s change c.view.inside.graph c.store.new.graph c.view.invariant.valid is.fits c.view.invariant.graph_is c.in-Ok.ensures.nodes in
+    let nodes = c.change_nodes.ensures ∙ ap (nodes_by change) all ∙ step-nodes s change c.view.invariant.valid is.fits in
+    subst (λ (nodes : List NodeFields). AllByRecursion (λ replaced. HasNode nodes replaced.work.seq) change.replaced) (sym nodes) (replaced-nodes s change c.view.invariant.valid is)
+
+pub settle_ready-requires-clause-placed_nodes : goal.settle_ready-requires-clause-placed_nodes
+settle_ready-requires-clause-placed_nodes g c =
+    let s = c.view.inside.state in
+    let change = c.args.change in
+    let is = step-inside s _ change c.view.view_is c.requires.step in
+    let all = grown-nodes s change c.view.inside.graph c.store.new.graph c.view.invariant.valid is.fits c.view.invariant.graph_is c.in-Ok.ensures.nodes in
+    let nodes = c.change_nodes.ensures ∙ ap (nodes_by change) all ∙ step-nodes s change c.view.invariant.valid is.fits in
+    subst (λ (nodes : List NodeFields). AllByRecursion (λ work. HasNode nodes work.seq) change.placed) (sym nodes) (placed-nodes s change c.view.invariant.valid is)
+
+-- each record has its node
+each-node : (works all : List Record) (graph nodes : List NodeFields) → all ≡ works → nodes ≡ graph → graph ≡ nodes_of works
+    → AllByRecursion (λ work. HasNode nodes work.seq) all
+each-node works all graph nodes same is graph_is =
+    subst (λ (ns : List NodeFields). AllByRecursion (λ work. HasNode ns work.seq) all) (sym (is ∙ graph_is))
+    (subst (λ (ws : List Record). AllByRecursion (λ work. HasNode (nodes_of works) work.seq) ws) (sym same)
+    (All-weaker works (λ work stored. node-stored work works stored) (All-stored works)))
+
+pub undo_ready-requires-clause-nodes : goal.undo_ready-requires-clause-nodes
+undo_ready-requires-clause-nodes g c =
+    let s = c.view.inside.state in
+    let works : c.as_slice-in-Err-2.result.now ≡ s.works = search rules in
+    let graph : c.truncate.new.self ≡ c.view.inside.graph = search rules in
+    each-node s.works c.as_slice-in-Err-2.result.now c.view.inside.graph c.truncate.new.self works graph c.view.invariant.graph_is
+
+pub invariant_of-view-in-Err : goal.invariant_of-view-in-Err
+invariant_of-view-in-Err g c =
+    let s = c.view.inside.state in
+    let change = c.args.change in
+    let is = step-inside s _ change c.view.view_is c.requires.step in
+    let kept = c.view.inside.startable in
+    let rooms = c.view.invariant.startable_are.rooms in
+    let state_is : c.put_back-in-Err.new.state ≡ s = search rules in
+    let graph : c.truncate.new.self ≡ c.view.inside.graph = search rules in
+    let nodes = graph ∙ c.view.invariant.graph_is in
+    let listed : c.take-lists.result.works.items ≡ s.works = search rules in
+    let entries = subst (λ (works : List Record). AreEntriesOf works c.store.new.index) listed c.in-Err.ensures.entries_err in
+    let put : IsPutSome (comes kept.classes change) kept.ready c.store.new.ready =
+    subst (λ (names : List (List ℕ)). IsPutSome (comes names change) kept.ready c.store.new.ready) (search rules) c.in-Err.ensures.ready_some in
+    let names_are : c.as_slice-in-Err.result.now ≡ kept.classes = search rules in
+    let works_are : c.as_slice-in-Err-2.result.now ≡ s.works = search rules in
+    let left : AreLeft (is_left_undone kept.classes c.truncate.new.self s.works change) c.store.new.ready c.undo_ready.new.ready =
+    subst (λ (works : List Record). AreLeft (is_left_undone kept.classes c.truncate.new.self works change) c.store.new.ready c.undo_ready.new.ready) works_are
+    (subst (λ (names : List (List ℕ)). AreLeft (is_left_undone names c.truncate.new.self c.as_slice-in-Err-2.result.now change) c.store.new.ready c.undo_ready.new.ready)
+    names_are c.undo_ready.ensures) in
+    subst (λ (t : State). IsViewed t c.truncate.new.self c.store.new.index (record kept { ready = c.undo_ready.new.ready })) (sym state_is) (record {
+      valid = c.view.invariant.valid;
+      graph_is = nodes;
+      entries_are = entries;
+      startable_are = record {
+        rooms = record { few = rooms.few; named = rooms.named; room = rooms.room; busy_are = rooms.busy_are; tracked = rooms.tracked };
+        ready_are = undone-ready kept.classes s change c.view.invariant.valid is c.truncate.new.self nodes kept.ready c.store.new.ready c.undo_ready.new.ready
+            c.view.invariant.startable_are.ready_are put left;
+      };
+    })
+
+pub store-requires-clause-told_records : goal.store-requires-clause-told_records
+store-requires-clause-told_records g c =
+    let s = c.view.inside.state in
+    told-records s c.args.change c.view.invariant.valid (step-inside s _ c.args.change c.view.view_is c.requires.step)
+
+pub store-requires-clause-replaced_records : goal.store-requires-clause-replaced_records
+store-requires-clause-replaced_records g c =
+    let s = c.view.inside.state in
+    replaced-records s c.args.change c.view.invariant.valid (step-inside s _ c.args.change c.view.view_is c.requires.step)
+
+pub store-requires-clause-placed_records : goal.store-requires-clause-placed_records
+store-requires-clause-placed_records g c =
+    let s = c.view.inside.state in
+    placed-records s c.args.change c.view.invariant.valid (step-inside s _ c.args.change c.view.view_is c.requires.step)
+
+pub settle_ready-requires-clause-told : goal.settle_ready-requires-clause-told
+settle_ready-requires-clause-told g c =
+    let s = c.view.inside.state in
+    told-records s c.args.change c.view.invariant.valid (step-inside s _ c.args.change c.view.view_is c.requires.step)
+
+pub settle_ready-requires-clause-replaced : goal.settle_ready-requires-clause-replaced
+settle_ready-requires-clause-replaced g c =
+    let s = c.view.inside.state in
+    replaced-records s c.args.change c.view.invariant.valid (step-inside s _ c.args.change c.view.view_is c.requires.step)
+
+pub settle_ready-requires-clause-placed : goal.settle_ready-requires-clause-placed
+settle_ready-requires-clause-placed g c =
+    let s = c.view.inside.state in
+    placed-records s c.args.change c.view.invariant.valid (step-inside s _ c.args.change c.view.view_is c.requires.step)
+
+pub undo_ready-requires-clause-told : goal.undo_ready-requires-clause-told
+undo_ready-requires-clause-told g c =
+    let s = c.view.inside.state in
+    told-records s c.args.change c.view.invariant.valid (step-inside s _ c.args.change c.view.view_is c.requires.step)
+
+pub undo_ready-requires-clause-replaced : goal.undo_ready-requires-clause-replaced
+undo_ready-requires-clause-replaced g c =
+    let s = c.view.inside.state in
+    replaced-records s c.args.change c.view.invariant.valid (step-inside s _ c.args.change c.view.view_is c.requires.step)
+
+pub undo_ready-requires-clause-placed : goal.undo_ready-requires-clause-placed
+undo_ready-requires-clause-placed g c =
+    let s = c.view.inside.state in
+    placed-records s c.args.change c.view.invariant.valid (step-inside s _ c.args.change c.view.view_is c.requires.step)
+
+pub follow-requires-clause-named : goal.follow-requires-clause-named
+follow-requires-clause-named g c =
+    let s = c.view.inside.state in
+    let change = c.args.change in
+    let made_is : c.put_back.new.state ≡ changed_state change s = search rules in
+    subst (λ (t : State). AreNamed c.view.inside.startable.classes t.instances) (sym made_is)
+    (step-named c.view.inside.startable.classes s change c.view.invariant.startable_are.rooms.named)
 
 pub returns-in-Ok-clause-room : goal.returns-in-Ok-clause-room
 returns-in-Ok-clause-room g c =

@@ -1,0 +1,42 @@
+-- How the numbers of two lists come into one, by a set.
+use Rattle.std.proofs.Common.{◌≡◌, ℕ, ◌+◌, ◌<◌, ◌==◌, ◌||◌, Bool, true, false, cond, List, [], ◌∷◌, length, get_or, take, refl, ap, ◌∙◌, arith}
+use Rattle.std.proofs.lemmas.Bool.Decides.{nat_tests}
+use Rattle.std.proofs.lemmas.List.{take_more}
+use Rattle.std.proofs.lemmas.List.Folds.{list_any-append}
+use Rattle.std.specs.Ordering.{is_eq, nat_cmp}
+use Rattle.std.specs.BTreeSet.{BTreeSet, Updates}
+use Rattle.wm_collections.specs.Lists.{is_among}
+use Rattle.wm_graph.specs.Edges.{has_number, IsListOf}
+use Rattle.wm_steps.specs.Merged.{AreAdded, AreMerged}
+
+one-case : (o n : Bool) → cond n true o ≡ (o || (n || false))
+one-case true true = refl
+one-case true false = refl
+one-case false true = refl
+one-case false false = refl
+
+or-grouped : (a b c : Bool) → ((a || b) || c) ≡ (a || (b || c))
+or-grouped true b c = refl
+or-grouped false b c = refl
+
+-- one number more
+pub added-one : (old new : BTreeSet ℕ) (one : ℕ) → Updates nat_cmp old new one true → AreAdded (one ∷ []) old new
+added-one old new one updates = λ number.
+    let test : is_eq (nat_cmp one number) ≡ (one == number) = grind (arith, nat_tests) in
+    updates.0 number ∙ ap (λ b. cond b true (has_number old number)) test ∙ one-case (has_number old number) (one == number)
+
+pub added-more : (others : List ℕ) (i : ℕ) → i < length others → (first old new : BTreeSet ℕ) → AreAdded (take i others) first old
+    → Updates nat_cmp old new (get_or others i 0) true → AreAdded (take (i + 1) others) first new
+added-more others i within first old new so_far updates = λ number.
+    rw (take_more others i 0 within, list_any-append)
+    (added-one old new (get_or others i 0) updates number ∙ ap (λ b. b || is_among (get_or others i 0 ∷ []) number) (so_far number)
+    ∙ or-grouped (has_number first number) (is_among (take i others) number) (is_among (get_or others i 0 ∷ []) number))
+
+-- the list of a set to which both were added
+pub merged-are : (one other list : List ℕ) (first second third : BTreeSet ℕ) → ((number : ℕ) → has_number first number ≡ false) → AreAdded one first second
+    → AreAdded other second third → IsListOf third list → AreMerged one other list
+merged-are one other list first second third none one_in other_in are = record {
+  ascending = are.ascending;
+  each = λ number. are.each number ∙ other_in number
+      ∙ ap (λ b. b || is_among other number) (one_in number ∙ ap (λ b. b || is_among one number) (none number));
+}

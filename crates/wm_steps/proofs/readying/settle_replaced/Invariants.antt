@@ -1,0 +1,9 @@
+use Rattle.std.proofs.Common.{Some, slice_get, take}
+use Rattle.std.specs.List.{list_all}
+use Rattle.wm_steps.specs.Readied.{is_settled, AreLeft}
+use Rattle.wm_steps.specs.declared.change.Replacement.{Replacement}
+use Rattle.wm_steps.proofs.readying.settle_replaced.Given as goal
+
+-- those so far are settled
+abbrev pub invariant-loop-replacement : goal.invariant-loop-replacement
+invariant-loop-replacement l = AreLeft (λ entry. list_all (λ (r : Replacement). is_settled l.classes l.graph (slice_get l.works r.index) (Some r.work) entry) (take l.replacement-index l.replaced)) l.fn.ready l.ready
