@@ -1,8 +1,8 @@
 //! When conditions meet constraints, of `wm_conditions`.
 
-use crate::fields::{RowFault, flag, has_only};
+use crate::fields::{RowFault, flag, has_only, unless_refused};
 use crate::names::{network_name, network_named};
-use crate::told::{Told, string};
+use crate::told::Told;
 use serde_json::Value;
 use std::alloc::{AllocError, Global};
 use wm_conditions::{Conditions, Constraints, Network, met};
@@ -64,44 +64,64 @@ pub fn flags(conditions: &Conditions) -> [(&'static str, bool); 7] {
     ]
 }
 
-/// How many of all 128 conditions meet the constraints, and in how many of these the condition at
-/// each place holds.
-fn count_met(constraints: &Constraints) -> (u32, [u32; 7]) {
-    let mut count = 0u32;
-    let mut holds = [0u32; 7];
-    for number in 0..128 {
-        let conditions = conditions(number);
-        if met(constraints, &conditions) {
-            count = count.saturating_add(1);
-            add_held(&mut holds, &conditions);
-        }
-    }
-    (count, holds)
+/// What conditions have in common: how many they are, and the numbers of what holds in all of them,
+/// and of what holds in any.
+#[derive(Clone, Copy)]
+struct Common {
+    count: u32,
+    all: u8,
+    any: u8,
 }
 
-/// Counts the conditions that hold.
-fn add_held(holds: &mut [u32; 7], conditions: &Conditions) {
-    for (held, (_, flag)) in holds.iter_mut().zip(flags(conditions)) {
-        *held = held.saturating_add(u32::from(flag));
+/// What those of all 128 conditions have in common that meet the constraints.
+fn common_of(constraints: &Constraints) -> Common {
+    let mut common = Common {
+        count: 0,
+        all: 127,
+        any: 0,
+    };
+    for number in 0..128 {
+        if met(constraints, &conditions(number)) {
+            common = Common {
+                count: common.count.saturating_add(1),
+                all: common.all & number,
+                any: common.any | number,
+            };
+        }
     }
+    common
 }
 
 /// What all conditions that meet constraints have in common, and how many these are. That tells
 /// which they are, where they are as many as what is in common leaves open.
 pub fn needed(alloc: Global, row: &Value) -> Result<Value, RowFault> {
     has_only(row, &CONSTRAINTS)?;
-    let (count, holds) = count_met(&constraints(row)?);
+    let common = common_of(&constraints(row)?);
     let mut told = Told::new(alloc);
-    told.number("count", u64::from(count))?;
-    for (held, (name, _)) in holds.iter().zip(flags(&Conditions::OPENING)) {
-        if *held == count {
-            told.put(name, Value::from(true))?;
-        }
-        if *held == 0 {
-            told.put(name, Value::from(false))?;
-        }
+    told.number("count", u64::from(common.count));
+    put_common(&mut told, &conditions(common.all), &conditions(common.any));
+    unless_refused(told.into_value())
+}
+
+/// Puts what holds in all conditions, and what in none, given what holds in all and in any.
+fn put_common(told: &mut Told, all: &Conditions, any: &Conditions) {
+    put_flag(told, "connected", all.connected, any.connected);
+    put_flag(told, "metered", all.metered, any.metered);
+    put_flag(told, "roaming", all.roaming, any.roaming);
+    put_flag(told, "charging", all.charging, any.charging);
+    put_flag(told, "idle", all.idle, any.idle);
+    put_flag(told, "battery_low", all.battery_low, any.battery_low);
+    put_flag(told, "storage_low", all.storage_low, any.storage_low);
+}
+
+/// Puts a condition that holds in all, or in none.
+fn put_flag(told: &mut Told, name: &str, all: bool, any: bool) {
+    if all {
+        told.flag(name, true);
     }
-    Ok(told.into_value())
+    if !any {
+        told.flag(name, false);
+    }
 }
 
 /// Whether the conditions at opening meet constraints.
@@ -115,26 +135,23 @@ pub fn met_at_opening(row: &Value) -> Result<Value, RowFault> {
 pub fn opening(alloc: Global, row: &Value) -> Result<Value, RowFault> {
     has_only(row, &[])?;
     let mut told = Told::new(alloc);
-    for (name, flag) in flags(&Conditions::OPENING) {
-        told.put(name, Value::from(flag))?;
-    }
-    Ok(told.into_value())
+    put_common(&mut told, &Conditions::OPENING, &Conditions::OPENING);
+    unless_refused(told.into_value())
 }
 
 /// The constraints of a request that names none.
 pub fn no_constraints(alloc: Global, row: &Value) -> Result<Value, RowFault> {
     has_only(row, &[])?;
-    Ok(constraints_told(alloc, &Constraints::NONE)?)
+    unless_refused(constraints_told(alloc, &Constraints::NONE))
 }
 
 /// All fields of constraints.
 pub fn constraints_told(alloc: Global, constraints: &Constraints) -> Result<Value, AllocError> {
     let mut told = Told::new(alloc);
-    let network = string(alloc, network_name(constraints.network))?;
-    told.put("network", network)?;
-    told.put("charging", Value::from(constraints.charging))?;
-    told.put("idle", Value::from(constraints.idle))?;
-    told.put("battery_not_low", Value::from(constraints.battery_not_low))?;
-    told.put("storage_not_low", Value::from(constraints.storage_not_low))?;
-    Ok(told.into_value())
+    told.text("network", network_name(constraints.network));
+    told.flag("charging", constraints.charging);
+    told.flag("idle", constraints.idle);
+    told.flag("battery_not_low", constraints.battery_not_low);
+    told.flag("storage_not_low", constraints.storage_not_low);
+    told.into_value()
 }

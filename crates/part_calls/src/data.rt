@@ -1,7 +1,10 @@
 //! Data, its builder and its JSON, of `wm_data`, and what inputs become by each merger, of
 //! `wm_merge`.
 
-use crate::fields::{RowFault, count, field, given, has_only, items, letters, text};
+use crate::fields::{
+    Item, RowFault, both, count, field, given, has_only, items, letters, read_each, text,
+    unless_refused,
+};
 use crate::names::merger_named;
 use crate::told::{Told, string};
 use serde_json::{Value, push};
@@ -17,6 +20,11 @@ fn fault_text(alloc: Global, fault: &DataFault) -> Result<String, AllocError> {
         DataFault::TooLarge { size } => format!(in alloc; "TooLarge {size}"),
         DataFault::Memory => Err(AllocError),
     }
+}
+
+/// A text that came.
+fn came_told(text: Result<String, AllocError>) -> Result<Value, AllocError> {
+    Ok(Value::String(text?))
 }
 
 /// The canonical text of Data.
@@ -36,7 +44,7 @@ fn text_of(alloc: Global, told: Result<Data, DataFault>) -> Result<String, Alloc
 pub fn read(alloc: Global, row: &Value) -> Result<Value, RowFault> {
     has_only(row, &["json"])?;
     let told = Data::from_json(alloc, field(row, "json")?);
-    Ok(Value::String(text_of(alloc, told)?))
+    unless_refused(came_told(text_of(alloc, told)))
 }
 
 /// The JSON of Data that has a text of so many letters under the key `a`.
@@ -45,85 +53,101 @@ fn long_text(alloc: Global, row: &Value) -> Result<String, RowFault> {
     Ok(format!(in alloc; "{{\"a\":{{\"text\":\"{letters}\"}}}}")?)
 }
 
-/// The JSON value of a text that this program wrote.
-fn json_of(alloc: Global, text: &str) -> Result<Value, RowFault> {
-    given(Value::from_str(alloc, text))
-}
-
 /// What such JSON is read as: whether that is what was read, else the fault.
 pub fn read_long(alloc: Global, row: &Value) -> Result<Value, RowFault> {
     has_only(row, &["letters"])?;
     let given = long_text(alloc, row)?;
-    let json = json_of(alloc, given.as_str())?;
-    let came = text_of(alloc, Data::from_json(alloc, &json))?;
-    if came == given {
-        return Ok(string(alloc, "the same")?);
-    }
-    Ok(Value::String(came))
+    let came = read_again(alloc, given.as_str());
+    let (given, came) = both(given, came)?;
+    let same = came == given;
+    unless_refused(told_or(alloc, came, same, "the same"))
 }
 
-/// A number of 32 bits with a sign.
-fn int(value: &Value) -> Result<i32, RowFault> {
-    let number = value.as_i64().ok_or(RowFault::Value)?;
+/// What JSON is read as that this program wrote: the canonical text of the Data, or the fault.
+fn read_again(alloc: Global, text: &str) -> Result<String, RowFault> {
+    let json = given(Value::from_str(alloc, text))?;
+    unless_refused(text_of(alloc, Data::from_json(alloc, &json)))
+}
+
+/// A text, or this word in place of one that is as it should be.
+fn told_or(alloc: Global, text: String, is_right: bool, word: &str) -> Result<Value, AllocError> {
+    if is_right {
+        string(alloc, word)
+    } else {
+        Ok(Value::String(text))
+    }
+}
+
+/// A number under a key.
+#[derive(Drop)]
+struct Entry {
+    key: String,
+    number: i32,
+}
+
+/// The number of 32 bits with a sign of an entry.
+fn int(entry: &Value) -> Result<i32, RowFault> {
+    let number = field(entry, "int")?.as_i64().ok_or(RowFault::Value)?;
     given(i32::try_from(number))
 }
 
-/// Puts a number under a key.
-fn put_entry(
-    alloc: Global,
-    builder: &mut DataBuilder,
-    entry: &Value,
-) -> Result<Option<DataFault>, RowFault> {
-    let key = String::from_str(alloc, text(entry, "key")?)?;
-    let number = int(field(entry, "int")?)?;
-    Ok(builder.put(key, wm_data::Value::Int(number)).err())
+impl Item for Entry {
+    fn read(alloc: Global, item: &Value) -> Result<Entry, RowFault> {
+        let number = int(item)?;
+        let key = String::from_str(alloc, text(item, "key")?)?;
+        Ok(Entry { key, number })
+    }
 }
 
 /// Puts entries one after another, up to the first that is refused.
-fn put_entries(
-    alloc: Global,
-    builder: &mut DataBuilder,
-    row: &Value,
-) -> Result<Option<DataFault>, RowFault> {
-    for entry in items(row, "entries")? {
-        let fault = put_entry(alloc, builder, entry)?;
-        if fault.is_some() {
-            return Ok(fault);
-        }
+fn put_entries(builder: &mut DataBuilder, entries: Vec<Entry>) -> Result<(), DataFault> {
+    for entry in entries {
+        builder.put(entry.key, wm_data::Value::Int(entry.number))?;
     }
-    Ok(None)
+    Ok(())
 }
 
-/// The Data of a builder, unless an entry was refused.
-fn built(builder: DataBuilder, refused: Option<DataFault>) -> Result<Data, DataFault> {
-    match refused {
-        Some(fault) => Err(fault),
-        None => builder.build(),
+/// The Data of entries, unless one is refused.
+fn built(alloc: Global, entries: Vec<Entry>) -> Result<Data, DataFault> {
+    let mut builder = DataBuilder::new(alloc);
+    match put_entries(&mut builder, entries) {
+        Ok(()) => builder.build(),
+        Err(fault) => Err(fault),
     }
 }
 
 /// What entries become that are put one after another: a copy of the Data, or the fault.
 pub fn build(alloc: Global, row: &Value) -> Result<Value, RowFault> {
     has_only(row, &["entries", "get"])?;
-    let mut builder = DataBuilder::new(alloc);
-    let refused = put_entries(alloc, &mut builder, row)?;
-    match built(builder, refused) {
+    let entries = read_each(alloc, items(row, "entries")?)?;
+    match built(alloc, entries) {
         Ok(built) => facts(alloc, &built, row),
-        Err(fault) => Ok(Value::String(fault_text(alloc, &fault)?)),
+        Err(fault) => unless_refused(came_told(fault_text(alloc, &fault))),
     }
 }
 
 /// What is asked of Data: its size, the texts of it and of a copy, whether it is equal to that, and
 /// to none, and the values of keys.
 fn facts(alloc: Global, built: &Data, row: &Value) -> Result<Value, RowFault> {
-    let copy = given(built.copy(alloc))?;
+    let values = values(alloc, built, row)?;
+    let (values, copy) = both(values, given(built.copy(alloc)))?;
+    unless_refused(facts_told(alloc, built, &copy, values))
+}
+
+/// The facts of Data, with those of its copy, and the values of keys.
+fn facts_told(
+    alloc: Global,
+    built: &Data,
+    copy: &Data,
+    values: Value,
+) -> Result<Value, AllocError> {
     let mut told = Told::new(alloc);
-    told.number("size", built.size())?;
-    told.text("text", data_text(alloc, &copy)?.as_str())?;
-    told.put("is_copy", Value::from(copy == *built))?;
-    told.put("is_none", Value::from(*built == Data::empty(alloc)))?;
-    told.put("values", values(alloc, built, row)?)?;
-    Ok(told.into_value())
+    told.number("size", built.size());
+    told.put("text", came_told(data_text(alloc, copy)));
+    told.flag("is_copy", *copy == *built);
+    told.flag("is_none", *built == Data::empty(alloc));
+    told.put("values", Ok(values));
+    told.into_value()
 }
 
 /// The numbers of the keys that are asked for.
@@ -153,9 +177,9 @@ fn conflict_text(alloc: Global, fault: &MergeFault) -> Result<String, AllocError
     }
 }
 
-/// The text of what inputs became, or the fault.
-fn merged_text(alloc: Global, merged: Result<Data, MergeFault>) -> Result<String, AllocError> {
-    match merged {
+/// The text of what inputs become by a merger, or the fault.
+fn merged_text(alloc: Global, merger: Merger, inputs: &[Data]) -> Result<String, AllocError> {
+    match merge(alloc, merger, inputs) {
         Ok(merged) => data_text(alloc, &merged),
         Err(fault) => conflict_text(alloc, &fault),
     }
@@ -166,41 +190,34 @@ pub fn merger(row: &Value) -> Result<Merger, RowFault> {
     merger_named(text(row, "merger")?).ok_or(RowFault::Value)
 }
 
-/// The inputs of a row.
-fn inputs(alloc: Global, row: &Value) -> Result<Vec<Data>, RowFault> {
-    let mut inputs = Vec::new(alloc);
-    for item in items(row, "inputs")? {
-        let input = given(Data::from_json(alloc, item))?;
-        inputs.push(input)?;
-    }
-    Ok(inputs)
-}
-
 /// What inputs become by a merger: the canonical text of the Data, or the fault.
 pub fn merged(alloc: Global, row: &Value) -> Result<Value, RowFault> {
     has_only(row, &["merger", "inputs"])?;
-    let merger = merger(row)?;
-    let inputs = inputs(alloc, row)?;
-    let merged = merge(alloc, merger, inputs.as_slice());
-    Ok(Value::String(merged_text(alloc, merged)?))
+    let text = text_merged(alloc, merger(row)?, row)?;
+    Ok(Value::String(text))
+}
+
+/// The text of what the inputs of a row become by a merger, or the fault.
+fn text_merged(alloc: Global, merger: Merger, row: &Value) -> Result<String, RowFault> {
+    let inputs = read_each(alloc, items(row, "inputs")?)?;
+    unless_refused(merged_text(alloc, merger, inputs.as_slice()))
 }
 
 /// An input with a long text under the key `a`, and one with a flag under the key `b`.
 fn long_inputs(alloc: Global, row: &Value) -> Result<Value, RowFault> {
     let long = long_text(alloc, row)?;
     let text = format!(in alloc; "{{\"inputs\":[{long},{{\"b\":{{\"bool\":true}}}}]}}")?;
-    json_of(alloc, text.as_str())
+    given(Value::from_str(alloc, text.as_str()))
 }
 
 /// How such inputs begin once they are merged, or the fault.
 pub fn merged_long(alloc: Global, row: &Value) -> Result<Value, RowFault> {
     has_only(row, &["merger", "letters"])?;
-    let given = long_inputs(alloc, row)?;
-    let inputs = inputs(alloc, &given)?;
-    let merged = merge(alloc, merger(row)?, inputs.as_slice());
-    let text = merged_text(alloc, merged)?;
-    if text.as_str().starts_with("{\"a\"") {
-        return Ok(string(alloc, "merged")?);
-    }
-    Ok(Value::String(text))
+    let merger = merger(row)?;
+    let inputs = long_inputs(alloc, row)?;
+    let text = text_merged(alloc, merger, &inputs);
+    drop(inputs);
+    let text = text?;
+    let begins = text.as_str().starts_with("{\"a\"");
+    unless_refused(told_or(alloc, text, begins, "merged"))
 }

@@ -1,47 +1,66 @@
 //! Reads the fields of a row.
-ghost use Rattle.std.specs.Prelude.{◌≡◌, Ok, IfOk};
+ghost use Rattle.std.specs.Prelude.{◌≡◌, ◌≤◌, length, Ok, IfOk};
 
 use serde_json::Value;
-use std::alloc::{AllocError, Global};
-use thiserror::Error;
+use std::alloc::{AllocError, AllocFailed, Global};
 use uuid::Uuid;
 use wm_collections::{Items, Text};
 use wm_data::Data;
 
 /// Why a row is refused.
-#[derive(Debug, Drop, Error)]
+#[derive(Clone, Copy)]
 pub enum RowFault {
-    #[error("a row is a JSON object")]
+    /// It is no JSON object.
     NoObject,
-    #[error("no call has this name")]
+    /// No call has its name.
     NoSuchCall,
-    #[error("the call has another key than it may have")]
+    /// The call has another key than it may have.
     Keys,
-    #[error("a value isn't there, or is one that can't be")]
+    /// A value isn't there, or is one that can't be.
     Value,
-    #[error(transparent)]
-    Memory(#[from(alloc)] AllocError),
+    /// Memory was refused.
+    Memory,
+}
+
+impl RowFault {
+    /// What is printed of it.
+    pub fn text(self) -> &'static str {
+        match self {
+            RowFault::NoObject => "a row is a JSON object",
+            RowFault::NoSuchCall => "no call has this name",
+            RowFault::Keys => "the call has another key than it may have",
+            RowFault::Value => "a value isn't there, or is one that can't be",
+            RowFault::Memory => "memory allocation failed",
+        }
+    }
+}
+
+impl From<AllocError> for RowFault {
+    fn from(_refused: AllocError) -> RowFault {
+        RowFault::Memory
+    }
+}
+
+impl<T: Drop> From<AllocFailed<T>> for RowFault {
+    fn from(_refused: AllocFailed<T>) -> RowFault {
+        RowFault::Memory
+    }
 }
 
 /// The row has no keys but these, beside those of every row.
 pub fn has_only(row: &Value, keys: &[&str]) -> Result<(), RowFault> {
     let members = row.as_object().ok_or(RowFault::NoObject)?;
     for key in members.keys() {
-        if !is_one_of(&["answers", "call"], key.as_str()) && !is_one_of(keys, key.as_str()) {
+        if !is_allowed(keys, key.as_str()) {
             return Err(RowFault::Keys);
         }
     }
     Ok(())
 }
 
-/// Whether a key is one of these.
-fn is_one_of(keys: &[&str], key: &str) -> bool {
-    for one in keys {
-        if *one == key {
-            return true;
-        }
-    }
-    false
+/// Whether a key is one of these, or one of every row.
+fn is_allowed(keys: &[&str], key: &str) -> bool {
+    key == "answers" || key == "call" || keys.contains(&key)
 }
 
 /// The value under a key.
@@ -88,56 +107,80 @@ pub fn items<'v>(row: &'v Value, key: &str) -> Result<&'v [Value], RowFault> {
     }
 }
 
-/// The numbers of the list under a key.
-pub fn numbers(alloc: Global, row: &Value, key: &str) -> Result<Items<u64>, RowFault> {
-    let mut numbers = Items::new(alloc);
-    for item in items(row, key)? {
-        let number = item.as_u64().ok_or(RowFault::Value)?;
-        numbers.push(number)?;
-    }
-    Ok(numbers)
+/// What an item of a list is read as.
+pub trait Item: Drop {
+    fn read(alloc: Global, item: &Value) -> Result<Self, RowFault>;
 }
 
-/// The texts of the list under a key.
-pub fn texts(alloc: Global, row: &Value, key: &str) -> Result<Items<Text>, RowFault> {
-    let mut texts = Items::new(alloc);
-    for item in items(row, key)? {
-        let text = item.as_str().ok_or(RowFault::Value)?;
-        texts.push(Text::from_str(alloc, text)?)?;
+impl Item for u64 {
+    fn read(_alloc: Global, item: &Value) -> Result<u64, RowFault> {
+        item.as_u64().ok_or(RowFault::Value)
     }
-    Ok(texts)
+}
+
+impl Item for Text {
+    fn read(alloc: Global, item: &Value) -> Result<Text, RowFault> {
+        let text = item.as_str().ok_or(RowFault::Value)?;
+        Ok(Text::from_str(alloc, text)?)
+    }
+}
+
+/// An id is a number, or a text in a form of an id.
+impl Item for Uuid {
+    fn read(_alloc: Global, item: &Value) -> Result<Uuid, RowFault> {
+        id_in(item)
+    }
+}
+
+impl Item for Data {
+    fn read(alloc: Global, item: &Value) -> Result<Data, RowFault> {
+        given(Data::from_json(alloc, item))
+    }
+}
+
+/// What items are read as.
+pub fn read_each<T: Item>(alloc: Global, items: &[Value]) -> Result<Vec<T>, RowFault> {
+    let mut all = Vec::new(alloc);
+    for item in items {
+        let one = T::read(alloc, item)?;
+        all.push(one)?;
+    }
+    Ok(all)
+}
+
+/// What items are read as, at least one.
+pub fn read_some<T: Item>(alloc: Global, items: &[Value]) -> Result<Vec<T>, RowFault>
+    ensures { IfOk result (λ some. 1 ≤ length some.items) }
+{
+    let some = read_each(alloc, items)?;
+    if some.is_empty() {
+        return Err(RowFault::Value);
+    }
+    Ok(some)
+}
+
+/// What the items of the list under a key are read as.
+pub fn list<T: Item>(alloc: Global, row: &Value, key: &str) -> Result<Items<T>, RowFault> {
+    Ok(Items::from_vec(read_each(alloc, items(row, key)?)?))
 }
 
 /// An id: a number, or a text in a form of an id.
-fn id_in(value: &Value) -> Option<Uuid> {
+fn id_in(value: &Value) -> Result<Uuid, RowFault> {
     match value.as_u64() {
-        Some(number) => Some(Uuid::from_u128(u128::from(number))),
-        None => Uuid::try_parse(value.as_str()?).ok(),
+        Some(number) => Ok(Uuid::from_u128(u128::from(number))),
+        None => given(Uuid::try_parse(value.as_str().ok_or(RowFault::Value)?)),
     }
 }
 
 /// The id under a key.
 pub fn id(row: &Value, key: &str) -> Result<Uuid, RowFault> {
-    id_in(field(row, key)?).ok_or(RowFault::Value)
-}
-
-/// The ids of the list under a key.
-pub fn ids(alloc: Global, row: &Value, key: &str) -> Result<Items<Uuid>, RowFault> {
-    let mut ids = Items::new(alloc);
-    for item in items(row, key)? {
-        let id = id_in(item).ok_or(RowFault::Value)?;
-        ids.push(id)?;
-    }
-    Ok(ids)
+    id_in(field(row, key)?)
 }
 
 /// The unique name of a work, where it has one.
 pub fn name(alloc: Global, row: &Value) -> Result<Option<Text>, RowFault> {
     match row.get("name") {
-        Some(value) => {
-            let name = value.as_str().ok_or(RowFault::Value)?;
-            Ok(Some(Text::from_str(alloc, name)?))
-        }
+        Some(value) => Ok(Some(Text::read(alloc, value)?)),
         None => Ok(None),
     }
 }
@@ -145,7 +188,7 @@ pub fn name(alloc: Global, row: &Value) -> Result<Option<Text>, RowFault> {
 /// The Data under a key, none where there is none.
 pub fn data(alloc: Global, row: &Value, key: &str) -> Result<Data, RowFault> {
     match row.get(key) {
-        Some(value) => given(Data::from_json(alloc, value)),
+        Some(value) => Data::read(alloc, value),
         None => Ok(Data::empty(alloc)),
     }
 }
@@ -177,7 +220,7 @@ pub fn unless_refused<T>(value: Result<T, AllocError>) -> Result<T, RowFault>
 {
     match value {
         Ok(value) => Ok(value),
-        Err(refused) => Err(RowFault::Memory(refused)),
+        Err(_refused) => Err(RowFault::Memory),
     }
 }
 

@@ -6,9 +6,10 @@ use crate::conditions::{constraints, constraints_told};
 use crate::data::merger;
 use crate::fields::{
     RowFault, both, count, data, given, has_only, id, items, letters, number, number_if, text,
+    unless_refused,
 };
 use crate::names::{backoff_policy_name, backoff_policy_named, merger_name};
-use crate::told::{Told, id as id_told, string, texts};
+use crate::told::{Told, id as id_told, list, string};
 use serde_json::Value;
 use std::alloc::{AllocError, Global};
 use uuid::Uuid;
@@ -58,16 +59,27 @@ fn constraints_if(row: &Value) -> Result<Option<Constraints>, RowFault> {
     }
 }
 
-/// A builder of one-time work, or of periodic work where the row has a period.
+/// A builder of one-time work, or of periodic work where there is a period.
+pub fn begin(
+    alloc: Global,
+    id: Uuid,
+    class: String,
+    period: Option<u64>,
+    flex: Option<u64>,
+) -> Builder {
+    match period {
+        Some(period) => Builder::periodic(alloc, id, class, period, flex),
+        None => Builder::one_time(alloc, id, class),
+    }
+}
+
+/// A builder of the work of a row, which is periodic where the row has a period.
 fn begun(alloc: Global, row: &Value) -> Result<Builder, RowFault> {
     let id = id(row, "id")?;
     let period = number_if(row, "period")?;
     let flex = number_if(row, "flex")?;
     let class = String::from_str(alloc, text(row, "class")?)?;
-    match period {
-        Some(period) => Ok(Builder::periodic(alloc, id, class, period, flex)),
-        None => Ok(Builder::one_time(alloc, id, class)),
-    }
+    Ok(begin(alloc, id, class, period, flex))
 }
 
 /// Sets what a row has beside the input and the tags.
@@ -99,17 +111,22 @@ fn add_tag(builder: &mut Builder, tag: String) -> Result<(), RowFault> {
     if !is_short(tag.as_str()) {
         return Err(RowFault::Value);
     }
-    Ok(builder.tag(tag)?)
+    unless_refused(builder.tag(tag))
 }
 
 /// Sets the input, and adds the tags one after another.
 fn set_owned(alloc: Global, builder: &mut Builder, row: &Value) -> Result<(), RowFault> {
     builder.input(data(alloc, row, "input")?);
     for item in items(row, "tags")? {
-        let tag = item.as_str().ok_or(RowFault::Value)?;
-        add_tag(builder, String::from_str(alloc, tag)?)?;
+        add_tag_in(alloc, builder, item)?;
     }
     Ok(())
+}
+
+/// Adds the tag that a value is.
+fn add_tag_in(alloc: Global, builder: &mut Builder, item: &Value) -> Result<(), RowFault> {
+    let tag = item.as_str().ok_or(RowFault::Value)?;
+    add_tag(builder, String::from_str(alloc, tag)?)
 }
 
 /// Sets all that a row has.
@@ -136,9 +153,14 @@ pub fn request(alloc: Global, value: &Value) -> Result<Request, RowFault> {
 pub fn built(alloc: Global, row: &Value) -> Result<Value, RowFault> {
     has_only(row, &KEYS)?;
     let builder = builder(alloc, row)?;
-    match builder.build() {
-        Ok(request) => Ok(replica_told(alloc, &request)?),
-        Err(fault) => Ok(fault_told(alloc, fault)?),
+    unless_refused(built_told(alloc, builder.build()))
+}
+
+/// The fields of a replica of a request, or the fault.
+fn built_told(alloc: Global, built: Result<Request, RequestFault>) -> Result<Value, AllocError> {
+    match built {
+        Ok(request) => replica_told(alloc, &request),
+        Err(fault) => fault_told(alloc, fault),
     }
 }
 
@@ -161,30 +183,29 @@ fn replica_told(alloc: Global, request: &Request) -> Result<Value, AllocError> {
 /// The fields of a request.
 fn request_told(alloc: Global, request: &Request) -> Result<Value, AllocError> {
     let mut told = Told::new(alloc);
-    told.put("id", id_told(alloc, request.id())?)?;
-    told.text("class", request.class().as_str())?;
-    told.data("input", request.input())?;
-    told.text("merger", merger_name(request.merger()))?;
-    told.put("tags", texts(alloc, request.tags().as_slice())?)?;
+    told.put("id", id_told(alloc, request.id()));
+    told.text("class", request.class().as_str());
+    told.data("input", request.input());
+    told.text("merger", merger_name(request.merger()));
+    told.put("tags", list(alloc, request.tags().as_slice()));
     told.put(
         "constraints",
-        constraints_told(alloc, &request.constraints())?,
-    )?;
-    put_times(&mut told, request)?;
-    Ok(told.into_value())
+        constraints_told(alloc, &request.constraints()),
+    );
+    put_times(&mut told, request);
+    told.into_value()
 }
 
 /// The delays of a request.
-fn put_times(told: &mut Told, request: &Request) -> Result<(), AllocError> {
+fn put_times(told: &mut Told, request: &Request) {
     let Backoff { policy, delay } = request.backoff();
-    told.text("policy", backoff_policy_name(policy))?;
-    told.number("delay", delay)?;
-    told.number("initial_delay", request.initial_delay())?;
+    told.text("policy", backoff_policy_name(policy));
+    told.number("delay", delay);
+    told.number("initial_delay", request.initial_delay());
     if let Some(period) = request.period() {
-        told.number("period", period.period)?;
-        told.number("flex", period.flex)?;
+        told.number("period", period.period);
+        told.number("flex", period.flex);
     }
-    Ok(())
 }
 
 /// Adds so many tags, the longest first.
@@ -200,11 +221,7 @@ fn of_letters(alloc: Global, row: &Value) -> Result<Builder, RowFault> {
     let period = number_if(row, "period")?;
     let delay = number(row, "initial_delay")?;
     let class = letters(alloc, count(row, "class")? as usize)?;
-    let id = Uuid::from_u128(7);
-    let mut builder = match period {
-        Some(period) => Builder::periodic(alloc, id, class, period, None),
-        None => Builder::one_time(alloc, id, class),
-    };
+    let mut builder = begin(alloc, Uuid::from_u128(7), class, period, None);
     builder.initial_delay(delay);
     Ok(builder)
 }
@@ -217,7 +234,7 @@ pub fn limits(alloc: Global, row: &Value) -> Result<Value, RowFault> {
     let added = add_tags(alloc, &mut builder, tags);
     let (builder, ()) = both(builder, added)?;
     match builder.build().err() {
-        Some(fault) => Ok(fault_told(alloc, fault)?),
-        None => Ok(string(alloc, "built")?),
+        Some(fault) => unless_refused(fault_told(alloc, fault)),
+        None => unless_refused(string(alloc, "built")),
     }
 }

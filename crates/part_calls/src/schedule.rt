@@ -3,7 +3,7 @@ ghost use Rattle.std.specs.Prelude.{◌≡◌, true, IfSome};
 ghost use Rattle.wm_schedule.specs.Clamped.{IsPeriod};
 ghost use Rattle.wm_schedule.specs.Moments.{AreTimes, IsDelay};
 
-use crate::fields::{RowFault, count, has_only, number, number_if, text};
+use crate::fields::{RowFault, count, has_only, number, number_if, text, unless_refused};
 use crate::names::backoff_policy_named;
 use crate::told::Told;
 use serde_json::Value;
@@ -15,6 +15,18 @@ const LAST_MOMENT: u64 = 9_007_199_254_740_991;
 
 /// The longest initial delay and the longest period, in milliseconds.
 const LONGEST: u64 = 315_360_000_000;
+
+/// The keys of times.
+const TIMES: [&str; 8] = [
+    "enqueued_at",
+    "initial_delay",
+    "policy",
+    "delay",
+    "backoff_n",
+    "period",
+    "flex",
+    "runs",
+];
 
 /// The policy of a row's backoff.
 fn policy(row: &Value) -> Result<BackoffPolicy, RowFault> {
@@ -46,9 +58,9 @@ pub fn period(alloc: Global, row: &Value) -> Result<Value, RowFault> {
     has_only(row, &["asked", "flex"])?;
     let Period { period, flex } = clamp_period(number(row, "asked")?, number_if(row, "flex")?);
     let mut told = Told::new(alloc);
-    told.number("period", period)?;
-    told.number("flex", flex)?;
-    Ok(told.into_value())
+    told.number("period", period);
+    told.number("flex", flex);
+    unless_refused(told.into_value())
 }
 
 /// The backoff of a row; the one that requests have where it has none.
@@ -107,19 +119,7 @@ fn are_within(times: &Times) -> bool
 
 /// When a work of such times is due.
 pub fn due_at(row: &Value) -> Result<Value, RowFault> {
-    has_only(
-        row,
-        &[
-            "enqueued_at",
-            "initial_delay",
-            "policy",
-            "delay",
-            "backoff_n",
-            "period",
-            "flex",
-            "runs",
-        ],
-    )?;
+    has_only(row, &TIMES)?;
     let times = times(row)?;
     if !are_within(&times) {
         return Err(RowFault::Value);

@@ -6,10 +6,12 @@ use uuid::Uuid;
 use wm_collections::Text;
 use wm_data::Data;
 
-/// A JSON object that is put together.
+/// A JSON object that is put together. Whether memory was refused is asked once, at its end: so what
+/// tells a value has no early return beside it.
 #[derive(Drop)]
 pub struct Told {
     members: Map<String, Value>,
+    refused: bool,
     alloc: Global,
 }
 
@@ -17,30 +19,44 @@ impl Told {
     pub fn new(alloc: Global) -> Told {
         Told {
             members: Map::new(alloc),
+            refused: false,
             alloc,
         }
     }
 
-    pub fn put(&mut self, key: &str, value: Value) -> Result<(), AllocError> {
-        put(&mut self.members, self.alloc, key, value)
+    /// Puts a value, which memory may have been refused for.
+    pub fn put(&mut self, key: &str, value: Result<Value, AllocError>) {
+        if self.try_put(key, value).is_err() {
+            self.refused = true;
+        }
     }
 
-    pub fn number(&mut self, key: &str, number: u64) -> Result<(), AllocError> {
-        self.put(key, Value::from(number))
+    fn try_put(&mut self, key: &str, value: Result<Value, AllocError>) -> Result<(), AllocError> {
+        put(&mut self.members, self.alloc, key, value?)
     }
 
-    pub fn text(&mut self, key: &str, text: &str) -> Result<(), AllocError> {
-        let value = string(self.alloc, text)?;
-        self.put(key, value)
+    pub fn flag(&mut self, key: &str, flag: bool) {
+        self.put(key, Ok(Value::from(flag)));
     }
 
-    pub fn data(&mut self, key: &str, told: &Data) -> Result<(), AllocError> {
-        let value = data(self.alloc, told)?;
-        self.put(key, value)
+    pub fn number(&mut self, key: &str, number: u64) {
+        self.put(key, Ok(Value::from(number)));
     }
 
-    pub fn into_value(self) -> Value {
-        Value::Object(self.members)
+    pub fn text(&mut self, key: &str, text: &str) {
+        self.put(key, string(self.alloc, text));
+    }
+
+    pub fn data(&mut self, key: &str, told: &Data) {
+        self.put(key, data(self.alloc, told));
+    }
+
+    /// The object. Memory that was refused is the only error.
+    pub fn into_value(self) -> Result<Value, AllocError> {
+        if self.refused {
+            return Err(AllocError);
+        }
+        Ok(Value::Object(self.members))
     }
 }
 
@@ -65,20 +81,46 @@ pub fn data(alloc: Global, told: &Data) -> Result<Value, AllocError> {
     unless_refused(told.to_json(alloc))
 }
 
-/// Numbers.
-pub fn numbers(alloc: Global, numbers: &[u64]) -> Result<Value, AllocError> {
-    let mut list = Vec::new(alloc);
-    for number in numbers {
-        push(&mut list, Value::from(*number))?;
-    }
-    Ok(Value::Array(list))
+/// An object of one value.
+pub fn named(
+    alloc: Global,
+    name: &str,
+    value: Result<Value, AllocError>,
+) -> Result<Value, AllocError> {
+    let mut told = Told::new(alloc);
+    told.put(name, value);
+    told.into_value()
 }
 
-/// Texts.
-pub fn texts(alloc: Global, texts: &[Text]) -> Result<Value, AllocError> {
+/// What is told of an item of a list.
+pub trait Tell {
+    fn tell(&self, alloc: Global) -> Result<Value, AllocError>;
+}
+
+impl Tell for u64 {
+    fn tell(&self, _alloc: Global) -> Result<Value, AllocError> {
+        Ok(Value::from(*self))
+    }
+}
+
+impl Tell for Text {
+    fn tell(&self, alloc: Global) -> Result<Value, AllocError> {
+        string(alloc, self.as_str())
+    }
+}
+
+impl Tell for Uuid {
+    fn tell(&self, alloc: Global) -> Result<Value, AllocError> {
+        id(alloc, *self)
+    }
+}
+
+/// A list of what is told of each item.
+pub fn list<T: Tell>(alloc: Global, items: &[T]) -> Result<Value, AllocError> {
     let mut list = Vec::new(alloc);
-    for text in texts {
-        push(&mut list, string(alloc, text.as_str())?)?;
+    for item in items {
+        let told = item.tell(alloc)?;
+        push(&mut list, told)?;
     }
     Ok(Value::Array(list))
 }
@@ -94,13 +136,4 @@ pub fn id(alloc: Global, id: Uuid) -> Result<Value, AllocError> {
         Ok(number) => Ok(Value::from(number)),
         Err(_) => Ok(Value::String(format!(in alloc; "{id}")?)),
     }
-}
-
-/// Ids.
-pub fn ids(alloc: Global, ids: &[Uuid]) -> Result<Value, AllocError> {
-    let mut list = Vec::new(alloc);
-    for one in ids {
-        push(&mut list, id(alloc, *one)?)?;
-    }
-    Ok(Value::Array(list))
 }

@@ -1,9 +1,9 @@
 //! What the stock workers answer to a turn, of `wm_stock`.
 ghost use Rattle.std.specs.Prelude.{◌≡◌, IfOk};
 
-use crate::fields::{RowFault, both, count, data, has_only, text};
+use crate::fields::{RowFault, both, count, data, has_only, text, unless_refused};
 use crate::names::kind_named;
-use crate::told::{Told, data as data_told, string};
+use crate::told::{data as data_told, named, string};
 use serde_json::Value;
 use std::alloc::{AllocError, Global};
 use wm_stock::{Count, Echo, FailUntil, RetryUntil, Sum, Wait};
@@ -18,17 +18,19 @@ fn answer_told(alloc: Global, answer: &Answer) -> Result<Value, AllocError> {
         Answer::More(None) => string(alloc, "More"),
         Answer::Retry => string(alloc, "Retry"),
         Answer::Cut(raised) => Ok(Value::String(format!(in alloc; "Cut {}", raised.run())?)),
-        Answer::More(Some(progress)) => named(alloc, "More", data_told(alloc, progress)?),
-        Answer::Success(output) => named(alloc, "Success", data_told(alloc, output)?),
-        Answer::Failure(output) => named(alloc, "Failure", data_told(alloc, output)?),
+        Answer::More(Some(progress)) => named(alloc, "More", data_told(alloc, progress)),
+        Answer::Success(output) => named(alloc, "Success", data_told(alloc, output)),
+        Answer::Failure(output) => named(alloc, "Failure", data_told(alloc, output)),
     }
 }
 
-/// An object of one value.
-fn named(alloc: Global, name: &str, value: Value) -> Result<Value, AllocError> {
-    let mut told = Told::new(alloc);
-    told.put(name, value)?;
-    Ok(told.into_value())
+/// Whether the signal of a row is raised.
+fn is_raised(row: &Value) -> Result<bool, RowFault> {
+    match text(row, "signal")? {
+        "raised" => Ok(true),
+        "not raised" => Ok(false),
+        _ => Err(RowFault::Value),
+    }
 }
 
 /// The signal of a row: it is raised, could be, or never can be where the row says nothing.
@@ -38,11 +40,10 @@ fn signal(alloc: Global, row: &Value) -> Result<Signal, RowFault>
     if row.get("signal").is_none() {
         return Ok(Signal::never(RUN));
     }
+    let raised = is_raised(row)?;
     let signal = Signal::new(alloc, RUN)?;
-    match text(row, "signal")? {
-        "raised" => signal.raise(),
-        "not raised" => {}
-        _ => return Err(RowFault::Value),
+    if raised {
+        signal.raise();
     }
     Ok(signal)
 }
@@ -107,5 +108,5 @@ pub fn turn(alloc: Global, row: &Value) -> Result<Value, RowFault> {
     let k = count(row, "k")?;
     let signal = signal(alloc, row)?;
     let (signal, task) = both(signal, task(alloc, row))?;
-    Ok(turn_of_kind(alloc, kind, &task, k, &signal)?)
+    unless_refused(turn_of_kind(alloc, kind, &task, k, &signal))
 }

@@ -2,10 +2,9 @@
 
 use crate::names::shown_named;
 use part_calls::fields::{
-    RowFault, both, count, data, field, has_only, id, ids, items, name, number, number_if, text,
-    texts,
+    RowFault, both, count, data, field, has_only, id, items, list, name, number, number_if,
 };
-use part_calls::told::numbers as numbers_told;
+use part_calls::told::list as list_told;
 use serde_json::Value;
 use std::alloc::{AllocError, Global};
 use uuid::Uuid;
@@ -38,7 +37,7 @@ fn plain_of(form: &Value) -> Result<Plain, RowFault> {
 
 /// The unique name and the tags.
 fn texts_of(alloc: Global, form: &Value) -> Result<(Option<Text>, Items<Text>), RowFault> {
-    both(name(alloc, form)?, texts(alloc, form, "tags"))
+    both(name(alloc, form)?, list(alloc, form, "tags"))
 }
 
 /// The output and the progress.
@@ -98,12 +97,12 @@ fn states(alloc: Global, form: &Value) -> Result<Items<Shown>, RowFault> {
 
 /// The ids and the unique names that are asked for.
 fn asked_names(alloc: Global, form: &Value) -> Result<(Items<Uuid>, Items<Text>), RowFault> {
-    both(ids(alloc, form, "ids")?, texts(alloc, form, "names"))
+    both(list(alloc, form, "ids")?, list(alloc, form, "names"))
 }
 
 /// The shown states and the tags that are asked for.
 fn asked_states(alloc: Global, form: &Value) -> Result<(Items<Shown>, Items<Text>), RowFault> {
-    both(states(alloc, form)?, texts(alloc, form, "tags"))
+    both(states(alloc, form)?, list(alloc, form, "tags"))
 }
 
 /// The query that a value says.
@@ -125,7 +124,7 @@ fn numbers(alloc: Global, infos: &[WorkInfo]) -> Result<Value, AllocError> {
     for info in infos {
         numbers.push(info.seq)?;
     }
-    numbers_told(alloc, numbers.as_slice())
+    list_told(alloc, numbers.as_slice())
 }
 
 /// The query of a row, and what is told of its works.
@@ -150,5 +149,5 @@ pub fn matched(alloc: Global, row: &Value) -> Result<Value, RowFault> {
             numbers.push(info.seq)?;
         }
     }
-    Ok(numbers_told(alloc, numbers.as_slice())?)
+    Ok(list_told(alloc, numbers.as_slice())?)
 }

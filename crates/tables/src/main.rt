@@ -75,7 +75,7 @@ fn told_of(alloc: Global, tally: &mut Tally, line: &str) -> Result<Option<String
         }
         Err(fault) => {
             tally.wrong = tally.wrong.saturating_add(1);
-            Ok(Some(format!(in alloc; "{fault}")?))
+            Ok(Some(String::from_str(alloc, fault.text())?))
         }
     }
 }

@@ -74,16 +74,16 @@ fn note_told(alloc: Global, note: &Note) -> Result<Value, AllocError> {
     let mut told = Told::new(alloc);
     match note {
         Note::Info { observer, info } => {
-            told.number("attempt", u64::from(info.attempt))?;
-            told.number("note", u64::from(*observer))?;
-            told.number("seq", info.seq)?;
+            told.number("attempt", u64::from(info.attempt));
+            told.number("note", u64::from(*observer));
+            told.number("seq", info.seq);
         }
         Note::Gone { observer, seq } => {
-            told.number("gone", *seq)?;
-            told.number("note", u64::from(*observer))?;
+            told.number("gone", *seq);
+            told.number("note", u64::from(*observer));
         }
     }
-    Ok(told.into_value())
+    told.into_value()
 }
 
 fn notes_told(alloc: Global, notes: &[Note]) -> Result<Value, AllocError> {

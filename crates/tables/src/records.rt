@@ -5,10 +5,10 @@ ghost use Rattle.wm_machine.specs.Limits.{FitsRow};
 
 use crate::names::{how_named, phase_name, phase_named};
 use part_calls::fields::{
-    RowFault, both, count, data, field, has_only, name, number, numbers, text, unless_refused,
+    RowFault, both, count, data, field, has_only, list, name, number, text, unless_refused,
 };
 use part_calls::requests::request;
-use part_calls::told::{Told, string, texts};
+use part_calls::told::{Told, list as list_told, string};
 use serde_json::{Value, push};
 use std::alloc::{AllocError, Global};
 use wm_collections::{Items, Text};
@@ -57,7 +57,7 @@ struct Owned {
 }
 
 fn owned_of(alloc: Global, row: &Value) -> Result<Owned, RowFault> {
-    let (name, prior) = both(name(alloc, row)?, numbers(alloc, row, "prior"))?;
+    let (name, prior) = both(name(alloc, row)?, list(alloc, row, "prior"))?;
     let named = (name, prior);
     let (named, output) = both(named, data(alloc, row, "output"))?;
     let (both_of, progress) = both((named, output), data(alloc, row, "progress"))?;
@@ -153,14 +153,14 @@ fn told_of(alloc: Global, work: Record) -> Result<Value, RowFault> {
 
 fn change_told(alloc: Global, work: &Record) -> Result<Value, AllocError> {
     let mut told = Told::new(alloc);
-    told.text("phase", phase_name(work.phase))?;
-    told.number("attempt", u64::from(work.attempt))?;
-    told.number("backoff_n", u64::from(work.backoff_n))?;
-    told.number("runs", u64::from(work.runs))?;
-    told.number("enqueued_at", work.enqueued_at)?;
-    told.data("output", &work.output)?;
-    told.data("progress", &work.progress)?;
-    Ok(told.into_value())
+    told.text("phase", phase_name(work.phase));
+    told.number("attempt", u64::from(work.attempt));
+    told.number("backoff_n", u64::from(work.backoff_n));
+    told.number("runs", u64::from(work.runs));
+    told.number("enqueued_at", work.enqueued_at);
+    told.data("output", &work.output);
+    told.data("progress", &work.progress);
+    told.into_value()
 }
 
 /// The number after the greatest that a row has.
@@ -255,13 +255,13 @@ fn name_told(alloc: Global, name: &Option<Text>) -> Result<Value, AllocError> {
 /// What a row has, by the names of its fields; its numbers in one list.
 pub fn row_told(alloc: Global, row: &Row) -> Result<Value, AllocError> {
     let mut told = Told::new(alloc);
-    told.put("numbers", signed(alloc, &numbers_of(row))?)?;
-    told.put("id", bytes(alloc, row.id.as_slice())?)?;
-    told.put("name", name_told(alloc, &row.name)?)?;
-    told.text("class", row.class.as_str())?;
-    told.text("input", row.input.as_str())?;
-    told.text("output", row.output.as_str())?;
-    told.put("prior", signed(alloc, row.prior.as_slice())?)?;
-    told.put("tags", texts(alloc, row.tags.as_slice())?)?;
-    Ok(told.into_value())
+    told.put("numbers", signed(alloc, &numbers_of(row)));
+    told.put("id", bytes(alloc, row.id.as_slice()));
+    told.put("name", name_told(alloc, &row.name));
+    told.text("class", row.class.as_str());
+    told.text("input", row.input.as_str());
+    told.text("output", row.output.as_str());
+    told.put("prior", signed(alloc, row.prior.as_slice()));
+    told.put("tags", list_told(alloc, row.tags.as_slice()));
+    told.into_value()
 }

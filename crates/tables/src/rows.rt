@@ -2,8 +2,8 @@
 //! store.
 
 use crate::records::{row_of, row_told};
-use part_calls::fields::{RowFault, both, count, field, has_only, id, items, letters, name, texts};
-use part_calls::told::{numbers as numbers_told, string};
+use part_calls::fields::{RowFault, both, count, field, has_only, id, items, letters, list, name};
+use part_calls::told::{list as list_told, string};
 use serde_json::Value;
 use std::alloc::{AllocError, Global};
 use uuid::Uuid;
@@ -146,7 +146,7 @@ fn owned_of(alloc: Global, form: &Value, seq: i64) -> Result<Owned, RowFault> {
     let (texts_so_far, prior) = both(texts_so_far, prior_of(alloc, form))?;
     let ((id, name, class, input, output), prior) = (texts_so_far, prior);
     let so_far = (id, name, class, input, output, prior);
-    let ((id, name, class, input, output, prior), tags) = both(so_far, texts(alloc, form, "tags"))?;
+    let ((id, name, class, input, output, prior), tags) = both(so_far, list(alloc, form, "tags"))?;
     Ok(Owned {
         id,
         name,
@@ -279,7 +279,7 @@ fn numbers(alloc: Global, works: &[Record]) -> Result<Value, AllocError> {
     for work in works {
         numbers.push(work.seq)?;
     }
-    numbers_told(alloc, numbers.as_slice())
+    list_told(alloc, numbers.as_slice())
 }
 
 /// The numbers of the records of a store's rows, or the fault.

@@ -4,7 +4,7 @@ use crate::infos::infos;
 use crate::names::applied_named;
 use crate::notes::notes_of;
 use part_calls::fields::{
-    RowFault, both, count, field, has_only, id, number, numbers, text, unless_refused,
+    RowFault, both, count, field, has_only, id, list, number, text, unless_refused,
 };
 use part_calls::told::pair;
 use serde_json::Value;
@@ -60,7 +60,7 @@ fn bare_reply(name: &str) -> Result<Reply, RowFault> {
 /// The reply that a value says.
 fn reply(alloc: Global, form: &Value) -> Result<Reply, RowFault> {
     match text(form, "reply")? {
-        "Enqueued" => Ok(Reply::Enqueued(numbers(alloc, form, "works")?)),
+        "Enqueued" => Ok(Reply::Enqueued(list(alloc, form, "works")?)),
         "Updated" => updated(form),
         "Cancelled" => Ok(Reply::Cancelled(number(form, "count")?)),
         "Conditions" => Ok(Reply::Conditions {
