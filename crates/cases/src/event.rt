@@ -25,7 +25,7 @@ pub fn event_words(alloc: Global, event: &Event) -> Result<String, AllocError> {
             command,
             reply,
         } => {
-            let command = command_words(alloc, command)?;
+            let command = command_words(alloc, command.value())?;
             let reply = reply_words(alloc, reply)?;
             format!(in alloc; "line {line}: {command}: {reply}")
         }

@@ -81,7 +81,7 @@ fn first(alloc: Global) -> Result<Record, AllocError>
 {
     let name = name(alloc)?;
     let (name, request) = both(name, periodic(alloc, 1))?;
-    let mut work = record_of(alloc, 1, Phase::Waiting, Items::new(alloc), request);
+    let mut work = record_of(1, Phase::Waiting, Items::new(alloc), request);
     work.name = Some(name);
     Ok(work)
 }

@@ -17,7 +17,7 @@ use wm_collections::Items;
 use wm_commands::execute;
 use wm_conditions::Conditions;
 use wm_graph::Graph;
-use wm_machine::{Command, Policy, Record, Reply, State, UniqueName};
+use wm_machine::{Command, Event, Policy, Record, Reply, State, UniqueName};
 use wm_request::{Batch, Node, Request};
 use wm_steps::{View, both, one};
 
@@ -133,6 +133,14 @@ fn replied(reply: &Reply) -> (&'static str, u128) {
     }
 }
 
+/// What the reply in an event tells.
+fn replied_in(event: &Event) -> (&'static str, u128) {
+    match event {
+        Event::Command { reply, .. } => replied(reply),
+        _ => ("another", 0),
+    }
+}
+
 /// What an enqueue is replied in a state.
 fn reply_to(
     alloc: Global,
@@ -141,9 +149,9 @@ fn reply_to(
     is_periodic: bool,
 ) -> Result<(&'static str, u128), AllocError> {
     let command = enqueue(alloc, policy, is_periodic)?;
-    let executed = execute(alloc, view, 1, command)?;
-    let found = replied(&executed.reply);
-    drop(executed);
+    let change = execute(alloc, view, 1, command)?;
+    let found = replied_in(&change.event);
+    drop(change);
     Ok(found)
 }
 

@@ -119,7 +119,7 @@ fn run_told(task: &Task, subject: Subject) -> u64 {
 /// The input that a worker with this task reports on.
 fn input_told(alloc: Global, task: &Task, subject: Subject) -> Result<Data, AllocError> {
     match subject {
-        Subject::NoInput => Ok(Data::empty(alloc)),
+        Subject::NoInput => Ok(Data::empty()),
         _ => task.input.replica(alloc),
     }
 }

@@ -32,13 +32,7 @@ pub fn request(alloc: Global, number: u64) -> Result<Request, AllocError>
 
 /// The record of a work of this number and request, without a name, in this phase, that comes after
 /// these.
-pub fn record_of(
-    alloc: Global,
-    seq: u64,
-    phase: Phase,
-    prior: Items<u64>,
-    request: Request,
-) -> Record
+pub fn record_of(seq: u64, phase: Phase, prior: Items<u64>, request: Request) -> Record
     ensures number { result.seq ≡ seq }
     ensures unnamed { result.name ≡ None }
     ensures request { result.request ≡ request }
@@ -55,8 +49,8 @@ pub fn record_of(
         runs: 0,
         generation: 0,
         enqueued_at: 0,
-        output: Data::empty(alloc),
-        progress: Data::empty(alloc),
+        output: Data::empty(),
+        progress: Data::empty(),
     }
 }
 
@@ -74,7 +68,7 @@ pub fn record(
     ensures plain { IfOk result (IsPlain phase prior) }
 {
     let (prior, request) = both(prior, request(alloc, seq))?;
-    Ok(record_of(alloc, seq, phase, prior, request))
+    Ok(record_of(seq, phase, prior, request))
 }
 
 /// A batch of one work, which names none.

@@ -46,11 +46,11 @@ impl Worker for Busy {
         _signal: &Signal,
     ) -> Result<Told, AllocError> {
         let answer = if stirred(k) == 0 {
-            Answer::Failure(Data::empty(alloc))
+            Answer::Failure(Data::empty())
         } else if i64::from(k) + 1 < turns_of(task) {
             Answer::More(None)
         } else {
-            Answer::Success(Data::empty(alloc))
+            Answer::Success(Data::empty())
         };
         Told::new(alloc, Kind::Custom, task, k, answer)
     }

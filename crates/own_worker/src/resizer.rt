@@ -42,7 +42,7 @@ impl Worker for Resizer {
         } else {
             match task.input.get("width") {
                 Some(Value::Int(width)) => Answer::Success(number(alloc, "width", *width / 2)?),
-                _ => Answer::Failure(Data::empty(alloc)),
+                _ => Answer::Failure(Data::empty()),
             }
         };
         Told::new(alloc, Kind::Custom, task, k, answer)

@@ -145,7 +145,7 @@ fn facts_told(
     told.number("size", built.size());
     told.put("text", came_told(data_text(alloc, copy)));
     told.flag("is_copy", *copy == *built);
-    told.flag("is_none", *built == Data::empty(alloc));
+    told.flag("is_none", *built == Data::empty());
     told.put("values", Ok(values));
     told.into_value()
 }

@@ -189,7 +189,7 @@ pub fn name(alloc: Global, row: &Value) -> Result<Option<Text>, RowFault> {
 pub fn data(alloc: Global, row: &Value, key: &str) -> Result<Data, RowFault> {
     match row.get(key) {
         Some(value) => Data::read(alloc, value),
-        None => Ok(Data::empty(alloc)),
+        None => Ok(Data::empty()),
     }
 }
 

@@ -31,13 +31,13 @@ fn expect_bare_success(rt: &impl Abort, told: Told) {
 }
 
 /// A task without input.
-fn bare_task(alloc: Global, run: u64, attempt: u32) -> Task
+fn bare_task(run: u64, attempt: u32) -> Task
     ensures { result.run ≡ run }
 {
     Task {
         run,
         attempt,
-        input: Data::empty(alloc),
+        input: Data::empty(),
     }
 }
 
@@ -64,7 +64,7 @@ fn run_one_turn<W: Worker>(
 ) -> Result<Option<String>, AllocError>
     requires { signal.now.run ≡ 7 }
 {
-    let task = bare_task(alloc, 7, 2);
+    let task = bare_task(7, 2);
     let told = turn_of(alloc, worker, &task, 3, signal);
     drop(task);
     let told = told?;
@@ -173,7 +173,7 @@ fn take_turn<B: Worker>(
     ensures number { seat.new.number ≡ seat.old.number }
     ensures kind { B.kind_of seat.new.worker ≡ B.kind_of seat.old.worker }
 {
-    let task = bare_task(alloc, run, 1);
+    let task = bare_task(run, 1);
     seat.begin(alloc, &task)?;
     let told = seat.turn(alloc, &task, 0, &Signal::never(run))?;
     assert_eq!(rt; (told.run(), told.k()), (run, 0));

@@ -9,7 +9,7 @@ use part_calls::fields::{
 use part_calls::told::pair;
 use serde_json::Value;
 use std::alloc::{AllocError, Global};
-use wm_collections::{Replica, Text};
+use wm_collections::{Replica, Shared, Text};
 use wm_machine::{Applied, Command, Counts, Event, LineFault, Refusal, Reply};
 use wm_observe::Note;
 use wm_texts::event_text;
@@ -122,12 +122,14 @@ fn replica(alloc: Global, form: &Value) -> Result<Reply, RowFault> {
 }
 
 /// A line with its reply. The texts of lines don't depend on their commands.
-fn line(line: u32, reply: Reply) -> Event {
-    Event::Command {
+fn line(alloc: Global, line: u32, reply: Reply) -> Result<Event, RowFault> {
+    let command = unless_refused(Shared::new(alloc, Command::Settle).map_err(AllocError::from));
+    let (reply, command) = both(reply, command)?;
+    Ok(Event::Command {
         line,
-        command: Command::Settle,
+        command,
         reply,
-    }
+    })
 }
 
 /// The event of a row: the time-out or the late return of a run, or a line with its reply.
@@ -143,7 +145,8 @@ fn event(alloc: Global, row: &Value) -> Result<Event, RowFault> {
         });
     }
     let number = count(row, "line")?;
-    Ok(line(number, replica(alloc, field(row, "told")?)?))
+    let reply = replica(alloc, field(row, "told")?)?;
+    line(alloc, number, reply)
 }
 
 /// The text of an event with its notes where the state after it is hushed, or isn't.

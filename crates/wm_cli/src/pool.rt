@@ -67,7 +67,10 @@ impl<
         self.pass_turn(&work);
         let told = work.turn(self.alloc);
         let back = self.desk.lock(self.rt).report(&mut part.share, work, told);
-        self.changed.notify_all();
+        // nobody waits for the next turn of a run
+        if back.is_none() {
+            self.changed.notify_all();
+        }
         back
     }
 

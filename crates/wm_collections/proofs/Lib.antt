@@ -1,4 +1,5 @@
 pub mod Ascending
 pub mod Lists
+pub mod NumberSets
 pub mod Options
 pub mod Places

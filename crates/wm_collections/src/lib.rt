@@ -9,9 +9,13 @@
 pub mod items;
 pub mod numbers;
 pub mod replica;
+pub mod sets;
+pub mod shared;
 pub mod text;
 
 pub use items::Items;
 pub use numbers::is_among;
 pub use replica::Replica;
+pub use sets::{add_each, listed, merged};
+pub use shared::Shared;
 pub use text::Text;

@@ -11,7 +11,7 @@ use Rattle.wm_collections.specs.Lists.{AllLater, is_among}
 use Rattle.wm_commands.proofs.Clearings.{filter-map}
 use Rattle.wm_commands.proofs.ClearingSteps.{passing-stored}
 use Rattle.wm_commands.specs.Cleared.{becomes_cancelled, cleared, cleared_by, is_needed_then, is_removable_then, phase_then, removed_by, replaced_by_clearing, stays}
-use Rattle.wm_steps.specs.Merged.{AreMerged}
+use Rattle.wm_collections.specs.Sets.{AreMerged}
 use Rattle.wm_commands.specs.declared.clearing.Clearing.{Clearing}
 use Rattle.wm_graph.specs.Descendants.{dependents}
 use Rattle.wm_graph.specs.Nodes.{NodeFields}

@@ -105,11 +105,10 @@ module _ (s : State) (line : ℕ) (named : Option UniqueName) (batch : Batch) (b
       none_new s.next new new-numbered (omega (arith, many, some)) (All-back _ (with_cleared clearing s.works) new each)
 
   -- a batch is placed
-  pub placement-executed : IsExecuted s line (command.Enqueue named batch) (record {
-    change = placing (replaced_by_clearing clearing s.works) clearing.removed new (Stop (stopped_by clearing.cancelled s.runs)) enqueue_event;
-    reply = reply.Enqueued (seqs_of new);
-  })
+  pub placement-executed : IsExecuted s line (command.Enqueue named batch)
+      (placing (replaced_by_clearing clearing s.works) clearing.removed new (Stop (stopped_by clearing.cancelled s.runs)) enqueue_event)
   placement-executed = record {
+    reply = reply.Enqueued (seqs_of new);
     event = refl;
     step =
         clearing-step s clearing new enqueue_event valid

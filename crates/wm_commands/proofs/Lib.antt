@@ -4,6 +4,7 @@ pub mod Clearings
 pub mod ClearingSteps
 pub mod Enqueueing
 pub mod IndexedWorks
+pub mod LastPlans
 pub mod MemberUpdates
 pub mod NamedPlans
 pub mod Placings

@@ -9,7 +9,6 @@ use Rattle.wm_commands.proofs.Updating.{updating-executed}
 use Rattle.wm_commands.specs.Builds.{IsUpdating}
 use Rattle.wm_settings.specs.Builds.{IsExecuted}
 use Rattle.wm_commands.specs.Planned.{kind_refused_in}
-use Rattle.wm_settings.specs.declared.executed.Executed.{Executed}
 use Rattle.wm_collections.proofs.Lists.{find-stored, one_gives}
 use Rattle.wm_machine.proofs.Names.{alone_periodic, both_periodic, id_mismatched-none}
 use Rattle.wm_machine.specs.Enqueued.{plan_in}
@@ -32,6 +31,7 @@ use Rattle.wm_request.specs.Batches.{is_periodic}
 use Rattle.wm_request.specs.Requests.{IsRequest, RequestFields}
 use Rattle.wm_request.specs.declared.request.Batch.{Batch}
 use Rattle.wm_unique.proofs.Numbered.{numbered_found}
+use Rattle.wm_steps.specs.declared.change.StepChange.{StepChange}
 use Rattle.wm_unique.specs.Plans.{plan_fields, refused_kind}
 
 -- ---- what is planned
@@ -138,11 +138,11 @@ first-asked (first ∷ later) node request at is = let same : first ≡ node = c
 
 -- ---- the step
 
-module _ (s : State) (line : ℕ) (unique : UniqueName) (batch : Batch) (number index : ℕ) (work : Record) (request : RequestFields) (executed : Executed)
+module _ (s : State) (line : ℕ) (unique : UniqueName) (batch : Batch) (number index : ℕ) (work : Record) (request : RequestFields) (change : StepChange)
     (valid : Valid s) (can : IsLegalLine s (command.Enqueue (Some unique) batch))
     (planned : (plan_fields (plan_in s unique)).update ≡ Some number) (fits : kind_refused_in s unique batch.works ≡ None)
     (at : slice_get s.works index ≡ Some work) (found : work_numbered number s.works ≡ slice_get s.works index)
-    (updating : IsUpdating line (command.Enqueue (Some unique) batch) index work request executed) where
+    (updating : IsUpdating line (command.Enqueue (Some unique) batch) index work request change) where
   member-is : IsMember s unique batch.works number
   member-is = member-updated s unique batch.works number valid planned fits
 
@@ -150,16 +150,16 @@ module _ (s : State) (line : ℕ) (unique : UniqueName) (batch : Batch) (number 
   itself = some-same work member-is.member (sym at ∙ sym found ∙ member-is.found)
 
   updated_by_first : (works : List Node) → batch.works ≡ works → IsSomeAnd (first_of_batch works) (λ node. request ≡ node.request)
-      → IsExecuted s line (command.Enqueue (Some unique) batch) executed
+      → IsExecuted s line (command.Enqueue (Some unique) batch) change
   updated_by_first [] is first = absurd first
   updated_by_first (node ∷ later) is first =
       let member = member-is.member in
-      updating-executed s line (command.Enqueue (Some unique) batch) index member node.request executed valid (at ∙ ap (λ (w : Record). Some w) itself)
+      updating-executed s line (command.Enqueue (Some unique) batch) index member node.request change valid (at ∙ ap (λ (w : Record). Some w) itself)
       (subst (AllByRecursion (λ n. IsRequest n.request)) is can.askable.asked.requests).0 (member-is.kind node later is) can.askable
       (ap (λ (o : Outcome). Some o) (updated-outcome s unique batch.works member node later is member-is.planned fits))
-      (subst (λ w. IsUpdating line (command.Enqueue (Some unique) batch) index w node.request executed) itself
-      (subst (λ r. IsUpdating line (command.Enqueue (Some unique) batch) index work r executed) first updating))
+      (subst (λ w. IsUpdating line (command.Enqueue (Some unique) batch) index w node.request change) itself
+      (subst (λ r. IsUpdating line (command.Enqueue (Some unique) batch) index work r change) first updating))
 
   pub member-executed : IsSomeAnd (first_of_batch batch.works) (λ node. request ≡ node.request)
-      → IsExecuted s line (command.Enqueue (Some unique) batch) executed
+      → IsExecuted s line (command.Enqueue (Some unique) batch) change
   member-executed first = updated_by_first batch.works refl first

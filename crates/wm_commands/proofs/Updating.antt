@@ -2,9 +2,8 @@
 use Rattle.std.proofs.Common.{◌≡◌, ◌≢◌, ℕ, true, cond, eqb, slice_get, Some, refl, sym, ◌∙◌, ap, subst, inl, inr}
 use Rattle.std.proofs.lemmas.Bool.{cond-true, eq-eqb}
 use Rattle.wm_settings.proofs.Executions.{Answers-outcome, rows-change}
-use Rattle.wm_commands.specs.Builds.{IsUpdating}
+use Rattle.wm_commands.specs.Builds.{update_event, IsUpdating}
 use Rattle.wm_settings.specs.Builds.{ChangesRows, IsExecuted}
-use Rattle.wm_settings.specs.declared.executed.Executed.{Executed}
 use Rattle.wm_machine.proofs.Records.{IsRecord-updated}
 use Rattle.wm_machine.proofs.Runnings.{changed}
 use Rattle.wm_machine.specs.Cancelled.{work_with_id}
@@ -14,15 +13,15 @@ use Rattle.wm_machine.specs.Replied.{unchanged}
 use Rattle.wm_machine.specs.Rows.{row_of, rows_of}
 use Rattle.wm_machine.specs.Runs.{changed_work}
 use Rattle.wm_machine.specs.Step.{Legal, after_command, state_by}
-use Rattle.wm_machine.specs.Updated.{is_same_kind, update_by, update_of, updated}
+use Rattle.wm_machine.specs.Updated.{applied, is_same_kind, one_update_more, update_by, update_of, updated}
 use Rattle.wm_machine.specs.Valid.{IsRecord, Valid}
 use Rattle.wm_machine.specs.declared.command.Command.{Command}
 use Rattle.wm_machine.specs.declared.record.Record.{Record}
 use Rattle.wm_machine.specs.declared.state.State.{State}
 use Rattle.wm_machine.specs.declared.command.Command.TheVariants as command
-use Rattle.wm_machine.specs.declared.event.Event.TheVariants as event
 use Rattle.wm_machine.specs.declared.reply.Applied.TheVariants.{NotApplied}
 use Rattle.wm_machine.specs.declared.reply.Refusal.TheVariants.{KindMismatch}
+use Rattle.wm_machine.specs.declared.reply.Reply.{Reply}
 use Rattle.wm_machine.specs.declared.reply.Reply.TheVariants as reply
 use Rattle.wm_request.specs.Requests.{IsRequest, RequestFields}
 use Rattle.wm_steps.proofs.Lookups.{All-at, stored-at}
@@ -34,14 +33,17 @@ use Rattle.wm_steps.specs.declared.change.StepChange.{StepChange}
 
 -- ---- a command that updates the record at an index
 
-module _ (s : State) (line : ℕ) (asked : Command) (i : ℕ) (work : Record) (request : RequestFields) (executed : Executed) (valid : Valid s)
+module _ (s : State) (line : ℕ) (asked : Command) (i : ℕ) (work : Record) (request : RequestFields) (change : StepChange) (valid : Valid s)
     (at : slice_get s.works i ≡ Some work) (within : IsRequest request) (kind : is_same_kind request.period work.request.period ≡ true)
-    (askable : IsAskable asked) (outcome-is : outcome s asked ≡ Some (update_of s request work)) (is : IsUpdating line asked i work request executed) where
+    (askable : IsAskable asked) (outcome-is : outcome s asked ≡ Some (update_of s request work)) (is : IsUpdating line asked i work request change) where
+  abbrev answer : Reply
+  answer = reply.Updated (applied work.phase) (one_update_more work.generation)
+
   after-is : after_command s asked ≡ record s { works = changed_work (updated request) work.seq s.works }
   after-is = ap (state_by s) outcome-is
 
-  legal : Legal s (event.Command line asked executed.reply)
-  legal = (askable, Answers-outcome s asked executed.reply (update_of s request work) outcome-is is.answer)
+  legal : Legal s (update_event line asked work)
+  legal = (askable, Answers-outcome s asked answer (update_of s request work) outcome-is refl)
 
   fine : IsRecord (updated request work)
   fine = IsRecord-updated request work within kind (All-at IsRecord s.works i work valid.works.records at)
@@ -56,18 +58,20 @@ module _ (s : State) (line : ℕ) (asked : Command) (i : ℕ) (work : Record) (r
       differs (ap row_of (sym (cond-true (eqb work.seq work.seq) (updated request work) work (eq-eqb work.seq work.seq refl))) ∙ kept))
       (ap rows_of (sym after-is) ∙ same)
 
-  pub updating-executed : IsExecuted s line asked executed
-  updating-executed = elim is.change [
+  pub updating-executed : IsExecuted s line asked change
+  updating-executed = elim is [
     | inl kept ↦ record {
+      reply = answer;
       event = ap (λ (change : StepChange). change.event) kept.1;
       step = subst (IsStepOf s) (sym kept.1)
-          (keeping_row-step s s i work (updated request) Unchanged (event.Command line asked executed.reply) valid at kept.0 legal refl after-is);
+          (keeping_row-step s s i work (updated request) Unchanged (update_event line asked work) valid at kept.0 legal refl after-is);
       rows = inr (ap row_changes kept.1);
     }
     | inr put ↦ record {
+      reply = answer;
       event = ap (λ (change : StepChange). change.event) put.1;
       step = subst (IsStepOf s) (sym put.1)
-          (replacing-step s s i work (updated request) Unchanged (event.Command line asked executed.reply) valid at keeps (λ is. is) fine legal refl
+          (replacing-step s s i work (updated request) Unchanged (update_event line asked work) valid at keeps (λ is. is) fine legal refl
           after-is);
       rows = inl (rows_change put.0);
     }

@@ -1,4 +1,4 @@
--- What is built for an update: the change of its step, and its reply.
+-- What is built for an update: the change of its step.
 use Rattle.std.specs.Prelude.{◌≡◌, ◌≢◌, ◌⊎◌, ℕ}
 use Rattle.wm_machine.specs.Rows.{row_of}
 use Rattle.wm_machine.specs.Updated.{applied, one_update_more, updated}
@@ -8,7 +8,6 @@ use Rattle.wm_machine.specs.declared.event.Event.TheVariants as event
 use Rattle.wm_machine.specs.declared.record.Record.{Record}
 use Rattle.wm_machine.specs.declared.reply.Reply.TheVariants as reply
 use Rattle.wm_request.specs.Requests.{RequestFields}
-use Rattle.wm_settings.specs.declared.executed.Executed.{Executed}
 use Rattle.wm_steps.specs.StepChanges.{keeping_row, replacing}
 use Rattle.wm_steps.specs.declared.change.RunChange.TheVariants as runs
 use Rattle.wm_steps.specs.declared.change.StepChange.{StepChange}
@@ -19,7 +18,10 @@ IsReplacing index work new e change =
     ((row_of new ≡ row_of work) × (change ≡ keeping_row index new runs.Unchanged e))
     ⊎ ((row_of new ≢ row_of work) × (change ≡ replacing index new runs.Unchanged e))
 
--- an update of the record at an index, by a command: the reply tells when it counts, and how often the work was updated
-pub record IsUpdating (line : ℕ) (asked : Command) (index : ℕ) (work : Record) (request : RequestFields) (executed : Executed) : Type 0 where
-  pub answer : executed.reply ≡ reply.Updated (applied work.phase) (one_update_more work.generation)
-  pub change : IsReplacing index work (updated request work) (event.Command line asked executed.reply) executed.change
+-- the event of an update by a command: its reply tells when it counts, and how often the work was updated
+abbrev pub update_event : ℕ → Command → Record → Event
+update_event line asked work = event.Command line asked (reply.Updated (applied work.phase) (one_update_more work.generation))
+
+-- an update of the record at an index, by a command
+abbrev pub IsUpdating : ℕ → Command → ℕ → Record → RequestFields → StepChange → Type 0
+IsUpdating line asked index work request = IsReplacing index work (updated request work) (update_event line asked work)

@@ -11,8 +11,8 @@ use std::alloc::{AllocError, Global};
 use uuid::Uuid;
 use wm_collections::Items;
 use wm_machine::{Command, Record, Refusal, Reply, Target};
-use wm_settings::{Executed, event_of};
-use wm_steps::{RunChange, StepChange, View};
+use wm_settings::{event_of, replying};
+use wm_steps::{RunChange, StepChange, View, both};
 use wm_unique::unfinished;
 
 /// What a cancel comes to.
@@ -21,7 +21,7 @@ pub fn execute(
     view: &View,
     line: u32,
     target: Target,
-) -> Result<Executed, AllocError>
+) -> Result<StepChange, AllocError>
     ensures { IfOk result (IsExecuted view.entry.now line (Command.Cancel target)) }
 {
     match target {
@@ -33,7 +33,7 @@ pub fn execute(
 }
 
 /// What the cancelling of the work with this id comes to.
-fn cancel_id(alloc: Global, view: &View, line: u32, id: Uuid) -> Result<Executed, AllocError>
+fn cancel_id(alloc: Global, view: &View, line: u32, id: Uuid) -> Result<StepChange, AllocError>
     ensures { IfOk result (IsExecuted view.entry.now line (Command.Cancel (Target.Id id))) }
 {
     if is_stored(view, id) {
@@ -41,7 +41,7 @@ fn cancel_id(alloc: Global, view: &View, line: u32, id: Uuid) -> Result<Executed
     } else {
         let command = Command::Cancel(Target::Id(id));
         let refusal = Refusal::NoSuchWork { id };
-        Executed::answering(alloc, view, line, command, Reply::Refused(refusal))
+        replying(alloc, view, line, command, Reply::Refused(refusal))
     }
 }
 
@@ -52,7 +52,7 @@ fn cancel_each(
     view: &View,
     line: u32,
     target: Target,
-) -> Result<Executed, AllocError>
+) -> Result<StepChange, AllocError>
     requires accepted { outcome view.now (Command.Cancel target)
         ≡ Some (cancelled_each view.now (targeted target view.now.works)) }
     ensures { IfOk result (IsExecuted view.entry.now line (Command.Cancel target)) }
@@ -67,10 +67,11 @@ fn cancel_each(
         cleared.cancelled.as_slice(),
     )?;
     let count = replaced.len() as u64;
-    let event = event_of(line, Command::Cancel(target), Reply::Cancelled(count));
-    let change = StepChange::replacing_all(alloc, replaced, RunChange::Stop(stopped), event);
     let reply = Reply::Cancelled(count);
-    Ok(Executed { change, reply })
+    let event = event_of(alloc, line, Command::Cancel(target), reply);
+    let ((replaced, stopped), event) = both((replaced, stopped), event)?;
+    let run = RunChange::Stop(stopped);
+    Ok(StepChange::replacing_all(alloc, replaced, run, event))
 }
 
 /// The numbers of the unfinished works that a target is for, ascending.

@@ -12,8 +12,8 @@ use crate::placement::place;
 use std::alloc::{AllocError, Global};
 use wm_machine::{Command, Refusal, Reply, UniqueName};
 use wm_request::Batch;
-use wm_settings::Executed;
-use wm_steps::{View, both, numbers_with_ids};
+use wm_settings::replying;
+use wm_steps::{StepChange, View, both, numbers_with_ids};
 use wm_unique::{GroupPlan, check, ids_named_by};
 
 /// Checks a batch, and places it by a plan where no check refuses it.
@@ -24,7 +24,7 @@ pub fn check_and_place(
     named: Option<UniqueName>,
     batch: Batch,
     plan: GroupPlan,
-) -> Result<Executed, AllocError>
+) -> Result<StepChange, AllocError>
     requires asked { IsLegalLine view.now (Command.Enqueue named batch) }
     requires placed { IsPlacedBy view.now named (placing_by plan) batch.works }
     requires let_go { AreNumbersOf view.now.works plan.let_go }
@@ -36,7 +36,7 @@ pub fn check_and_place(
     match checked {
         Some(refusal) => {
             let command = Command::Enqueue { named, batch };
-            Executed::answering(alloc, view, line, command, Reply::Refused(refusal))
+            replying(alloc, view, line, command, Reply::Refused(refusal))
         }
         None => place(alloc, view, line, named, batch, plan),
     }

@@ -16,10 +16,10 @@ ghost use Rattle.wm_steps.specs.Replacements.{by_numbers, replacement_of};
 ghost use Rattle.wm_unique.specs.Plans.{numbered_passes, AreNumbersOf};
 
 use std::alloc::{AllocError, Global};
-use wm_collections::{Items, Replica};
+use wm_collections::{Items, Replica, merged};
 use wm_lifecycle::closed;
 use wm_machine::{How, Phase, Record, Run, index_numbered, work_numbered};
-use wm_steps::{Replacement, View, at, is_listed, merged};
+use wm_steps::{Replacement, View, at, is_listed};
 
 /// Which records change where works are cancelled and others are let go, by their numbers.
 #[derive(Drop)]
@@ -174,7 +174,7 @@ pub fn is_needed_then(view: &View, cancelled: &[u64], number: u64) -> Result<boo
     requires there { is_there view.now.works number ≡ true }
     ensures { IfOk result (λ needed. needed ≡ is_needed_then cancelled.now view.entry.now.works number) }
 {
-    let dependents = view.graph.dependents(number)?;
+    let dependents = view.dependents(number)?;
     let works = view.state.works.as_slice();
     Ok(any_open_then(works, cancelled, &dependents))
 }

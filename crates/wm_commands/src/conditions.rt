@@ -9,8 +9,8 @@ use wm_collections::Items;
 use wm_conditions::{Conditions, met};
 use wm_lifecycle::stopped;
 use wm_machine::{Command, Record, Reply, Run};
-use wm_settings::{Executed, event_of};
-use wm_steps::{Replacement, RunChange, SettingChange, StepChange, View};
+use wm_settings::event_of;
+use wm_steps::{Replacement, RunChange, SettingChange, StepChange, View, both};
 
 /// What new conditions come to: the current runs whose constraints they don't meet are stopped, and
 /// their works wait.
@@ -19,7 +19,7 @@ pub fn execute(
     view: &View,
     line: u32,
     conditions: Conditions,
-) -> Result<Executed, AllocError>
+) -> Result<StepChange, AllocError>
     ensures { IfOk result (IsExecuted view.entry.now line (Command.Conditions conditions)) }
 {
     let runs = view.state.runs.as_slice();
@@ -27,11 +27,11 @@ pub fn execute(
     let stopped = stopped_under(alloc, runs, &conditions)?;
     let count = stopped.len() as u64;
     let command = Command::Conditions(conditions);
-    let event = event_of(line, command, Reply::Conditions { stopped: count });
+    let event = event_of(alloc, line, command, Reply::Conditions { stopped: count });
+    let ((replaced, stopped), event) = both((replaced, stopped), event)?;
     let to = SettingChange::Conditions(conditions);
-    let change = StepChange::setting_with(alloc, to, replaced, RunChange::Stop(stopped), event);
-    let reply = Reply::Conditions { stopped: count };
-    Ok(Executed { change, reply })
+    let run = RunChange::Stop(stopped);
+    Ok(StepChange::setting_with(alloc, to, replaced, run, event))
 }
 
 /// The numbers of the runs that such conditions stop.

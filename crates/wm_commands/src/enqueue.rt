@@ -8,8 +8,7 @@ use crate::naming;
 use std::alloc::{AllocError, Global};
 use wm_machine::{Command, UniqueName};
 use wm_request::Batch;
-use wm_settings::Executed;
-use wm_steps::View;
+use wm_steps::{StepChange, View};
 use wm_unique::GroupPlan;
 
 /// What an enqueue comes to.
@@ -19,7 +18,7 @@ pub fn execute(
     line: u32,
     named: Option<UniqueName>,
     batch: Batch,
-) -> Result<Executed, AllocError>
+) -> Result<StepChange, AllocError>
     requires { IsLegalLine view.now (Command.Enqueue named batch) }
     ensures { IfOk result (IsExecuted view.entry.now line (Command.Enqueue named batch)) }
 {

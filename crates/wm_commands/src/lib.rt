@@ -1,5 +1,6 @@
-//! What each command comes to: the change of its step, built from a view of the state, and its reply.
-//! A command that changes works has a file of its own; the others stand in wm_settings.
+//! What each command comes to: the change of its step, built from a view of the state, whose event has
+//! the command and its reply. A command that changes works has a file of its own; the others stand in
+//! wm_settings.
 //!
 //! [`execute`] asks them. Nothing here changes a state.
 #![tactic(auto)]
@@ -22,9 +23,8 @@ mod update;
 
 use std::alloc::{AllocError, Global};
 use wm_machine::Command;
-pub use wm_settings::Executed;
 use wm_settings::{faulty, hush, moment, observe, query, retire, settle, summary};
-use wm_steps::View;
+use wm_steps::{StepChange, View};
 
 /// What the command of a line comes to in the state of a view.
 pub fn execute(
@@ -32,7 +32,7 @@ pub fn execute(
     view: &View,
     line: u32,
     command: Command,
-) -> Result<Executed, AllocError>
+) -> Result<StepChange, AllocError>
     requires { IsLegalLine view.now command }
     ensures { IfOk result (IsExecuted view.entry.now line command) }
 {

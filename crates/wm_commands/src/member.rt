@@ -13,8 +13,7 @@ use std::alloc::{AllocError, Global};
 use wm_collections::Replica;
 use wm_machine::{Command, UniqueName, index_numbered};
 use wm_request::{Batch, Node, Request};
-use wm_settings::Executed;
-use wm_steps::{View, at, both};
+use wm_steps::{StepChange, View, at, both};
 
 /// Updates the member of this number by the first work of a batch, which is its only one.
 pub fn update_member(
@@ -24,7 +23,7 @@ pub fn update_member(
     unique: UniqueName,
     batch: Batch,
     number: u64,
-) -> Result<Executed, AllocError>
+) -> Result<StepChange, AllocError>
     requires asked { IsLegalLine view.now (Command.Enqueue (Some unique) batch) }
     requires planned { (plan_fields (plan_in view.now unique)).update ≡ Some number }
     requires fits { kind_refused_in view.now unique batch.works ≡ None }

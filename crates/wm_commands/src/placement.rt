@@ -9,12 +9,12 @@ ghost use Rattle.wm_steps.specs.Nodes.{is_there};
 ghost use Rattle.wm_unique.specs.Plans.{placing_by, AreNumbersOf};
 
 use crate::clearing::{clearing_of, replaced_by_clearing, stopped_by};
-use crate::placing::{placed_records, seqs_twice};
+use crate::placing::{placed_records, seqs_of};
 use std::alloc::{AllocError, Global};
 use wm_collections::{Items, Replica, Text};
 use wm_machine::{Command, Record, Reply, UniqueName};
 use wm_request::{Batch, Node};
-use wm_settings::{Executed, event_of};
+use wm_settings::event_of;
 use wm_steps::{Replacement, RunChange, StepChange, View, both};
 use wm_unique::GroupPlan;
 
@@ -83,7 +83,7 @@ pub fn place(
     named: Option<UniqueName>,
     batch: Batch,
     plan: GroupPlan,
-) -> Result<Executed, AllocError>
+) -> Result<StepChange, AllocError>
     requires asked { IsLegalLine view.now (Command.Enqueue named batch) }
     requires room { view.now.next + length batch.works ≤ 2 ^ 53 }
     requires places { enqueued view.now named batch.works
@@ -96,10 +96,11 @@ pub fn place(
     let _reached = &view.state;
     let placement = placement_of(alloc, view, &named, plan, batch.works().as_slice());
     let ((named, batch), placement) = both((named, batch), placement)?;
-    let numbers = seqs_twice(alloc, placement.placed.as_slice());
-    let ((named, batch, placement), (logged, told)) = both((named, batch, placement), numbers)?;
+    let numbers = seqs_of(alloc, placement.placed.as_slice());
+    let ((named, batch, placement), numbers) = both((named, batch, placement), numbers)?;
     let command = Command::Enqueue { named, batch };
-    let event = event_of(line, command, Reply::Enqueued(logged));
+    let event = event_of(alloc, line, command, Reply::Enqueued(numbers));
+    let (placement, event) = both(placement, event)?;
     let Placement {
         replaced,
         removed,
@@ -107,7 +108,5 @@ pub fn place(
         stopped,
     } = placement;
     let run = RunChange::Stop(stopped);
-    let change = StepChange::placing(alloc, replaced, removed, placed, run, event);
-    let reply = Reply::Enqueued(told);
-    Ok(Executed { change, reply })
+    Ok(StepChange::placing(alloc, replaced, removed, placed, run, event))
 }

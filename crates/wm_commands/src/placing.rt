@@ -72,8 +72,8 @@ fn placed_record(
         runs: 0,
         generation: 0,
         enqueued_at: view.state.now,
-        output: Data::empty(alloc),
-        progress: Data::empty(alloc),
+        output: Data::empty(),
+        progress: Data::empty(),
     })
 }
 
@@ -256,15 +256,8 @@ fn is_done(phase: Phase, how: How) -> bool
     }
 }
 
-/// The numbers of these records, twice.
-pub fn seqs_twice(alloc: Global, works: &[Record]) -> Result<(Items<u64>, Items<u64>), AllocError>
-    ensures { IfOk result (λ both. both ≡ (seqs_of works.now, seqs_of works.now)) }
-{
-    Ok((seqs_of(alloc, works)?, seqs_of(alloc, works)?))
-}
-
 /// The numbers of these records.
-fn seqs_of(alloc: Global, works: &[Record]) -> Result<Items<u64>, AllocError>
+pub fn seqs_of(alloc: Global, works: &[Record]) -> Result<Items<u64>, AllocError>
     ensures { IfOk result (λ numbers. numbers ≡ seqs_of works.now) }
 {
     let mut numbers = Items::new(alloc);

@@ -9,21 +9,20 @@ use crate::clearing::is_needed_then;
 use std::alloc::{AllocError, Global};
 use wm_collections::Items;
 use wm_machine::{Command, Record, Reply};
-use wm_settings::{Executed, event_of};
-use wm_steps::{StepChange, View};
+use wm_settings::event_of;
+use wm_steps::{StepChange, View, both};
 
 /// What a prune comes to.
-pub fn execute(alloc: Global, view: &View, line: u32) -> Result<Executed, AllocError>
+pub fn execute(alloc: Global, view: &View, line: u32) -> Result<StepChange, AllocError>
     ensures { IfOk result (IsExecuted view.entry.now line Command.Prune) }
 {
     // what the type of a view keeps is known where a field of it is read
     let _reached = &view.state;
     let removed = removable_numbers(alloc, view)?;
     let count = removed.len() as u64;
-    let event = event_of(line, Command::Prune, Reply::Pruned(count));
-    let change = StepChange::removing(alloc, removed, event);
-    let reply = Reply::Pruned(count);
-    Ok(Executed { change, reply })
+    let event = event_of(alloc, line, Command::Prune, Reply::Pruned(count));
+    let (removed, event) = both(removed, event)?;
+    Ok(StepChange::removing(alloc, removed, event))
 }
 
 /// The numbers of the records that may be removed, ascending.

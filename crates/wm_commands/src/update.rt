@@ -14,7 +14,7 @@ use wm_machine::{Applied, Command, Event, Phase, Record, Refusal, Reply, index_n
 use wm_request::Request;
 use wm_rows::have_one_row;
 use wm_schedule::Period;
-use wm_settings::{Executed, event_of};
+use wm_settings::{event_of, replying};
 use wm_steps::{RunChange, StepChange, View, at, both, copied};
 
 /// Updates are counted up to this number, 2^53 - 1.
@@ -26,7 +26,7 @@ pub fn execute(
     view: &View,
     line: u32,
     request: Request,
-) -> Result<Executed, AllocError>
+) -> Result<StepChange, AllocError>
     requires asked { IsRequest request }
     ensures { IfOk result (IsExecuted view.entry.now line (Command.Update request)) }
 {
@@ -35,7 +35,7 @@ pub fn execute(
         None => {
             let refusal = Refusal::NoSuchWork { id: request.id() };
             let command = Command::Update(request);
-            Executed::answering(alloc, view, line, command, Reply::Refused(refusal))
+            replying(alloc, view, line, command, Reply::Refused(refusal))
         }
     }
 }
@@ -59,7 +59,7 @@ fn update_at(
     line: u32,
     index: usize,
     request: Request,
-) -> Result<Executed, AllocError>
+) -> Result<StepChange, AllocError>
     requires asked { IsRequest request }
     requires index { index < length view.now.works }
     requires found { work_with_id view.now.works request.id ≡ slice_get view.now.works index }
@@ -71,14 +71,14 @@ fn update_at(
             result: Applied::NotApplied,
             generation: work.generation,
         };
-        Executed::answering(alloc, view, line, Command::Update(request), reply)
+        replying(alloc, view, line, Command::Update(request), reply)
     } else if is_same_kind(request.period(), work.request.period()) {
         let (request, asked, _) = copied(alloc, request, ())?;
         update_of(alloc, line, Command::Update(asked), index, work, request)
     } else {
         let refusal = Refusal::KindMismatch { id: request.id() };
         let command = Command::Update(request);
-        Executed::answering(alloc, view, line, command, Reply::Refused(refusal))
+        replying(alloc, view, line, command, Reply::Refused(refusal))
     }
 }
 
@@ -98,17 +98,17 @@ pub fn update_of(
     index: usize,
     work: &Record,
     request: Request,
-) -> Result<Executed, AllocError>
+) -> Result<StepChange, AllocError>
     requires { FitsRow work.now }
     ensures { IfOk result (IsUpdating line command index work.entry.now request) }
 {
     let (command, changed) = both(command, updated(alloc, work, request))?;
-    let result = applied(work.phase);
-    let generation = changed.generation;
-    let event = event_of(line, command, Reply::Updated { result, generation });
-    let change = replacing(alloc, index, work, changed, event)?;
-    let reply = Reply::Updated { result, generation };
-    Ok(Executed { change, reply })
+    let reply = Reply::Updated {
+        result: applied(work.phase),
+        generation: changed.generation,
+    };
+    let (changed, event) = both(changed, event_of(alloc, line, command, reply))?;
+    replacing(alloc, index, work, changed, event)
 }
 
 /// The record of a work that is asked for anew: the request is replaced but for its id, and it is

@@ -14,5 +14,5 @@ pub mod tracker;
 
 pub use conditions::{Conditions, Constraints, Network};
 pub use meeting::met;
-pub use signing::signature;
+pub use signing::{constraints_of, signature};
 pub use tracker::{Changed, Tracker};

@@ -31,8 +31,8 @@ fn place_of(network: Network) -> u8
     }
 }
 
-/// The constraints that have a number.
-pub(crate) fn constraints_of(number: u8) -> Constraints
+/// The constraints that have a number, which is one of 0 to 79. It takes no memory.
+pub fn constraints_of(number: u8) -> Constraints
     ensures { result ≡ constraints_of number }
 {
     Constraints {

@@ -1,6 +1,6 @@
 -- The entries of Data as a map from keys to values. After `androidx.work.Data` and its `Builder`, where a later put replaces the value; that
 -- the entries stand in the order of their keys' bytes is this project's own choice.
-use Rattle.std.specs.Prelude.{◌≡◌, ◌+◌, ◌<◌, ◌≤◌, ◌==◌, ℕ, List, ◌∷◌, ◌++◌, length, take, drop, filter, find, map, nat_le, Bool, if◌then◌else◌, Option, None, option_map, Result, Ok, Err, slice_get}
+use Rattle.std.specs.Prelude.{◌≡◌, ◌+◌, ◌<◌, ◌≤◌, ◌==◌, ℕ, List, [], ◌∷◌, ◌++◌, length, take, drop, filter, find, map, nat_le, Bool, if◌then◌else◌, Option, None, Some, option_map, Result, Ok, Err, slice_get}
 use Rattle.std.specs.Cmp.Lexicographic.{slice_cmp}
 use Rattle.std.specs.List.{AllByRecursion}
 use Rattle.std.specs.Ordering.{nat_cmp, is_eq, is_gt, is_lt}
@@ -50,6 +50,11 @@ IsFaultOf answer (fault.TooLarge size) = answer ≡ Err (fault.TooLarge size)
 IsFaultOf answer fault.Memory = Unit {0}
 
 -- ---- what the types keep
+
+-- the entries of Data, where there are some
+abbrev pub entries_in : Option (List DataEntry) → List DataEntry
+entries_in None = []
+entries_in (Some entries) = entries
 
 -- the entries of a builder, and their size
 pub record IsBuilding (entries : List DataEntry) (size : ℕ) : Type 0 where

@@ -112,6 +112,7 @@ impl DataBuilder {
         if self.size > MAX_DATA_BYTES {
             return Err(DataFault::TooLarge { size: self.size });
         }
-        Ok(Data::from_entries(Items::from_vec(self.entries), self.size))
+        let alloc = *self.entries.allocator();
+        Ok(Data::from_entries(alloc, Items::from_vec(self.entries), self.size)?)
     }
 }

@@ -10,7 +10,7 @@ use crate::search::search;
 use crate::value::Value;
 use std::alloc::{AllocError, Global};
 use std::marker::Model;
-use wm_collections::{Items, Replica, Text};
+use wm_collections::{Items, Replica, Shared, Text};
 
 /// The bytes of Data without an entry.
 pub(crate) const EMPTY_SIZE: u64 = 2;
@@ -32,10 +32,11 @@ impl Replica for DataEntry {
 }
 
 /// A map from keys to values, of at most 10,240 bytes. A contract sees it as the list of its
-/// entries, in ascending order of their keys.
+/// entries, in ascending order of their keys. Its copies share one list of entries.
 #[derive(Debug, Drop)]
 pub struct Data {
-    entries: Items<DataEntry>,
+    /// None where there is no entry.
+    entries: Option<Shared<Items<DataEntry>>>,
     /// The bytes of the entries.
     size: u64,
 }
@@ -46,11 +47,11 @@ impl Model for Data {
 
     ghost Value = { List DataEntry };
 
-    ghost use Rattle.wm_data.specs.Entries.{IsKept};
+    ghost use Rattle.wm_data.specs.Entries.{entries_in, IsKept};
 
-    ghost view = { λ d. d.entries };
+    ghost view = { λ d. entries_in d.entries };
 
-    ghost invariant = { λ d. IsKept d.entries d.size };
+    ghost invariant = { λ d. IsKept (entries_in d.entries) d.size };
 }
 
 impl PartialEq for Data {
@@ -66,7 +67,7 @@ impl PartialEq for Data {
         ensures eq { result ≡ pointwise ⟦<DataEntry as PartialEq>⟧.eq self.now other.now }
         ensures decides { Decides result (self.now ≡ other.now) }
     {
-        self.entries == other.entries
+        *self.entries() == *other.entries()
     }
 }
 
@@ -79,31 +80,42 @@ impl Eq for Data {
 
 impl Data {
     /// No entry. It takes no memory.
-    pub fn empty(alloc: Global) -> Data
+    pub fn empty() -> Data
         ensures { result ≡ [] }
     {
         Data {
-            entries: Items::new(alloc),
+            entries: None,
             size: EMPTY_SIZE,
         }
     }
 
-    /// Entries in the order of their keys, of a size within the limit.
-    pub fn from_entries(entries: Items<DataEntry>, size: u64) -> Data
+    /// Entries in the order of their keys, of a size within the limit. Memory that is refused is the
+    /// only error, and none is taken where there is no entry.
+    pub fn from_entries(
+        alloc: Global,
+        entries: Items<DataEntry>,
+        size: u64,
+    ) -> Result<Data, AllocError>
         requires ordered { AreOrdered entries }
         requires within { size_of entries ≤ 10240 }
         requires sized { size ≡ size_of entries }
-        ensures { result ≡ entries }
+        ensures { IfOk result (λ made. made ≡ entries) }
     {
         read_entries(entries.as_slice());
-        Data { entries, size }
+        if entries.is_empty() {
+            return Ok(Data::empty());
+        }
+        Ok(Data {
+            entries: Some(Shared::new(alloc, entries)?),
+            size,
+        })
     }
 
     /// Whether it has no entry.
     pub fn is_empty(&self) -> bool
         ensures { result ≡ (length self.now == 0) }
     {
-        self.entries.is_empty()
+        self.entries().is_empty()
     }
 
     /// Its bytes.
@@ -119,21 +131,24 @@ impl Data {
         ensures entries { result.now ≡ self.now }
         ensures is_data { IsData self.now }
     {
-        self.entries.as_slice()
+        match &self.entries {
+            Some(entries) => entries.value().as_slice(),
+            None => &[],
+        }
     }
 
     /// The value of a key, found without a look at every entry.
     pub fn get(&self, key: &str) -> Option<&Value>
         ensures { option_map (λ value. value.now) result ≡ value_at key.now self.now }
     {
-        let entries = self.entries.as_slice();
+        let entries = self.entries();
         match search(entries, key) {
             Ok(index) => Some(&entries[index].value),
             Err(_) => None,
         }
     }
 
-    /// A copy, in memory of its own.
+    /// A copy, which shares the entries.
     pub fn copy(&self, alloc: Global) -> Result<Data, DataFault>
         ensures ok { IfOk result (λ copy. copy ≡ self.now) }
         ensures err { IfErr result (λ fault. fault ≡ DataFault.Memory) }

@@ -11,7 +11,8 @@ use Rattle.std.specs.BTreeMap.Range.{range_contains}
 use Rattle.std.specs.BTreeSet.{BTreeSet, keys_between, Updates}
 use Rattle.std.specs.declared.ops.Bound.TheVariants.{Included}
 use Rattle.wm_collections.proofs.Lists.{All-any, list_any-false, list_any-kept, list_any-agree}
-use Rattle.wm_graph.specs.Edges.{edge_cmp, has_edge, has_number, AreNumbered, Edge, NoneAfter}
+use Rattle.wm_collections.specs.Sets.{has_number}
+use Rattle.wm_graph.specs.Edges.{edge_cmp, has_edge, AreNumbered, Edge, NoneAfter}
 
 pub split-on : (yielded : List (Bor Edge)) (edge : Bor Edge) (before after all : List Edge) → map deref yielded ++ before ≡ all → before ≡ deref edge ∷ after
     → map deref (yielded ++ edge ∷ []) ++ after ≡ all

@@ -11,7 +11,8 @@ use Rattle.wm_collections.proofs.Ascending.{ascending-same}
 use Rattle.wm_collections.proofs.Lists.{All-any, All-weaker, All-with2, All-with3, any_passes, list_any-agree, list_any-false, list_any-one, one_gives, HasOne-weaker}
 use Rattle.wm_graph.proofs.Reaches.{descendants-are}
 use Rattle.wm_graph.specs.Descendants.{AreDescendants, descendants, IsFoundRight}
-use Rattle.wm_graph.specs.Edges.{comes_after, has_edge, has_number, names, AreEdgesOf, BeginsAt, Edge, IsWalk}
+use Rattle.wm_collections.specs.Sets.{has_number}
+use Rattle.wm_graph.specs.Edges.{comes_after, has_edge, names, AreEdgesOf, BeginsAt, Edge, IsWalk}
 use Rattle.wm_graph.specs.Nodes.{AreAscending, HasNode, IsGraph, NodeFields}
 
 -- ---- there is one list of descendants

@@ -18,7 +18,8 @@ use Rattle.wm_collections.proofs.Lists.{All-any, All-weaker, AllLater-filter, Al
 use Rattle.wm_collections.proofs.Ascending.{ascending-same}
 use Rattle.wm_graph.proofs.Found.{any-swap, names-none}
 use Rattle.wm_graph.proofs.Tests.{any-and, eq-swap, under}
-use Rattle.wm_graph.specs.Edges.{has_number, names, BeginsAt, IsListOf}
+use Rattle.wm_collections.specs.Sets.{has_number, IsListOf}
+use Rattle.wm_graph.specs.Edges.{names, BeginsAt}
 use Rattle.wm_graph.specs.Leaves.{is_before_any, is_leaf, is_needed, leaves}
 use Rattle.wm_graph.specs.Marks.{before_of}
 use Rattle.wm_graph.specs.Nodes.{AreAscending, IsGraph, NodeFields}
@@ -58,32 +59,6 @@ needed-more nodes among i within first old new so_far dropped number =
     rw (take_more among i 0 within, list_any-append)
     (dropped number ∙ ap (λ b. b && not (is_among (before_of nodes (get_or among i 0)) number)) (so_far number)
     ∙ need-case (has_number first number) (is_before_any nodes (take i among) number) (is_among (before_of nodes (get_or among i 0)) number))
-
--- ---- the numbers of a set
-
-rises : (one later : ℕ) → nat_cmp one later ≡ Less → one < later
-rises one later less = grind (arith, nat_tests)
-
-rise-each : (numbers : List ℕ) → IsStrictlySortedBy nat_cmp numbers → AllLater (λ one later. one < later) numbers
-rise-each [] sorted = tt
-rise-each (number ∷ numbers) sorted = (
-  All-weaker numbers (rises number) (sorted_head nat_cmp number numbers sorted),
-  rise-each numbers (sorted_tail nat_cmp number numbers sorted),
-)
-
-same-test : (number key : ℕ) → (key == number) ≡ is_at (nat_cmp number) key
-same-test number key = grind (arith, nat_tests)
-
-pub list-is : (numbers : BTreeSet ℕ) (list : List ℕ) → IsOrdered nat_cmp numbers → list ≡ numbers.keys → IsListOf numbers list
-list-is numbers list ordered is = rw is record {
-  ascending = rise-each numbers.keys ordered;
-  each = λ number. list_any-agree (λ one. one == number) (is_at (nat_cmp number)) numbers.keys (All-any numbers.keys (same-test number));
-}
-
-pub list-all : (numbers : BTreeSet ℕ) (yielded : List (Bor ℕ)) (rest all list : List ℕ) → map deref yielded ++ rest ≡ all → all ≡ numbers.keys → rest ≡ []
-    → list ≡ map deref yielded → list ≡ numbers.keys
-list-all numbers yielded rest all list split whole none is =
-    is ∙ sym (append-nil (map deref yielded)) ∙ ap (λ more. map deref yielded ++ more) (sym none) ∙ split ∙ whole
 
 -- ---- the leaves
 

@@ -15,7 +15,8 @@ use Rattle.std.specs.BTreeSet.{BTreeSet, Updates}
 use Rattle.std.specs.Option.{option_map_or}
 use Rattle.wm_collections.specs.Lists.{is_among}
 use Rattle.wm_collections.proofs.Lists.{any_passes, one_gives}
-use Rattle.wm_graph.specs.Edges.{has_number, AreEdgesOf, AreRising, BeginsAt, Edge}
+use Rattle.wm_collections.specs.Sets.{has_number}
+use Rattle.wm_graph.specs.Edges.{AreEdgesOf, AreRising, BeginsAt, Edge}
 use Rattle.wm_graph.specs.Kept.{nodes_of, IsCounted, Kept}
 use Rattle.wm_graph.specs.Marks.{before_of, is_met, unmet_of}
 use Rattle.wm_graph.specs.Nodes.{AreAscending, HasNode, IsGraph, NodeFields}

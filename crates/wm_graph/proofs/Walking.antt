@@ -8,7 +8,8 @@ use Rattle.std.specs.BTreeSet.{BTreeSet, IsLowerBound, Updates}
 use Rattle.wm_collections.proofs.Lists.{All-push, All-weaker, AllLater-push}
 use Rattle.std.specs.List.{AllByRecursion}
 use Rattle.wm_collections.specs.Lists.{AllLater, is_among}
-use Rattle.wm_graph.specs.Edges.{comes_after, has_edge, has_number, AreRising, Edge}
+use Rattle.wm_collections.specs.Sets.{has_number}
+use Rattle.wm_graph.specs.Edges.{comes_after, has_edge, AreRising, Edge}
 
 -- ---- a walk under way
 

@@ -5,6 +5,7 @@ use Rattle.std.specs.Ordering.{nat_cmp, ordering_then}
 use Rattle.std.specs.declared.cmp.Ordering.{Ordering}
 use Rattle.std.specs.BTreeSet.{contains, BTreeSet}
 use Rattle.wm_collections.specs.Lists.{AllLater, is_among}
+use Rattle.wm_collections.specs.Sets.{has_number}
 use Rattle.wm_graph.specs.Nodes.{NodeFields}
 
 -- a node and one that comes right after it
@@ -24,9 +25,6 @@ names nodes from to = list_any (λ node. node.seq == to && is_among node.before 
 -- numbers in their range
 abbrev pub AreNumbered : BTreeSet Edge → Type 0
 AreNumbered edges = (from to : ℕ) → has_edge edges from to ≡ true → to ≤ 18446744073709551615
-
-abbrev pub has_number : BTreeSet ℕ → ℕ → Bool
-has_number numbers number = contains nat_cmp numbers number
 
 -- an edge goes to a greater number
 abbrev pub AreRising : BTreeSet Edge → Type 0
@@ -49,11 +47,6 @@ pub record AreAfter (edges : BTreeSet Edge) (from : ℕ) (found : List ℕ) : Ty
 -- no node comes right after a node
 abbrev pub NoneAfter : BTreeSet Edge → ℕ → Type 0
 NoneAfter edges from = (to : ℕ) → has_edge edges from to ≡ false
-
--- the numbers of a set, ascending
-pub record IsListOf (numbers : BTreeSet ℕ) (list : List ℕ) : Type 0 where
-  pub ascending : AllLater (λ number later. number < later) list
-  pub each : (number : ℕ) → is_among list number ≡ has_number numbers number
 
 -- the edges are those of the nodes
 abbrev pub AreEdgesOf : List NodeFields → BTreeSet Edge → Type 0

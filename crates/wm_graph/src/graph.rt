@@ -8,13 +8,14 @@ ghost use Rattle.wm_graph.specs.Nodes.{HasNode, NamesNodes, without};
 
 use crate::adding::{add_node, new_node};
 use crate::freeing::freed_by;
-use crate::last::{drop_needed, listed};
+use crate::last::drop_needed;
 use crate::node::{Node, is_met, lower_each, mark};
 use crate::removing::{remove_node, truncate_nodes};
 use crate::walks::{dependents_of, reached, starts_of};
 use std::alloc::{AllocError, Global};
 use std::collections::{BTreeMap, BTreeSet};
 use std::marker::Model;
+use wm_collections::listed;
 
 /// Nodes in ascending number, each with its prerequisites and a mark. A contract sees it as their
 /// list. A prerequisite is a node before it, and a node has at most 100, which differ.

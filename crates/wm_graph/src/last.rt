@@ -1,13 +1,12 @@
 //! Which of some nodes no other of them has as a prerequisite.
-ghost use Rattle.std.specs.Prelude.{◌≡◌, ◌&&◌, ℕ, not, IfOk};
+ghost use Rattle.std.specs.Prelude.{◌≡◌, ◌&&◌, ℕ, not};
 ghost use Rattle.std.specs.List.{list_any};
 ghost use Rattle.wm_collections.specs.Lists.{is_among};
-ghost use Rattle.wm_graph.specs.Edges.{has_number, IsListOf};
+ghost use Rattle.wm_collections.specs.Sets.{has_number};
 ghost use Rattle.wm_graph.specs.Kept.{nodes_of};
 ghost use Rattle.wm_graph.specs.Leaves.{is_before_any};
 
 use crate::node::{Node, before_of};
-use std::alloc::{AllocError, Global};
 use std::collections::{BTreeMap, BTreeSet};
 
 /// Takes these numbers out of a set.
@@ -28,15 +27,4 @@ pub fn drop_needed(numbers: &mut BTreeSet<u64>, nodes: &BTreeMap<u64, Node>, amo
     for seq in among {
         drop_each(numbers, before_of(nodes, *seq));
     }
-}
-
-/// The numbers of a set, ascending.
-pub fn listed(alloc: Global, numbers: &BTreeSet<u64>) -> Result<Vec<u64>, AllocError>
-    ensures { IfOk result (λ list. IsListOf numbers.now list.items) }
-{
-    let mut list = Vec::new(alloc);
-    for number in numbers {
-        list.push(*number)?;
-    }
-    Ok(list)
 }

@@ -1,7 +1,8 @@
 //! What some nodes reach, along their edges.
 ghost use Rattle.std.specs.Prelude.{◌≡◌, ◌||◌, ℕ, reverse, IfOk, OnOk};
 ghost use Rattle.wm_graph.specs.Descendants.{descendants};
-ghost use Rattle.wm_graph.specs.Edges.{has_edge, has_number, AreAfter, AreJoined, AreNumbered, AreParted, AreRising, BeginsAt, IsWalk, KeepsOthers};
+ghost use Rattle.wm_collections.specs.Sets.{has_number};
+ghost use Rattle.wm_graph.specs.Edges.{has_edge, AreAfter, AreJoined, AreNumbered, AreParted, AreRising, BeginsAt, IsWalk, KeepsOthers};
 ghost use Rattle.wm_graph.specs.Kept.{nodes_of, IsKept};
 
 use crate::node::Node;

@@ -20,7 +20,7 @@ pub fn started(alloc: Global, work: &Record) -> Result<Record, AllocError>
     let mut changed = work.replica(alloc)?;
     changed.phase = Phase::Running;
     changed.attempt = work.attempt.saturating_add(1).min(MAX_COUNT);
-    changed.progress = Data::empty(alloc);
+    changed.progress = Data::empty();
     Ok(changed)
 }
 
@@ -54,7 +54,7 @@ pub fn stopped(alloc: Global, work: &Record) -> Result<Record, AllocError>
 {
     let mut changed = work.replica(alloc)?;
     changed.phase = Phase::Waiting;
-    changed.progress = Data::empty(alloc);
+    changed.progress = Data::empty();
     Ok(changed)
 }
 
@@ -75,7 +75,7 @@ pub fn closed(alloc: Global, work: &Record, how: How) -> Result<Record, AllocErr
 {
     let mut changed = work.replica(alloc)?;
     changed.phase = Phase::Done(how);
-    changed.progress = Data::empty(alloc);
+    changed.progress = Data::empty();
     Ok(changed)
 }
 
@@ -96,7 +96,7 @@ fn retried(alloc: Global, work: &Record, now: u64) -> Result<Record, AllocError>
     changed.phase = Phase::Waiting;
     changed.backoff_n = work.attempt;
     changed.enqueued_at = now;
-    changed.progress = Data::empty(alloc);
+    changed.progress = Data::empty();
     Ok(changed)
 }
 
@@ -110,8 +110,8 @@ fn enqueued_again(alloc: Global, work: &Record, now: u64) -> Result<Record, Allo
     changed.backoff_n = 0;
     changed.runs = work.runs.saturating_add(1).min(MAX_COUNT);
     changed.enqueued_at = now;
-    changed.output = Data::empty(alloc);
-    changed.progress = Data::empty(alloc);
+    changed.output = Data::empty();
+    changed.progress = Data::empty();
     Ok(changed)
 }
 

@@ -2,7 +2,7 @@
 use crate::command::Command;
 use crate::reply::Reply;
 use std::alloc::{AllocError, Global};
-use wm_collections::{Replica, Text};
+use wm_collections::{Replica, Shared, Text};
 use wm_data::Data;
 
 /// Why work that was due couldn't start.
@@ -42,7 +42,8 @@ pub enum Event {
     /// A line of the script was executed.
     Command {
         line: u32,
-        command: Command,
+        /// In memory of its own, since it is large and most events have none.
+        command: Shared<Command>,
         reply: Reply,
     },
     /// A run of a work began.

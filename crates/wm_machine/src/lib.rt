@@ -8,6 +8,7 @@
 
 pub mod command;
 pub mod event;
+pub mod instances;
 pub mod laws;
 pub mod numbers;
 pub mod record;
@@ -16,6 +17,7 @@ pub mod state;
 
 pub use command::{Command, LineFault, Policy, Target, UniqueName};
 pub use event::{Cause, End, Event};
+pub use instances::{has_room, idle_in, is_idle, is_live};
 pub use numbers::{index_numbered, work_numbered};
 pub use record::{How, Phase, Record, Shown};
 pub use reply::{Applied, Counts, Refusal, Reply, WorkInfo};

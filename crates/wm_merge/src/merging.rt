@@ -114,7 +114,8 @@ impl Merging {
         if size > MAX_DATA_BYTES {
             return Err(MergeFault::TooLarge { size });
         }
-        Ok(Data::from_entries(Items::from_vec(entries), size))
+        let alloc = *entries.allocator();
+        Ok(Data::from_entries(alloc, Items::from_vec(entries), size)?)
     }
 }
 

@@ -6,7 +6,7 @@ use Rattle.std.specs.BTreeSet.{BTreeSet, IsOrdered}
 use Rattle.std.specs.Map.Iter.{deref}
 use Rattle.std.specs.Ordering.{nat_cmp}
 use Rattle.wm_collections.proofs.Lists.{All-weaker}
-use Rattle.wm_graph.proofs.Leaves.{list-all, list-is}
+use Rattle.wm_collections.proofs.NumberSets.{list-all, list-is}
 use Rattle.wm_machine.proofs.Runnings.{WorksAscend-in_order}
 use Rattle.wm_machine.specs.Input.{work_numbered}
 use Rattle.wm_machine.specs.Valid.{Valid}

@@ -11,7 +11,7 @@ use Rattle.std.proofs.lemmas.List.Folds.{list_any-append}
 use Rattle.wm_collections.specs.Lists.{is_among, HasOne}
 use Rattle.wm_collections.proofs.Lists.{All-any, All-append, All-map, All-weaker, All-with2, HasOne-weaker, list_any-agree, list_any-false, list_any-kept, list_any-one, list_any-stored, list_any_after}
 use Rattle.wm_graph.specs.Descendants.{dependents}
-use Rattle.wm_graph.specs.Edges.{has_number}
+use Rattle.wm_collections.specs.Sets.{has_number}
 use Rattle.wm_graph.specs.Nodes.{NodeFields}
 use Rattle.wm_machine.proofs.Runnings.{WorksAscend, WorksAscend-in_order}
 use Rattle.wm_machine.specs.Valid.{Valid}

@@ -5,7 +5,7 @@ use Rattle.std.specs.BTreeSet.{BTreeSet}
 use Rattle.std.specs.Option.{option_map_or}
 use Rattle.std.specs.Ordering.{nat_cmp}
 use Rattle.wm_collections.specs.Lists.{is_among}
-use Rattle.wm_graph.specs.Edges.{has_number}
+use Rattle.wm_collections.specs.Sets.{has_number}
 use Rattle.wm_machine.specs.declared.record.Record.{Record}
 use Rattle.wm_observe.specs.declared.places.Places.{Places}
 use Rattle.wm_steps.specs.Touched.{put_in}

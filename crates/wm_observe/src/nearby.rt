@@ -7,6 +7,7 @@ ghost use Rattle.wm_steps.specs.StepChanges.{IsStepOf};
 
 use std::alloc::{AllocError, Global};
 use std::collections::BTreeSet;
+use wm_collections::add_each;
 use wm_steps::{Replacement, StepChange, View};
 
 /// The numbers of the records of which a change may tell another thing: those that it touches, and
@@ -55,17 +56,7 @@ fn add_near_each(
 fn add_near(numbers: &mut BTreeSet<u64>, view: &View, touched: u64) -> Result<(), AllocError>
     ensures { OnOk result (IsWith (is_near view.entry.now.works touched) numbers.old numbers.new) }
 {
-    let dependents = view.graph.dependents(touched)?;
+    let dependents = view.dependents(touched)?;
     numbers.insert(touched)?;
     add_each(numbers, dependents.as_slice())
-}
-
-/// Adds these numbers.
-pub fn add_each(numbers: &mut BTreeSet<u64>, others: &[u64]) -> Result<(), AllocError>
-    ensures { OnOk result (IsWith (is_among others.entry.now) numbers.old numbers.new) }
-{
-    for other in others {
-        numbers.insert(*other)?;
-    }
-    Ok(())
 }

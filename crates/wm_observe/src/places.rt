@@ -4,9 +4,9 @@ ghost use Rattle.std.specs.Prelude.{◌≡◌, IfOk};
 ghost use Rattle.wm_observe.specs.Put.{ArePlaces, ArePlacesOf, IsSetOf};
 ghost use Rattle.wm_steps.specs.Touched.{put_in, then_of};
 
-use crate::nearby::add_each;
 use std::alloc::{AllocError, Global};
 use std::collections::{BTreeMap, BTreeSet};
+use wm_collections::add_each;
 use wm_machine::Record;
 use wm_steps::{Replacement, StepChange, at};
 

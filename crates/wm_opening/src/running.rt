@@ -63,7 +63,7 @@ fn reopen(
         → AreReopenings rows works changes.old.items
         → AreReopenings (rows ++ row.now ∷ []) (works ++ work.old ∷ []) changes.new.items) }
 {
-    wait_again(alloc, work);
+    wait_again(work);
     let now = to_row(alloc, work)?;
     let stays = is_same(row, &now);
     if stays {
@@ -74,11 +74,11 @@ fn reopen(
 }
 
 /// Has work that was running wait again, without progress.
-fn wait_again(alloc: Global, work: &mut Record)
+fn wait_again(work: &mut Record)
     ensures { work.new ≡ reopened work.old }
 {
     if matches!(work.phase, Phase::Running) {
         work.phase = Phase::Waiting;
     }
-    work.progress = Data::empty(alloc);
+    work.progress = Data::empty();
 }

@@ -1,5 +1,5 @@
 //! What is read off the works of a state: whether the prerequisites of each have succeeded, which
-//! starts next, on which instance and with which input, what is told of it, and which works a query
+//! starts next and with which input, what is told of it, and which works a query
 //! asks for.
 //!
 //! After the guide's pages "Work states", "Chaining work" and "Managing work" (observing your work,
@@ -14,4 +14,4 @@ mod scan;
 pub use infos::{info, shown_of};
 pub use inputs::input_among;
 pub use queries::{answer, has_tag, is_name, matches, matches_work};
-pub use scan::{all_met, first_index, has_room, has_succeeded, idle_in, is_idle, is_live};
+pub use scan::{all_met, first_index, has_succeeded};

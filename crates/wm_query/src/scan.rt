@@ -1,15 +1,13 @@
-//! Looking through the records and the instances of a state: which work starts next, and on which
-//! instance.
+//! Looking through the records of a state: which work starts next.
 ghost use Rattle.std.specs.List.{AllByRecursion};
-ghost use Rattle.std.specs.Option.{option_copied};
 ghost use Rattle.std.specs.Prelude.{◌≡◌, ◌<◌, length, Some, None, slice_get, option_and_then, IfSome, MatchOption};
 ghost use Rattle.wm_collections.specs.Lists.{AllLater};
-ghost use Rattle.wm_machine.specs.First.{all_met, comes_before, earlier_of, first_of, has_room, has_succeeded, idle_instance, is_idle, is_live, is_startable};
+ghost use Rattle.wm_machine.specs.First.{all_met, comes_before, earlier_of, first_of, has_succeeded, is_startable};
 ghost use Rattle.wm_machine.specs.Valid.{Valid, IsBefore, IsRecord};
 ghost use Rattle.wm_machine.specs.declared.record.Record.{Record};
 
 use wm_conditions::met;
-use wm_machine::{Instance, Record, State, work_numbered};
+use wm_machine::{Record, State, has_room, work_numbered};
 
 /// Whether the record of this number has succeeded.
 pub fn has_succeeded(works: &[Record], number: u64) -> bool
@@ -32,36 +30,6 @@ pub fn all_met(works: &[Record], work: &Record) -> bool
         .as_slice()
         .iter()
         .all(|number| has_succeeded(works, *number))
-}
-
-/// Whether some instance of the class isn't retired.
-#[tactic(auto, unfolding(wm_machine::specs::First::is_live))]
-pub fn is_live(instances: &[Instance], class: &str) -> bool
-    ensures { result ≡ is_live instances.now class.now }
-{
-    instances.iter().any(|instance| instance.class.as_str() == class && !instance.retired)
-}
-
-/// Whether an instance of the class is neither out nor retired.
-pub fn is_idle(instance: &Instance, class: &str) -> bool
-    ensures { result ≡ is_idle class.now instance.now }
-{
-    instance.class.as_str() == class && !instance.out && !instance.retired
-}
-
-/// The idle instance of a class with the least number.
-#[tactic(auto, unfolding(wm_machine::specs::First::idle_instance))]
-pub fn idle_in<'a>(instances: &'a [Instance], class: &str) -> Option<&'a Instance>
-    ensures { option_copied result ≡ idle_instance instances.now class.now }
-{
-    instances.iter().find(|instance| is_idle(instance, class))
-}
-
-/// Whether a class has an idle instance, or no worker at all.
-pub fn has_room(instances: &[Instance], class: &str) -> bool
-    ensures { result ≡ has_room instances.now class.now }
-{
-    idle_in(instances, class).is_some() || !is_live(instances, class)
 }
 
 /// Whether a work may start now.

@@ -4,12 +4,12 @@ ghost use Rattle.wm_request.specs.Building.{backoff_of, built_of, has_long_delay
 ghost use Rattle.wm_request.specs.Requests.{IsShortText, RequestFields};
 
 use crate::fault::RequestFault;
-use crate::request::Request;
+use crate::request::{Request, Terms};
 use std::alloc::{AllocError, Global};
 use std::cmp::Ordering;
 use std::marker::Model;
 use uuid::Uuid;
-use wm_collections::{Items, Text};
+use wm_collections::{Items, Shared, Text};
 use wm_conditions::Constraints;
 use wm_data::{Data, Merger};
 use wm_schedule::{Backoff, BackoffPolicy, Period, clamp_backoff, clamp_period};
@@ -68,7 +68,7 @@ impl Builder {
         Builder {
             id,
             class: Text::from_string(class),
-            input: Data::empty(alloc),
+            input: Data::empty(),
             merger: Merger::Overwriting,
             tags: Vec::new(alloc),
             constraints: Constraints::NONE,
@@ -161,8 +161,8 @@ impl Builder {
         if has_long_delay(self.initial_delay, self.period) {
             return Err(RequestFault::DelayTooLong);
         }
-        Ok(Request {
-            id: self.id,
+        let alloc = *self.tags.allocator();
+        let terms = Terms {
             class: self.class,
             input: self.input,
             merger: self.merger,
@@ -171,6 +171,10 @@ impl Builder {
             backoff: self.backoff,
             initial_delay: self.initial_delay,
             period: self.period,
+        };
+        Ok(Request {
+            id: self.id,
+            terms: Shared::new(alloc, terms).map_err(AllocError::from)?,
         })
     }
 }

@@ -8,17 +8,23 @@ ghost use Rattle.wm_schedule.specs.Moments.{IsDelay};
 use std::alloc::{AllocError, Global};
 use std::marker::Model;
 use uuid::Uuid;
-use wm_collections::{Items, Replica, Text};
+use wm_collections::{Items, Replica, Shared, Text};
 use wm_conditions::Constraints;
 use wm_data::{Data, Merger};
 use wm_schedule::{Backoff, Period};
 
 /// What is asked for, after `androidx.work.WorkRequest`. Its type keeps the limits of a request: of
 /// its class, its tags and its delays. A [`Builder`](crate::Builder) makes it. A contract sees it
-/// as the record of its fields.
+/// as the record of its fields. Its copies share all but the id.
 #[derive(Debug, Drop)]
 pub struct Request {
     pub(crate) id: Uuid,
+    pub(crate) terms: Shared<Terms>,
+}
+
+/// What a request asks for, whatever its id is.
+#[derive(Debug, Drop)]
+pub struct Terms {
     pub(crate) class: Text,
     pub(crate) input: Data,
     pub(crate) merger: Merger,
@@ -36,17 +42,17 @@ impl Model for Request {
 
     ghost view = { λ r. record {
       id = r.id;
-      class = r.class;
-      input = r.input;
-      merger = r.merger;
-      tags = r.tags;
-      constraints = r.constraints;
-      backoff = r.backoff;
-      initial_delay = r.initial_delay;
-      period = r.period;
+      class = r.terms.class;
+      input = r.terms.input;
+      merger = r.terms.merger;
+      tags = r.terms.tags;
+      constraints = r.terms.constraints;
+      backoff = r.terms.backoff;
+      initial_delay = r.terms.initial_delay;
+      period = r.terms.period;
     } };
 
-    ghost invariant = { λ r. IsWithin r.class r.tags r.backoff r.initial_delay r.period };
+    ghost invariant = { λ r. IsWithin r.terms.class r.terms.tags r.terms.backoff r.terms.initial_delay r.terms.period };
 }
 
 impl Request {
@@ -70,21 +76,21 @@ impl Request {
         ensures class { result.now ≡ self.now.class }
         ensures short { IsShortText self.now.class }
     {
-        &self.class
+        &self.terms.value().class
     }
 
     /// Its own input.
     pub fn input(&self) -> &Data
         ensures { result.now ≡ self.now.input }
     {
-        &self.input
+        &self.terms.value().input
     }
 
     /// How its input and its prerequisites' outputs become one.
     pub fn merger(&self) -> Merger
         ensures { result ≡ self.now.merger }
     {
-        self.merger
+        self.terms.value().merger
     }
 
     /// Its tags, ascending and different, at most 32 of 1 to 200 bytes each.
@@ -92,14 +98,14 @@ impl Request {
         ensures tags { result.now ≡ self.now.tags }
         ensures within { AreTags self.now.tags }
     {
-        &self.tags
+        &self.terms.value().tags
     }
 
     /// What has to hold for it to run.
     pub fn constraints(&self) -> Constraints
         ensures { result ≡ self.now.constraints }
     {
-        self.constraints
+        self.terms.value().constraints
     }
 
     /// How long it waits after a retry. Its delay is from 10,000 to 18,000,000 ms.
@@ -107,7 +113,7 @@ impl Request {
         ensures backoff { result ≡ self.now.backoff }
         ensures within { IsBackoffDelay self.now.backoff.delay }
     {
-        self.backoff
+        self.terms.value().backoff
     }
 
     /// How long it waits at first, in milliseconds, at most 315,360,000,000.
@@ -115,7 +121,7 @@ impl Request {
         ensures delay { result ≡ self.now.initial_delay }
         ensures within { IsDelay self.now.initial_delay }
     {
-        self.initial_delay
+        self.terms.value().initial_delay
     }
 
     /// How often it repeats; none for one-time work. The period is at most 315,360,000,000 ms.
@@ -123,7 +129,7 @@ impl Request {
         ensures period { result ≡ self.now.period }
         ensures within { IfSome self.now.period (λ period. IsPeriod period × IsDelay period.period) }
     {
-        self.period
+        self.terms.value().period
     }
 }
 
@@ -131,14 +137,7 @@ impl Replica for Request {
     fn replica(&self, alloc: Global) -> Result<Request, AllocError> {
         Ok(Request {
             id: self.id,
-            class: self.class.replica(alloc)?,
-            input: self.input.replica(alloc)?,
-            merger: self.merger,
-            tags: self.tags.replica(alloc)?,
-            constraints: self.constraints,
-            backoff: self.backoff,
-            initial_delay: self.initial_delay,
-            period: self.period,
+            terms: self.terms.replica(alloc)?,
         })
     }
 }

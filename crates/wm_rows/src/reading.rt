@@ -100,7 +100,7 @@ fn read_row(alloc: Global, row: &Row) -> Result<Option<Record>, AllocError>
         generation: standing.generation,
         enqueued_at: standing.enqueued_at,
         output,
-        progress: Data::empty(alloc),
+        progress: Data::empty(),
     }))
 }
 

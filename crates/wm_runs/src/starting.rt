@@ -13,8 +13,8 @@ use std::alloc::{AllocError, Global};
 use wm_collections::{Items, Replica};
 use wm_data::Data;
 use wm_lifecycle::{not_started, started};
-use wm_machine::{Cause, Event, Instance, Record, Run, State, index_numbered};
-use wm_query::{idle_in, input_among};
+use wm_machine::{Cause, Event, Instance, Record, Run, State, idle_in, index_numbered};
+use wm_query::input_among;
 use wm_steps::{Replacement, RunChange, StepChange, View, at, both, copied};
 
 /// What becomes of the work that is first.

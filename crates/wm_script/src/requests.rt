@@ -74,7 +74,7 @@ fn input_in(alloc: Global, input: Option<&Value>) -> Result<Data, DataFault>
 {
     match input {
         Some(json) => Data::from_json(alloc, json),
-        None => Ok(Data::empty(alloc)),
+        None => Ok(Data::empty()),
     }
 }
 

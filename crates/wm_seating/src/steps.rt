@@ -37,14 +37,9 @@ pub fn execute<K: Keeper, B: Worker, M: Mark>(
     ensures cause { TroubleCause result (K.store table.old.keeper).faults (K.store table.new.keeper).faults }
     ensures roll { table.new.roll ≡ table.old.roll }
 {
-    match table.command(line, command) {
-        Ok(reply) => {
-            drop(reply);
-            retire_last(table, bench);
-            Ok(())
-        }
-        Err(trouble) => Err(trouble),
-    }
+    table.execute(line, command)?;
+    retire_last(table, bench);
+    Ok(())
 }
 
 /// Retires a class on the bench, where the table's last event is a line that retires it.
@@ -54,7 +49,7 @@ pub fn retire_last<K: Keeper, B: Worker, M: Mark>(table: &Table<K, M>, bench: &m
         → bench.new ≡ places_after B.kind_of asked bench.old }
 {
     if let Some(Event::Command { command, .. }) = table.last_event() {
-        retire(bench, command);
+        retire(bench, command.value());
     }
 }
 

@@ -219,7 +219,7 @@ impl<K: Keeper, W: Sink, B: Worker, M: Mark> Book<K, W, B, M> {
             self.status = Some(Stop::from(trouble));
             return Front::Stopped;
         }
-        self.signals.raise_stopped(&self.table);
+        self.signals.raise_stopped(self.table.runs());
         self.line += 1;
         match tell_last(&mut self.pending, self.alloc, &self.table, &mut self.sink) {
             Ok(()) => Front::Moved,
@@ -231,12 +231,15 @@ impl<K: Keeper, W: Sink, B: Worker, M: Mark> Book<K, W, B, M> {
     }
 
     /// Starts the work that is first, tells it, and takes the worker of its instance from the bench. The
-    /// run's signal is made before its event, and a share of it kept.
+    /// run's signal is made before its event, and a share of it kept; none is where nothing is startable.
     pub fn claim(&mut self) -> Job<B, M>
         ensures { IsClaimed K.store B.kind_of result self.old self.new }
     {
         if self.status.is_some() {
             return Job::Stopped;
+        }
+        if !self.table.has_startable() {
+            return Job::None;
         }
         let run = self.table.next_run();
         let Ok(signal) = self.signals.add(self.alloc, run) else {

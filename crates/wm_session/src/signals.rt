@@ -2,8 +2,7 @@
 ghost use Rattle.std.specs.Prelude.{◌≡◌, false, IfOk};
 
 use std::alloc::{AllocError, Global};
-use wm_keeper::Keeper;
-use wm_table::{Mark, Table};
+use wm_machine::Run;
 use wm_worker::Signal;
 
 /// The signal of the run of this number, of which the run's driver has a share.
@@ -43,12 +42,19 @@ impl Signals {
         self.watched.retain(|watched| watched.run != run);
     }
 
-    /// Raises the signals of the runs that are stopped. It takes no memory.
-    pub fn raise_stopped<K: Keeper, M: Mark>(&self, table: &Table<K, M>) {
-        for watched in &self.watched {
-            if table.stopped(watched.run) {
-                watched.signal.raise();
+    /// Raises the signals of those of these runs that are stopped. It takes no memory.
+    pub fn raise_stopped(&self, runs: &[Run]) {
+        for run in runs {
+            if !run.current {
+                self.raise(run.run);
             }
+        }
+    }
+
+    /// Raises the signal of the run of this number, where there is one. It takes no memory.
+    fn raise(&self, run: u64) {
+        if let Some(watched) = self.watched.iter().find(|watched| watched.run == run) {
+            watched.signal.raise();
         }
     }
 }

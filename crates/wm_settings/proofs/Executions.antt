@@ -2,8 +2,7 @@
 use Rattle.std.proofs.Common.{◌≡◌, ℕ, List, [], ◌∷◌, map, Option, Some, refl, sym, ◌∙◌, ap, subst, arith, inl, inr}
 use Rattle.std.specs.List.{AllByRecursion}
 use Rattle.std.specs.Prelude.{◌≢◌, IsSomeAnd}
-use Rattle.wm_settings.specs.Builds.{setting_by, setting_outcome, ChangesNoRow, HasOutcome, IsExecuted}
-use Rattle.wm_settings.specs.declared.executed.Executed.{Executed}
+use Rattle.wm_settings.specs.Builds.{setting_outcome, ChangesNoRow, HasOutcome, IsExecuted}
 use Rattle.wm_collections.proofs.Lists.{one_gives}
 use Rattle.wm_collections.specs.Lists.{HasOne}
 use Rattle.wm_machine.specs.Outcome.{outcome}
@@ -17,8 +16,9 @@ use Rattle.wm_machine.specs.declared.reply.Reply.{Reply}
 use Rattle.wm_machine.specs.declared.state.State.{State}
 use Rattle.wm_machine.specs.declared.event.Event.TheVariants as event
 use Rattle.wm_steps.proofs.StepFits.{unplaced}
-use Rattle.wm_steps.specs.StepChanges.{row_changes, set_by}
+use Rattle.wm_steps.specs.StepChanges.{row_changes, set_by, setting}
 use Rattle.wm_steps.specs.declared.change.SettingChange.{SettingChange}
+use Rattle.wm_steps.specs.declared.change.StepChange.{StepChange}
 
 -- the reply of an outcome is the answer
 pub Answers-outcome : (s : State) (asked : Command) (answer : Reply) (out : Outcome) → outcome s asked ≡ Some out → answer ≡ out.reply → Answers s asked answer
@@ -26,11 +26,11 @@ Answers-outcome s asked answer out is same = subst (λ (o : Option Outcome). IsS
 
 -- a command by which something is set, or nothing
 pub setting-executed : (s : State) (line : ℕ) (asked : Command) (answer : Reply) (to : SettingChange) → Valid s
-    → HasOutcome s asked (setting_outcome answer to s) → IsExecuted s line asked (setting_by line asked answer to)
+    → HasOutcome s asked (setting_outcome answer to s) → IsExecuted s line asked (setting to (event.Command line asked answer))
 setting-executed s line asked answer to valid is =
     let out = setting_outcome answer to s in
-    let e = event.Command line asked answer in
     record {
+      reply = answer;
       event = refl;
       step = record {
         fits = record {
@@ -67,9 +67,9 @@ rows-change change work works stored differs same =
     one_gives works (λ other kept is. differs (subst (λ w. row_of (change w) ≡ row_of w) is kept)) (rows-each change works same) stored
 
 -- a command that leaves the rows has no row to commit
-pub no-row-changes : (s t : State) (line : ℕ) (asked : Command) (executed : Executed) → t ≡ s → IsExecuted s line asked executed
-    → ChangesNoRow t asked → row_changes executed.change ≡ []
-no-row-changes s t line asked executed state_is is same = elim is.rows [
+pub no-row-changes : (s t : State) (line : ℕ) (asked : Command) (change : StepChange) → t ≡ s → IsExecuted s line asked change
+    → ChangesNoRow t asked → row_changes change ≡ []
+no-row-changes s t line asked change state_is is same = elim is.rows [
   | inl changes ↦ absurd (changes (subst (λ (s : State). ChangesNoRow s asked) state_is same))
   | inr none ↦ none
 ]

@@ -2,10 +2,10 @@
 ghost use Rattle.std.specs.Prelude.{IfOk};
 ghost use Rattle.wm_settings.specs.Builds.{IsExecuted};
 
-use crate::executed::Executed;
+use crate::changes::replying;
 use std::alloc::{AllocError, Global};
 use wm_machine::{Command, LineFault, Refusal, Reply};
-use wm_steps::{View, copied};
+use wm_steps::{StepChange, View, copied};
 
 /// What a line that has a fault comes to, in every state.
 pub fn execute(
@@ -13,10 +13,10 @@ pub fn execute(
     view: &View,
     line: u32,
     fault: LineFault,
-) -> Result<Executed, AllocError>
+) -> Result<StepChange, AllocError>
     ensures { IfOk result (IsExecuted view.entry.now line (Command.Faulty fault)) }
 {
     let (fault, found, _) = copied(alloc, fault, ())?;
     let reply = Reply::Refused(Refusal::Line(found));
-    Executed::answering(alloc, view, line, Command::Faulty(fault), reply)
+    replying(alloc, view, line, Command::Faulty(fault), reply)
 }

@@ -2,15 +2,15 @@
 ghost use Rattle.std.specs.Prelude.{IfOk};
 ghost use Rattle.wm_settings.specs.Builds.{IsExecuted};
 
-use crate::executed::Executed;
+use crate::changes::setting;
 use std::alloc::{AllocError, Global};
 use wm_machine::{Command, Reply};
-use wm_steps::{SettingChange, View};
+use wm_steps::{SettingChange, StepChange, View};
 
 /// What a hush comes to.
-pub fn execute(alloc: Global, view: &View, line: u32) -> Result<Executed, AllocError>
+pub fn execute(alloc: Global, view: &View, line: u32) -> Result<StepChange, AllocError>
     ensures { IfOk result (IsExecuted view.entry.now line Command.Hush) }
 {
     let to = SettingChange::Hush;
-    Executed::setting(alloc, view, line, Command::Hush, Reply::Hushed, to)
+    setting(alloc, view, line, Command::Hush, Reply::Hushed, to)
 }

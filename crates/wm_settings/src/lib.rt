@@ -1,13 +1,13 @@
 //! The commands that change no work: those by which something is set, and those that are only
-//! answered. What each comes to is the change of its step, built from a view of the state, and its
-//! reply. A command has a file of its own.
+//! answered. What each comes to is the change of its step, built from a view of the state, whose event
+//! has the command and its reply. A command has a file of its own.
 //!
-//! [`Executed`] is what any command comes to.
+//! [`event_of`] makes the event of any command, and [`replying`] what one comes to that only has a reply.
 #![tactic(auto)]
 
 mod answering;
+mod changes;
 mod counts;
-pub mod executed;
 pub mod faulty;
 pub mod hush;
 pub mod moment;
@@ -17,4 +17,4 @@ pub mod retire;
 pub mod settle;
 pub mod summary;
 
-pub use executed::{Executed, event_of};
+pub use changes::{event_of, replying};

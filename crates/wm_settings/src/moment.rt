@@ -2,13 +2,13 @@
 ghost use Rattle.std.specs.Prelude.{◌^◌, ◌<◌, IfOk};
 ghost use Rattle.wm_settings.specs.Builds.{IsExecuted};
 
-use crate::executed::Executed;
+use crate::changes::{replying, setting};
 use std::alloc::{AllocError, Global};
 use wm_machine::{Command, Refusal, Reply};
-use wm_steps::{SettingChange, View};
+use wm_steps::{SettingChange, StepChange, View};
 
 /// What a moment comes to.
-pub fn execute(alloc: Global, view: &View, line: u32, at: u64) -> Result<Executed, AllocError>
+pub fn execute(alloc: Global, view: &View, line: u32, at: u64) -> Result<StepChange, AllocError>
     requires within { at < 2 ^ 53 }
     ensures { IfOk result (IsExecuted view.entry.now line (Command.Moment at)) }
 {
@@ -17,9 +17,9 @@ pub fn execute(alloc: Global, view: &View, line: u32, at: u64) -> Result<Execute
         let refusal = Refusal::MomentBack {
             now: view.state.now,
         };
-        Executed::answering(alloc, view, line, command, Reply::Refused(refusal))
+        replying(alloc, view, line, command, Reply::Refused(refusal))
     } else {
         let to = SettingChange::Moment(at);
-        Executed::setting(alloc, view, line, command, Reply::Moment, to)
+        setting(alloc, view, line, command, Reply::Moment, to)
     }
 }

@@ -5,11 +5,11 @@ ghost use Rattle.std.specs.Prelude.{IfOk};
 ghost use Rattle.wm_settings.specs.Builds.{IsExecuted};
 
 use crate::answering::answer_to;
-use crate::executed::Executed;
+use crate::changes::{replying, setting};
 use std::alloc::{AllocError, Global};
 use wm_collections::Replica;
 use wm_machine::{Command, Refusal, Reply, WorkQuery};
-use wm_steps::{SettingChange, View};
+use wm_steps::{SettingChange, StepChange, View};
 
 /// The most observers that there are.
 const MAX_OBSERVERS: u64 = 100;
@@ -21,17 +21,17 @@ pub fn execute(
     view: &View,
     line: u32,
     query: WorkQuery,
-) -> Result<Executed, AllocError>
+) -> Result<StepChange, AllocError>
     ensures { IfOk result (IsExecuted view.entry.now line (Command.Observe query)) }
 {
     let count = view.state.observers.len() as u64;
     if count >= MAX_OBSERVERS {
         let reply = Reply::Refused(Refusal::TooManyObservers { count });
-        return Executed::answering(alloc, view, line, Command::Observe(query), reply);
+        return replying(alloc, view, line, Command::Observe(query), reply);
     }
     let works = answer_to(alloc, view, &query)?;
     let to = SettingChange::Observe(query.replica(alloc)?);
     let observer = count as u32 + 1;
     let reply = Reply::Observing { observer, works };
-    Executed::setting(alloc, view, line, Command::Observe(query), reply, to)
+    setting(alloc, view, line, Command::Observe(query), reply, to)
 }

@@ -3,10 +3,10 @@ ghost use Rattle.std.specs.Prelude.{IfOk};
 ghost use Rattle.wm_settings.specs.Builds.{IsExecuted};
 
 use crate::answering::answer_to;
-use crate::executed::Executed;
+use crate::changes::replying;
 use std::alloc::{AllocError, Global};
 use wm_machine::{Command, Reply, WorkQuery};
-use wm_steps::View;
+use wm_steps::{StepChange, View};
 
 /// What a query comes to.
 pub fn execute(
@@ -14,10 +14,10 @@ pub fn execute(
     view: &View,
     line: u32,
     query: WorkQuery,
-) -> Result<Executed, AllocError>
+) -> Result<StepChange, AllocError>
     ensures { IfOk result (IsExecuted view.entry.now line (Command.Query query)) }
 {
     let works = answer_to(alloc, view, &query)?;
     let reply = Reply::Query(works);
-    Executed::answering(alloc, view, line, Command::Query(query), reply)
+    replying(alloc, view, line, Command::Query(query), reply)
 }

@@ -3,15 +3,15 @@ ghost use Rattle.std.specs.Prelude.{IfOk};
 ghost use Rattle.wm_settings.specs.Builds.{IsExecuted};
 ghost use Rattle.wm_machine.specs.Outcome.{IsLegalLine};
 
-use crate::executed::Executed;
+use crate::changes::replying;
 use std::alloc::{AllocError, Global};
 use wm_machine::{Command, Reply};
-use wm_steps::View;
+use wm_steps::{StepChange, View};
 
 /// What a line that settles comes to.
-pub fn execute(alloc: Global, view: &View, line: u32) -> Result<Executed, AllocError>
+pub fn execute(alloc: Global, view: &View, line: u32) -> Result<StepChange, AllocError>
     requires legal { IsLegalLine view.now Command.Settle }
     ensures { IfOk result (IsExecuted view.entry.now line Command.Settle) }
 {
-    Executed::answering(alloc, view, line, Command::Settle, Reply::Settled)
+    replying(alloc, view, line, Command::Settle, Reply::Settled)
 }

@@ -2,16 +2,16 @@
 ghost use Rattle.std.specs.Prelude.{IfOk};
 ghost use Rattle.wm_settings.specs.Builds.{IsExecuted};
 
+use crate::changes::replying;
 use crate::counts::counts_of;
-use crate::executed::Executed;
 use std::alloc::{AllocError, Global};
 use wm_machine::{Command, Reply};
-use wm_steps::View;
+use wm_steps::{StepChange, View};
 
 /// What a summary comes to.
-pub fn execute(alloc: Global, view: &View, line: u32) -> Result<Executed, AllocError>
+pub fn execute(alloc: Global, view: &View, line: u32) -> Result<StepChange, AllocError>
     ensures { IfOk result (IsExecuted view.entry.now line Command.Summary) }
 {
     let counts = counts_of(view);
-    Executed::answering(alloc, view, line, Command::Summary, Reply::Summary(counts))
+    replying(alloc, view, line, Command::Summary, Reply::Summary(counts))
 }

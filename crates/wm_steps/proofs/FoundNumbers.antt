@@ -10,12 +10,12 @@ use Rattle.wm_collections.specs.Lists.{is_among, AllLater}
 use Rattle.wm_collections.proofs.Ascending.{ascending-same}
 use Rattle.wm_collections.proofs.Lists.{All-any, AllLater-filter, AllLater-map, filter-same, list_any-agree, list_any-kept, list_any_after}
 use Rattle.wm_graph.proofs.Found.{any-swap}
-use Rattle.wm_graph.specs.Edges.{has_number, IsListOf}
+use Rattle.wm_collections.specs.Sets.{has_number, IsListOf, AreAdded}
 use Rattle.wm_machine.proofs.Runnings.{WorksAscend-in_order}
 use Rattle.wm_machine.specs.Group.{numbers_in}
 use Rattle.wm_machine.specs.Valid.{IsBefore}
 use Rattle.wm_machine.specs.declared.record.Record.{Record}
-use Rattle.wm_steps.specs.Merged.{AreAdded, HasNumbersOf}
+use Rattle.wm_steps.specs.WorkSets.{HasNumbersOf}
 
 -- ---- one after another
 

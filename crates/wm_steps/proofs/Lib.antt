@@ -1,5 +1,6 @@
 pub mod BusyClasses
 pub mod ByNumbers
+pub mod CoveredSteps
 pub mod EntryChanges
 pub mod EntryKept
 pub mod EntryLists
@@ -12,10 +13,11 @@ pub mod FoundNumbers
 pub mod IdNumbers
 pub mod IndexedEntries
 pub mod KeptRows
+pub mod LastMembers
 pub mod ListedNumbers
 pub mod Lookups
 pub mod ManyRows
-pub mod MergedNumbers
+pub mod Marks
 pub mod Moves
 pub mod Nodes
 pub mod Pointwise

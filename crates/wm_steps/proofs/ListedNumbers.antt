@@ -1,12 +1,13 @@
 -- Whether a number is one of several that ascend, as a search by halving tells; and how they come to ascend.
-use Rattle.std.proofs.Common.{◌≡◌, ◌⊎◌, ℕ, zero, suc, ◌<◌, ◌≤◌, true, false, eqb, List, [], ◌∷◌, length, get_or, Result, Ok, Err, nat_cmp, refl, sym, arith, inl, inr}
+use Rattle.std.proofs.Common.{◌≡◌, ◌⊎◌, ℕ, zero, suc, ◌<◌, ◌≤◌, true, false, not, eqb, ltb, List, [], ◌∷◌, drop, filter, length, get_or, Result, Ok, Err, nat_cmp, refl, sym, ap, arith, inl, inr}
 use Rattle.std.specs.Prelude.{is_ok, MatchResult}
 use Rattle.std.specs.List.{AllByRecursion}
-use Rattle.std.specs.List.Sorted.{IsBinarySearchResult, IsPermutation, IsSorted}
+use Rattle.std.specs.List.Sorted.{IsBinarySearchResult, IsPartitionedBy, IsPartitionPoint, IsPermutation, IsSorted}
 use Rattle.std.proofs.lemmas.Bool.{eq-eqb, ne_eqb, or_left, or_right}
-use Rattle.std.proofs.lemmas.List.Sorted.{searched, IsNonDecreasingBy-from_sort, list_any-IsPermutation}
+use Rattle.std.proofs.lemmas.List.Elements.{recursion_from_All, All-from_all_within}
+use Rattle.std.proofs.lemmas.List.Sorted.{searched, IsNonDecreasingBy-from_default, IsNonDecreasingBy-from_sort, IsPartitionedBy-ltb, list_any-IsPermutation}
 use Rattle.wm_collections.specs.Lists.{AllLater, is_among}
-use Rattle.wm_collections.proofs.Lists.{AllLater-weaker}
+use Rattle.wm_collections.proofs.Lists.{All-weaker, AllLater-weaker, filter-each}
 use Rattle.wm_steps.specs.Numbers.{Ascend}
 
 -- ---- by their places
@@ -80,3 +81,29 @@ sorted-ascend numbers sorted = ascends numbers (λ i j order within. IsNonDecrea
 -- and the same are among them
 pub sorted-among : (numbers sorted : List ℕ) (number : ℕ) → IsPermutation numbers sorted → is_among sorted number ≡ is_among numbers number
 sorted-among numbers sorted number moved = sym (list_any-IsPermutation (λ one. eqb one number) numbers sorted moved)
+
+-- ---- those from one on
+
+shorter : (least one : ℕ) (numbers : List ℕ) (place : ℕ) → IsPartitionPoint (λ n. ltb n least ≡ true) (λ n. ltb n least ≡ false) (one ∷ numbers) (suc place)
+    → IsPartitionPoint (λ n. ltb n least ≡ true) (λ n. ltb n least ≡ false) numbers place
+shorter least one numbers place point = (
+  λ k d from within. point.0 (suc k) d (omega arith) (omega arith),
+  λ k d from within. point.1 (suc k) d (omega arith) (omega arith),
+)
+
+-- behind the place that halving finds
+pub from-place : (least : ℕ) (numbers : List ℕ) (place : ℕ) → IsPartitionPoint (λ n. ltb n least ≡ true) (λ n. ltb n least ≡ false) numbers place
+    → drop place numbers ≡ filter (λ number. not (ltb number least)) numbers
+from-place least [] zero point = refl
+from-place least [] (suc place) point = refl
+from-place least (one ∷ numbers) zero point =
+    sym (filter-each (λ number. not (ltb number least)) (one ∷ numbers)
+    (All-weaker (one ∷ numbers) (λ n is. ap not is)
+    (recursion_from_All (λ n. ltb n least ≡ false) (one ∷ numbers) (All-from_all_within (λ n. ltb n least ≡ false) (one ∷ numbers) point.1))))
+from-place least (one ∷ numbers) (suc place) point =
+    let first : ltb one least ≡ true = point.0 0 0 (omega arith) (omega arith) in
+    rw first (from-place least numbers place (shorter least one numbers place point))
+
+pub rising-parted : (numbers : List ℕ) (least : ℕ) → AllLater (λ number later. number < later) numbers → IsPartitionedBy (λ n. ltb n least) numbers
+rising-parted numbers least rising =
+    IsPartitionedBy-ltb (λ n. n) numbers least (IsNonDecreasingBy-from_default (λ n. n) numbers 0 (rises numbers (rising-ascend numbers rising)))

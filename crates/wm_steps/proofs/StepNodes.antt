@@ -32,10 +32,12 @@ use Rattle.wm_steps.specs.Replacements.{MayReplace}
 use Rattle.wm_steps.specs.StepChanges.{changed_state, changed_works, other_works, put_replaced, put_work, remove_numbered, with_replaced, without, HaveNextNumbers, Fits, IsStepOf, KeepsPlace, KeepsRow, NameEarlier}
 use Rattle.wm_index.specs.Entries.{Entry}
 use Rattle.wm_machine.specs.Valid.{IsBefore}
+use Rattle.wm_steps.specs.Covers.{AreCovered}
 use Rattle.wm_steps.specs.Entries.{AreEntriesOf, IsFollowable}
 use Rattle.wm_steps.specs.Views.{IsViewed}
 use Rattle.wm_steps.specs.declared.change.Replacement.{Replacement}
 use Rattle.wm_steps.specs.declared.change.StepChange.{StepChange}
+use Rattle.wm_steps.specs.declared.covers.Covers.{Covers}
 use Rattle.wm_steps.proofs.ReplacedRecords.{keeps_number, next-above, other_works-above, replaced_within, rows-set, told_within, WorksAscend-set}
 use Rattle.wm_steps.specs.Following.{followed, nodes_by, placed_node, with_followed, without_all, AreAddable, IsAddable}
 
@@ -176,7 +178,7 @@ stored_same (m ∷ one) (n ∷ other) same =
     ap (λ k. k ∷ one) number ∙ ap (λ list. n ∷ list) (stored_same one other rest)
 
 -- a record of the same row has the same node
-row-keeps : (old new : Record) → row_of old ≡ row_of new → MayReplace old new × (is_succeeded old.phase ≡ is_succeeded new.phase)
+pub row-keeps : (old new : Record) → row_of old ≡ row_of new → MayReplace old new × (is_succeeded old.phase ≡ is_succeeded new.phase)
 row-keeps old new same =
     let numbers : pos old.seq ≡ pos new.seq = ap (λ (r : Row). r.seq) same in
     let phases = code-succeeded old.phase new.phase (ap (λ (r : Row). r.phase) same) in (
@@ -531,11 +533,11 @@ step-follows s change valid is =
     }
 
 -- what is made of a view is one again
-pub viewed-step : (s made : State) (graph made_graph : List NodeFields) (index made_index : List Entry) (startable made_startable : Startable) (change : StepChange)
-    → IsViewed s graph index startable → IsStepOf s change → made ≡ changed_state change s → made_graph ≡ nodes_of (changed_state change s).works
+pub viewed-step : (s made : State) (graph made_graph : List NodeFields) (index made_index : List Entry) (startable made_startable : Startable)
+    (covers made_covers : Covers) (change : StepChange) → IsViewed s graph index startable covers → IsStepOf s change → made ≡ changed_state change s → made_graph ≡ nodes_of (changed_state change s).works
     → AreEntriesOf (changed_works change s.works) made_index → HaveRooms made made_startable
-    → AreReady made_startable.classes (changed_works change s.works) made_startable.ready → IsViewed made made_graph made_index made_startable
-viewed-step s made graph made_graph index made_index startable made_startable change viewed is made_is graph_is entries_are rooms ready_are =
+    → AreReady made_startable.classes (changed_works change s.works) made_startable.ready → AreCovered made made_covers → IsViewed made made_graph made_index made_startable made_covers
+viewed-step s made graph made_graph index made_index startable made_startable covers made_covers change viewed is made_is graph_is entries_are rooms ready_are covered =
     let works : changed_works change s.works ≡ made.works = ap (λ (t : State). t.works) (sym made_is) in
     record {
       valid = subst Valid (sym (made_is ∙ is.state)) (Valid-after s change.event viewed.valid is.legal);
@@ -545,4 +547,5 @@ viewed-step s made graph made_graph index made_index startable made_startable ch
         rooms = rooms;
         ready_are = subst (λ (works : List Record). AreReady made_startable.classes works made_startable.ready) works ready_are;
       };
+      covered = covered;
     }

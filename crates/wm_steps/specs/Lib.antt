@@ -1,6 +1,6 @@
+pub mod Covers
 pub mod Entries
 pub mod Following
-pub mod Merged
 pub mod Nodes
 pub mod Numbers
 pub mod Readied
@@ -10,3 +10,4 @@ pub mod Startables
 pub mod StepChanges
 pub mod Touched
 pub mod Views
+pub mod WorkSets

@@ -74,15 +74,6 @@ comes names change entry =
     || (list_any (λ replaced. is_waiting_as names entry replaced.work) change.replaced
     || list_any (is_waiting_as names entry) change.placed)
 
--- what comes by a change is there, beside the entries of the works that are ready
-abbrev pub IsReadied : List (List ℕ) → List Record → StepChange → List Entry → Type 0
-IsReadied names works change entries = (entry : Entry) → has entries entry ≡ (is_wanted names works entry || comes names change entry)
-
--- some of that has begun to come
-pub record IsReadying (names : List (List ℕ)) (works : List Record) (change : StepChange) (entries : List Entry) : Type 0 where
-  pub still : (entry : Entry) → is_wanted names works entry ≡ true → has entries entry ≡ true
-  pub others : (entry : Entry) → comes names change entry ≡ false → has entries entry ≡ is_wanted names works entry
-
 -- ---- after it
 
 -- whether an entry isn't that of a work, or is that of another, where there is one

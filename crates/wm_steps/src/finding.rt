@@ -6,14 +6,14 @@ ghost use Rattle.wm_machine.specs.Group.{is_name, numbers_in};
 ghost use Rattle.wm_machine.specs.Queried.{has_tag};
 ghost use Rattle.wm_machine.specs.declared.record.Record.{Record};
 ghost use Rattle.wm_request.specs.Batches.{has_id};
-ghost use Rattle.wm_steps.specs.Merged.{AreAdded, HasNumbersOf};
+ghost use Rattle.wm_collections.specs.Sets.{AreAdded};
+ghost use Rattle.wm_steps.specs.WorkSets.{HasNumbersOf};
 
-use crate::merging::{add_each, listed};
 use crate::view::View;
 use std::alloc::{AllocError, Global};
 use std::collections::BTreeSet;
 use uuid::Uuid;
-use wm_collections::{Items, Text};
+use wm_collections::{Items, Text, add_each, listed};
 
 /// The numbers of the works that have one of these ids, ascending. Memory that is refused is the only
 /// error.

@@ -6,12 +6,12 @@
 #![tactic(auto)]
 
 pub mod change;
+pub mod covers;
 pub mod entries;
 pub mod finding;
 pub mod follow;
 pub mod joins;
 pub mod laws;
-pub mod merging;
 pub mod numbers;
 pub mod readying;
 pub mod rooms;
@@ -21,6 +21,5 @@ pub mod view;
 pub use change::{Replacement, RunChange, SettingChange, StepChange};
 pub use finding::{numbers_with_ids, numbers_with_names, numbers_with_tags};
 pub use joins::{at, both, copied, one};
-pub use merging::merged;
 pub use numbers::is_listed;
 pub use view::View;

@@ -7,8 +7,7 @@ ghost use Rattle.wm_steps.specs.Readied.{class_number, AreBusy, AreNamed};
 
 use std::alloc::{AllocError, Global};
 use wm_collections::{Items, Replica, Text};
-use wm_machine::Instance;
-use wm_query::has_room;
+use wm_machine::{Instance, has_room};
 
 /// The number of a class: its place among these, and the number after them where it isn't one of
 /// them. It takes no memory.

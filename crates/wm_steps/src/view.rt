@@ -1,6 +1,9 @@
 //! The view: a state with the graph and the index of its records, and those that are ready.
-ghost use Rattle.std.specs.Prelude.{◌≡◌, filter, Some, IfOk};
+ghost use Rattle.std.specs.List.{list_any};
+ghost use Rattle.std.specs.Prelude.{◌≡◌, filter, true, Some, IfOk, IfSome};
 ghost use Rattle.std.specs.Option.{option_copied, option_map};
+ghost use Rattle.wm_collections.specs.Lists.{is_among};
+ghost use Rattle.wm_graph.specs.Descendants.{dependents};
 ghost use Rattle.wm_machine.specs.Cancelled.{work_with_id};
 ghost use Rattle.wm_machine.specs.Group.{members_of, numbers_in};
 ghost use Rattle.wm_machine.specs.Input.{work_numbered};
@@ -8,12 +11,16 @@ ghost use Rattle.wm_machine.specs.Queried.{has_tag};
 ghost use Rattle.wm_machine.specs.Shown.{shown_of};
 ghost use Rattle.wm_machine.specs.declared.record.Record.{Record};
 ghost use Rattle.wm_machine.specs.Valid.{Valid};
+ghost use Rattle.wm_steps.specs.Covers.{AreLast, IsMark};
 ghost use Rattle.wm_steps.specs.Nodes.{nodes_of};
+ghost use Rattle.wm_steps.specs.Numbers.{Ascend};
 ghost use Rattle.wm_steps.specs.Readied.{IsFirstOf};
 ghost use Rattle.wm_steps.specs.Readiness.{is_ready_in};
 
+use crate::covers::Covers;
 use crate::entries::index_of;
 use crate::joins::both;
+use crate::numbers::{is_listed, numbers_from};
 use crate::startable::Startable;
 use std::alloc::{AllocError, Global};
 use std::marker::Model;
@@ -21,7 +28,7 @@ use uuid::Uuid;
 use wm_collections::Text;
 use wm_graph::Graph;
 use wm_index::Index;
-use wm_machine::{Record, Shown, State, work_numbered};
+use wm_machine::{Command, Policy, Record, Shown, State, UniqueName, work_numbered};
 
 /// The state with what is kept beside it, by which an event finds what it changes and what starts
 /// next: the graph and the index of its records, and those that are ready. Its type keeps that the
@@ -35,6 +42,8 @@ pub struct View {
     pub index: Index,
     /// The records that are ready, by what they wait for.
     pub startable: Startable,
+    /// How far the members of unique names come before others.
+    pub covers: Covers,
 }
 
 impl Model for View {
@@ -45,7 +54,7 @@ impl Model for View {
 
     ghost view = { λ v. v.state };
 
-    ghost invariant = { λ v. IsViewed v.state v.graph v.index v.startable };
+    ghost invariant = { λ v. IsViewed v.state v.graph v.index v.startable v.covers };
 }
 
 impl View {
@@ -65,6 +74,7 @@ impl View {
             graph,
             index,
             startable,
+            covers: Covers::new(alloc),
         })
     }
 
@@ -77,6 +87,7 @@ impl View {
             graph: _,
             index: _,
             startable: _,
+            covers: _,
         } = self;
         state
     }
@@ -135,4 +146,88 @@ impl View {
     {
         self.index.by_tag(tag.as_str())
     }
+
+    /// The numbers of the works that have a work as a prerequisite, ascending. Memory that is refused
+    /// is the only error.
+    pub fn dependents(&self, number: u64) -> Result<Vec<u64>, AllocError>
+        ensures { IfOk result (λ found. found.items ≡ dependents (nodes_of self.now.works) number) }
+    {
+        self.graph.dependents(number)
+    }
+
+    /// The numbers of the last works of a unique name, ascending, by which its leaves are found: each
+    /// work of the name before them is known to be a prerequisite of another. It takes no memory.
+    pub fn last_members(&self, name: &Text) -> &[u64]
+        ensures { AreLast (members_of self.now.works name.now) result.now }
+    {
+        numbers_from(self.members(name), self.covers.mark(name.as_str()))
+    }
+
+    /// Looks ahead of a command: where it appends works to those of a unique name, the last members of
+    /// that are as few as memory allows. The state stays.
+    pub fn expect(&mut self, command: &Command)
+        ensures { self.new ≡ self.old }
+    {
+        if let Command::Enqueue {
+            named: Some(unique),
+            ..
+        } = command
+        {
+            self.expect_under(unique);
+        }
+    }
+
+    /// The same of an enqueue under a unique name.
+    fn expect_under(&mut self, unique: &UniqueName)
+        ensures { self.new ≡ self.old }
+    {
+        if let Policy::Append | Policy::AppendOrReplace = unique.policy {
+            self.cover(&unique.name);
+        }
+    }
+
+    /// Takes those that are a prerequisite of a member from the last members of a name, up to the first
+    /// that isn't. Where memory is refused, fewer are taken. The state stays.
+    pub fn cover(&mut self, name: &Text)
+        ensures { self.new ≡ self.old }
+    {
+        if let Some(number) = self.first_uncovered(name) {
+            let _refused = self.covers.set(name.as_str(), number);
+        }
+    }
+
+    /// The first of the last members of a name that isn't known to be a prerequisite of a member.
+    fn first_uncovered(&self, name: &Text) -> Option<u64>
+        ensures { IfSome result (IsMark self.entry.now name.now) }
+    {
+        // what the type of a view keeps is known where a field of it is read
+        let _reached = &self.state;
+        let last = self.last_members(name);
+        for number in last {
+            if !self.is_before_any(*number, last) {
+                return Some(*number);
+            }
+        }
+        None
+    }
+
+    /// Whether a work is known to be a prerequisite of one of these, which ascend. Where memory is
+    /// refused, it isn't known.
+    fn is_before_any(&self, number: u64, members: &[u64]) -> bool
+        requires { Ascend members.now }
+        ensures { result ≡ true → list_any (is_among members.now) (dependents (nodes_of self.now.works) number) ≡ true }
+    {
+        match self.dependents(number) {
+            Ok(dependents) => any_listed(members, &dependents),
+            Err(_) => false,
+        }
+    }
+}
+
+/// Whether one of these numbers is among others, which ascend.
+fn any_listed(numbers: &[u64], these: &[u64]) -> bool
+    requires { Ascend numbers.now }
+    ensures { result ≡ list_any (is_among numbers.now) these.now }
+{
+    these.iter().any(|number| is_listed(numbers, *number))
 }

@@ -30,7 +30,7 @@ impl Answering for FailingUntil {
         if has_reached(&task.input, task.attempt) {
             Ok(Answer::Success(task.input.replica(alloc)?))
         } else {
-            Ok(Answer::Failure(Data::empty(alloc)))
+            Ok(Answer::Failure(Data::empty()))
         }
     }
 }

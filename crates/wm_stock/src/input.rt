@@ -44,5 +44,5 @@ pub(crate) fn entry_alone(alloc: Global, key: &str, value: Value) -> Result<Data
     let mut entries = Items::new(alloc);
     entries.push(DataEntry { key, value })?;
     let size = entries_size(entries.as_slice())?;
-    Ok(Data::from_entries(entries, size))
+    Data::from_entries(alloc, entries, size)
 }

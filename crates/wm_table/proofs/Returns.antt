@@ -1,5 +1,5 @@
 -- The return of a run that was stopped is one step of the machine, of which nobody is told, and of which the keeper learns nothing.
-use Rattle.std.proofs.Common.{◌≡◌, ℕ, ◌+◌, ◌≤◌, not, eqb, List, [], ◌∷◌, ◌++◌, length, map, Option, Some, arith, inl, inr, refl, sym, ◌∙◌, ap, subst}
+use Rattle.std.proofs.Common.{false, ◌≡◌, ℕ, ◌+◌, ◌≤◌, not, eqb, List, [], ◌∷◌, ◌++◌, length, map, Option, Some, arith, inl, inr, refl, sym, ◌∙◌, ap, subst}
 use Rattle.std.proofs.lemmas.Bool.{cases_Bool}
 use Rattle.std.proofs.lemmas.Option.{none-some}
 use Rattle.wm_collections.proofs.Lists.{All-any, filter-few, filter-none, list_any-false}
@@ -34,7 +34,10 @@ use Rattle.wm_steps.specs.declared.change.RunChange.{RunChange}
 use Rattle.wm_steps.specs.declared.change.RunChange.TheVariants as runs
 use Rattle.wm_steps.specs.declared.change.SettingChange.TheVariants as set
 use Rattle.wm_steps.specs.declared.change.StepChange.{StepChange}
+use Rattle.wm_steps.proofs.CoveredSteps.{covered-step}
 use Rattle.wm_steps.proofs.StepNodes.{viewed-step}
+use Rattle.wm_steps.specs.Covers.{mark_after, mark_of, takes_members, AreCovered}
+use Rattle.wm_steps.specs.declared.covers.Covers.{Covers}
 use Rattle.wm_table.proofs.StepRows.{next_run-changed}
 use Rattle.wm_table.specs.Returns.{IsReturnMade}
 use Rattle.wm_table.specs.Table.{HoldsRowsOf, IsOneStep}
@@ -70,17 +73,28 @@ return_works s number change is =
     ap (λ (t : State). t.works) is.step.state ∙ ap (λ (c : StepChange). (after s c.event).works) is.change_is
     ∙ ap (λ (found : Option Run). (returned_of s found).works) is.found
 
+return-takes : (s : State) (number : ℕ) (change : StepChange) → IsReturn s number change → takes_members s.works change ≡ false
+return-takes s number change is = ap (takes_members s.works) is.change_is
+
+-- and the marks of unique names
+return-covered : (s made : State) (covers : Covers) (number : ℕ) (change : StepChange) → Valid s → IsReturn s number change → made ≡ changed_state change s
+    → AreCovered s covers → AreCovered made covers
+return-covered s made covers number change valid is made_is covered =
+    covered-step s change valid is.step.fits made covers covers made_is
+    (λ name. sym (ap (λ takes. mark_after takes (mark_of covers name)) (return-takes s number change is))) covered
+
 -- and so do the graph, the index and the works that are ready
-pub return-viewed : (s made : State) (graph : List NodeFields) (index : List Entry) (startable made_startable : Startable) (number : ℕ) (change : StepChange)
-    → IsViewed s graph index startable → IsReturn s number change → made ≡ changed_state change s → HaveRooms made made_startable
-    → made_startable.ready ≡ startable.ready → made_startable.classes ≡ startable.classes → IsViewed made graph index made_startable
-return-viewed s made graph index startable made_startable number change viewed is made_is rooms same_ready same_classes =
+pub return-viewed : (s made : State) (graph : List NodeFields) (index : List Entry) (startable made_startable : Startable) (covers : Covers)
+    (number : ℕ) (change : StepChange) → IsViewed s graph index startable covers → IsReturn s number change → made ≡ changed_state change s → HaveRooms made made_startable
+    → made_startable.ready ≡ startable.ready → made_startable.classes ≡ startable.classes → IsViewed made graph index made_startable covers
+return-viewed s made graph index startable made_startable covers number change viewed is made_is rooms same_ready same_classes =
     let works = return_works s number change is in
     let waiting = subst (λ (works : List Record). AreReady startable.classes works startable.ready) (sym works) viewed.startable_are.ready_are in
     let named = subst (λ (names : List (List ℕ)). AreReady names (changed_state change s).works startable.ready) (sym same_classes) waiting in
-    viewed-step s made graph graph index index startable made_startable change viewed is.step made_is (viewed.graph_is ∙ ap nodes_of (sym works))
+    viewed-step s made graph graph index index startable made_startable covers covers change viewed is.step made_is (viewed.graph_is ∙ ap nodes_of (sym works))
     (subst (λ (works : List Record). AreEntriesOf works index) (sym works) viewed.entries_are) rooms
     (subst (λ (entries : List ready.Entry). AreReady made_startable.classes (changed_state change s).works entries) (sym same_ready) named)
+    (return-covered s made covers number change viewed.valid is made_is viewed.covered)
 
 -- one run fewer is there
 others-fewer : (number : ℕ) (runs : List Run) (run : Run) → run_numbered number runs ≡ Some run → length (other_runs number runs) + 1 ≤ length runs

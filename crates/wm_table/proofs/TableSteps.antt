@@ -1,11 +1,14 @@
 -- What the calls of the table make is one step, and what a table keeps is kept by one step.
 use Rattle.std.proofs.Common.{◌≡◌, ℕ, suc, ◌+◌, ◌-◌, ◌≤◌, Bool, true, false, not, List, [], ◌∷◌, ◌++◌, length, length-append, slice_get, Option, Some, None, Vec, Global, refl, sym, ◌∙◌, ap, subst, arith, inl, inr}
-use Rattle.std.specs.Prelude.{◌↔◌, is_some, IsSomeAnd, IsTrue}
+use Rattle.std.specs.Prelude.{◌↔◌, is_some, IsSome, IsSomeAnd, IsTrue, MatchBool}
 use Rattle.std.proofs.lemmas.Bool.{true≢false}
 use Rattle.std.proofs.lemmas.Option.{none-some}
 use Rattle.wm_keeper.proofs.Stores.{IfSome-still, IsAtMost-same, TellsOn-then}
 use Rattle.wm_keeper.specs.Store.{Store, IsAtMost, TellsOn}
+use Rattle.wm_machine.specs.declared.command.Command.{Command}
 use Rattle.wm_machine.specs.declared.event.Event.{Event}
+use Rattle.wm_machine.specs.declared.event.Event.TheVariants as event
+use Rattle.wm_machine.specs.declared.reply.Reply.{Reply}
 use Rattle.wm_machine.specs.declared.state.State.{State}
 use Rattle.wm_collections.specs.Lists.{last_of}
 use Rattle.wm_machine.proofs.Logs.{Replay-push}
@@ -28,10 +31,10 @@ use Rattle.wm_steps.specs.StepChanges.{changed_state, IsStepOf}
 use Rattle.wm_steps.specs.declared.change.StepChange.{StepChange}
 use Rattle.wm_table.proofs.Images.{would_leave, WouldLeave-as}
 use Rattle.wm_table.proofs.Parts.{out-after}
-use Rattle.wm_table.specs.Images.{LeavesBefore, LeavesOnly}
+use Rattle.wm_table.specs.Images.{LeavesBefore, LeavesOnly, IsLine}
 use Rattle.wm_table.specs.Inputs.{Inputs}
 use Rattle.wm_table.specs.Parts.{AreOut, IsOffRoll}
-use Rattle.wm_table.specs.Table.{HasRoom, HoldsRowsOf, IsOneStep, TableInvariant, IsUntouched}
+use Rattle.wm_table.specs.Table.{reply_in, HasRoom, HoldsRowsOf, IsOneStep, TableInvariant, IsUntouched}
 use Rattle.wm_table.specs.TableState.{TableState}
 
 -- ---- the last of a list
@@ -115,6 +118,18 @@ IsUntouched-as store may also old new weaker same = record {
   ];
 }
 
+-- the event of a line is one of that line
+pub line-made : (line : ℕ) (asked : Command) (answer : Reply) (e made : Event) → e ≡ made → made ≡ event.Command line asked answer → IsLine line asked e
+line-made line asked answer e made same is = record { reply = answer; event_is = same ∙ is }
+
+-- and has the reply that is found in it
+pub line-replied : (made : Event) (line : ℕ) (asked : Command) (logged answer : Reply) → made ≡ event.Command line asked logged
+    → reply_in made ≡ Some answer → made ≡ event.Command line asked answer
+line-replied made line asked logged answer is found =
+    let all : Some logged ≡ Some answer = sym (ap reply_in is) ∙ found in
+    let same : logged ≡ answer = cc in
+    is ∙ ap (event.Command line asked) same
+
 module _ {K : Type 0} (run : Inputs) (store : K → Store) (old new : TableState K) (before_log log : Vec Event Global)
     (before_is : before_log.items ≡ old.log) (log_is : log.items ≡ new.log) (roll : RollView) where
   -- a step that begins one run at most, with what is told of it
@@ -190,6 +205,18 @@ valid-kept run first s log notes store roll kept =
 none-first : (found : Option Record) (number : ℕ) → IsSomeAnd found (λ work. work.seq ≡ number) → found ≡ None → ⊥
 none-first None number is none = is
 none-first (Some work) number is none = none-some work (sym none)
+
+some-first : (found : Option Record) (number : ℕ) → IsSomeAnd found (λ work. work.seq ≡ number) → IsSome found
+some-first None number is = absurd is
+some-first (Some work) number is = refl
+
+-- a work is startable exactly where the number of one that is first was found
+pub startable-told : (s : State) (found : Option ℕ) (told : Bool) → IsFirstOf s found → told ≡ is_some found
+    → MatchBool told (IsSome (first_of s)) (first_of s ≡ None)
+startable-told s None true is same = absurd (true≢false same)
+startable-told s None false is same = is
+startable-told s (Some number) true is same = some-first (first_of s) number is
+startable-told s (Some number) false is same = absurd (true≢false (sym same))
 
 -- where no run is unreturned, nothing is left to do exactly where no work that is first was found
 pub quiet-told : (s : State) (found : Option ℕ) (told : Bool) → IsFirstOf s found → is_some found ≡ not told → s.runs ≡ [] → IsTrue told ↔ IsQuiet s

@@ -13,8 +13,10 @@ use Rattle.wm_machine.specs.Role.{HasGiven, Reported}
 use Rattle.wm_machine.specs.Rows.{rows_of}
 use Rattle.wm_machine.specs.Runs.{run_numbered}
 use Rattle.wm_machine.specs.Step.{Legal, after, role_of}
+use Rattle.wm_machine.specs.declared.command.Command.{Command}
 use Rattle.wm_machine.specs.declared.event.Event.{Event}
 use Rattle.wm_machine.specs.declared.event.Event.TheVariants as event
+use Rattle.wm_machine.specs.declared.reply.Reply.{Reply}
 use Rattle.wm_machine.specs.declared.state.Instance.{Instance}
 use Rattle.wm_machine.specs.declared.state.Run.{Run}
 use Rattle.wm_machine.specs.declared.state.State.{State}
@@ -29,6 +31,8 @@ use Rattle.wm_rows.specs.Sound.{checked, AreSound}
 use Rattle.wm_rows.specs.declared.fault.RowFault.{RowFault}
 use Rattle.wm_rows.specs.declared.fault.RowFault.TheVariants as row
 use Rattle.wm_rows.specs.declared.fault.RowFault.TheVariants.{BadRow, Unsound}
+use Rattle.wm_settings.specs.Builds.{IsExecuted}
+use Rattle.wm_steps.specs.declared.change.StepChange.{StepChange}
 use Rattle.wm_table.specs.Images.{IsNoLine, LeavesOnly, WouldLeave, WouldOpen}
 use Rattle.wm_table.specs.Inputs.{Inputs}
 use Rattle.wm_table.specs.Parts.{AreOut, WasOut}
@@ -61,6 +65,16 @@ pub record IsOneStep {K : Type 0} (store : K → Store) (e : Event) (old new : T
   pub appended : new.log ≡ old.log ++ e ∷ []
   pub rows : HoldsRowsOf new.state (store new.keeper)
   pub images : LeavesOnly (rows_of old.state) (store old.keeper) → LeavesOnly (rows_of new.state) (store new.keeper)
+
+-- the reply in an event, where that is a line's
+abbrev pub reply_in : Event → Option Reply
+reply_in (event.Command line asked reply) = Some reply
+reply_in _ = None
+
+-- what a command comes to, with the reply in its event
+pub record IsReplied (s : State) (line : ℕ) (asked : Command) (change : StepChange) (reply : Reply) : Type 0 where
+  pub executed : IsExecuted s line asked change
+  pub event_is : change.event ≡ event.Command line asked reply
 
 -- state, log and the rows held are as they were; a crash leaves what it could leave before, or what an event of these would have left, which was
 -- being committed

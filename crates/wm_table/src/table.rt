@@ -1,8 +1,10 @@
 //! The table: the state, the log of the events that led to it, and the keeper of its rows.
-ghost use Rattle.std.specs.Prelude.{◌≡◌, ◌≢◌, ◌↔◌, ◌++◌, ◌∷◌, [], true, false, Err, IsTrue, IfOk, IfErr, IfSome, OnOk, OnErr};
+ghost use Rattle.std.specs.Prelude.{◌≡◌, ◌≢◌, ◌↔◌, ◌++◌, ◌∷◌, [], true, false, Err, Some, None, IsTrue, IsSome, MatchBool, IfOk, IfErr, IfSome, OnOk, OnErr};
 ghost use Rattle.std.specs.Option.{option_copied};
 ghost use Rattle.wm_collections.specs.Lists.{last_of};
+ghost use Rattle.wm_machine.specs.First.{first_of};
 ghost use Rattle.wm_machine.specs.Outcome.{IsLegalLine};
+ghost use Rattle.wm_machine.specs.declared.reply.Reply.{Reply};
 ghost use Rattle.wm_keeper.specs.Store.{IsAtMost, TellsOn};
 ghost use Rattle.wm_machine.specs.Opened.{AreFresh, Opened};
 ghost use Rattle.wm_machine.specs.Quiet.{IsQuiet};
@@ -16,7 +18,7 @@ ghost use Rattle.wm_steps.specs.StepChanges.{row_changes, IsStepOf};
 ghost use Rattle.wm_settings.specs.Builds.{ChangesNoRow, ChangesRows};
 ghost use Rattle.wm_runs.specs.Reports.{goes_on, CountsIn, IsOut};
 ghost use Rattle.wm_table.specs.Images.{IsLine, IsNoLine};
-ghost use Rattle.wm_table.specs.Table.{BeginCause, HasClaimed, HoldsRowsOf, IsClaim, IsBeginFault, IsClaimAnswer, IsFinished, IsLateAnswer, IsOneStep, IsReturned, IsTurnAnswer, IsTurned, IsUntouched, LeavesOpened, LeavesUnopened, TroubleCause, TurnCause};
+ghost use Rattle.wm_table.specs.Table.{reply_in, BeginCause, HasClaimed, HoldsRowsOf, IsClaim, IsBeginFault, IsClaimAnswer, IsFinished, IsLateAnswer, IsOneStep, IsReplied, IsReturned, IsTurnAnswer, IsTurned, IsUntouched, LeavesOpened, LeavesUnopened, TroubleCause, TurnCause};
 ghost use Rattle.wm_table.specs.Parts.{IsOffRoll, NoneOf, Stands, ticket_part, WasOut};
 ghost use Rattle.wm_table.specs.Rolls.{IsNewOn, IsRollClaimed, IsRollReturned, IsRollTurned, roll_after, WasOutWhereTaken};
 ghost use Rattle.wm_machine.specs.Step.{role_of};
@@ -32,9 +34,9 @@ use std::alloc::{AllocError, Global};
 use std::marker::{Model, PhantomData};
 use ticket::{Held, Ticket, held_for};
 use wm_collections::{Items, Replica};
-use wm_commands::{Executed, execute};
+use wm_commands::execute;
 use wm_keeper::{KeepFault, Keeper, Row};
-use wm_machine::{Cause, Command, Event, Instance, Reply, State};
+use wm_machine::{Cause, Command, Event, Instance, Reply, Run, State};
 use wm_observe::{Note, step_notes};
 use wm_opening::{Opening, open};
 use wm_roll::Roll;
@@ -42,7 +44,7 @@ use wm_rows::RowFault;
 use wm_runs::{
     Claimed, Claiming, Ending, claim_first, counts_in, finish, goes_on, is_stopped, next_turn,
 };
-use wm_steps::{StepChange, View};
+use wm_steps::{StepChange, View, both};
 use wm_worker::Told;
 
 /// Why a call of the table changed nothing.
@@ -144,6 +146,39 @@ fn is_quiet(view: &View) -> bool
     ensures { IsTrue result ↔ IsQuiet view.now }
 {
     view.state.runs.is_empty() && view.first().is_none()
+}
+
+/// Whether a work is startable.
+fn has_startable(view: &View) -> bool
+    ensures { MatchBool result (IsSome (first_of view.now)) (first_of view.now ≡ None) }
+{
+    view.first().is_some()
+}
+
+/// A copy of the reply in the event of a line.
+fn reply_in(alloc: Global, event: &Event) -> Result<Reply, AllocError>
+    requires { IsSome (reply_in event.now) }
+    ensures { IfOk result (λ reply. reply_in event.now ≡ Some reply) }
+{
+    match event {
+        Event::Command { reply, .. } => reply.replica(alloc),
+        _ => unreachable!(),
+    }
+}
+
+/// What a command comes to, with a copy of its reply.
+fn replied(
+    alloc: Global,
+    view: &View,
+    line: u32,
+    command: Command,
+) -> Result<(StepChange, Reply), AllocError>
+    requires legal { IsLegalLine view.now command }
+    ensures { IfOk result (λ made. IsReplied view.entry.now line command made.0 made.1) }
+{
+    let change = execute(alloc, view, line, command)?;
+    let reply = reply_in(alloc, &change.event);
+    both(change, reply)
 }
 
 /// What became of a run whose worker reported.
@@ -269,8 +304,34 @@ impl<K: Keeper, M: Mark> Table<K, M> {
         }
     }
 
-    /// Executes the command of a line, in one event, and answers its reply. A command that changes
-    /// no row leaves the keeper as it was.
+    /// Executes the command of a line, in one event, which has its reply. A command that changes no row
+    /// leaves the keeper as it was.
+    pub fn execute(&mut self, line: u32, command: Command) -> Result<(), Trouble>
+        requires legal { IsLegalLine self.old.state command }
+        ensures ok { OnOk result ((reply : Reply)
+            × IsOneStep K.store (event.Command line command reply) self.old self.new) }
+        ensures err { OnErr result (IsUntouched K.store (IsLine line command) self.old self.new) }
+        ensures cause { TroubleCause result (K.store self.old.keeper).faults (K.store self.new.keeper).faults }
+        ensures untouched_keeper { ChangesNoRow self.old.state command
+            → self.new.keeper ≡ self.old.keeper }
+        ensures keeper_fault { result ≡ Err Trouble.KeeperFault
+            → ChangesRows self.old.state command }
+        ensures roll { self.new.roll ≡ self.old.roll }
+    {
+        self.expect(&command);
+        let change = execute(self.alloc, &self.view, line, command)?;
+        self.make(change)
+    }
+
+    /// Looks ahead of a command, so that it finds what comes last of the works that it appends to.
+    fn expect(&mut self, command: &Command)
+        ensures { self.new ≡ self.old }
+    {
+        self.view.expect(command);
+    }
+
+    /// Executes the command of a line, in one event, and answers a copy of its reply, which is made
+    /// before the commit. A command that changes no row leaves the keeper as it was.
     pub fn command(&mut self, line: u32, command: Command) -> Result<Reply, Trouble>
         requires legal { IsLegalLine self.old.state command }
         ensures ok { IfOk result (λ reply.
@@ -283,7 +344,8 @@ impl<K: Keeper, M: Mark> Table<K, M> {
             → ChangesRows self.old.state command }
         ensures roll { self.new.roll ≡ self.old.roll }
     {
-        let Executed { change, reply } = execute(self.alloc, &self.view, line, command)?;
+        self.expect(&command);
+        let (change, reply) = replied(self.alloc, &self.view, line, command)?;
         match self.make(change) {
             Ok(()) => Ok(reply),
             Err(trouble) => {
@@ -369,6 +431,20 @@ impl<K: Keeper, M: Mark> Table<K, M> {
         ensures { IsTrue result ↔ IsQuiet self.now.state }
     {
         is_quiet(&self.view)
+    }
+
+    /// Whether a work is startable. It takes no memory.
+    pub fn has_startable(&self) -> bool
+        ensures { MatchBool result (IsSome (first_of self.now.state)) (first_of self.now.state ≡ None) }
+    {
+        has_startable(&self.view)
+    }
+
+    /// The runs that are unreturned. It takes no memory.
+    pub fn runs(&self) -> &[Run]
+        ensures { result.now ≡ self.now.state.runs }
+    {
+        self.view.state.runs.as_slice()
     }
 
     /// Whether no run is unreturned.

@@ -1,4 +1,4 @@
--- Numbers that are added to a set, and those that are left by it.
+-- What numbers bring to a set, and those that a set leaves.
 use Rattle.std.proofs.Common.{◌≡◌, ℕ, ◌+◌, ◌<◌, ◌==◌, ◌||◌, Bool, true, false, cond, List, [], ◌∷◌, ◌++◌, length, filter, get_or, take, ap, sym, ◌∙◌, arith}
 use Rattle.std.proofs.Math.Bool.{or-false}
 use Rattle.std.proofs.lemmas.Bool.Decides.{nat_tests}
@@ -9,28 +9,6 @@ use Rattle.std.specs.List.{list_any}
 use Rattle.std.specs.Ordering.{is_eq, nat_cmp}
 use Rattle.std.specs.BTreeSet.{contains, BTreeSet, Updates}
 use Rattle.wm_collections.specs.Lists.{is_among}
-
-add-case : (o a n new : Bool) → new ≡ cond n true (o || a) → new ≡ (o || (a || (n || false)))
-add-case true true true new is = is
-add-case true true false new is = is
-add-case true false true new is = is
-add-case true false false new is = is
-add-case false true true new is = is
-add-case false true false new is = is
-add-case false false true new is = is
-add-case false false false new is = is
-
--- one number more
-pub added-more : (others : List ℕ) (i : ℕ) → i < length others → (first old new : BTreeSet ℕ)
-    → ((number : ℕ) → contains nat_cmp old number ≡ (contains nat_cmp first number || is_among (take i others) number))
-    → Updates nat_cmp old new (get_or others i 0) true
-    → (number : ℕ) → contains nat_cmp new number ≡ (contains nat_cmp first number || is_among (take (i + 1) others) number)
-added-more others i within first old new so_far updates number =
-    let test : is_eq (nat_cmp (get_or others i 0) number) ≡ (get_or others i 0 == number) = grind (arith, nat_tests) in
-    rw (take_more others i 0 within, list_any-append)
-    (add-case (contains nat_cmp first number) (is_among (take i others) number) (get_or others i 0 == number) (contains nat_cmp new number)
-    (updates.0 number ∙ ap (λ b. cond b true (contains nat_cmp old number)) test
-    ∙ ap (λ b. cond (get_or others i 0 == number) true b) (so_far number)))
 
 -- what each of the first numbers brings, and one number more
 pub brought-more : (brings : ℕ → ℕ → Bool) (group : List ℕ) (i : ℕ) → i < length group → (old new : BTreeSet ℕ)

@@ -13,10 +13,8 @@ mod kinds;
 mod members;
 mod named;
 mod plans;
-mod sets;
 
 pub use checks::check;
 pub use members::unfinished;
 pub use named::ids_named_by;
 pub use plans::{GroupPlan, PlanFault, plan};
-pub use sets::add_each;

@@ -9,10 +9,9 @@ ghost use Rattle.wm_machine.specs.Plan.{is_lost, is_unfinished};
 ghost use Rattle.wm_machine.specs.Valid.{IsBefore};
 ghost use Rattle.wm_unique.specs.Plans.{AreNumbersOf, ArePriorTo, grouped, numbered_passes};
 
-use crate::sets::add_each;
 use std::alloc::{AllocError, Global};
 use std::collections::BTreeSet;
-use wm_collections::Items;
+use wm_collections::{Items, add_each};
 use wm_machine::{How, Phase, Record, work_numbered};
 
 /// Whether work in this phase has failed or was cancelled.

@@ -468,6 +468,7 @@ pub fn carry_out<K: Keeper>(
                 lists.works.as_slice(),
                 &change,
             );
+            view.covers.follow(lists.works.as_slice(), &change);
             lists.change(alloc, &mut view.state, change);
             lists.put_back(&mut view.state, log);
             view.startable.follow(&view.state);

@@ -153,11 +153,9 @@ rows-cancelled s target run e (work ∷ found) is meant after-is =
     (ap (map row_of) (sym (works_closed-at_once how.Cancelled (numbers_in (work ∷ found)) s)) ∙ ap rows_of (sym after-is) ∙ same))
 
 cancelling-executed : (s : State) (line : ℕ) (target : Target) → Valid s
-    → outcome s (command.Cancel target) ≡ Some (cancelled_each s (targeted target s.works)) → IsExecuted s line (command.Cancel target) (record {
-      change = replacing_all (replaced_by_cancel (targeted target s.works) s.works) (stops_by_cancel (targeted target s.works) s)
-          (cancel_event line target (length (replaced_by_cancel (targeted target s.works) s.works)));
-      reply = reply.Cancelled (length (replaced_by_cancel (targeted target s.works) s.works));
-    })
+    → outcome s (command.Cancel target) ≡ Some (cancelled_each s (targeted target s.works)) → IsExecuted s line (command.Cancel target)
+    (replacing_all (replaced_by_cancel (targeted target s.works) s.works) (stops_by_cancel (targeted target s.works) s)
+    (cancel_event line target (length (replaced_by_cancel (targeted target s.works) s.works))))
 cancelling-executed s line target valid is =
     let seqs = targeted target s.works in
     let clearing = cancelling_from seqs s.works in
@@ -166,6 +164,7 @@ cancelling-executed s line target valid is =
     let e = cancel_event line target count in
     let after-is : after s e ≡ with_works_closed how.Cancelled seqs s = ap (state_by s) is in
     record {
+      reply = reply.Cancelled count;
       event = refl;
       step =
           clearing_alone-step s clearing run e valid (record { there = tt; ascend = tt }) (StopsAlone-stopped clearing s valid)
@@ -182,6 +181,5 @@ returns c =
     let seqs = targeted target s.works in
     let replaced = replaced_by_cancel seqs s.works in
     let reached = reached-view _ s _ c.view.view_is c.view.invariant in
-    let count : c.len-count.result ≡ length replaced = search rules in
-    let change : c.replacing_all-change.result ≡ replacing_all replaced (stops_by_cancel seqs s) (cancel_event line target (length replaced)) = search rules in
-    rw (change, count) (cancelling-executed s line target reached c.requires.accepted)
+    let change : c.replacing_all.result ≡ replacing_all replaced (stops_by_cancel seqs s) (cancel_event line target (length replaced)) = search rules in
+    rw change (cancelling-executed s line target reached c.requires.accepted)

@@ -3,10 +3,8 @@ use Rattle.std.specs.List.{list_any}
 use Rattle.wm_commands.proofs.ClearedNumbers.{needed-dependents}
 use Rattle.wm_commands.specs.Cleared.{phase_then}
 use Rattle.wm_graph.specs.Descendants.{dependents}
-use Rattle.wm_graph.specs.Nodes.{NodeFields}
 use Rattle.wm_machine.specs.Closed.{is_open}
 use Rattle.wm_machine.specs.declared.record.Record.{Record}
-use Rattle.wm_machine.specs.declared.state.State.{State}
 use Rattle.wm_steps.proofs.Views.{reached-view}
 use Rattle.wm_steps.specs.Nodes.{nodes_of}
 use Rattle.wm_unique.specs.Plans.{numbered_passes}
@@ -21,7 +19,6 @@ returns c =
     let order = (reached-view _ s _ c.view.view_is c.view.invariant).works.in_order in
     let works : c.as_slice-works.result.now ≡ s.works = search rules in
     let numbers : c.deref.result.now ≡ dependents (nodes_of s.works) number =
-    c.deref.ensures.value ∙ c.in_ok-dependents.ensures
-    ∙ ap (λ (nodes : List NodeFields). dependents nodes number) (c.view.invariant.graph_is ∙ ap (λ (t : State). nodes_of t.works) c.view.view_is) in
+    c.deref.ensures.value ∙ c.in_ok-dependents.ensures in
     c.any_open_then.ensures ∙ ap (λ (stored : List Record). list_any (numbered_passes test stored) c.deref.result.now) works
     ∙ ap (list_any (numbered_passes test s.works)) numbers ∙ needed-dependents cancelled s.works number order c.requires.there

@@ -2,7 +2,7 @@ use Rattle.std.proofs.Common.{◌≡◌, ℕ, List, ◌∙◌, ap}
 use Rattle.std.proofs.lemmas.Result.{IfOk-weaker}
 use Rattle.wm_commands.proofs.ClearedNumbers.{cleared-numbered}
 use Rattle.wm_commands.specs.Cleared.{cleared_by, replaced_by_clearing}
-use Rattle.wm_steps.specs.Merged.{AreMerged}
+use Rattle.wm_collections.specs.Sets.{AreMerged}
 use Rattle.wm_steps.specs.Replacements.{by_numbers}
 use Rattle.wm_commands.proofs.clearing.replaced_by_clearing.Goals as goal
 

@@ -114,17 +114,16 @@ rows-put_back s conditions e valid =
     stored_running s conditions valid =
         All-with2 s.works (λ work there running. (there, running)) (All-stored s.works) (put_back-running s conditions valid)
 
-conditions-executed : (s : State) (line : ℕ) (conditions : Conditions) → Valid s → IsExecuted s line (command.Conditions conditions) (record {
-  change = setting_with (set.Conditions conditions) (put_back_by conditions s.runs s.works) (Stop (stopped_under conditions s.runs))
-      (conditions_event line conditions (length (stopped_under conditions s.runs)));
-  reply = reply.Conditions (length (stopped_under conditions s.runs));
-})
+conditions-executed : (s : State) (line : ℕ) (conditions : Conditions) → Valid s → IsExecuted s line (command.Conditions conditions)
+    (setting_with (set.Conditions conditions) (put_back_by conditions s.runs s.works) (Stop (stopped_under conditions s.runs))
+    (conditions_event line conditions (length (stopped_under conditions s.runs))))
 conditions-executed s line conditions valid =
     let stopped = stopped_under conditions s.runs in
     let e = conditions_event line conditions (length stopped) in
     let replaced = put_back_by conditions s.runs s.works in
     let t = record s { conditions = conditions; runs = with_stopped (is_stopped_by conditions) s.runs } in
     record {
+      reply = reply.Conditions (length stopped);
       event = refl;
       step =
           setting_with-step (set.Conditions conditions) s t (put_back_where conditions s.runs) (put_back_in conditions s.runs) (Stop stopped) e valid
@@ -146,8 +145,7 @@ returns c =
     let conditions = c.args.conditions in
     let stopped = stopped_under conditions s.runs in
     let reached = reached-view _ s _ c.view.view_is c.view.invariant in
-    let count : c.len-count.result ≡ length stopped = search rules in
-    let change : c.setting_with-change.result
+    let change : c.setting_with.result
     ≡ setting_with (set.Conditions conditions) (put_back_by conditions s.runs s.works) (Stop stopped) (conditions_event line conditions (length stopped)) =
     search rules in
-    rw (change, count) (conditions-executed s line conditions reached)
+    rw change (conditions-executed s line conditions reached)

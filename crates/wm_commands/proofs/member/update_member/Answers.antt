@@ -33,6 +33,6 @@ returns c =
     let works : c.in_ok-unique.batch ≡ batch = search rules in
     let at : slice_get s.works index ≡ Some work = search rules in
     let first : IsSomeAnd (first_of_batch batch.works) (λ node. request ≡ node.request) = search rules in
-    IfOk-weaker c.update_of.result (IsUpdating line asked index work request) (IsExecuted s line asked) (λ executed is.
-    member-executed s line unique batch c.args.number index work request executed reached c.requires.asked c.requires.planned
+    IfOk-weaker c.update_of.result (IsUpdating line asked index work request) (IsExecuted s line asked) (λ change is.
+    member-executed s line unique batch c.args.number index work request change reached c.requires.asked c.requires.planned
     c.requires.fits at c.member_index-index.ensures.found is first) (rw (named, works) at c.update_of.ensures)

@@ -16,15 +16,14 @@ returns c =
     let reached = reached-view _ s _ c.view.view_is c.view.invariant in
     let by = placing_by c.args.plan in
     let made = placement_of s (name_in c.args.named) by c.args.batch.works in
-    let placement : c.in_ok-named-2.placement ≡ made = search rules in
-    let told : c.in_ok-named-2.told ≡ seqs_of c.in_ok-named-2.placement.placed = search rules in
-    let logged : c.in_ok-named-2.logged ≡ seqs_of c.in_ok-named-2.placement.placed = search rules in
+    let placement : c.in_ok-placement.placement ≡ made = search rules in
+    let numbers : c.in_ok-named-2.numbers ≡ seqs_of c.in_ok-named-2.placement.placed = search rules in
     let named : c.in_ok-named-2.named ≡ c.args.named = search rules in
     let batch : c.in_ok-named-2.batch ≡ c.args.batch = search rules in
-    let change : c.placing-change.result
-    ≡ placing c.in_ok-named-2.placement.replaced c.in_ok-named-2.placement.removed c.in_ok-named-2.placement.placed
-    (Stop c.in_ok-named-2.placement.stopped)
-    (event.Command c.args.line (command.Enqueue c.args.named c.args.batch) (reply.Enqueued (seqs_of c.in_ok-named-2.placement.placed))) =
-    search (rules, logged, named, batch) in
-    rw (change, told, placement)
+    let change : c.placing.result
+    ≡ placing c.in_ok-placement.placement.replaced c.in_ok-placement.placement.removed c.in_ok-placement.placement.placed
+    (Stop c.in_ok-placement.placement.stopped)
+    (event.Command c.args.line (command.Enqueue c.args.named c.args.batch) (reply.Enqueued (seqs_of c.in_ok-placement.placement.placed))) =
+    search (rules, numbers, named, batch) in
+    rw (change, placement)
     (placement-executed s c.args.line c.args.named c.args.batch by reached c.requires.asked c.requires.places c.requires.after)

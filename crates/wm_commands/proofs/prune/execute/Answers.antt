@@ -70,15 +70,14 @@ removable_numbers works = numbers_in (filter (removable works) works)
 abbrev prune_event : ℕ → List Record → Event
 prune_event line works = event.Command line command.Prune (reply.Pruned (length (removable_numbers works)))
 
-pruning-executed : (s : State) (line : ℕ) → Valid s → IsExecuted s line command.Prune (record {
-  change = removing (removable_numbers s.works) (prune_event line s.works);
-  reply = reply.Pruned (length (removable_numbers s.works));
-})
+pruning-executed : (s : State) (line : ℕ) → Valid s → IsExecuted s line command.Prune
+    (removing (removable_numbers s.works) (prune_event line s.works))
 pruning-executed s line valid =
     let test = removable s.works in
     let removed = removable_numbers s.works in
     let e = prune_event line s.works in
     record {
+      reply = reply.Pruned (length removed);
       event = refl;
       step =
           subst (λ (replaced : List Replacement). IsStepOf s (placing replaced removed [] Unchanged e)) (none-replaced removed 0 s.works)
@@ -95,6 +94,5 @@ returns c =
     let line = c.args.line in
     let numbers = removable_numbers s.works in
     let reached = reached-view _ s _ c.view.view_is c.view.invariant in
-    let count : c.len-count.result ≡ length numbers = search rules in
-    let change : c.removing-change.result ≡ removing numbers (prune_event line s.works) = search rules in
-    rw (change, count) (pruning-executed s line reached)
+    let change : c.removing.result ≡ removing numbers (prune_event line s.works) = search rules in
+    rw change (pruning-executed s line reached)

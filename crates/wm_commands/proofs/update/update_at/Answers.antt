@@ -32,6 +32,6 @@ returns-in_ok-request c =
     let logged : c.in_ok-request.asked ≡ request = search rules in
     let kept : c.in_ok-request.request ≡ request = search rules in
     let outcome-is = updated-is s request work (c.requires.found ∙ at) unfinished kind in
-    IfOk-weaker c.update_of.result (IsUpdating c.args.line asked index work request) (IsExecuted s c.args.line asked) (λ executed is.
-    updating-executed s c.args.line asked index work request executed reached at c.requires.asked kind c.requires.asked outcome-is is)
+    IfOk-weaker c.update_of.result (IsUpdating c.args.line asked index work request) (IsExecuted s c.args.line asked) (λ change is.
+    updating-executed s c.args.line asked index work request change reached at c.requires.asked kind c.requires.asked outcome-is is)
     (rw (logged, kept) at c.update_of.ensures)

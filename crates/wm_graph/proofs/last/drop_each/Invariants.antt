@@ -1,6 +1,6 @@
 use Rattle.std.proofs.Common.{◌≡◌, ◌&&◌, ℕ, not, take}
 use Rattle.wm_collections.specs.Lists.{is_among}
-use Rattle.wm_graph.specs.Edges.{has_number}
+use Rattle.wm_collections.specs.Sets.{has_number}
 use Rattle.wm_graph.proofs.last.drop_each.Given as goal
 
 abbrev pub invariant-loop-other : goal.invariant-loop-other

@@ -1,7 +1,7 @@
 use Rattle.std.proofs.Common.{◌≡◌, ◌&&◌, ℕ, not, subst}
 use Rattle.wm_collections.specs.Lists.{is_among}
 use Rattle.wm_graph.proofs.Leaves.{needed-more}
-use Rattle.wm_graph.specs.Edges.{has_number}
+use Rattle.wm_collections.specs.Sets.{has_number}
 use Rattle.wm_graph.specs.Kept.{nodes_of}
 use Rattle.wm_graph.proofs.last.drop_needed.Goals as goal
 

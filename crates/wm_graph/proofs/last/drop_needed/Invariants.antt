@@ -1,5 +1,5 @@
 use Rattle.std.proofs.Common.{◌≡◌, ◌&&◌, ℕ, not, take}
-use Rattle.wm_graph.specs.Edges.{has_number}
+use Rattle.wm_collections.specs.Sets.{has_number}
 use Rattle.wm_graph.specs.Kept.{nodes_of}
 use Rattle.wm_graph.specs.Leaves.{is_before_any}
 use Rattle.wm_graph.proofs.last.drop_needed.Given as goal

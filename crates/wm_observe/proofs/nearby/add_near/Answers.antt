@@ -1,8 +1,6 @@
-use Rattle.std.proofs.Common.{◌≡◌, List, ap, ◌∙◌}
+use Rattle.std.proofs.Common.{◌≡◌, ◌∙◌}
 use Rattle.std.proofs.lemmas.Result.{on_ok_weaker}
 use Rattle.wm_graph.specs.Descendants.{dependents}
-use Rattle.wm_graph.specs.Nodes.{NodeFields}
-use Rattle.wm_machine.specs.declared.state.State.{State}
 use Rattle.wm_observe.proofs.NearNumbers.{with-near}
 use Rattle.wm_observe.proofs.nearby.add_near.Goals as goal
 use Rattle.wm_steps.specs.Nodes.{nodes_of}
@@ -11,9 +9,7 @@ pub returns : goal.returns
 returns c =
     let s = c.args.view.now in
     let touched = c.args.touched in
-    let found : c.as_slice.result.now ≡ dependents (nodes_of s.works) touched =
-    c.as_slice.ensures.value ∙ c.in_ok-dependents.ensures
-    ∙ ap (λ (nodes : List NodeFields). dependents nodes touched) (c.view.invariant.graph_is ∙ ap (λ (t : State). nodes_of t.works) c.view.view_is) in
+    let found : c.as_slice.result.now ≡ dependents (nodes_of s.works) touched = c.as_slice.ensures.value ∙ c.in_ok-dependents.ensures in
     on_ok_weaker c.add_each.result (λ more.
     with-near s.works touched c.as_slice.result.now c.args.numbers.now c.insert.new.self c.add_each.new.numbers found c.in_ok-insert.ensures.updates more)
     c.add_each.ensures

@@ -1,11 +1,10 @@
 use Rattle.std.proofs.Common.{sym, ◌∙◌, subst}
 use Rattle.std.proofs.Math.Bool.{or-false}
-use Rattle.wm_graph.specs.Edges.{has_number}
+use Rattle.wm_collections.specs.Sets.{has_number, AreAdded}
 use Rattle.wm_steps.proofs.FoundNumbers.{ids-swap}
 use Rattle.wm_steps.proofs.IdNumbers.{id-none, id-number}
-use Rattle.wm_steps.proofs.MergedNumbers.{added-one}
+use Rattle.wm_collections.proofs.NumberSets.{added-one}
 use Rattle.wm_steps.proofs.Views.{reached-view}
-use Rattle.wm_steps.specs.Merged.{AreAdded}
 use Rattle.wm_steps.proofs.finding.add_with_id.Goals as goal
 
 pub returns : goal.returns

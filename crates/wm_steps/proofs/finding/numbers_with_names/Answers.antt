@@ -3,7 +3,7 @@ use Rattle.std.specs.List.{list_any}
 use Rattle.std.proofs.lemmas.Result.{IfOk-weaker}
 use Rattle.wm_machine.specs.Group.{is_name, members_of, numbers_in}
 use Rattle.wm_steps.proofs.FoundNumbers.{found-all, found-more}
-use Rattle.wm_steps.specs.Merged.{AreAdded}
+use Rattle.wm_collections.specs.Sets.{AreAdded}
 use Rattle.wm_steps.proofs.finding.numbers_with_names.Goals as goal
 
 pub loop-name-preserved : goal.loop-name-preserved

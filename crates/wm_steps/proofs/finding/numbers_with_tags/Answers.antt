@@ -4,7 +4,7 @@ use Rattle.std.proofs.lemmas.Result.{IfOk-weaker}
 use Rattle.wm_machine.specs.Group.{numbers_in}
 use Rattle.wm_machine.specs.Queried.{has_tag}
 use Rattle.wm_steps.proofs.FoundNumbers.{found-all, found-more}
-use Rattle.wm_steps.specs.Merged.{AreAdded}
+use Rattle.wm_collections.specs.Sets.{AreAdded}
 use Rattle.wm_steps.proofs.finding.numbers_with_tags.Goals as goal
 
 pub loop-tag-preserved : goal.loop-tag-preserved

@@ -1,7 +1,7 @@
 use Rattle.std.proofs.Common.{◌≡◌, ap, ◌∙◌}
 use Rattle.std.proofs.lemmas.Result.{IfOk-weaker}
 use Rattle.wm_graph.proofs.Leaves.{leaves-are}
-use Rattle.wm_graph.specs.Edges.{IsListOf}
+use Rattle.wm_collections.specs.Sets.{IsListOf}
 use Rattle.wm_graph.specs.Kept.{nodes_of}
 use Rattle.wm_graph.specs.Leaves.{leaves}
 use Rattle.wm_graph.proofs.graph.Graph.leaves.Goals as goal

@@ -13,6 +13,8 @@ use Rattle.wm_collections.proofs.Lists.{All-stored, All-weaker}
 use Rattle.wm_steps.proofs.Moves.{placed-nodes, placed-records, replaced-nodes, replaced-records, told-nodes, told-records}
 use Rattle.wm_steps.proofs.Nodes.{node-stored}
 use Rattle.wm_steps.specs.Views.{IsViewed}
+use Rattle.wm_steps.proofs.CoveredSteps.{covered-step}
+use Rattle.wm_steps.specs.Covers.{mark_after, mark_of, takes_members}
 use Rattle.wm_steps.proofs.Readyings.{settled-ready, undone-ready}
 use Rattle.wm_steps.specs.Entries.{AreEntriesOf, IsFollowable}
 use Rattle.wm_steps.specs.Readied.{comes, is_left_by, is_left_undone, AreLeft, AreNamed, ArePut, AreReady, IsPutSome}
@@ -147,10 +149,15 @@ invariant_of-view g c =
     names_are c.settle_ready.ensures) in
     let settled = settled-ready kept.classes s change c.view.invariant.valid is c.change_nodes.new.graph nodes kept.ready c.store.new.ready c.settle_ready.new.ready
     c.view.invariant.startable_are.ready_are put left in
-    let waiting = subst (λ (names : List (List ℕ)). AreReady names (changed_works change s.works) c.settle_ready.new.ready) (sym c.follow.ensures.classes) settled in
-    viewed-step s c.put_back.new.state c.view.inside.graph c.change_nodes.new.graph c.view.inside.index c.settle_entries.new.index kept c.follow.new.self change
-    c.view.invariant is made_is nodes entries c.follow.ensures.rooms
-    (subst (λ (found : List ready.Entry). AreReady c.follow.new.self.classes (changed_works change s.works) found) (sym c.follow.ensures.ready) waiting)
+    let waiting = subst (λ (names : List (List ℕ)). AreReady names (changed_works change s.works) c.settle_ready.new.ready) (sym c.follow-in-Ok.ensures.classes) settled in
+    let stored : c.as_slice-in-Ok-4.result.now ≡ s.works = search rules in
+    let marks : (name : List ℕ) → mark_of c.follow.new.self name ≡ mark_after (takes_members s.works change) (mark_of c.view.inside.covers name) =
+    λ name. c.follow.ensures name
+    ∙ ap (λ (works : List Record). mark_after (takes_members works change) (mark_of c.view.inside.covers name)) stored in
+    viewed-step s c.put_back.new.state c.view.inside.graph c.change_nodes.new.graph c.view.inside.index c.settle_entries.new.index kept c.follow-in-Ok.new.self
+    c.view.inside.covers c.follow.new.self change c.view.invariant is made_is nodes entries c.follow-in-Ok.ensures.rooms
+    (subst (λ (found : List ready.Entry). AreReady c.follow-in-Ok.new.self.classes (changed_works change s.works) found) (sym c.follow-in-Ok.ensures.ready) waiting)
+    (covered-step s change c.view.invariant.valid is.fits c.put_back.new.state c.view.inside.covers c.follow.new.self made_is marks c.view.invariant.covered)
 
 pub settle_ready-requires-clause-told_nodes : goal.settle_ready-requires-clause-told_nodes
 settle_ready-requires-clause-told_nodes g c =
@@ -214,7 +221,7 @@ invariant_of-view-in-Err g c =
     subst (λ (works : List Record). AreLeft (is_left_undone kept.classes c.truncate.new.self works change) c.store.new.ready c.undo_ready.new.ready) works_are
     (subst (λ (names : List (List ℕ)). AreLeft (is_left_undone names c.truncate.new.self c.as_slice-in-Err-2.result.now change) c.store.new.ready c.undo_ready.new.ready)
     names_are c.undo_ready.ensures) in
-    subst (λ (t : State). IsViewed t c.truncate.new.self c.store.new.index (record kept { ready = c.undo_ready.new.ready })) (sym state_is) (record {
+    subst (λ (t : State). IsViewed t c.truncate.new.self c.store.new.index (record kept { ready = c.undo_ready.new.ready }) c.view.inside.covers) (sym state_is) (record {
       valid = c.view.invariant.valid;
       graph_is = nodes;
       entries_are = entries;
@@ -223,6 +230,7 @@ invariant_of-view-in-Err g c =
         ready_are = undone-ready kept.classes s change c.view.invariant.valid is c.truncate.new.self nodes kept.ready c.store.new.ready c.undo_ready.new.ready
             c.view.invariant.startable_are.ready_are put left;
       };
+      covered = c.view.invariant.covered;
     })
 
 pub store-requires-clause-told_records : goal.store-requires-clause-told_records
@@ -270,8 +278,8 @@ undo_ready-requires-clause-placed g c =
     let s = c.view.inside.state in
     placed-records s c.args.change c.view.invariant.valid (step-inside s _ c.args.change c.view.view_is c.requires.step)
 
-pub follow-requires-clause-named : goal.follow-requires-clause-named
-follow-requires-clause-named g c =
+pub follow-requires-in-Ok-clause-named : goal.follow-requires-in-Ok-clause-named
+follow-requires-in-Ok-clause-named g c =
     let s = c.view.inside.state in
     let change = c.args.change in
     let made_is : c.put_back.new.state ≡ changed_state change s = search rules in

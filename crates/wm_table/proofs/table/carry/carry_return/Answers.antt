@@ -18,7 +18,7 @@ invariant_of-view c =
     let is : IsReturn s c.args.number change =
     subst (λ (t : State). IsReturn t c.args.number change) (sym c.view.view_is) c.returned-change.ensures in
     let made_is : c.put_back.new.state ≡ changed_state change s = search rules in
-    return-viewed s c.put_back.new.state c.view.inside.graph c.view.inside.index c.view.inside.startable c.follow.new.self c.args.number change
+    return-viewed s c.put_back.new.state c.view.inside.graph c.view.inside.index c.view.inside.startable c.follow.new.self c.view.inside.covers c.args.number change
     c.view.invariant is made_is c.follow.ensures.rooms c.follow.ensures.ready c.follow.ensures.classes
 
 pub follow-requires-clause-named : goal.follow-requires-clause-named

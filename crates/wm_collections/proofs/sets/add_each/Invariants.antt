@@ -1,0 +1,7 @@
+use Rattle.std.proofs.Common.{◌≡◌, ◌||◌, ℕ, take}
+use Rattle.wm_collections.specs.Lists.{is_among}
+use Rattle.wm_collections.specs.Sets.{has_number}
+use Rattle.wm_collections.proofs.sets.add_each.Given as goal
+
+abbrev pub invariant-loop-other : goal.invariant-loop-other
+invariant-loop-other l = (number : ℕ) → has_number l.numbers number ≡ (has_number l.initial.numbers number || is_among (take l.other-index l.others) number)

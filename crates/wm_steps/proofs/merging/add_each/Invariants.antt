@@ -1,7 +1,0 @@
-use Rattle.std.proofs.Common.{◌≡◌, ◌||◌, ℕ, take}
-use Rattle.wm_collections.specs.Lists.{is_among}
-use Rattle.wm_graph.specs.Edges.{has_number}
-use Rattle.wm_steps.proofs.merging.add_each.Given as goal
-
-abbrev pub invariant-loop-other : goal.invariant-loop-other
-invariant-loop-other l = (number : ℕ) → has_number l.numbers number ≡ (has_number l.initial.numbers number || is_among (take l.other-index l.others) number)
