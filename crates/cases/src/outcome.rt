@@ -113,7 +113,7 @@ fn tell_run_of<R: Threads + Wait + Sync, B: Worker + Send>(
     if holds.missed() {
         told.push_str("missed\n")?;
     }
-    tell_ended(alloc, told, &ended)?;
+    tell_ended(alloc, told, &ended, part.brief)?;
     Ok(SureKeeper::new(ended.keeper.into_rows()))
 }
 
@@ -149,12 +149,13 @@ fn keeper_of(
     }
 }
 
-/// Tells how a run ended: its status, whether the table was begun, the events of its log, the classes
-/// that have no worker any more, the rows kept, and the bytes written.
+/// Tells how a run ended: its status, whether the table was begun, unless it is to be brief its log
+/// and its rows, and the bytes written.
 fn tell_ended<B: Worker>(
     alloc: Global,
     told: &mut String,
     ended: &Ended<MemoryKeeper, MemorySink, B>,
+    brief: bool,
 ) -> Result<(), AllocError> {
     told.push_str(status_line(alloc, &ended.status)?.as_str())?;
     told.push_str(if ended.began {
@@ -162,6 +163,18 @@ fn tell_ended<B: Worker>(
     } else {
         "not begun\n"
     })?;
+    if !brief {
+        tell_log_and_rows(alloc, told, ended)?;
+    }
+    tell_bytes(alloc, told, ended.sink.bytes())
+}
+
+/// Tells the events of a log, the classes that have no worker any more, and the rows kept.
+fn tell_log_and_rows<B: Worker>(
+    alloc: Global,
+    told: &mut String,
+    ended: &Ended<MemoryKeeper, MemorySink, B>,
+) -> Result<(), AllocError> {
     let log = ended.log.as_slice();
     tell_events(alloc, told, log, false)?;
     tell_events(alloc, told, log, true)?;
@@ -170,7 +183,7 @@ fn tell_ended<B: Worker>(
         let text = row_text(alloc, row)?;
         tell_line(told, "row ", text.as_str())?;
     }
-    tell_bytes(alloc, told, ended.sink.bytes())
+    Ok(())
 }
 
 /// Tells the events of a log that are late reports, or those that aren't. Of events with the same words

@@ -47,6 +47,8 @@ pub struct Part {
     /// Where threads are held.
     pub holds: Vec<Hold>,
     pub script: Vec<u8>,
+    /// Whether the log and the rows of the run aren't told.
+    pub brief: bool,
     ghost some_move: { 0 < moves },
 }
 
@@ -63,6 +65,7 @@ impl Part {
             failing: Vec::new(alloc),
             holds: Vec::new(alloc),
             script: Vec::new(alloc),
+            brief: false,
         })
     }
 }

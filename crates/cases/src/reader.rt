@@ -97,6 +97,7 @@ fn read_more(alloc: Global, part: &mut Part, word: &str, rest: &str) -> Result<(
             part.rows.push(row)?;
         }
         "words" => part.words = read_words(alloc, rest)?,
+        "brief" => part.brief = true,
         "moves" => set_moves(part, rest)?,
         "fails" => {
             let failing = read_failing(alloc, rest)?;

@@ -1,6 +1,7 @@
 pub mod Desks
 pub mod Hands
 pub mod Opening
+pub mod OriginLines
 pub mod ReportedRuns
 pub mod RunEnds
 pub mod RunImages

@@ -1,5 +1,8 @@
 -- Which status a fault of reading gives, and when each status comes.
 use Rattle.std.specs.Prelude.{◌≡◌, ◌⊎◌, ℕ, ℤ, Bool, List, Option, Some, None, IfSome, IsSomeAnd, Err}
+use Rattle.wm_cli.specs.Words.{options_of}
+use Rattle.wm_cli.specs.declared.words.Origin.TheVariants.{Script}
+use Rattle.wm_faults.specs.Faults.{Failed}
 use Rattle.wm_keeper.specs.declared.row.Row.{Row}
 use Rattle.wm_rows.specs.Sound.{checked}
 use Rattle.wm_script.specs.Limits.{first_limit}
@@ -15,6 +18,11 @@ IsToldTooLong limit left = IsSomeAnd left (λ all. first_limit all ≡ Some limi
 -- the source tells what it has left, and it passes no limit
 abbrev pub IsToldWithin : Option (List ℕ) → Type 0
 IsToldWithin left = IsSomeAnd left (λ all. first_limit all ≡ None)
+
+-- the words are right, and where they ask for a script, the source tells one that passes no limit, and doesn't fail
+abbrev pub HaveLines : List (List ℕ) → Option (List ℕ) → ℕ → ℕ → Type 0
+HaveLines words left before now =
+    IsSomeAnd (options_of words) (λ options. options.origin ≡ Script → IsToldWithin left × ¬ Failed before now)
 
 -- the source didn't fail, and where it tells what it has left, this is the first limit that it passes
 pub record IsPastLimit (limit : Limit) (before now : ℕ) (left : Option (List ℕ)) : Type 0 where

@@ -3,6 +3,7 @@ pub mod Causes
 pub mod Desk
 pub mod Ended
 pub mod Images
+pub mod Lines
 pub mod Reading
 pub mod Script
 pub mod Taken

@@ -1,19 +1,19 @@
 //! The top call: all that the program does, with its contract.
-ghost use Rattle.std.specs.Prelude.{◌≡◌, ◌↔◌, ◌+◌, ◌≤◌, ◌<◌, ◌^◌, ℤ, Bool, List, [], length, map, vec_len, true, false, None, Some, Err, IfOk, IfErr, IfSome, IsSome, OnOk, string_bytes};
+ghost use Rattle.std.specs.Prelude.{◌≡◌, ◌↔◌, ◌+◌, ◌≤◌, ◌<◌, ◌^◌, ℕ, ℤ, Bool, List, [], length, map, vec_len, true, false, None, Some, Err, IfOk, IfErr, IfSome, OnOk, string_bytes};
 ghost use Rattle.std.specs.List.{AllByRecursion};
 ghost use Rattle.wm_bench.specs.Places.{idle_hands, most_hands};
-ghost use Rattle.wm_cli.specs.Causes.{IsToldTooLong, IsToldWithin, IsUnlessMemory, LimitCause, StoreCause};
+ghost use Rattle.wm_cli.specs.Causes.{HaveLines, IsToldTooLong, IsUnlessMemory, LimitCause, StoreCause};
 ghost use Rattle.wm_cli.specs.Ended.{AreBoxesOf, AreHandsOf, AreReportedOnce, AreRowsKept, ForScript, HaveToldOnDone, IsBegunBy, IsOpeningRefused, IsQuietOnDone, IsReplayed, IsRunEnd, IsRunOf, IsStoreOf};
+ghost use Rattle.wm_cli.specs.Lines.{lines_of};
 ghost use Rattle.wm_cli.specs.Reading.{AreCommandsOf, IsReadStatus};
 ghost use Rattle.wm_cli.specs.Script.{IsTakenWithin};
-ghost use Rattle.wm_cli.specs.Words.{options_of, AskForNoThreads};
+ghost use Rattle.wm_cli.specs.Words.{options_of, origin_of, AskForNoThreads, AskForScript};
 ghost use Rattle.wm_faults.specs.Faults.{Failed};
 ghost use Rattle.wm_keeper.specs.Store.{told_before, KeepsTelling};
 ghost use Rattle.wm_keeper.specs.declared.row.Row.{Row};
 ghost use Rattle.wm_machine.specs.Outcome.{IsAskable};
 ghost use Rattle.wm_rows.specs.Sound.{checked, AreSound};
-ghost use Rattle.wm_script.specs.Limits.{most_script_bytes};
-ghost use Rattle.wm_script.specs.Lines.{commands_in};
+ghost use Rattle.wm_script.specs.Limits.{first_limit, most_script_bytes};
 ghost use Rattle.wm_script.specs.declared.limits.Limit.{Limit};
 ghost use Rattle.wm_session.specs.BetweenRuns.{IsAtBegin};
 ghost use Rattle.wm_session.specs.Ended.{IsBookEnd, IsSerialEnd, IsTextWritten};
@@ -25,7 +25,7 @@ use crate::beginning::open_book;
 use crate::instances::instances_of;
 use crate::pool::run_pool;
 use crate::script::{ReadFault, read_script};
-use crate::words::options_of;
+use crate::words::{Origin, options_of};
 use std::alloc::{AllocError, Global};
 use std::marker::Brand;
 use std::sync::Wait;
@@ -37,10 +37,13 @@ use wm_keeper::{Keeper, Row};
 use wm_machine::{Command, Instance};
 use wm_pool::Gate;
 use wm_roll::Roll;
-use wm_script::{Limit, MAX_SCRIPT_BYTES, ScriptFault, read_lines};
+use wm_script::{Limit, MAX_SCRIPT_BYTES, ScriptFault, generate, read_lines};
 use wm_session::{Book, Ended, Status, run_serial};
 use wm_table::Mark;
 use wm_worker::Worker;
+
+/// How many groups of works a seed gives.
+const GENERATED_GROUPS: u32 = 400;
 
 /// What a run works with beside its parts: the runtime of its threads, the gate that they pass, and
 /// how many of them drive works.
@@ -73,6 +76,36 @@ fn read_commands<S: Source>(alloc: Global, source: &mut S) -> Result<Items<Comma
         Ok(commands) => Ok(commands),
         Err(ScriptFault::TooLong(limit)) => Err(Status::ScriptTooLong(limit)),
         Err(ScriptFault::Memory) => Err(Status::Memory),
+    }
+}
+
+/// The lines of a run, those of the script or those that a seed gives, for which the source isn't
+/// read; or with which status a run ends without them.
+fn lines_of<S: Source>(
+    alloc: Global,
+    origin: Origin,
+    source: &mut S,
+) -> Result<Items<Command>, Status>
+    ensures lines { IfOk result (λ lines. ForScript (S.left source.old) (λ bytes. lines ≡ lines_of origin bytes)) }
+    ensures askable { IfOk result (AllByRecursion IsAskable) }
+    ensures few { IfOk result (λ lines. length lines < 2 ^ 32) }
+    ensures within { OnOk result (origin ≡ Origin.Script
+        → IfSome (S.left source.old) (λ all. first_limit all ≡ None)) }
+    ensures no_fault { OnOk result (S.faults source.new ≡ S.faults source.old) }
+    ensures reads { IsTakenWithin (most_script_bytes + 1) (S.left source.old) (S.left source.new) }
+    ensures status { IfErr result (λ status. IsReadStatus status
+        (S.faults source.old) (S.faults source.new) (S.left source.old)) }
+    // Of a seed the source isn't read.
+    ensures generated { (seed : ℕ) → origin ≡ Origin.Seed seed → source.new ≡ source.old }
+    ensures generated_status { IfErr result (λ status. (seed : ℕ) → origin ≡ Origin.Seed seed
+        → status ≡ Status.Memory) }
+{
+    match origin {
+        Origin::Script => read_commands(alloc, source),
+        Origin::Seed(seed) => match generate(alloc, seed, GENERATED_GROUPS) {
+            Ok(commands) => Ok(commands),
+            Err(_) => Err(Status::Memory),
+        },
     }
 }
 
@@ -191,8 +224,10 @@ fn run_book<
 
 /// Does all that the program does: reads the words, then the whole script, then opens the store,
 /// and executes the script's commands one after another, writing the reply to each. Where the words
-/// ask for no threads, the works that may start are driven to their ends by the workers after each
-/// command. Where they ask for some, each of them drives one work after another meanwhile.
+/// give a seed, the commands are those that it gives with 400 groups, and the source isn't read.
+/// Where the words ask for no threads, the works that may start are driven to their ends by the
+/// workers after each command. Where they ask for some, each of them drives one work after another
+/// meanwhile.
 ///
 /// The words are those of the command line after the program's name. The workers are boxed by
 /// whoever calls, or of any one type; they are of any kinds, and at most 10,000. The gate is passed
@@ -237,15 +272,15 @@ pub fn run<
     ensures rows { AreRowsKept result.began result.last (K.store keeper) (K.store result.keeper) }
     // They stand in the store that the words name.
     ensures store { result.began ≡ true → IsStoreOf (map string_bytes words.now) (K.store result.keeper).name }
-    // It is a run of the script's commands, those of the bytes that the source had left, where it tells
-    // them, and else of some bytes. The log has them, a front of them, and on `Done` all. Without
-    // threads it is that of a serial run over them, or a front of one. Where nothing was pending in the
-    // store, a crash leaves the last state's rows, or those of the state after the event that was being
-    // committed; and where no store was opened the rows of before, or those of the opening that was
-    // being committed.
+    // It is a run of the seed's lines, where the words give one, and else of the script's, those of the
+    // bytes that the source had left, where it tells them, and else of some bytes. The log has these
+    // lines as its commands, a front of them, and on `Done` all. Without threads it is that of a serial
+    // run over them, or a front of one. Where nothing was pending in the store, a crash leaves the last
+    // state's rows, or those of the state after the event that was being committed; and where no store
+    // was opened the rows of before, or those of the opening that was being committed.
     ensures script { ForScript (S.left source.old) (λ bytes.
         IsRunOf (tells_of K.store W.given W.faults B.kind_of B.diary_of) (map string_bytes words.now)
-        hands.items keeper (commands_in bytes) result) }
+        hands.items keeper (lines_of (origin_of (map string_bytes words.now)) bytes) result) }
     // The bytes written are the log's text, a front of it, and on `Done` all.
     ensures bytes { IsTextWritten (W.given sink) (W.given result.sink)
         result.status result.first result.log }
@@ -263,8 +298,10 @@ pub fn run<
         → HaveToldOnDone B.diary_of result.status hands.items
         result.first result.log result.last result.hands.items }
 
-    // At most one byte more than a script may have is read.
+    // At most one byte more than a script may have is read, and nothing where a seed gives the lines.
     ensures reads { IsTakenWithin (most_script_bytes + 1) (S.left source.old) (S.left source.new) }
+    ensures generated_reads_nothing { (seed : ℕ) → origin_of (map string_bytes words.now) ≡ Origin.Seed seed
+        → source.new ≡ source.old }
 
     // The causes: when each status comes. Memory alone is free.
     ensures done { result.status ≡ Status.Done → result.began ≡ true }
@@ -279,9 +316,11 @@ pub fn run<
         → (result.keeper ≡ keeper) × (result.sink ≡ sink) }
     ensures script_too_long { LimitCause result.status
         (S.faults source.old) (S.faults source.new) (S.left source.old) }
+    ensures script_too_long_of_script { (limit : Limit) → result.status ≡ Status.ScriptTooLong limit
+        → AskForScript (map string_bytes words.now) }
     ensures script_too_long_keeps { (limit : Limit) → result.status ≡ Status.ScriptTooLong limit
         → (result.keeper ≡ keeper) × (result.sink ≡ sink) }
-    ensures long_script { (limit : Limit) → IsSome (options_of (map string_bytes words.now))
+    ensures long_script { (limit : Limit) → AskForScript (map string_bytes words.now)
         → IsToldTooLong limit (S.left source.old)
         → ¬ Failed (S.faults source.old) (S.faults source.new)
         → IsUnlessMemory result.status (Status.ScriptTooLong limit) }
@@ -292,17 +331,15 @@ pub fn run<
     ensures bad_store { StoreCause result.status
         (told_before (K.store keeper).rows (K.store result.keeper).rows) }
     ensures unsound_store { (rows : List Row) (seq : ℤ) (bad_row : Bool)
-        → IsSome (options_of (map string_bytes words.now))
-        → IsToldWithin (S.left source.old) → ¬ Failed (S.faults source.old) (S.faults source.new)
+        → HaveLines (map string_bytes words.now) (S.left source.old) (S.faults source.old) (S.faults source.new)
         → told_before (K.store keeper).rows (K.store result.keeper).rows ≡ Some rows
         → checked rows ≡ Err (row_fault seq bad_row)
         → ¬ Failed (K.store keeper).faults (K.store result.keeper).faults
         → IsUnlessMemory result.status (Status.BadStore seq bad_row) }
 
-    // Completeness: right words, a script within its limits, a sound store and no fault.
+    // Completeness: right words, with a seed or a script within its limits, a sound store and no fault.
     ensures completes { (rows : List Row)
-        → IsSome (options_of (map string_bytes words.now))
-        → IsToldWithin (S.left source.old) → ¬ Failed (S.faults source.old) (S.faults source.new)
+        → HaveLines (map string_bytes words.now) (S.left source.old) (S.faults source.old) (S.faults source.new)
         → told_before (K.store keeper).rows (K.store result.keeper).rows ≡ Some rows
         → AreSound rows
         → ¬ Failed (K.store keeper).faults (K.store result.keeper).faults
@@ -312,7 +349,7 @@ pub fn run<
     let Some(options) = options_of(words) else {
         return Ended::before_begin(alloc, Status::Usage, keeper, sink, hands);
     };
-    match read_commands(alloc, source) {
+    match lines_of(alloc, options.origin, source) {
         Ok(commands) => {
             let crew = Crew {
                 rt,

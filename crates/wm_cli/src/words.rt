@@ -3,7 +3,7 @@ ghost use Rattle.std.specs.Prelude.{◌≡◌, ◌⊎◌, ◌≤◌, false, leng
 ghost use Rattle.std.specs.Char.{is_ascii_digit};
 ghost use Rattle.std.specs.List.{list_all};
 ghost use Rattle.std.specs.Option.{option_map_or};
-ghost use Rattle.wm_cli.specs.Words.{are_options, asked, is_name_byte, is_name, is_numeral, is_option, number_within, options_of, set, setting_in, settings_of, value_of, workers_in, IsFirst};
+ghost use Rattle.wm_cli.specs.Words.{are_options, asked, is_name_byte, is_name, is_numeral, is_option, number_within, options_of, origin_in, set, setting_in, settings_of, value_of, workers_in, IsFirst};
 
 /// The most bytes that the name of a store has.
 const MAX_NAME_BYTES: usize = 200;
@@ -116,7 +116,7 @@ fn value_of<'w>(option: &str, words: &'w [String]) -> Option<&'w str>
 fn is_option(option: &str) -> bool
     ensures { result ≡ is_option option.now }
 {
-    option == "--store" || option == "--workers"
+    option == "--store" || option == "--workers" || option == "--generate"
 }
 
 /// Whether the words are settings, of options that there are, none twice.
@@ -136,6 +136,15 @@ fn are_options(words: &[String]) -> bool
     true
 }
 
+/// Where the lines of a run come from.
+#[derive(Clone, Copy)]
+pub enum Origin {
+    /// They are those of the script that the source has.
+    Script,
+    /// They are those that this seed gives.
+    Seed(u64),
+}
+
 /// What the words of the command line ask for.
 #[derive(Clone, Copy)]
 pub struct Options<'w> {
@@ -143,6 +152,8 @@ pub struct Options<'w> {
     pub store: &'w str,
     /// The number of workers, 0 where the words don't say it.
     pub workers: u32,
+    /// Where the lines come from, the script where the words give no seed.
+    pub origin: Origin,
 }
 
 /// The number of workers that the words ask for.
@@ -156,8 +167,18 @@ fn workers_in(words: &[String]) -> Option<u32>
     }
 }
 
-/// What the words ask for: `--store NAME` and, where it is given, `--workers N`, in any order, each
-/// once at most, as two words or as one with `=`.
+/// Where the lines come from that the words ask for.
+fn origin_in(words: &[String]) -> Option<Origin>
+    ensures asked { IfSome (settings_of (map string_bytes words.now)) (λ settings. result ≡ origin_in settings) }
+{
+    match value_of("--generate", words) {
+        Some(value) => Some(Origin::Seed(number_within(u64::MAX, value)?)),
+        None => Some(Origin::Script),
+    }
+}
+
+/// What the words ask for: `--store NAME` and, where they are given, `--workers N` and
+/// `--generate SEED`, in any order, each once at most, as two words or as one with `=`.
 pub fn options_of(words: &[String]) -> Option<Options<'_>>
     ensures asked { option_map asked result ≡ options_of (map string_bytes words.now) }
     ensures few { IfSome result (λ options. options.workers ≤ 64) }
@@ -170,5 +191,10 @@ pub fn options_of(words: &[String]) -> Option<Options<'_>>
         return None;
     }
     let workers = workers_in(words)?;
-    Some(Options { store, workers })
+    let origin = origin_in(words)?;
+    Some(Options {
+        store,
+        workers,
+        origin,
+    })
 }
