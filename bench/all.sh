@@ -1,7 +1,7 @@
 #!/usr/bin/env bash
 # Runs the measures one after another, on a machine that does nothing else meanwhile, and writes what they
 # print into the table of docs/PERFORMANCE.md, with the machine, the day and the commit. Where one of them goes
-# wrong nothing is written. It takes some ten minutes once the program is built. `kill.sh`, `threads.sh` and
+# wrong nothing is written. It takes some fifteen minutes once the program is built. `kill.sh`, `threads.sh` and
 # `torture.sh` measure nothing; they test.
 set -euo pipefail
 root=$(cd "$(dirname "${BASH_SOURCE[0]}")/.." && pwd)
@@ -28,11 +28,15 @@ table() {
   echo "| what | measure | result |"
   echo "|---|---|---|"
   row serial.sh "works of class Echo, each enqueued by a line of its own, which runs at once"
+  row plain.sh "works of a generated input, and the same by a plain engine without proofs, store and texts"
   row chains.sh "one line of works in ten layers, each after all works of the layer before"
   row observers.sh "1,000 works, with ten observers of one work each"
   row names.sh "lines that look at many works"
+  row ends.sh "lines that end many works at once"
   row lines.sh "the reading of 100,000 lines of about 160 bytes"
   row store.sh "commits to a file on a disk, the opening of a store, and its size"
+  row groups.sh "generated groups of five works in a store on a disk"
+  row memory.sh "100,000 works of class Count, of ten turns each"
   row pool.sh "what threads cost works that take next to no time, and gain those that take a millisecond a turn"
 }
 

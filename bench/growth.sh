@@ -3,7 +3,8 @@
 # (or for as many as are named), and the ratio of the last to the first. The instructions are counted by valgrind,
 # which other work on the machine doesn't change; where valgrind isn't there, or the longest script of a row takes
 # longer than half a second, it is the processor time of the program, and the row says so; what is
-# small beside the rest of its script is then lost in it. A run of more than five minutes is given up (`-`).
+# small beside the rest of its script is then lost in it. A run of more than five minutes is given up (`-`). With more
+# than 20,000 works, as in `growth.sh 1000 50000`, the row of `APPEND` is left out, whose script grows with their square.
 #
 # A work takes what its script takes, less a run without lines, for each of the works: works of class Echo with a
 # line each, without a name, under one name with `KEEP`, `REPLACE` and `APPEND`, and under a name each; groups of
@@ -23,7 +24,10 @@ observers=10
 longest=500000
 # After so many seconds a run is given up, and its row has `-` in its place.
 patience=300
-TIMEFORMAT='%U %S'
+# With more works than these the row is left out whose script grows with their square.
+many=20000
+# So many runs of a script are timed.
+times=3
 
 # Prints the number of a work as its id.
 identifier() {
@@ -100,22 +104,6 @@ run() {
   ! grep -q '"error":' "$work/replies"
 }
 
-# Prints how many microseconds of processor time the best of three runs of a script takes, or the first where
-# that takes longer than a second; `-` where it is given up.
-processor_time() {
-  local best=0 taken status=0
-  for _ in 1 2 3; do
-    rm -f "$store"*
-    { time run "$1" "$root/crates/work/out/work"; } 2> "$work/time" || status=$?
-    if [ "$status" -eq 124 ]; then echo - && return; fi
-    [ "$status" -eq 0 ]
-    taken=$(awk '{ printf "%.0f", ($1 + $2) * 1000000 }' "$work/time")
-    if [ "$best" -eq 0 ] || [ "$taken" -lt "$best" ]; then best=$taken; fi
-    if [ "$best" -gt 1000000 ]; then break; fi
-  done
-  echo "$best"
-}
-
 # Prints what a script takes in a unit, which is measured once.
 cost() {
   local measure=instructions
@@ -138,15 +126,16 @@ unit_of() {
 # Prints a row: what each of the works or lines of a script takes at each size, where `$work/script.NAME.SIZE` is
 # the script and the other name that of what it is compared with, and how many there are in it.
 row() {
-  local what=$1 name=$2 without=$3 count=$4 unit size divisor each taken=()
+  local what=$1 name=$2 without=$3 count=$4 unit size divisor more less each taken=()
   unit=$(unit_of "$name.${sizes[-1]}")
   for size in "${sizes[@]}"; do
     divisor=${count:-$size}
-    each=$(awk -v unit="$unit" -v with="$(cost "$unit" "$name.$size")" -v without="$(cost "$unit" "$without.$size")" \
-      -v divisor="$divisor" 'BEGIN {
-        if (with == "-" || without == "-") print "-"
-        else printf "%.1f", (with - without) * (unit == "us" ? 1 : 1000) / divisor
-      }')
+    more=$(cost "$unit" "$name.$size")
+    less=$(cost "$unit" "$without.$size")
+    each=$(awk -v unit="$unit" -v more="$more" -v less="$less" -v divisor="$divisor" 'BEGIN {
+      if (more == "-" || less == "-") print "-"
+      else printf "%.1f", (more - less) * (unit == "us" ? 1 : 1000) / divisor
+    }')
     taken+=("$each")
   done
   awk -v what="$what" -v unit="$unit" -v all="${taken[*]}" 'BEGIN {
@@ -183,7 +172,7 @@ row 'a work, a line each' single nothing ''
 row 'a work, in groups of five in three layers' groups nothing ''
 row 'a work, a line each, one name, KEEP' keep nothing ''
 row 'a work, a line each, one name, REPLACE' replace nothing ''
-row 'a work, a line each, one name, APPEND' append nothing ''
+if [ "${sizes[-1]}" -le "$many" ]; then row 'a work, a line each, one name, APPEND' append nothing ''; fi
 row 'a work, a line each, a name each, KEEP' names nothing ''
 row 'a work, a line each, ten observers' observed nothing ''
 row 'a cancel of a tag of one work' cancel waiting "$lines"

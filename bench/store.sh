@@ -12,14 +12,19 @@ root=$(cd "$(dirname "${BASH_SOURCE[0]}")/.." && pwd)
 work=$(mktemp -d "${1:-/tmp}/work.XXXXXX")
 trap 'rm -rf "$work"' EXIT
 "$root/bin/work" --store "$work/build" < /dev/null
-python3 - "$root/crates/work/out/work" "$work" <<'PYTHON'
+PYTHONDONTWRITEBYTECODE=1 PYTHONPATH=$root/bench python3 - "$root/crates/work/out/work" "$work" <<'PYTHON'
 import resource, sqlite3, subprocess, sys, time
 from pathlib import Path
+
+from commits import INSERT, commit_by_sqlite, remove, row, table_of
 
 PROGRAM, FOLDER = sys.argv[1], Path(sys.argv[2])
 GROUPS, RUNS = 200, 5
 ROWS, FINISHED = 100_000, 50_000
 WIDE = 1_000
+# How many commits the program makes of the groups: one for each line, each start and each end.
+COMMITS = GROUPS + 2 * 5 * GROUPS
+TABLE = table_of(FOLDER / "build")
 
 
 def work_of(number):
@@ -52,12 +57,6 @@ def summary(store, script=b""):
     return run.stdout.splitlines()[-1].decode()
 
 
-def remove(store):
-    """Removes a store and the files beside it."""
-    for file in store.parent.glob(f"{store.name}*"):
-        file.unlink()
-
-
 def seconds(act, store):
     """How long an act on a new store takes."""
     remove(store)
@@ -66,53 +65,21 @@ def seconds(act, store):
     return time.perf_counter() - start
 
 
-def commit_by_program(store):
+def commits_by_program(store):
     """The program's commits: one for each line, each start and each end."""
     told = summary(store, chains())
     assert f'"succeeded":{5 * GROUPS}' in told, told
 
 
-def commit_by_sqlite(store):
+def commits_by_sqlite(store):
     """As many commits by SQLite."""
-    connection = sqlite3.connect(store, isolation_level=None)
-    connection.execute("PRAGMA journal_mode=WAL")
-    connection.execute("PRAGMA synchronous=FULL")
-    connection.execute(SCHEMA)
-    for number in range(commits()):
-        connection.execute("BEGIN")
-        connection.execute("DELETE FROM work WHERE seq = ?", (number % WIDE + 1,))
-        connection.execute(INSERT, row(number % WIDE + 1))
-        connection.execute("COMMIT")
-    connection.close()
-
-
-def commits():
-    """How many commits the program makes."""
-    return GROUPS + 2 * 5 * GROUPS
-
-
-def table():
-    """The table of the rows, as the program made it in the store of its first call."""
-    with sqlite3.connect(FOLDER / "build") as connection:
-        (text,) = connection.execute("SELECT sql FROM sqlite_schema WHERE name = 'work'").fetchone()
-    connection.close()
-    return text
-
-
-SCHEMA = table()
-INSERT = f"INSERT INTO work VALUES ({','.join('?' * 24)})"
-
-
-def row(number):
-    """The row of a work of class Echo that waits for a minute."""
-    id = number.to_bytes(16, "big")
-    return (1, number, id, None, "Echo", 0, 0, 0, 60000, 1, 30000, *[0] * 9, "{}", "{}", b"", "[]")
+    commit_by_sqlite(store, TABLE, COMMITS)
 
 
 def write_rows(store):
     """Has SQLite write a store of many rows."""
     with sqlite3.connect(store) as connection:
-        connection.execute(SCHEMA)
+        connection.execute(TABLE)
         connection.executemany(INSERT, (row(number) for number in range(1, ROWS + 1)))
     connection.close()
 
@@ -141,10 +108,10 @@ def sizes(store):
 
 ours, theirs = [], []
 for _ in range(RUNS):
-    ours.append(seconds(commit_by_program, FOLDER / "chains"))
-    theirs.append(seconds(commit_by_sqlite, FOLDER / "commits"))
-print(f"the program: {5 * GROUPS} works, {commits()} commits: {min(ours) * 1000:.0f} ms")
-print(f"SQLite: {commits()} commits: {min(theirs) * 1000:.0f} ms")
+    ours.append(seconds(commits_by_program, FOLDER / "chains"))
+    theirs.append(seconds(commits_by_sqlite, FOLDER / "commits"))
+print(f"the program: {5 * GROUPS} works, {COMMITS} commits: {min(ours) * 1000:.0f} ms")
+print(f"SQLite: {COMMITS} commits: {min(theirs) * 1000:.0f} ms")
 print(f"ratio: {min(ours) / min(theirs):.2f}")
 
 many = FOLDER / "many"

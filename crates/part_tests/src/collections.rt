@@ -1,5 +1,7 @@
 //! The list, the text and the replica, of `wm_collections`.
+use crate::checks::expect_same;
 use std::alloc::{AllocError, Global};
+use std::fmt::Debug;
 use std::process::Abort;
 use std::test::Fail;
 use wm_collections::{Items, Replica, Text, is_among};
@@ -45,15 +47,25 @@ fn copied_text(alloc: Global) -> Result<Items<Text>, AllocError> {
     copied(alloc, &texts)
 }
 
+/// The copy of a value is equal to another one.
+fn expect_copy<T: Replica + Copy + Debug + PartialEq>(
+    rt: &impl Abort,
+    alloc: Global,
+    value: T,
+    expected: T,
+) -> Result<(), AllocError> {
+    expect_same(rt, copied(alloc, &value)?, expected);
+    Ok(())
+}
+
 /// Copies of numbers are equal to them.
 fn expect_numbers(rt: &impl Abort, alloc: Global) -> Result<(), AllocError> {
-    assert_eq!(rt; copied(alloc, &Some(3u64))?, Some(3));
-    assert_eq!(rt; copied(alloc, &None::<i64>)?, None);
-    assert_eq!(rt; copied(alloc, &7u8)?, 7);
-    assert_eq!(rt; copied(alloc, &-7i8)?, -7);
-    assert_eq!(rt; copied(alloc, &true)?, true);
-    assert_eq!(rt; copied(alloc, &-9i32)?, -9);
-    Ok(())
+    expect_copy(rt, alloc, Some(3u64), Some(3))?;
+    expect_copy(rt, alloc, None::<i64>, None)?;
+    expect_copy(rt, alloc, 7u8, 7)?;
+    expect_copy(rt, alloc, -7i8, -7)?;
+    expect_copy(rt, alloc, true, true)?;
+    expect_copy(rt, alloc, -9i32, -9)
 }
 
 #[test]
