@@ -17,10 +17,9 @@ use std::process::Abort;
 use std::test::Fail;
 use uuid::Uuid;
 use wm_chain::batch_of;
-use wm_collections::{Items, Text};
+use wm_collections::{Items, Text, both, one};
 use wm_machine::{Phase, Record, Refusal};
 use wm_request::{Batch, Builder, Node, Request, has_id};
-use wm_steps::{both, one};
 use wm_unique::{GroupPlan, check};
 
 /// The number after the greatest that a work has.

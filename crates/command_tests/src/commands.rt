@@ -13,13 +13,13 @@ use crate::unique::request;
 use std::alloc::{AllocError, Global};
 use std::process::Abort;
 use std::test::Fail;
-use wm_collections::Items;
+use wm_collections::{Items, both, one};
 use wm_commands::execute;
 use wm_conditions::Conditions;
 use wm_graph::Graph;
 use wm_machine::{Command, Event, Policy, Record, Reply, State, UniqueName};
 use wm_request::{Batch, Node, Request};
-use wm_steps::{View, both, one};
+use wm_steps::View;
 
 /// A state of these works, where the next new work gets this number: it has no run, instance or
 /// observer, and its moment is 0.

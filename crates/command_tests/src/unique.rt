@@ -12,11 +12,10 @@ use std::alloc::{AllocError, Global};
 use std::process::Abort;
 use std::test::Fail;
 use uuid::Uuid;
-use wm_collections::Items;
+use wm_collections::{Items, both, one};
 use wm_data::Data;
 use wm_machine::{How, Phase, Policy, Record};
 use wm_request::{Batch, Builder, Node, Request};
-use wm_steps::{both, one};
 use wm_unique::{GroupPlan, plan};
 
 /// A request of one-time work with this number as its id.

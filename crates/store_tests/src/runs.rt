@@ -15,12 +15,11 @@ use std::test::Fail;
 use std::thread::Threads;
 use wm_bench::Hand;
 use wm_cli::{Ended, Status, run};
-use wm_collections::Text;
+use wm_collections::{Text, both};
 use wm_io::{MemorySink, MemorySource};
 use wm_keeper::{Change, KeepFault, Keeper, Row};
 use wm_pool::OpenGate;
 use wm_sqlite::SqliteKeeper;
-use wm_steps::both;
 use wm_stock::AnyStock;
 
 /// What a run told.

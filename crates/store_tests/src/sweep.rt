@@ -7,8 +7,8 @@ use std::sync::Wait;
 use std::test::Fail;
 use std::thread::Threads;
 use wm_cli::Status;
+use wm_collections::both;
 use wm_keeper::Row;
-use wm_steps::both;
 
 const SCRIPT: &str =
     r#"{"cmd":"enqueue","works":[{"class":"Echo","id":"00000000-0000-0000-0000-000000000001"},{"class":"FailUntil","id":"00000000-0000-0000-0000-000000000002","after":["00000000-0000-0000-0000-000000000001"]},{"class":"Count","id":"00000000-0000-0000-0000-000000000003","after":["00000000-0000-0000-0000-000000000001"],"input":{"turns":{"int":2}}},{"class":"Echo","id":"00000000-0000-0000-0000-000000000004","after":["00000000-0000-0000-0000-000000000002","00000000-0000-0000-0000-000000000003"]}]}

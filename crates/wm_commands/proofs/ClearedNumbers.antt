@@ -23,6 +23,7 @@ use Rattle.wm_machine.specs.Valid.{IsBefore}
 use Rattle.wm_machine.specs.declared.record.Record.{Record}
 use Rattle.wm_steps.proofs.ByNumbers.{replacements-numbered, ChangesAmong}
 use Rattle.wm_steps.proofs.ListedNumbers.{rising-ascend}
+use Rattle.wm_steps.proofs.Tests.{among-kept}
 use Rattle.wm_steps.specs.Nodes.{is_there, node_of, nodes_of}
 use Rattle.wm_steps.specs.Numbers.{Ascend}
 use Rattle.wm_steps.specs.Replacements.{by_numbers, replacement_of}
@@ -55,17 +56,6 @@ there-passing test (work ∷ works) number is = elim (cases_Bool (eqb work.seq n
 ]
 
 -- ---- those that come after one
-
-only-kept : (keep : ℕ → Bool) (one number : ℕ) → keep number ≡ true → (eqb one number && keep one) ≡ eqb one number
-only-kept keep one number kept = elim (cases_Bool (eqb one number)) [
-  | inl hit ↦ let there = ap keep (eqb-true one number hit) ∙ kept in rw (hit, there) refl
-  | inr miss ↦ rw miss refl
-]
-
-among-kept : (keep : ℕ → Bool) (numbers : List ℕ) (number : ℕ) → keep number ≡ true → is_among (filter keep numbers) number ≡ is_among numbers number
-among-kept keep numbers number kept =
-    list_any-kept (λ one. eqb one number) keep numbers
-    ∙ list_any-agree (λ one. eqb one number && keep one) (λ one. eqb one number) numbers (All-any numbers (λ one. only-kept keep one number kept))
 
 -- whether a record has the work of a number as a prerequisite
 abbrev comes_after : ℕ → Record → Bool

@@ -60,14 +60,12 @@ numbered-with_id works id number (Some work) order is has =
     ap (λ n. work_numbered n works) same ∙ numbered-found works id work order is
 
 -- the index of the work of the number is that of the work of the id
-pub index-found : (works all : List Record) (id : List ℕ) (number : ℕ) (index : Option ℕ) → works ≡ all → AllLater IsBefore all
-    → Some number ≡ number_with_id all id
+pub index-found : (works : List Record) (id : List ℕ) (number : ℕ) (index : Option ℕ) → AllLater IsBefore works → Some number ≡ number_with_id works id
     → MatchOption index (work_numbered number works ≡ None) (λ i. (i < length works) × (work_numbered number works ≡ slice_get works i))
-    → MatchOption index (work_with_id all id ≡ None) (λ i. (i < length all) × (work_with_id all id ≡ slice_get all i))
-index-found works all id number index same order has found =
-    subst (λ (of : Option Record). MatchOption index (of ≡ None) (λ i. (i < length all) × (of ≡ slice_get all i)))
-    (numbered-with_id all id number (work_with_id all id) order refl has)
-    (subst (λ (ws : List Record). MatchOption index (work_numbered number ws ≡ None) (λ i. (i < length ws) × (work_numbered number ws ≡ slice_get ws i))) same found)
+    → MatchOption index (work_with_id works id ≡ None) (λ i. (i < length works) × (work_with_id works id ≡ slice_get works i))
+index-found works id number index order has found =
+    subst (λ (of : Option Record). MatchOption index (of ≡ None) (λ i. (i < length works) × (of ≡ slice_get works i)))
+    (numbered-with_id works id number (work_with_id works id) order refl has) found
 
 -- ---- the works of a target
 

@@ -13,7 +13,6 @@ use Rattle.wm_machine.specs.declared.record.Record.{Record}
 use Rattle.wm_machine.specs.declared.state.Run.{Run}
 use Rattle.wm_machine.specs.declared.state.State.{State}
 use Rattle.wm_steps.specs.Nodes.{nodes_of, reached_from}
-use Rattle.wm_steps.specs.Numbers.{Ascend}
 use Rattle.wm_steps.specs.Replacements.{replacements}
 use Rattle.wm_steps.specs.declared.change.Replacement.{Replacement}
 
@@ -47,12 +46,6 @@ abbrev pub removed_by : List ℕ → List ℕ → List Record → List ℕ
 removed_by cancelled let_go works = numbers_in (filter (is_removed cancelled let_go works) works)
 
 -- ---- the records then
-
--- the numbers of each kind ascend
-pub record IsInOrder (clearing : Clearing) : Type 0 where
-  pub cancelled : Ascend clearing.cancelled
-  pub unnamed : Ascend clearing.unnamed
-  pub removed : Ascend clearing.removed
 
 -- what becomes of the records where these works are cancelled, and then others let go
 abbrev pub clearing_of : List Record → List ℕ → List ℕ → Clearing

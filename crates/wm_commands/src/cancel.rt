@@ -6,13 +6,13 @@ ghost use Rattle.wm_machine.specs.Cancelled.{cancelled_each, is_stored, targeted
 ghost use Rattle.wm_machine.specs.Outcome.{outcome};
 ghost use Rattle.wm_machine.specs.declared.command.Target.TheVariants as target;
 
-use crate::clearing::{cancelling, reached_from, replaced_by_clearing, stopped_by};
+use crate::clearing::{cancelling, replaced_by_clearing, stopped_by};
 use std::alloc::{AllocError, Global};
 use uuid::Uuid;
-use wm_collections::Items;
+use wm_collections::{Items, both};
 use wm_machine::{Command, Record, Refusal, Reply, Target};
 use wm_settings::{event_of, replying};
-use wm_steps::{RunChange, StepChange, View, both};
+use wm_steps::{RunChange, StepChange, View};
 use wm_unique::unfinished;
 
 /// What a cancel comes to.
@@ -57,15 +57,11 @@ fn cancel_each(
         ≡ Some (cancelled_each view.now (targeted target view.now.works)) }
     ensures { IfOk result (IsExecuted view.entry.now line (Command.Cancel target)) }
 {
-    let works = view.state.works.as_slice();
+    let runs = view.state.runs.as_slice();
     let seqs = targeted(alloc, view, &target)?;
-    let cleared = cancelling(alloc, reached_from(view, seqs.as_slice())?);
-    let replaced = replaced_by_clearing(alloc, works, &cleared)?;
-    let stopped = stopped_by(
-        alloc,
-        view.state.runs.as_slice(),
-        cleared.cancelled.as_slice(),
-    )?;
+    let cleared = cancelling(alloc, view.descendants_of(seqs.as_slice())?);
+    let replaced = replaced_by_clearing(alloc, view, &cleared)?;
+    let stopped = stopped_by(alloc, runs, &cleared.cancelled)?;
     let count = replaced.len() as u64;
     let reply = Reply::Cancelled(count);
     let event = event_of(alloc, line, Command::Cancel(target), reply);

@@ -10,10 +10,11 @@ ghost use Rattle.wm_unique.specs.Plans.{placing_by, AreNumbersOf};
 
 use crate::placement::place;
 use std::alloc::{AllocError, Global};
+use wm_collections::both;
 use wm_machine::{Command, Refusal, Reply, UniqueName};
 use wm_request::Batch;
-use wm_settings::replying;
-use wm_steps::{StepChange, View, both, numbers_with_ids};
+use wm_settings::{numbers_with_ids, replying};
+use wm_steps::{StepChange, View};
 use wm_unique::{GroupPlan, check, ids_named_by};
 
 /// Checks a batch, and places it by a plan where no check refuses it.

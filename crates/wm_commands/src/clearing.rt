@@ -5,41 +5,38 @@
 //! made: the others are seen through a [`Clearing`].
 ghost use Rattle.std.specs.Prelude.{◌≡◌, ◌&&◌, not, true, IfOk};
 ghost use Rattle.std.specs.List.{list_any};
-ghost use Rattle.wm_collections.specs.Lists.{AllLater};
-ghost use Rattle.wm_commands.specs.Cleared.{becomes_cancelled, cancelled_in, cancelling, cleared, cleared_by, clearing_of, is_removable_then, is_needed_then, is_run_among, is_touched, phase_then, removed_by, replaced_by_clearing, stays, stopped_by, IsInOrder};
+ghost use Rattle.wm_commands.specs.Cleared.{becomes_cancelled, cancelled_in, cancelling, cleared, cleared_by, clearing_of, is_removable_then, is_needed_then, is_run_among, is_touched, phase_then, removed_by, replaced_by_clearing, stays, stopped_by};
 ghost use Rattle.wm_machine.specs.Closed.{is_open};
 ghost use Rattle.wm_machine.specs.Group.{unnamed};
-ghost use Rattle.wm_machine.specs.Valid.{IsBefore};
-ghost use Rattle.wm_steps.specs.Nodes.{is_there, nodes_of, reached_from};
-ghost use Rattle.wm_steps.specs.Numbers.{Ascend};
+ghost use Rattle.wm_steps.specs.Nodes.{is_there};
 ghost use Rattle.wm_steps.specs.Replacements.{by_numbers, replacement_of};
 ghost use Rattle.wm_unique.specs.Plans.{numbered_passes, AreNumbersOf};
 
 use std::alloc::{AllocError, Global};
 use wm_collections::{Items, Replica, merged};
 use wm_lifecycle::closed;
-use wm_machine::{How, Phase, Record, Run, index_numbered, work_numbered};
-use wm_steps::{Replacement, View, at, is_listed};
+use wm_machine::{How, Phase, Record, Run};
+use wm_steps::{Numbers, Replacement, View};
 
 /// Which records change where works are cancelled and others are let go, by their numbers.
 #[derive(Drop)]
 pub struct Clearing {
     /// Those that are cancelled where they are unfinished.
-    pub cancelled: Items<u64>,
+    pub cancelled: Numbers,
     /// Those from which their names are taken.
-    pub unnamed: Items<u64>,
+    pub unnamed: Numbers,
     /// Those that are removed.
-    pub removed: Items<u64>,
+    pub removed: Numbers,
 }
 
 /// Those of these numbers are cancelled where they are unfinished.
-pub fn cancelling(alloc: Global, cancelled: Items<u64>) -> Clearing
+pub fn cancelling(alloc: Global, cancelled: Numbers) -> Clearing
     ensures { result ≡ cancelling cancelled }
 {
     Clearing {
         cancelled,
-        unnamed: Items::new(alloc),
-        removed: Items::new(alloc),
+        unnamed: Numbers::none(alloc),
+        removed: Numbers::none(alloc),
     }
 }
 
@@ -53,35 +50,29 @@ pub fn clearing_of(
     let_go: Items<u64>,
 ) -> Result<Clearing, AllocError>
     requires { AreNumbersOf view.now.works let_go }
-    ensures clearing { IfOk result (λ clearing. clearing ≡ clearing_of view.entry.now.works cancel.entry.now let_go) }
-    ensures in_order { IfOk result IsInOrder }
+    ensures { IfOk result (λ clearing. clearing ≡ clearing_of view.entry.now.works cancel.entry.now let_go) }
 {
     // what the type of a view keeps is known where a field of it is read
     let _reached = &view.state;
     if cancel.is_empty() && let_go.is_empty() {
-        return Ok(cancelling(alloc, Items::new(alloc)));
+        return Ok(cancelling(alloc, Numbers::none(alloc)));
     }
-    let cancelled = reached_from(view, cancel)?;
-    let removed = removed_by(alloc, view, cancelled.as_slice(), let_go.as_slice())?;
+    let cancelled = view.descendants_of(cancel)?;
+    let removed = removed_by(alloc, view, &cancelled, let_go.as_slice())?;
     Ok(Clearing {
         cancelled,
-        unnamed: let_go,
+        unnamed: Numbers::of(let_go),
         removed,
     })
 }
 
-/// The numbers of the descendants of any of these works, ascending.
-pub fn reached_from(view: &View, seqs: &[u64]) -> Result<Items<u64>, AllocError>
-    ensures reached { IfOk result (λ numbers. numbers ≡ reached_from seqs.now (nodes_of view.entry.now.works)) }
-    ensures ascend { IfOk result Ascend }
-{
-    Ok(Items::from_vec(view.graph.descendants_of(seqs)?))
-}
-
 /// The numbers of the current runs whose works are cancelled, where those of these numbers are that
 /// are unfinished.
-pub fn stopped_by(alloc: Global, runs: &[Run], cancelled: &[u64]) -> Result<Items<u64>, AllocError>
-    requires { Ascend cancelled.now }
+pub fn stopped_by(
+    alloc: Global,
+    runs: &[Run],
+    cancelled: &Numbers,
+) -> Result<Items<u64>, AllocError>
     ensures { IfOk result (λ numbers. numbers ≡ stopped_by cancelled.now runs.now) }
 {
     let mut numbers = Items::new(alloc);
@@ -94,24 +85,21 @@ pub fn stopped_by(alloc: Global, runs: &[Run], cancelled: &[u64]) -> Result<Item
 }
 
 /// Whether a run is current, and its work is cancelled.
-fn is_stopped(cancelled: &[u64], run: &Run) -> bool
-    requires { Ascend cancelled.now }
+fn is_stopped(cancelled: &Numbers, run: &Run) -> bool
     ensures { result ≡ (run.now.current && is_run_among cancelled.now run.now) }
 {
-    run.current && is_listed(cancelled, run.seq)
+    run.current && cancelled.has(run.seq)
 }
 
 /// Whether a record becomes cancelled.
-fn becomes_cancelled(cancelled: &[u64], work: &Record) -> bool
-    requires { Ascend cancelled.now }
+fn becomes_cancelled(cancelled: &Numbers, work: &Record) -> bool
     ensures { result ≡ becomes_cancelled cancelled.now work.now }
 {
-    work.phase.is_open() && is_listed(cancelled, work.seq)
+    work.phase.is_open() && cancelled.has(work.seq)
 }
 
 /// The phase of a record once works are cancelled.
-pub fn phase_then(cancelled: &[u64], work: &Record) -> Phase
-    requires { Ascend cancelled.now }
+pub fn phase_then(cancelled: &Numbers, work: &Record) -> Phase
     ensures { result ≡ phase_then cancelled.now work.now }
 {
     if becomes_cancelled(cancelled, work) {
@@ -125,31 +113,28 @@ pub fn phase_then(cancelled: &[u64], work: &Record) -> Phase
 fn removed_by(
     alloc: Global,
     view: &View,
-    cancelled: &[u64],
+    cancelled: &Numbers,
     let_go: &[u64],
-) -> Result<Items<u64>, AllocError>
-    requires in_order { AllLater IsBefore view.now.works }
-    requires ascend { Ascend cancelled.now }
-    requires let_go { AreNumbersOf view.now.works let_go.now }
+) -> Result<Numbers, AllocError>
+    requires { AreNumbersOf view.now.works let_go.now }
     ensures { IfOk result (λ numbers. numbers ≡ removed_by cancelled.entry.now let_go.entry.now view.entry.now.works) }
 {
+    let _reached = &view.state;
     let mut numbers = Items::new(alloc);
     for number in let_go {
         if is_removable_then(view, cancelled, *number)? {
             numbers.push(*number)?;
         }
     }
-    Ok(numbers)
+    Ok(Numbers::of(numbers))
 }
 
 /// Whether the record of this number is finished then, and isn't needed.
-fn is_removable_then(view: &View, cancelled: &[u64], number: u64) -> Result<bool, AllocError>
-    requires { Ascend cancelled.now }
+fn is_removable_then(view: &View, cancelled: &Numbers, number: u64) -> Result<bool, AllocError>
     ensures { IfOk result (λ done. done
         ≡ numbered_passes (is_removable_then cancelled.now view.entry.now.works) view.entry.now.works number) }
 {
-    let works = view.state.works.as_slice();
-    if is_finished_then(works, cancelled, number) {
+    if is_finished_then(view, cancelled, number) {
         Ok(!is_needed_then(view, cancelled, number)?)
     } else {
         Ok(false)
@@ -157,93 +142,82 @@ fn is_removable_then(view: &View, cancelled: &[u64], number: u64) -> Result<bool
 }
 
 /// Whether there is a record of this number, and it is finished then.
-fn is_finished_then(works: &[Record], cancelled: &[u64], number: u64) -> bool
-    requires in_order { AllLater IsBefore works.now }
-    requires ascend { Ascend cancelled.now }
-    ensures { result ≡ numbered_passes (λ work. not (is_open (phase_then cancelled.now work))) works.now number }
+fn is_finished_then(view: &View, cancelled: &Numbers, number: u64) -> bool
+    ensures { result ≡ numbered_passes (λ work. not (is_open (phase_then cancelled.now work))) view.now.works number }
 {
-    match work_numbered(works, number) {
+    match view.work(number) {
         Some(work) => !phase_then(cancelled, work).is_open(),
         None => false,
     }
 }
 
 /// Whether a record that is unfinished then comes right after the work of this number, which is there.
-pub fn is_needed_then(view: &View, cancelled: &[u64], number: u64) -> Result<bool, AllocError>
-    requires ascend { Ascend cancelled.now }
-    requires there { is_there view.now.works number ≡ true }
+pub fn is_needed_then(view: &View, cancelled: &Numbers, number: u64) -> Result<bool, AllocError>
+    requires { is_there view.now.works number ≡ true }
     ensures { IfOk result (λ needed. needed ≡ is_needed_then cancelled.now view.entry.now.works number) }
 {
+    let _reached = &view.state;
     let dependents = view.dependents(number)?;
-    let works = view.state.works.as_slice();
-    Ok(any_open_then(works, cancelled, &dependents))
+    Ok(any_open_then(view, cancelled, &dependents))
 }
 
 /// Whether a record of one of these numbers is unfinished then.
-fn any_open_then(works: &[Record], cancelled: &[u64], numbers: &[u64]) -> bool
-    requires in_order { AllLater IsBefore works.now }
-    requires ascend { Ascend cancelled.now }
+fn any_open_then(view: &View, cancelled: &Numbers, numbers: &[u64]) -> bool
     ensures { result
-        ≡ list_any (numbered_passes (λ work. is_open (phase_then cancelled.now work)) works.now) numbers.now }
+        ≡ list_any (numbered_passes (λ work. is_open (phase_then cancelled.now work)) view.now.works) numbers.now }
 {
     numbers
         .iter()
-        .any(|number| is_open_then(works, cancelled, *number))
+        .any(|number| is_open_then(view, cancelled, *number))
 }
 
 /// Whether there is a record of this number, and it is unfinished then.
-fn is_open_then(works: &[Record], cancelled: &[u64], number: u64) -> bool
-    requires in_order { AllLater IsBefore works.now }
-    requires ascend { Ascend cancelled.now }
-    ensures { result ≡ numbered_passes (λ work. is_open (phase_then cancelled.now work)) works.now number }
+fn is_open_then(view: &View, cancelled: &Numbers, number: u64) -> bool
+    ensures { result ≡ numbered_passes (λ work. is_open (phase_then cancelled.now work)) view.now.works number }
 {
-    match work_numbered(works, number) {
+    match view.work(number) {
         Some(work) => phase_then(cancelled, work).is_open(),
         None => false,
     }
 }
 
 /// Whether a record isn't removed.
-pub fn stays(removed: &[u64], work: &Record) -> bool
-    requires { Ascend removed.now }
+pub fn stays(removed: &Numbers, work: &Record) -> bool
     ensures { result ≡ stays removed.now work.now }
 {
-    !is_listed(removed, work.seq)
+    !removed.has(work.seq)
 }
 
 /// The records that take the place of others. None but the cancelled and the unnamed is looked at.
 pub fn replaced_by_clearing(
     alloc: Global,
-    works: &[Record],
+    view: &View,
     clearing: &Clearing,
 ) -> Result<Items<Replacement>, AllocError>
-    requires in_order { AllLater IsBefore works.now }
-    requires numbers { IsInOrder clearing.now }
-    ensures { IfOk result (λ replaced. replaced ≡ replaced_by_clearing clearing.entry.now works.entry.now) }
+    ensures { IfOk result (λ replaced. replaced ≡ replaced_by_clearing clearing.entry.now view.entry.now.works) }
 {
+    let _reached = &view.state;
     let numbers = merged(
         alloc,
         clearing.cancelled.as_slice(),
         clearing.unnamed.as_slice(),
     )?;
-    replaced_among(alloc, works, clearing, &numbers)
+    replaced_among(alloc, view, clearing, &numbers)
 }
 
 /// The records of these numbers that become other ones, with those.
 fn replaced_among(
     alloc: Global,
-    works: &[Record],
+    view: &View,
     clearing: &Clearing,
     numbers: &[u64],
 ) -> Result<Items<Replacement>, AllocError>
-    requires in_order { AllLater IsBefore works.now }
-    requires numbers { IsInOrder clearing.now }
     ensures { IfOk result (λ replaced. replaced
-        ≡ by_numbers (cleared_by clearing.entry.now) numbers.now works.entry.now) }
+        ≡ by_numbers (cleared_by clearing.entry.now) numbers.now view.entry.now.works) }
 {
     let mut replaced = Items::new(alloc);
     for number in numbers {
-        if let Some(replacement) = replacement_of(alloc, works, clearing, *number)? {
+        if let Some(replacement) = replacement_of(alloc, view, clearing, *number)? {
             replaced.push(replacement)?;
         }
     }
@@ -253,19 +227,18 @@ fn replaced_among(
 /// What takes the place of the record of this number, where there is one and it becomes another one.
 fn replacement_of(
     alloc: Global,
-    works: &[Record],
+    view: &View,
     clearing: &Clearing,
     number: u64,
 ) -> Result<Option<Replacement>, AllocError>
-    requires in_order { AllLater IsBefore works.now }
-    requires numbers { IsInOrder clearing.now }
     ensures { IfOk result (λ found. found
-        ≡ replacement_of (cleared_by clearing.entry.now) 0 works.entry.now number) }
+        ≡ replacement_of (cleared_by clearing.entry.now) 0 view.entry.now.works number) }
 {
-    let Some(index) = index_numbered(works, number) else {
+    let _reached = &view.state;
+    let Some(index) = view.place_of(number) else {
         return Ok(None);
     };
-    let work = at(works, index);
+    let work = view.work_at(index);
     if is_touched(clearing, work) {
         let work = cleared(alloc, clearing, work)?;
         Ok(Some(Replacement { index, work }))
@@ -276,17 +249,14 @@ fn replacement_of(
 
 /// Whether a record becomes another one.
 fn is_touched(clearing: &Clearing, work: &Record) -> bool
-    requires { IsInOrder clearing.now }
     ensures { result ≡ is_touched clearing.now work.now }
 {
-    stays(clearing.removed.as_slice(), work)
-        && (is_listed(clearing.unnamed.as_slice(), work.seq)
-            || becomes_cancelled(clearing.cancelled.as_slice(), work))
+    stays(&clearing.removed, work)
+        && (clearing.unnamed.has(work.seq) || becomes_cancelled(&clearing.cancelled, work))
 }
 
 /// A record that isn't removed.
 fn cleared(alloc: Global, clearing: &Clearing, work: &Record) -> Result<Record, AllocError>
-    requires { IsInOrder clearing.now }
     ensures { IfOk result (λ changed. changed ≡ cleared clearing.entry.now work.entry.now) }
 {
     let changed = cancelled_in(alloc, clearing, work)?;
@@ -295,11 +265,10 @@ fn cleared(alloc: Global, clearing: &Clearing, work: &Record) -> Result<Record, 
 
 /// A record, cancelled where it becomes so.
 fn cancelled_in(alloc: Global, clearing: &Clearing, work: &Record) -> Result<Record, AllocError>
-    requires { IsInOrder clearing.now }
     ensures { IfOk result (λ changed. changed
         ≡ cancelled_in clearing.entry.now.cancelled work.entry.now) }
 {
-    if becomes_cancelled(clearing.cancelled.as_slice(), work) {
+    if becomes_cancelled(&clearing.cancelled, work) {
         closed(alloc, work, How::Cancelled)
     } else {
         work.replica(alloc)
@@ -308,11 +277,10 @@ fn cancelled_in(alloc: Global, clearing: &Clearing, work: &Record) -> Result<Rec
 
 /// A record, without its name where it loses that.
 fn unnamed(clearing: &Clearing, work: Record) -> Record
-    requires { IsInOrder clearing.now }
     ensures { result ≡ unnamed clearing.now.unnamed work }
 {
     let mut work = work;
-    if is_listed(clearing.unnamed.as_slice(), work.seq) {
+    if clearing.unnamed.has(work.seq) {
         work.name = None;
     }
     work

@@ -10,10 +10,10 @@ ghost use Rattle.wm_unique.specs.Plans.{plan_fields};
 
 use crate::update::update_of;
 use std::alloc::{AllocError, Global};
-use wm_collections::Replica;
-use wm_machine::{Command, UniqueName, index_numbered};
+use wm_collections::{Replica, at, both};
+use wm_machine::{Command, UniqueName};
 use wm_request::{Batch, Node, Request};
-use wm_steps::{StepChange, View, at, both};
+use wm_steps::{StepChange, View};
 
 /// Updates the member of this number by the first work of a batch, which is its only one.
 pub fn update_member(
@@ -30,7 +30,9 @@ pub fn update_member(
     ensures { IfOk result (IsExecuted view.entry.now line (Command.Enqueue (Some unique) batch)) }
 {
     let index = member_index(view, &unique, number);
-    let work = at(view.state.works.as_slice(), index);
+    // what the type of a view keeps is known where a field of it is read
+    let _reached = &view.state;
+    let work = view.work_at(index);
     let request = first_request(alloc, batch.works().as_slice());
     let ((unique, batch), request) = both((unique, batch), request)?;
     let named = Some(unique);
@@ -44,7 +46,8 @@ fn member_index(view: &View, unique: &UniqueName, number: u64) -> usize
     ensures within { result < length view.entry.now.works }
     ensures found { work_numbered number view.entry.now.works ≡ slice_get view.entry.now.works result }
 {
-    match index_numbered(view.state.works.as_slice(), number) {
+    let _reached = &view.state;
+    match view.place_of(number) {
         Some(index) => index,
         None => unreachable!(),
     }

@@ -10,8 +10,6 @@ ghost use Rattle.wm_machine.specs.Outcome.{IsLegalLine};
 ghost use Rattle.wm_machine.specs.Enqueued.{plan_in};
 ghost use Rattle.wm_machine.specs.Group.{members_of};
 ghost use Rattle.wm_machine.specs.Plan.{is_appending};
-ghost use Rattle.wm_collections.specs.Lists.{AllLater};
-ghost use Rattle.wm_machine.specs.Valid.{IsBefore};
 ghost use Rattle.wm_steps.specs.Covers.{AreLast};
 ghost use Rattle.wm_unique.specs.Plans.{grouped, plan_fields, AreNumbersOf, IsPlanFault};
 
@@ -159,19 +157,19 @@ fn if_after(plan: GroupPlan) -> Option<GroupPlan>
 
 /// The group of a name, by the numbers of its works.
 fn group_of<'a>(view: &'a View, name: &Text) -> &'a [u64]
-    requires { AllLater IsBefore view.now.works }
     ensures numbers { AreNumbersOf view.now.works result.now }
     ensures members { grouped view.now.works result.now ≡ members_of view.now.works name.now }
 {
+    let _reached = &view.state;
     view.members(name)
 }
 
 /// The last works of a name, by their numbers, which have the leaves of its group.
 fn last_of<'a>(view: &'a View, name: &Text) -> &'a [u64]
-    requires { AllLater IsBefore view.now.works }
     ensures numbers { AreNumbersOf view.now.works result.now }
     ensures last { AreLast (members_of view.now.works name.now) result.now }
 {
+    let _reached = &view.state;
     view.last_members(name)
 }
 

@@ -11,11 +11,11 @@ ghost use Rattle.wm_unique.specs.Plans.{placing_by, AreNumbersOf};
 use crate::clearing::{clearing_of, replaced_by_clearing, stopped_by};
 use crate::placing::{placed_records, seqs_of};
 use std::alloc::{AllocError, Global};
-use wm_collections::{Items, Replica, Text};
+use wm_collections::{Items, Replica, Text, both};
 use wm_machine::{Command, Record, Reply, UniqueName};
 use wm_request::{Batch, Node};
 use wm_settings::event_of;
-use wm_steps::{Replacement, RunChange, StepChange, View, both};
+use wm_steps::{Replacement, RunChange, StepChange, View};
 use wm_unique::GroupPlan;
 
 /// How a batch is placed, with its memory taken.
@@ -60,16 +60,15 @@ fn placement_of(
         after,
         ..
     } = plan;
-    let stored = view.state.works.as_slice();
     let name = name_in(alloc, named)?;
     let clearing = clearing_of(alloc, view, cancel.as_slice(), let_go)?;
     let placed = placed_records(alloc, view, &clearing, &name, after.as_slice(), works)?;
-    let replaced = replaced_by_clearing(alloc, stored, &clearing)?;
+    let replaced = replaced_by_clearing(alloc, view, &clearing)?;
     let runs = view.state.runs.as_slice();
-    let stopped = stopped_by(alloc, runs, clearing.cancelled.as_slice())?;
+    let stopped = stopped_by(alloc, runs, &clearing.cancelled)?;
     Ok(Placement {
         replaced,
-        removed: clearing.removed,
+        removed: clearing.removed.into_items(),
         placed,
         stopped,
     })

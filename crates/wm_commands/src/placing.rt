@@ -2,12 +2,10 @@
 ghost use Rattle.std.specs.Prelude.{◌≡◌, ◌^◌, ◌==◌, ◌≤◌, ◌+◌, ◌&&◌, ◌∷◌, ◌++◌, [], filter, length, map, not, IfOk, OnOk};
 ghost use Rattle.std.specs.List.{list_any};
 ghost use Rattle.std.specs.Str.{bytes_eq};
-ghost use Rattle.wm_collections.specs.Lists.{AllLater, is_among};
-ghost use Rattle.wm_commands.specs.Cleared.{cleared_state, stays, with_cleared, IsInOrder};
+ghost use Rattle.wm_collections.specs.Lists.{is_among};
+ghost use Rattle.wm_commands.specs.Cleared.{cleared_state, stays, with_cleared};
 ghost use Rattle.wm_commands.specs.Placed.{is_done, is_then, placed_record, placed_records, with_placed};
 ghost use Rattle.wm_machine.specs.Enqueued.{any_in, first_phase, numbers_of, prior_of};
-ghost use Rattle.wm_machine.specs.Valid.{IsBefore};
-ghost use Rattle.wm_steps.specs.Numbers.{Ascend};
 ghost use Rattle.wm_steps.specs.StepChanges.{seqs_of};
 
 use crate::clearing::{Clearing, phase_then, stays};
@@ -15,9 +13,9 @@ use std::alloc::{AllocError, Global};
 use uuid::Uuid;
 use wm_collections::{Items, Replica, Text};
 use wm_data::Data;
-use wm_machine::{How, Phase, Record, work_numbered};
+use wm_machine::{How, Phase, Record};
 use wm_request::Node;
-use wm_steps::{View, is_listed};
+use wm_steps::{Numbers, View};
 
 /// The records of new works, for which there are numbers, once the records are cleared. Under a name
 /// each that names no other comes after the works of these numbers.
@@ -30,7 +28,6 @@ pub fn placed_records(
     works: &[Node],
 ) -> Result<Items<Record>, AllocError>
     requires room { view.now.next + length works.now ≤ 2 ^ 53 }
-    requires numbers { IsInOrder clearing.now }
     ensures { IfOk result (λ placed. placed
         ≡ placed_records (cleared_state clearing.entry.now view.entry.now) name.entry.now after.entry.now works.now) }
 {
@@ -53,14 +50,12 @@ fn placed_record(
     work: &Node,
 ) -> Result<Record, AllocError>
     requires room { view.now.next + length placed.now ≤ 2 ^ 53 }
-    requires numbers { IsInOrder clearing.now }
     ensures { IfOk result (λ new. new
         ≡ placed_record (with_placed (cleared_state clearing.entry.now view.entry.now) placed.entry.now)
         name.entry.now after.entry.now work.entry.now) }
 {
     let prior = prior_of(alloc, view, clearing, placed, after, work.after.as_slice())?;
-    let works = view.state.works.as_slice();
-    let phase = first_phase(works, clearing, placed, prior.as_slice());
+    let phase = first_phase(view, clearing, placed, prior.as_slice());
     Ok(Record {
         seq: view.state.next + placed.len() as u64,
         name: name.replica(alloc)?,
@@ -86,7 +81,6 @@ fn prior_of(
     after: &[u64],
     ids: &[Uuid],
 ) -> Result<Items<u64>, AllocError>
-    requires { IsInOrder clearing.now }
     ensures { IfOk result (λ numbers. numbers
         ≡ prior_of (with_cleared clearing.entry.now view.entry.now.works ++ placed.entry.now) after.entry.now ids.now) }
 {
@@ -106,7 +100,6 @@ fn numbers_of(
     placed: &[Record],
     ids: &[Uuid],
 ) -> Result<Items<u64>, AllocError>
-    requires { IsInOrder clearing.now }
     ensures { IfOk result (λ numbers. numbers
         ≡ numbers_of (with_cleared clearing.entry.now view.entry.now.works ++ placed.now) ids.now) }
 {
@@ -125,7 +118,6 @@ fn add_stored(
     clearing: &Clearing,
     id: Uuid,
 ) -> Result<(), AllocError>
-    requires { IsInOrder clearing.now }
     ensures { OnOk result (numbers.new
         ≡ numbers.old ++ map (λ work. work.seq)
         (filter (λ work. bytes_eq work.request.id id && stays clearing.now.removed work) view.now.works)) }
@@ -133,18 +125,17 @@ fn add_stored(
     // what the type of a view keeps is known where a field of it is read
     let _reached = &view.state;
     match view.number_of(id) {
-        Some(number) => add_kept(numbers, clearing.removed.as_slice(), number),
+        Some(number) => add_kept(numbers, &clearing.removed, number),
         None => Ok(()),
     }
 }
 
 /// Adds a number, where it isn't among those that are removed.
-fn add_kept(numbers: &mut Items<u64>, removed: &[u64], number: u64) -> Result<(), AllocError>
-    requires { Ascend removed.now }
+fn add_kept(numbers: &mut Items<u64>, removed: &Numbers, number: u64) -> Result<(), AllocError>
     ensures { OnOk result (numbers.new
         ≡ numbers.old ++ filter (λ one. not (is_among removed.now one)) (number ∷ [])) }
 {
-    if !is_listed(removed, number) {
+    if !removed.has(number) {
         numbers.push(number)?;
     }
     Ok(())
@@ -164,14 +155,12 @@ fn add_placed(numbers: &mut Items<u64>, placed: &[Record], id: Uuid) -> Result<(
 }
 
 /// The phase of new work with these prerequisites.
-fn first_phase(works: &[Record], clearing: &Clearing, placed: &[Record], prior: &[u64]) -> Phase
-    requires in_order { AllLater IsBefore works.now }
-    requires numbers { IsInOrder clearing.now }
-    ensures { result ≡ first_phase (with_cleared clearing.now works.now ++ placed.now) prior.now }
+fn first_phase(view: &View, clearing: &Clearing, placed: &[Record], prior: &[u64]) -> Phase
+    ensures { result ≡ first_phase (with_cleared clearing.now view.now.works ++ placed.now) prior.now }
 {
-    if any_in(works, clearing, placed, prior, How::Failed) {
+    if any_in(view, clearing, placed, prior, How::Failed) {
         Phase::Done(How::Failed)
-    } else if any_in(works, clearing, placed, prior, How::Cancelled) {
+    } else if any_in(view, clearing, placed, prior, How::Cancelled) {
         Phase::Done(How::Cancelled)
     } else {
         Phase::Waiting
@@ -179,48 +168,31 @@ fn first_phase(works: &[Record], clearing: &Clearing, placed: &[Record], prior: 
 }
 
 /// Whether a record of one of these numbers is finished in this way.
-fn any_in(
-    works: &[Record],
-    clearing: &Clearing,
-    placed: &[Record],
-    numbers: &[u64],
-    how: How,
-) -> bool
-    requires in_order { AllLater IsBefore works.now }
-    requires numbers { IsInOrder clearing.now }
+fn any_in(view: &View, clearing: &Clearing, placed: &[Record], numbers: &[u64], how: How) -> bool
     ensures { result
-        ≡ any_in (is_done how) (with_cleared clearing.now works.now ++ placed.now) numbers.now }
+        ≡ any_in (is_done how) (with_cleared clearing.now view.now.works ++ placed.now) numbers.now }
 {
     numbers
         .iter()
-        .any(|number| has_either(works, clearing, placed, *number, how))
+        .any(|number| has_either(view, clearing, placed, *number, how))
 }
 
 /// Whether the record of this number, which is stored or placed, is finished in this way.
-fn has_either(
-    works: &[Record],
-    clearing: &Clearing,
-    placed: &[Record],
-    number: u64,
-    how: How,
-) -> bool
-    requires in_order { AllLater IsBefore works.now }
-    requires numbers { IsInOrder clearing.now }
+fn has_either(view: &View, clearing: &Clearing, placed: &[Record], number: u64, how: How) -> bool
     ensures { result
         ≡ list_any (λ work. work.seq == number && is_done how work.phase)
-        (with_cleared clearing.now works.now ++ placed.now) }
+        (with_cleared clearing.now view.now.works ++ placed.now) }
 {
-    has_stored(works, clearing, number, how) || has_placed(placed, number, how)
+    has_stored(view, clearing, number, how) || has_placed(placed, number, how)
 }
 
 /// Whether the stored record of this number stays, and is finished in this way then.
-fn has_stored(works: &[Record], clearing: &Clearing, number: u64, how: How) -> bool
-    requires in_order { AllLater IsBefore works.now }
-    requires numbers { IsInOrder clearing.now }
+fn has_stored(view: &View, clearing: &Clearing, number: u64, how: How) -> bool
     ensures { result
-        ≡ list_any (λ work. work.seq == number && is_then clearing.now how work) works.now }
+        ≡ list_any (λ work. work.seq == number && is_then clearing.now how work) view.now.works }
 {
-    match work_numbered(works, number) {
+    let _reached = &view.state;
+    match view.work(number) {
         Some(work) => is_then(clearing, how, work),
         None => false,
     }
@@ -228,11 +200,9 @@ fn has_stored(works: &[Record], clearing: &Clearing, number: u64, how: How) -> b
 
 /// Whether a stored record stays, and is finished in this way then.
 fn is_then(clearing: &Clearing, how: How, work: &Record) -> bool
-    requires { IsInOrder clearing.now }
     ensures { result ≡ is_then clearing.now how work.now }
 {
-    stays(clearing.removed.as_slice(), work)
-        && is_done(phase_then(clearing.cancelled.as_slice(), work), how)
+    stays(&clearing.removed, work) && is_done(phase_then(&clearing.cancelled, work), how)
 }
 
 /// Whether the placed record of this number is finished in this way.

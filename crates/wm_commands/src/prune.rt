@@ -7,10 +7,10 @@ ghost use Rattle.wm_steps.specs.Nodes.{is_there};
 
 use crate::clearing::is_needed_then;
 use std::alloc::{AllocError, Global};
-use wm_collections::Items;
+use wm_collections::{Items, both};
 use wm_machine::{Command, Record, Reply};
 use wm_settings::event_of;
-use wm_steps::{StepChange, View, both};
+use wm_steps::{Numbers, StepChange, View};
 
 /// What a prune comes to.
 pub fn execute(alloc: Global, view: &View, line: u32) -> Result<StepChange, AllocError>
@@ -33,7 +33,7 @@ fn removable_numbers(alloc: Global, view: &View) -> Result<Items<u64>, AllocErro
     let works = view.state.works.as_slice();
     let mut numbers = Items::new(alloc);
     for work in works {
-        if is_removable(view, work)? {
+        if is_removable(alloc, view, work)? {
             numbers.push(work.seq)?;
         }
     }
@@ -42,21 +42,23 @@ fn removable_numbers(alloc: Global, view: &View) -> Result<Items<u64>, AllocErro
 
 /// Whether a record, which is there, may be removed: it is finished, and no unfinished one needs it.
 #[tactic(auto, unfolding(wm_machine::specs::Pruned::removable))]
-fn is_removable(view: &View, work: &Record) -> Result<bool, AllocError>
+fn is_removable(alloc: Global, view: &View, work: &Record) -> Result<bool, AllocError>
     requires { is_there view.now.works work.now.seq ≡ true }
     ensures { IfOk result (λ may. may ≡ removable view.entry.now.works work.entry.now) }
 {
     if work.phase.is_open() {
         Ok(false)
     } else {
-        Ok(!is_needed(view, work.seq)?)
+        Ok(!is_needed(alloc, view, work.seq)?)
     }
 }
 
 /// Whether an unfinished record has the work of this number, which is there, as a prerequisite.
-fn is_needed(view: &View, number: u64) -> Result<bool, AllocError>
+fn is_needed(alloc: Global, view: &View, number: u64) -> Result<bool, AllocError>
     requires { is_there view.now.works number ≡ true }
     ensures { IfOk result (λ needed. needed ≡ is_needed view.entry.now.works number) }
 {
-    is_needed_then(view, &[], number)
+    let cancelled = Numbers::none(alloc);
+    let needed = is_needed_then(view, &cancelled, number)?;
+    Ok(needed)
 }

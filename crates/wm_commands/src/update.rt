@@ -9,13 +9,13 @@ ghost use Rattle.wm_request.specs.Requests.{IsRequest};
 
 use std::alloc::{AllocError, Global};
 use uuid::Uuid;
-use wm_collections::Replica;
-use wm_machine::{Applied, Command, Event, Phase, Record, Refusal, Reply, index_numbered};
+use wm_collections::{Replica, both, copied};
+use wm_machine::{Applied, Command, Event, Phase, Record, Refusal, Reply};
 use wm_request::Request;
 use wm_rows::have_one_row;
 use wm_schedule::Period;
 use wm_settings::{event_of, replying};
-use wm_steps::{RunChange, StepChange, View, at, both, copied};
+use wm_steps::{RunChange, StepChange, View};
 
 /// Updates are counted up to this number, 2^53 - 1.
 const LAST_GENERATION: u64 = 9_007_199_254_740_991;
@@ -45,10 +45,10 @@ fn index_with_id(view: &View, id: Uuid) -> Option<usize>
     ensures { MatchOption result (work_with_id view.now.works id ≡ None) (λ index.
         (index < length view.now.works) × (work_with_id view.now.works id ≡ slice_get view.now.works index)) }
 {
-    match view.number_of(id) {
-        Some(number) => index_numbered(view.state.works.as_slice(), number),
-        None => None,
-    }
+    // what the type of a view keeps is known where a field of it is read
+    let _reached = &view.state;
+    let number = view.number_of(id)?;
+    view.place_of(number)
 }
 
 /// What the update of the work at an index comes to, which has the request's id: a finished one is
@@ -65,7 +65,8 @@ fn update_at(
     requires found { work_with_id view.now.works request.id ≡ slice_get view.now.works index }
     ensures { IfOk result (IsExecuted view.entry.now line (Command.Update request)) }
 {
-    let work = at(view.state.works.as_slice(), index);
+    let _reached = &view.state;
+    let work = view.work_at(index);
     if !work.phase.is_open() {
         let reply = Reply::Updated {
             result: Applied::NotApplied,

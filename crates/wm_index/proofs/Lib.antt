@@ -1,5 +1,5 @@
 mod Bools
-mod Founds
+pub mod Founds
 mod Kepts
 mod Known
 mod Lists

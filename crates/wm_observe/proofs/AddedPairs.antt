@@ -12,10 +12,11 @@ use Rattle.wm_machine.specs.Input.{work_numbered}
 use Rattle.wm_machine.specs.Valid.{Valid}
 use Rattle.wm_machine.specs.declared.record.Record.{Record}
 use Rattle.wm_machine.specs.declared.state.State.{State}
-use Rattle.wm_observe.proofs.NumberedWorks.{numbered-passing}
 use Rattle.wm_observe.specs.Compared.{may_differ, pair_at}
-use Rattle.wm_observe.specs.Near.{numbered, HaveDiffering}
+use Rattle.wm_observe.specs.Near.{HaveDiffering}
 use Rattle.wm_observe.specs.declared.note.Pair.{Pair}
+use Rattle.wm_steps.proofs.NumberedWorks.{numbered-passing}
+use Rattle.wm_steps.specs.Numbers.{numbered}
 use Rattle.wm_steps.specs.StepChanges.{changed_state}
 use Rattle.wm_steps.specs.declared.change.StepChange.{StepChange}
 

@@ -2,7 +2,6 @@ pub mod AddedPairs
 pub mod ComparedPairs
 pub mod NearNumbers
 pub mod NoteLaws
-pub mod NumberedWorks
 pub mod PutRecords
 pub mod Same
 pub mod StepRecords

@@ -1,10 +1,10 @@
 -- The numbers near those that a change touches are those of the records that it may tell another thing of.
-use Rattle.std.proofs.Common.{◌≡◌, ℕ, ◌+◌, ◌<◌, ◌==◌, ◌&&◌, ◌||◌, Bool, true, false, cond, eqb, List, [], ◌∷◌, ◌++◌, length, map, filter, get_or, take, refl, sym, ◌∙◌, ap, arith, inl, inr}
+use Rattle.std.proofs.Common.{◌≡◌, ℕ, ◌+◌, ◌<◌, ◌==◌, ◌&&◌, ◌||◌, Bool, true, false, cond, eqb, List, [], ◌∷◌, ◌++◌, length, map, filter, get_or, take, refl, sym, ◌∙◌, ap, arith}
 use Rattle.std.specs.List.{AllByRecursion, list_any}
 use Rattle.std.specs.Ordering.{is_eq, nat_cmp}
 use Rattle.std.specs.BTreeSet.{BTreeSet, Updates}
 use Rattle.std.proofs.Math.Bool.{or-false}
-use Rattle.std.proofs.lemmas.Bool.{cases_Bool, eq-eqb, eqb-true, ne_eqb}
+use Rattle.std.proofs.lemmas.Bool.{eq-eqb, ne_eqb}
 use Rattle.std.proofs.lemmas.Bool.Decides.{nat_tests}
 use Rattle.std.proofs.lemmas.List.{take_more}
 use Rattle.std.proofs.lemmas.List.Folds.{list_any-append}
@@ -21,7 +21,7 @@ use Rattle.wm_observe.specs.Compared.{may_differ}
 use Rattle.wm_observe.specs.Near.{is_near, is_near_any, is_near_replaced, HaveDiffering, IsWith}
 use Rattle.wm_steps.proofs.Lookups.{stored-at}
 use Rattle.wm_steps.proofs.ReplacedRecords.{keeps_number, told_keep, KeepsNumber}
-use Rattle.wm_steps.proofs.Tests.{any-or, any-swap, eqb-swap}
+use Rattle.wm_steps.proofs.Tests.{among-kept, any-or, any-swap, eqb-swap}
 use Rattle.wm_steps.specs.Nodes.{is_there, node_of, nodes_of}
 use Rattle.wm_steps.specs.StepChanges.{seqs_of, Fits}
 use Rattle.wm_steps.specs.Touched.{touches}
@@ -124,17 +124,6 @@ asked_alone (work ∷ works) ascend = (
       ap (λ b. (b && test work) || list_any (λ (other : Record). eqb other.seq later.seq && test other) works)
       (ne_eqb work.seq later.seq (λ e. absurd (omega arith))) ∙ alone test) ascend.0 (asked_alone works ascend.1),
 )
-
-only-kept : (keep : ℕ → Bool) (one number : ℕ) → keep number ≡ true → (eqb one number && keep one) ≡ eqb one number
-only-kept keep one number kept = elim (cases_Bool (eqb one number)) [
-  | inl hit ↦ let there = ap keep (eqb-true one number hit) ∙ kept in rw (hit, there) refl
-  | inr miss ↦ rw miss refl
-]
-
-among-kept : (keep : ℕ → Bool) (numbers : List ℕ) (number : ℕ) → keep number ≡ true → is_among (filter keep numbers) number ≡ is_among numbers number
-among-kept keep numbers number kept =
-    list_any-kept (λ one. eqb one number) keep numbers
-    ∙ list_any-agree (λ one. eqb one number && keep one) (λ one. eqb one number) numbers (All-any numbers (λ one. only-kept keep one number kept))
 
 -- whether a number is one of its dependents is asked of the record of that number
 dependent-asked : (works : List Record) (touched number : ℕ) → is_among (dependents (nodes_of works) touched) number

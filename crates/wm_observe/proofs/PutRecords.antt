@@ -3,30 +3,24 @@ use Rattle.std.proofs.Common.{◌≡◌, ℕ, ◌+◌, ◌<◌, ◌==◌, Bool, 
 use Rattle.std.specs.Option.{option_map_or}
 use Rattle.std.specs.Ordering.{is_eq, nat_cmp}
 use Rattle.std.specs.BTreeMap.{get, BTreeMap, Updates}
-use Rattle.std.proofs.lemmas.Bool.{cond_both, eqb-true}
+use Rattle.std.proofs.lemmas.Bool.{cond_both}
 use Rattle.std.proofs.lemmas.Bool.Decides.{nat_tests}
 use Rattle.std.proofs.lemmas.List.{take_more}
 use Rattle.std.proofs.lemmas.Option.{slice_get-get_or}
 use Rattle.wm_machine.specs.declared.record.Record.{Record}
 use Rattle.wm_observe.specs.Put.{put_at, AreFirstPlaces}
+use Rattle.wm_steps.proofs.RecordsAfter.{put-seq}
 use Rattle.wm_steps.specs.Touched.{put_in}
 use Rattle.wm_steps.specs.declared.change.Replacement.{Replacement}
 
 -- ---- one more
-
-put-seq : (replaced : List Replacement) (work : Record) → (put_in replaced work).seq ≡ work.seq
-put-seq [] work = refl
-put-seq (replaced ∷ later) work =
-    put-seq later (cond (eqb replaced.work.seq work.seq) replaced.work work)
-    ∙ cond_both (eqb replaced.work.seq work.seq) replaced.work work (λ (w : Record). w.seq ≡ work.seq) (λ e. eqb-true replaced.work.seq work.seq e) (λ e. refl)
 
 put-last : (first : List Replacement) (last : Replacement) (work : Record)
     → put_in (first ++ last ∷ []) work ≡ cond (eqb last.work.seq work.seq) last.work (put_in first work)
 put-last [] last work = refl
 put-last (replaced ∷ later) last work =
     let now = cond (eqb replaced.work.seq work.seq) replaced.work work in
-    let same : now.seq ≡ work.seq =
-    cond_both (eqb replaced.work.seq work.seq) replaced.work work (λ (w : Record). w.seq ≡ work.seq) (λ e. eqb-true replaced.work.seq work.seq e) (λ e. refl) in
+    let same : now.seq ≡ work.seq = put-seq (replaced ∷ []) work in
     put-last later last now ∙ ap (λ (n : ℕ). cond (eqb last.work.seq n) last.work (put_in later now)) same
 
 chosen : (b : Bool) (replaced : List Replacement) (i : ℕ) (old : Option ℕ) (work : Record)

@@ -1,20 +1,15 @@
--- The numbers of the records that a change may tell another thing of, as a set, and the records of some numbers.
-use Rattle.std.specs.Prelude.{◌≡◌, ℕ, ◌==◌, ◌||◌, Bool, List, filter_map}
+-- The numbers of the records that a change may tell another thing of, as a set.
+use Rattle.std.specs.Prelude.{◌≡◌, ℕ, ◌==◌, ◌||◌, Bool, List}
 use Rattle.std.specs.BTreeSet.{BTreeSet}
 use Rattle.std.specs.List.{list_any, AllByRecursion}
 use Rattle.wm_collections.specs.Lists.{is_among}
 use Rattle.wm_graph.specs.Descendants.{dependents}
 use Rattle.wm_collections.specs.Sets.{has_number}
-use Rattle.wm_machine.specs.Input.{work_numbered}
 use Rattle.wm_machine.specs.declared.record.Record.{Record}
 use Rattle.wm_observe.specs.Compared.{may_differ}
 use Rattle.wm_steps.specs.Nodes.{nodes_of}
 use Rattle.wm_steps.specs.declared.change.Replacement.{Replacement}
 use Rattle.wm_steps.specs.declared.change.StepChange.{StepChange}
-
--- the records of these numbers that are there, in the order of the numbers
-abbrev pub numbered : List Record → List ℕ → List Record
-numbered works numbers = filter_map (λ number. work_numbered number works) numbers
 
 -- ---- the numbers near those that a change touches
 

@@ -6,11 +6,12 @@ ghost use Rattle.std.specs.Prelude.{◌≡◌, ◌++◌, ◌∷◌, [], filter, 
 ghost use Rattle.wm_machine.specs.First.{all_met, has_succeeded};
 ghost use Rattle.wm_machine.specs.Input.{work_numbered};
 ghost use Rattle.wm_machine.specs.Shown.{info_of};
-ghost use Rattle.wm_machine.specs.Valid.{IsRecord, Valid};
+ghost use Rattle.wm_machine.specs.Valid.{IsRecord};
 ghost use Rattle.wm_observe.specs.Compared.{compared_pairs, may_differ, new_pair, pair_at, succeeds, StaysRecord};
-ghost use Rattle.wm_observe.specs.Near.{numbered, HaveDiffering};
+ghost use Rattle.wm_observe.specs.Near.{HaveDiffering};
 ghost use Rattle.wm_observe.specs.Notes.{notes_between};
 ghost use Rattle.wm_observe.specs.Put.{ArePlacesOf};
+ghost use Rattle.wm_steps.specs.Numbers.{numbered};
 ghost use Rattle.wm_steps.specs.StepChanges.{changed_state, IsStepOf};
 ghost use Rattle.wm_steps.specs.Touched.{then_of};
 
@@ -20,10 +21,10 @@ use crate::noting::notes;
 use crate::places::{Places, places_of, then_of};
 use std::alloc::{AllocError, Global};
 use std::collections::BTreeSet;
-use wm_collections::Items;
-use wm_machine::{Record, WorkInfo, work_numbered};
+use wm_collections::{Items, both};
+use wm_machine::{Record, WorkInfo};
 use wm_query::{has_succeeded, info};
-use wm_steps::{StepChange, View, both};
+use wm_steps::{StepChange, View};
 
 /// What the observers of a state are told of the step of a change. Without an observer nothing is
 /// compared, and no memory is taken.
@@ -50,10 +51,11 @@ fn compared_pairs(
     view: &View,
     change: &StepChange,
 ) -> Result<Items<Pair>, AllocError>
-    requires valid { Valid view.now }
     requires step { IsStepOf view.now change.now }
     ensures { IfOk result (λ pairs. pairs ≡ compared_pairs change.entry.now view.entry.now) }
 {
+    // what the type of a view keeps is known where a field of it is read
+    let _reached = &view.state;
     let places = places_of(alloc, change)?;
     let numbers = nearby(alloc, view, change)?;
     let mut pairs = Items::new(alloc);
@@ -81,13 +83,12 @@ fn add_old(
 ) -> Result<(), AllocError>
     requires step { IsStepOf view.now change.now }
     requires places { ArePlacesOf change.now places.now }
-    requires valid { Valid view.now }
-    requires records { AllByRecursion (StaysRecord change.now) view.now.works }
     requires numbers { HaveDiffering change.now view.now.works numbers.now }
     ensures { OnOk result (pairs.new ≡ pairs.old ++ map
         (pair_at change.entry.now view.entry.now.works (changed_state change.entry.now view.entry.now).works)
         (filter (may_differ change.entry.now) view.entry.now.works)) }
 {
+    let _reached = &view.state;
     for number in numbers {
         add_numbered(alloc, pairs, view, change, places, *number)?;
     }
@@ -105,11 +106,11 @@ fn add_numbered(
 ) -> Result<(), AllocError>
     requires step { IsStepOf view.now change.now }
     requires places { ArePlacesOf change.now places.now }
-    requires records { AllByRecursion (StaysRecord change.now) view.now.works }
     ensures { OnOk result (pairs.new ≡ pairs.old ++ map
         (pair_at change.entry.now view.entry.now.works (changed_state change.entry.now view.entry.now).works)
         (numbered view.entry.now.works (number ∷ []))) }
 {
+    let _reached = &view.state;
     match view.work(number) {
         Some(work) => {
             pairs.push(pair_at(alloc, view, change, places, work)?)?;
@@ -235,7 +236,8 @@ fn has_succeeded_then(view: &View, change: &StepChange, places: &Places, number:
     requires places { ArePlacesOf change.now places.now }
     ensures { result ≡ has_succeeded (changed_state change.now view.now).works number }
 {
-    match work_numbered(view.state.works.as_slice(), number) {
+    let _reached = &view.state;
+    match view.work(number) {
         Some(work) => succeeds(change, places, work),
         None => has_succeeded(change.placed.as_slice(), number),
     }

@@ -1,7 +1,6 @@
 //! The numbers of the records that a change may tell another thing of.
 ghost use Rattle.std.specs.Prelude.{◌≡◌, IfOk, OnOk};
 ghost use Rattle.wm_collections.specs.Lists.{is_among};
-ghost use Rattle.wm_machine.specs.Valid.{Valid};
 ghost use Rattle.wm_observe.specs.Near.{is_near, is_near_any, is_near_replaced, HaveDiffering, IsWith};
 ghost use Rattle.wm_steps.specs.StepChanges.{IsStepOf};
 
@@ -13,10 +12,11 @@ use wm_steps::{Replacement, StepChange, View};
 /// The numbers of the records of which a change may tell another thing: those that it touches, and
 /// their dependents. Memory that is refused is the only error.
 pub fn nearby(alloc: Global, view: &View, change: &StepChange) -> Result<BTreeSet<u64>, AllocError>
-    requires valid { Valid view.now }
-    requires step { IsStepOf view.now change.now }
+    requires { IsStepOf view.now change.now }
     ensures { IfOk result (HaveDiffering change.entry.now view.entry.now.works) }
 {
+    // what the type of a view keeps is known where a field of it is read
+    let _reached = &view.state;
     let mut numbers = BTreeSet::new(alloc);
     add_near_each(&mut numbers, view, change.removed.as_slice())?;
     add_near_replaced(&mut numbers, view, change.told.as_slice())?;

@@ -6,9 +6,9 @@ ghost use Rattle.wm_steps.specs.Touched.{put_in, then_of};
 
 use std::alloc::{AllocError, Global};
 use std::collections::{BTreeMap, BTreeSet};
-use wm_collections::add_each;
+use wm_collections::{add_each, at};
 use wm_machine::Record;
-use wm_steps::{Replacement, StepChange, at};
+use wm_steps::{Replacement, StepChange};
 
 /// Which records a change removes, and where in its lists those are that it puts in the places of
 /// others, by their numbers.

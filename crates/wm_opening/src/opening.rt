@@ -10,12 +10,12 @@ ghost use Rattle.wm_rows.specs.Sound.{checked, AreSound, IsFaultOf};
 use crate::nodes::graph_of;
 use crate::running::reopened;
 use std::alloc::{AllocError, Global};
-use wm_collections::{Items, Replica};
+use wm_collections::{Items, Replica, both};
 use wm_conditions::Conditions;
 use wm_keeper::{Change, Row};
 use wm_machine::{Instance, Record, State};
 use wm_rows::{RowFault, check_all};
-use wm_steps::{View, both};
+use wm_steps::View;
 
 /// What a store opens to.
 #[derive(Drop)]

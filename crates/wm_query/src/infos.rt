@@ -1,21 +1,11 @@
 //! What is told of a work.
 ghost use Rattle.std.specs.Prelude.{◌≡◌, IfOk};
-ghost use Rattle.wm_collections.specs.Lists.{AllLater};
-ghost use Rattle.wm_machine.specs.Shown.{due_shown, info_in, shown_of};
-ghost use Rattle.wm_machine.specs.Valid.{IsBefore, IsRecord};
+ghost use Rattle.wm_machine.specs.Shown.{due_shown, info_in};
+ghost use Rattle.wm_machine.specs.Valid.{IsRecord};
 
-use crate::scan::all_met;
 use std::alloc::{AllocError, Global};
 use wm_collections::Replica;
 use wm_machine::{Record, Shown, WorkInfo};
-
-/// The state shown of a work among these.
-pub fn shown_of(works: &[Record], work: &Record) -> Shown
-    requires { AllLater IsBefore works.now }
-    ensures { result ≡ shown_of works.now work.now }
-{
-    work.phase.shown(all_met(works, work))
-}
 
 /// When a work in this shown state is due, where that is told.
 fn due_shown(state: Shown, work: &Record) -> Option<u64>

@@ -1,10 +1,10 @@
 -- The end of a work touches the works that it frees: those that the graph names where it succeeds, and else there are none.
-use Rattle.std.proofs.Common.{◌≡◌, ℕ, ◌&&◌, ◌++◌, Bool, true, false, cond, eqb, List, [], map, Option, Some, None, refl, sym, ◌∙◌, ap, subst}
-use Rattle.std.specs.List.{list_all, list_any, AllByRecursion}
-use Rattle.std.proofs.lemmas.Bool.{and_parts, cond_both, eqb-true, false≢true}
+use Rattle.std.proofs.Common.{◌≡◌, ℕ, ◌&&◌, Bool, true, false, cond, eqb, List, map, Option, Some, None, refl, sym, ◌∙◌, ap, subst}
+use Rattle.std.specs.List.{AllByRecursion}
+use Rattle.std.proofs.lemmas.Bool.{cond_both, eqb-true, false≢true}
 use Rattle.std.proofs.lemmas.List.{append-nil}
-use Rattle.wm_collections.proofs.Lists.{All-any, All-stored, All-with2, All-with3, list_all-agree, list_any-agree, list_any_after, map-same}
-use Rattle.wm_collections.specs.Lists.{AllLater, HasOne, is_among}
+use Rattle.wm_collections.proofs.Lists.{All-any, All-stored, All-with2, list_all-agree, list_any-agree, list_any_after, map-same}
+use Rattle.wm_collections.specs.Lists.{HasOne, is_among}
 use Rattle.wm_data.specs.declared.data.DataEntry.{DataEntry}
 use Rattle.wm_graph.specs.Marks.{freed_by}
 use Rattle.wm_machine.proofs.Endings.{freed_in, success}
@@ -13,17 +13,15 @@ use Rattle.wm_machine.specs.Closed.{closed, is_open}
 use Rattle.wm_machine.specs.Ends.{ended_as, is_freed, not_started_as, retried, succeeded}
 use Rattle.wm_machine.specs.First.{all_met, has_succeeded, is_succeeded, is_waiting}
 use Rattle.wm_machine.specs.Runs.{changed_work}
-use Rattle.wm_machine.specs.Valid.{ArePriorSound, IsBefore}
 use Rattle.wm_machine.specs.declared.event.End.{End}
 use Rattle.wm_machine.specs.declared.event.End.TheVariants.{Success, Failure, Retry}
 use Rattle.wm_machine.specs.declared.event.Event.{Event}
-use Rattle.wm_machine.specs.declared.record.How.TheVariants as how
 use Rattle.wm_machine.specs.declared.record.Phase.TheVariants as phase
 use Rattle.wm_machine.specs.declared.record.Record.{Record}
 use Rattle.wm_machine.specs.declared.state.State.{State}
 use Rattle.wm_machine.specs.Valid.{Valid}
-use Rattle.wm_runs.proofs.Reaching.{change-keeps, ended-same, frees-agree}
-use Rattle.wm_runs.specs.Reached.{change_by, end_reach, not_started_reach, reached_by, replaced_by, replaced_by_end}
+use Rattle.wm_runs.proofs.Reaching.{frees-agree}
+use Rattle.wm_runs.specs.Reached.{change_by, end_reach, not_started_reach, reached_by, replaced_by}
 use Rattle.wm_runs.specs.declared.reach.Reach.{Reach}
 use Rattle.wm_runs.specs.declared.reach.Reach.TheVariants as reach
 use Rattle.wm_schedule.specs.declared.schedule.Period.{Period}
@@ -31,7 +29,7 @@ use Rattle.wm_steps.proofs.ManyRows.{after_change, replaced-all, replaced-each, 
 use Rattle.wm_steps.proofs.Nodes.{freed-nodes}
 use Rattle.wm_steps.proofs.Unsucceeding.{unsucceeding-not, Unsucceeding}
 use Rattle.wm_steps.specs.Nodes.{nodes_of}
-use Rattle.wm_steps.specs.Readiness.{Succeeds, TouchesAllFreed, TouchesFreed}
+use Rattle.wm_steps.specs.Readiness.{TouchesFreed}
 use Rattle.wm_steps.specs.Replacements.{or_same, replacements}
 use Rattle.wm_steps.specs.StepChanges.{changed_state, replacing_all, with_replaced}
 use Rattle.wm_steps.specs.Touched.{touches}

@@ -1,29 +1,25 @@
 -- What a work that comes to an end may change are records of numbers that ascend from its own.
-use Rattle.std.proofs.Common.{◌≡◌, ◌≢◌, ◌++◌, ℕ, is_some, ◌<◌, ◌≤◌, ◌&&◌, Bool, true, false, cond, eqb, not, List, [], ◌∷◌, filter, map, slice_get, Option, Some, None, option_map, refl, sym, ◌∙◌, ap, subst, arith, inl, inr}
-use Rattle.std.specs.List.{cons_option, list_all, AllByRecursion}
+use Rattle.std.proofs.Common.{◌≡◌, ◌≢◌, ◌++◌, ℕ, is_some, ◌<◌, ◌≤◌, true, false, cond, eqb, not, List, [], ◌∷◌, slice_get, Option, Some, None, option_map, refl, sym, ◌∙◌, ap, subst, arith, inl, inr}
+use Rattle.std.specs.List.{cons_option}
 use Rattle.std.proofs.lemmas.List.{append-nil}
 use Rattle.std.proofs.lemmas.List.Elements.{filter_map-append}
-use Rattle.std.proofs.lemmas.Bool.{and_parts, and_right, cases_Bool, eqb-false, eqb-true, false≢true, or_parts, true≢false}
+use Rattle.std.proofs.lemmas.Bool.{and_right, cases_Bool, eqb-false, eqb-true, false≢true, or_parts, true≢false}
 use Rattle.std.proofs.lemmas.Map.Views.{any-filter_same}
-use Rattle.wm_collections.proofs.Lists.{All-any, All-filter, All-kept, All-map, All-weaker, AllLater-filter, AllLater-map, any_passes, one_gives}
+use Rattle.wm_collections.proofs.Lists.{All-any, All-filter, AllLater-filter}
 use Rattle.wm_collections.specs.Lists.{is_among, AllLater}
-use Rattle.wm_graph.specs.Descendants.{AreDescendants, BeginsWith}
-use Rattle.wm_graph.specs.Marks.{freed_by, is_met, with_marked}
-use Rattle.wm_graph.specs.Nodes.{NodeFields}
 use Rattle.wm_machine.proofs.Runnings.{WorksAscend-in_order}
 use Rattle.wm_machine.specs.Closed.{closed, is_open}
 use Rattle.wm_machine.specs.First.{is_waiting}
 use Rattle.wm_machine.specs.Input.{work_numbered}
-use Rattle.wm_machine.specs.Valid.{IsBefore, IsRecord, Valid}
+use Rattle.wm_machine.specs.Valid.{IsBefore}
 use Rattle.wm_machine.specs.declared.record.Record.{Record}
-use Rattle.wm_machine.specs.declared.state.State.{State}
 use Rattle.wm_steps.proofs.ByNumbers.{replacement-found, replacements-numbered}
 use Rattle.wm_steps.specs.Replacements.{by_numbers, replacement_of}
-use Rattle.wm_runs.specs.Reached.{change_by, numbers_of, others, reached_by, replaced_by, RiseFrom}
+use Rattle.wm_runs.specs.Reached.{change_by, numbers_of, others, reached_by, replaced_by}
 use Rattle.wm_runs.specs.declared.reach.Reach.{Reach}
 use Rattle.wm_runs.specs.declared.reach.Reach.TheVariants as reach
 use Rattle.wm_steps.proofs.Tests.{eqb-swap}
-use Rattle.wm_steps.specs.Nodes.{is_there, node_of, nodes_of}
+use Rattle.wm_steps.specs.Numbers.{RiseFrom}
 use Rattle.wm_steps.specs.declared.change.Replacement.{Replacement}
 
 -- ---- the record of one number
@@ -108,53 +104,6 @@ replaced-all itself to works numbers order rise are =
     rw are (sym (filter_map-append (replacement_of (change_by itself to) 0 works) (itself.seq ∷ []) (others itself.seq (numbers_of to)))
     ∙ touched-replaced itself to works order rise)
 
--- ---- that they rise
-
--- numbers that ascend and begin with one rise from it
-begin-rise : (seq : ℕ) (rest : List ℕ) → AllLater (λ number later. number < later) (seq ∷ rest) → RiseFrom seq (seq ∷ rest)
-begin-rise seq rest ascend = record {
-  ascending = ascend;
-  least = (omega arith, All-weaker rest (λ number more. omega arith) ascend.0);
-}
-
-pub descendants-rise : (nodes : List NodeFields) (seq : ℕ) (found : List ℕ) → AreDescendants nodes (seq ∷ []) found → BeginsWith seq found → RiseFrom seq found
-descendants-rise nodes seq found are begins =
-    subst (RiseFrom seq) (sym begins.1) (begin-rise seq begins.0 (subst (AllLater (λ number later. number < later)) begins.1 are.ascending))
-
--- a node's prerequisites are before it
-nodes-earlier : (all works : List Record) → AllByRecursion IsRecord works
-    → AllByRecursion (λ (node : NodeFields). AllByRecursion (λ number. number < node.seq) node.before) (map (node_of all) works)
-nodes-earlier all works are =
-    All-map (λ (node : NodeFields). AllByRecursion (λ number. number < node.seq) node.before) (node_of all) works
-    (λ work is. All-kept (λ number. number < work.seq) (is_there all) work.prior
-    (All-weaker work.prior (λ number earlier. earlier.1) is.prior.earlier)) are
-
--- those that a node frees come after it
-pub freed-rise : (works : List Record) (seq : ℕ) → AllLater IsBefore works → AllByRecursion IsRecord works → RiseFrom seq (freed_by (nodes_of works) seq)
-freed-rise works seq order are =
-    let nodes = nodes_of works in
-    let test : NodeFields → Bool = λ node. is_among node.before seq && list_all (is_met (with_marked seq nodes)) node.before in
-    let ascend : AllLater (λ (node later : NodeFields). node.seq < later.seq) nodes =
-    AllLater-map (λ (node later : NodeFields). node.seq < later.seq) (node_of works) works (λ work later less. less) (WorksAscend-in_order works order) in
-    record {
-      ascending =
-          AllLater-map (λ number later. number < later) (λ (node : NodeFields). node.seq) (filter test nodes) (λ node later less. less)
-          (AllLater-filter (λ (node later : NodeFields). node.seq < later.seq) test nodes ascend);
-      least =
-          All-map (λ number. seq ≤ number) (λ (node : NodeFields). node.seq) (filter test nodes) (λ node less. less)
-          (All-filter {Q = λ (node : NodeFields). seq ≤ node.seq} test nodes (λ node passes earlier.
-          let among = (and_parts (is_among node.before seq) (list_all (is_met (with_marked seq nodes)) node.before) passes).0 in
-          let less : seq < node.seq =
-          one_gives node.before (λ number less is. subst (λ n. n < node.seq) (eqb-true number seq is) less) earlier
-          (any_passes (λ number. eqb number seq) node.before among) in
-          omega arith) (nodes-earlier works works are));
-    }
-
--- and so they do in the graph of a view
-pub viewed-rise : (s now : State) (graph : List NodeFields) (seq : ℕ) → s ≡ now → Valid s → graph ≡ nodes_of s.works → RiseFrom seq (freed_by graph seq)
-viewed-rise s now graph seq is valid graph_is =
-    rw (graph_is) (freed-rise s.works seq valid.works.in_order valid.works.records)
-
--- and from the number of a record that has the same one
+-- what rises from the number of a record rises from that of one that has the same
 pub same-rise : (seq : ℕ) (itself new : Record) (numbers : List ℕ) → itself ≡ new → new.seq ≡ seq → RiseFrom seq numbers → RiseFrom itself.seq numbers
 same-rise seq itself new numbers is same rise = subst (λ n. RiseFrom n numbers) (sym (ap (λ (w : Record). w.seq) is ∙ same)) rise

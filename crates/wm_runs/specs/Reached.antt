@@ -1,7 +1,6 @@
 -- What the end of a work makes of the records: of the work itself, and of those that it reaches.
-use Rattle.std.specs.Prelude.{ℕ, ◌==◌, ◌<◌, ◌≤◌, ◌&&◌, not, List, [], filter, ◌∷◌, if◌then◌else◌, Option, Some, None}
-use Rattle.std.specs.List.{AllByRecursion}
-use Rattle.wm_collections.specs.Lists.{is_among, AllLater}
+use Rattle.std.specs.Prelude.{ℕ, ◌==◌, ◌&&◌, not, List, [], filter, ◌∷◌, if◌then◌else◌, Option, Some, None}
+use Rattle.wm_collections.specs.Lists.{is_among}
 use Rattle.wm_graph.specs.Marks.{freed_by}
 use Rattle.wm_graph.specs.Nodes.{NodeFields}
 use Rattle.wm_machine.specs.Closed.{closed, is_open}
@@ -40,11 +39,6 @@ abbrev pub numbers_of : Reach → List ℕ
 numbers_of reach.Stays = []
 numbers_of (reach.Closes how numbers) = numbers
 numbers_of (reach.Frees numbers now) = numbers
-
--- numbers ascend, and none is below this one
-pub record RiseFrom (seq : ℕ) (numbers : List ℕ) : Type 0 where
-  pub ascending : AllLater (λ number later. number < later) numbers
-  pub least : AllByRecursion (λ number. seq ≤ number) numbers
 
 -- numbers but for this one
 abbrev pub others : ℕ → List ℕ → List ℕ

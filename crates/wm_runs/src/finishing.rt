@@ -11,10 +11,10 @@ ghost use Rattle.wm_worker.specs.Answers.{given_of};
 use crate::reach::{Reach, end_reach, replaced_by};
 use crate::reports::{FoundRun, found_run};
 use std::alloc::{AllocError, Global};
-use wm_collections::{Items, Replica};
+use wm_collections::{Items, Replica, both};
 use wm_lifecycle::{ended, timed_out};
 use wm_machine::{End, Event, Record, Run};
-use wm_steps::{Replacement, RunChange, StepChange, View, both};
+use wm_steps::{Replacement, RunChange, StepChange, View};
 use wm_worker::{Answer, Told};
 
 /// The change of the step by which a run is over.
@@ -89,7 +89,7 @@ fn replaced_by_end(
 {
     let itself = ended(alloc, work, end, view.state.now)?;
     let (itself, reach) = both(itself, end_reach(view, work, end))?;
-    replaced_by(alloc, &itself, &reach, view.state.works.as_slice())
+    replaced_by(alloc, view, &itself, &reach)
 }
 
 /// The end of a run of a work that has no turn left.
@@ -101,7 +101,7 @@ fn time_out(alloc: Global, view: &View, work: &Record, run: &Run) -> Result<Endi
     }) }
 {
     let itself = timed_out(alloc, work, view.state.now)?;
-    let replaced = replaced_by(alloc, &itself, &Reach::Stays, view.state.works.as_slice())?;
+    let replaced = replaced_by(alloc, view, &itself, &Reach::Stays)?;
     let event = Event::TimedOut { run: run.run };
     Ok(Ending {
         change: StepChange::replacing_all(alloc, replaced, over(run), event),

@@ -7,6 +7,7 @@
 #![tactic(auto)]
 
 pub mod finishing;
+mod inputs;
 mod reach;
 mod reports;
 mod returning;
@@ -14,7 +15,7 @@ pub mod starting;
 mod turning;
 
 pub use finishing::{Ending, finish};
-pub use reports::{counts_in, goes_on, is_stopped, run_numbered};
+pub use reports::{counts_in, goes_on, is_stopped};
 pub use returning::returned;
 pub use starting::{Claimed, Claiming, claim_first};
 pub use turning::next_turn;

@@ -2,21 +2,18 @@
 //!
 //! After the guide's page "Chaining work". Which those are is asked of the graph of the records.
 ghost use Rattle.std.specs.Prelude.{◌≡◌, ◌∷◌, ◌++◌, [], is_some, Some, IfOk, IsSome, OnOk};
-ghost use Rattle.wm_collections.specs.Lists.{AllLater};
 ghost use Rattle.wm_graph.specs.Marks.{freed_by};
 ghost use Rattle.wm_graph.specs.Nodes.{HasNode};
-ghost use Rattle.wm_machine.specs.Valid.{IsBefore};
 ghost use Rattle.wm_steps.specs.Replacements.{by_numbers};
-ghost use Rattle.wm_runs.specs.Reached.{change_by, end_reach, not_started_reach, numbers_of, others, reached_by, replaced_by, RiseFrom};
+ghost use Rattle.wm_runs.specs.Reached.{change_by, end_reach, not_started_reach, numbers_of, others, reached_by, replaced_by};
 ghost use Rattle.wm_steps.specs.Nodes.{nodes_of, reached_from, IsUnmarked};
-ghost use Rattle.wm_steps.specs.Numbers.{Ascend};
+ghost use Rattle.wm_steps.specs.Numbers.{RiseFrom};
 
 use std::alloc::{AllocError, Global};
 use wm_collections::{Items, Replica};
-use wm_graph::Graph;
 use wm_lifecycle::{closed, freed};
-use wm_machine::{End, How, Record, index_numbered};
-use wm_steps::{Replacement, View, at, is_listed};
+use wm_machine::{End, How, Record};
+use wm_steps::{Numbers, Replacement, View};
 
 /// What the end of a work makes of the other records.
 #[derive(Drop)]
@@ -24,9 +21,9 @@ pub enum Reach {
     /// They stay as they are.
     Stays,
     /// Those of these numbers that are unfinished are finished in this way.
-    Closes { how: How, numbers: Items<u64> },
+    Closes { how: How, numbers: Numbers },
     /// Those of these numbers that wait are free from this moment on.
-    Frees { numbers: Items<u64>, now: u64 },
+    Frees { numbers: Numbers, now: u64 },
 }
 
 /// What the end of a run of a work reaches.
@@ -40,8 +37,8 @@ pub fn end_reach(view: &View, work: &Record, end: &End) -> Result<Reach, AllocEr
     match end {
         End::Retry => Ok(Reach::Stays),
         End::Success(_) | End::Failure(_) if work.request.period().is_some() => Ok(Reach::Stays),
-        End::Success(_) => freeing(&view.graph, work.seq, view.state.now),
-        End::Failure(_) => closing(&view.graph, work.seq, How::Failed),
+        End::Success(_) => freeing(view, work.seq),
+        End::Failure(_) => closing(view, work.seq, How::Failed),
     }
 }
 
@@ -55,30 +52,31 @@ pub fn not_started_reach(view: &View, work: &Record) -> Result<Reach, AllocError
     if work.request.period().is_some() {
         Ok(Reach::Stays)
     } else {
-        closing(&view.graph, work.seq, How::Failed)
+        closing(view, work.seq, How::Failed)
     }
 }
 
 /// The closing of the descendants of a work.
-pub fn closing(graph: &Graph, seq: u64, how: How) -> Result<Reach, AllocError>
-    requires { HasNode graph.now seq }
+fn closing(view: &View, seq: u64, how: How) -> Result<Reach, AllocError>
+    requires { HasNode (nodes_of view.now.works) seq }
     ensures reach { IfOk result (λ reach. reach
-        ≡ Reach.Closes how (reached_from (seq ∷ []) graph.entry.now)) }
+        ≡ Reach.Closes how (reached_from (seq ∷ []) (nodes_of view.entry.now.works))) }
     ensures rises { IfOk result (λ reach. RiseFrom seq (numbers_of reach)) }
 {
-    let numbers = Items::from_vec(graph.descendants(seq)?);
+    let numbers = view.descendants(seq)?;
     Ok(Reach::Closes { how, numbers })
 }
 
 /// The freeing of those that have a work, which hasn't succeeded, as their last missing
 /// prerequisite.
-fn freeing(graph: &Graph, seq: u64, now: u64) -> Result<Reach, AllocError>
-    requires node { IsUnmarked graph.now seq }
-    requires rises { RiseFrom seq (freed_by graph.now seq) }
-    ensures reach { IfOk result (λ reach. reach ≡ Reach.Frees (freed_by graph.entry.now seq) now) }
+fn freeing(view: &View, seq: u64) -> Result<Reach, AllocError>
+    requires { IsUnmarked (nodes_of view.now.works) seq }
+    ensures reach { IfOk result (λ reach. reach
+        ≡ Reach.Frees (freed_by (nodes_of view.entry.now.works) seq) view.entry.now.now) }
     ensures rises { IfOk result (λ reach. RiseFrom seq (numbers_of reach)) }
 {
-    let numbers = Items::from_vec(graph.frees(seq)?);
+    let numbers = view.freed_by(seq)?;
+    let now = view.state.now;
     Ok(Reach::Frees { numbers, now })
 }
 
@@ -99,18 +97,19 @@ impl Reach {
 /// those that it reaches. Only their records are looked at.
 pub fn replaced_by(
     alloc: Global,
+    view: &View,
     itself: &Record,
     reach: &Reach,
-    works: &[Record],
 ) -> Result<Items<Replacement>, AllocError>
-    requires order { AllLater IsBefore works.now }
-    requires rises { RiseFrom itself.now.seq (numbers_of reach.now) }
+    requires { RiseFrom itself.now.seq (numbers_of reach.now) }
     ensures { IfOk result (λ replaced. replaced
-        ≡ replaced_by itself.entry.now reach.entry.now works.entry.now) }
+        ≡ replaced_by itself.entry.now reach.entry.now view.entry.now.works) }
 {
+    // what the type of a view keeps is known where a field of it is read
+    let _reached = &view.state;
     let mut replaced = Items::new(alloc);
-    add_replacement(alloc, &mut replaced, itself, reach, works, itself.seq)?;
-    add_others(alloc, &mut replaced, itself, reach, works, reach.numbers())?;
+    add_replacement(alloc, &mut replaced, view, itself, reach, itself.seq)?;
+    add_others(alloc, &mut replaced, view, itself, reach, reach.numbers())?;
     Ok(replaced)
 }
 
@@ -119,19 +118,17 @@ pub fn replaced_by(
 fn add_others(
     alloc: Global,
     replaced: &mut Items<Replacement>,
+    view: &View,
     itself: &Record,
     reach: &Reach,
-    works: &[Record],
     numbers: &[u64],
 ) -> Result<(), AllocError>
-    requires order { AllLater IsBefore works.now }
-    requires ascend { Ascend (numbers_of reach.now) }
     ensures { OnOk result (replaced.new ≡ replaced.old
-        ++ by_numbers (change_by itself.entry.now reach.entry.now) (others itself.entry.now.seq numbers.entry.now) works.entry.now) }
+        ++ by_numbers (change_by itself.entry.now reach.entry.now) (others itself.entry.now.seq numbers.entry.now) view.entry.now.works) }
 {
     for number in numbers {
         if *number != itself.seq {
-            add_replacement(alloc, replaced, itself, reach, works, *number)?;
+            add_replacement(alloc, replaced, view, itself, reach, *number)?;
         }
     }
     Ok(())
@@ -141,20 +138,19 @@ fn add_others(
 fn add_replacement(
     alloc: Global,
     replaced: &mut Items<Replacement>,
+    view: &View,
     itself: &Record,
     reach: &Reach,
-    works: &[Record],
     number: u64,
 ) -> Result<(), AllocError>
-    requires order { AllLater IsBefore works.now }
-    requires ascend { Ascend (numbers_of reach.now) }
     ensures { OnOk result (replaced.new ≡ replaced.old
-        ++ by_numbers (change_by itself.entry.now reach.entry.now) (number ∷ []) works.entry.now) }
+        ++ by_numbers (change_by itself.entry.now reach.entry.now) (number ∷ []) view.entry.now.works) }
 {
-    let Some(index) = index_numbered(works, number) else {
+    let _reached = &view.state;
+    let Some(index) = view.place_of(number) else {
         return Ok(());
     };
-    let work = at(works, index);
+    let work = view.work_at(index);
     if is_changed(itself, reach, work) {
         let work = changed(alloc, itself, reach, work)?;
         replaced.push(Replacement { index, work })?;
@@ -164,7 +160,6 @@ fn add_replacement(
 
 /// Whether one of the records becomes another one.
 fn is_changed(itself: &Record, reach: &Reach, work: &Record) -> bool
-    requires { Ascend (numbers_of reach.now) }
     ensures { result ≡ is_some (change_by itself.now reach.now work.now) }
 {
     work.seq == itself.seq || is_reached(reach, work)
@@ -172,17 +167,12 @@ fn is_changed(itself: &Record, reach: &Reach, work: &Record) -> bool
 
 /// Whether another record becomes another one.
 fn is_reached(reach: &Reach, work: &Record) -> bool
-    requires { Ascend (numbers_of reach.now) }
     ensures { result ≡ is_some (reached_by reach.now work.now) }
 {
     match reach {
         Reach::Stays => false,
-        Reach::Closes { numbers, .. } => {
-            work.phase.is_open() && is_listed(numbers.as_slice(), work.seq)
-        }
-        Reach::Frees { numbers, .. } => {
-            work.phase.is_waiting() && is_listed(numbers.as_slice(), work.seq)
-        }
+        Reach::Closes { numbers, .. } => work.phase.is_open() && numbers.has(work.seq),
+        Reach::Frees { numbers, .. } => work.phase.is_waiting() && numbers.has(work.seq),
     }
 }
 

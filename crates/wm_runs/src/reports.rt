@@ -1,12 +1,10 @@
 //! Which run the report of a worker is about, and whether it counts.
 ghost use Rattle.std.specs.Prelude.{◌≡◌, ◌↔◌, false, true, IsSome, IsTrue};
-ghost use Rattle.std.specs.Option.{option_copied};
-ghost use Rattle.wm_machine.specs.Runs.{run_numbered};
 ghost use Rattle.wm_runs.specs.Reports.{goes_on, Counts, CountsIn, IsFoundRun, IsOut};
 ghost use Rattle.wm_worker.specs.Answers.{given_of};
 
-use wm_machine::{Record, Run, index_numbered};
-use wm_steps::{View, at};
+use wm_machine::{Record, Run};
+use wm_steps::View;
 use wm_worker::{Answer, Told};
 
 /// The last turn of a run, which has 1,000 of them.
@@ -20,29 +18,23 @@ pub struct FoundRun<'v> {
     pub work: &'v Record,
 }
 
-/// The run of this number.
-pub fn run_numbered(runs: &[Run], number: u64) -> Option<&Run>
-    ensures { option_copied result ≡ run_numbered number runs.now }
-{
-    runs.iter().find(|run| run.run == number)
-}
-
 /// The run of this number, which is out and current, with its work.
 pub fn found_run(view: &View, number: u64) -> FoundRun<'_>
     requires { IsOut view.now number true }
     ensures { IsFoundRun view.entry.now number result.index result.run.now result.work.now }
 {
-    let works = view.state.works.as_slice();
-    let Some(run) = run_numbered(view.state.runs.as_slice(), number) else {
+    // what the type of a view keeps is known where a field of it is read
+    let _reached = &view.state;
+    let Some(run) = view.run(number) else {
         unreachable!();
     };
-    let Some(index) = index_numbered(works, run.seq) else {
+    let Some(index) = view.place_of(run.seq) else {
         unreachable!();
     };
     FoundRun {
         run,
         index,
-        work: at(works, index),
+        work: view.work_at(index),
     }
 }
 
@@ -70,7 +62,7 @@ fn counts(run: &Run, told: &Told) -> bool
 pub fn counts_in(view: &View, number: u64, told: &Told) -> bool
     ensures { IsTrue result ↔ CountsIn view.entry.now number told.now }
 {
-    match run_numbered(view.state.runs.as_slice(), number) {
+    match view.run(number) {
         Some(run) => counts(run, told),
         None => false,
     }
@@ -80,7 +72,7 @@ pub fn counts_in(view: &View, number: u64, told: &Told) -> bool
 pub fn is_stopped(view: &View, number: u64) -> bool
     ensures { IsTrue result ↔ IsOut view.entry.now number false }
 {
-    match run_numbered(view.state.runs.as_slice(), number) {
+    match view.run(number) {
         Some(run) => !run.current,
         None => false,
     }

@@ -3,7 +3,6 @@ ghost use Rattle.std.specs.Prelude.{false};
 ghost use Rattle.wm_runs.specs.Builds.{IsReturn};
 ghost use Rattle.wm_runs.specs.Reports.{IsOut};
 
-use crate::reports::run_numbered;
 use std::alloc::Global;
 use wm_machine::Event;
 use wm_steps::{RunChange, SettingChange, StepChange, View};
@@ -14,7 +13,9 @@ pub fn returned(alloc: Global, view: &View, number: u64) -> StepChange
     requires { IsOut view.now number false }
     ensures { IsReturn view.entry.now number result }
 {
-    let Some(run) = run_numbered(view.state.runs.as_slice(), number) else {
+    // what the type of a view keeps is known where a field of it is read
+    let _reached = &view.state;
+    let Some(run) = view.run(number) else {
         unreachable!();
     };
     let event = Event::Late { run: number };

@@ -8,14 +8,14 @@ ghost use Rattle.wm_runs.specs.Builds.{IsClaiming, IsFirstAt};
 ghost use Rattle.wm_runs.specs.Reached.{replaced_by_no_start};
 ghost use Rattle.wm_steps.specs.Nodes.{nodes_of};
 
+use crate::inputs::input_among;
 use crate::reach::{not_started_reach, replaced_by};
 use std::alloc::{AllocError, Global};
-use wm_collections::{Items, Replica};
+use wm_collections::{Items, Replica, both, copied};
 use wm_data::Data;
 use wm_lifecycle::{not_started, started};
-use wm_machine::{Cause, Event, Instance, Record, Run, State, idle_in, index_numbered};
-use wm_query::input_among;
-use wm_steps::{Replacement, RunChange, StepChange, View, at, both, copied};
+use wm_machine::{Cause, Event, Instance, Record, Run, State, idle_in};
+use wm_steps::{Replacement, RunChange, StepChange, View};
 
 /// What becomes of the work that is first.
 #[derive(Drop)]
@@ -40,7 +40,7 @@ pub fn claim_first(alloc: Global, view: &View) -> Result<Option<Claiming>, Alloc
     let Some(index) = first_index(view) else {
         return Ok(None);
     };
-    let work = at(view.state.works.as_slice(), index);
+    let work = view.work_at(index);
     match idle_in(
         view.state.instances.as_slice(),
         work.request.class().as_str(),
@@ -55,8 +55,10 @@ fn first_index(view: &View) -> Option<usize>
     ensures { MatchOption result (first_of view.now ≡ None) (λ index. (index < length view.now.works)
         × (first_of view.now ≡ slice_get view.now.works index)) }
 {
+    // what the type of a view keeps is known where a field of it is read
+    let _reached = &view.state;
     let number = view.first()?;
-    index_numbered(view.state.works.as_slice(), number)
+    view.place_of(number)
 }
 
 /// The start of a work on an instance, or its failure where its inputs don't become one.
@@ -71,7 +73,7 @@ fn start_merged(
     requires idle { idle_instance view.now.instances work.now.request.class ≡ Some idle.now }
     ensures { IfOk result (IsClaiming view.entry.now) }
 {
-    match input_among(alloc, view.state.works.as_slice(), work)? {
+    match input_among(alloc, view, work)? {
         Ok(input) => start(alloc, view, index, work, idle, input),
         Err(cause) => fail(alloc, view, work, cause),
     }
@@ -106,7 +108,6 @@ fn fail(alloc: Global, view: &View, work: &Record, cause: Cause) -> Result<Claim
     requires refused { start_refusal view.now work.now ≡ Some cause }
     ensures { IfOk result (IsClaiming view.entry.now) }
 {
-    // what the type of a view keeps is known where a field of it is read
     let _reached = &view.state;
     let (cause, replaced) = both(cause, replaced_by_no_start(alloc, view, work))?;
     let (cause, logged, replaced) = copied(alloc, cause, replaced)?;
@@ -134,7 +135,7 @@ fn replaced_by_no_start(
 {
     let itself = not_started(alloc, work, view.state.now)?;
     let (itself, reach) = both(itself, not_started_reach(view, work))?;
-    replaced_by(alloc, &itself, &reach, view.state.works.as_slice())
+    replaced_by(alloc, view, &itself, &reach)
 }
 
 /// The next run, which is this attempt of a work on an instance, with this input.

@@ -1,12 +1,12 @@
 -- What is told of works that are found by their numbers is what is told of all that a query asks for.
-use Rattle.std.proofs.Common.{◌≡◌, ℕ, ◌+◌, ◌<◌, ◌==◌, ◌&&◌, Bool, true, false, cond, List, [], ◌∷◌, ◌++◌, filter, get_or, length, map, take, Some, None, option_map, refl, sym, ◌∙◌, ap, subst, arith, inl, inr}
+use Rattle.std.proofs.Common.{◌≡◌, ℕ, ◌+◌, ◌<◌, ◌==◌, ◌&&◌, Bool, true, false, cond, List, [], ◌∷◌, ◌++◌, filter, get_or, length, map, take, Some, None, option_map, refl, sym, ◌∙◌, ap, arith, inl, inr}
 use Rattle.std.specs.List.{cons_option, list_any, AllByRecursion}
 use Rattle.std.specs.Str.{bytes_eq}
-use Rattle.std.proofs.lemmas.Bool.{and_parts, cases_Bool, eq-eqb, eqb-true, ne_eqb}
+use Rattle.std.proofs.lemmas.Bool.{and_parts, cases_Bool, eq-eqb, ne_eqb}
 use Rattle.std.proofs.lemmas.List.{append-nil, map-append, take_more}
 use Rattle.std.proofs.lemmas.List.Elements.{filter-append, filter_map-append}
 use Rattle.wm_collections.specs.Lists.{AllLater}
-use Rattle.wm_collections.proofs.Lists.{All-any, All-kept, All-with2, find-passes, list_any-agree, map-filter}
+use Rattle.wm_collections.proofs.Lists.{All-any, All-kept, All-with2, list_any-agree, map-filter}
 use Rattle.wm_machine.proofs.Runnings.{WorksAscend, WorksAscend-in_order}
 use Rattle.wm_machine.specs.Group.{is_name, numbers_in}
 use Rattle.wm_machine.specs.Input.{work_numbered}
@@ -20,7 +20,7 @@ use Rattle.wm_machine.specs.declared.state.WorkQuery.{WorkQuery}
 use Rattle.wm_query.proofs.Groups.{any_of_group}
 use Rattle.wm_request.specs.Batches.{has_id}
 use Rattle.wm_settings.specs.Told.{infos_numbered, IsThere}
-use Rattle.wm_steps.proofs.FoundNumbers.{bytes-swap}
+use Rattle.wm_settings.proofs.FoundNumbers.{bytes-swap}
 
 -- ---- each work is found by its number
 
@@ -69,11 +69,6 @@ numbered-more test works numbers i old new within added so_far =
     ∙ ap (λ seen. filter test (infos_numbered works seen)) (sym (take_more numbers i 0 within))
 
 -- a number that a work has, and one that none has
-pub found-there : (works : List Record) (number : ℕ) (work : Record) → Some work ≡ work_numbered number works → IsThere works work
-found-there works number work found =
-    let same : work.seq ≡ number = eqb-true work.seq number (find-passes (λ (w : Record). w.seq == number) works work (sym found)) in
-    subst (λ n. work_numbered n works ≡ Some work) (sym same) (sym found)
-
 pub numbered-some : (test : WorkInfo → Bool) (works : List Record) (number : ℕ) (work : Record) (old new : List WorkInfo)
     → Some work ≡ work_numbered number works → new ≡ old ++ filter test (info_of works work ∷ [])
     → new ≡ old ++ filter test (infos_numbered works (number ∷ []))

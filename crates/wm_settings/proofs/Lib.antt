@@ -1,3 +1,4 @@
 pub mod Counting
 pub mod Executions
 pub mod FoundAnswers
+pub mod FoundNumbers

@@ -1,3 +1,4 @@
 pub mod Builds
 pub mod Counted
 pub mod Told
+pub mod WorkSets

@@ -9,11 +9,12 @@ ghost use Rattle.wm_machine.specs.Queried.{answer_to, matches};
 ghost use Rattle.wm_machine.specs.Shown.{info_of};
 ghost use Rattle.wm_settings.specs.Told.{infos_numbered, IsThere};
 
+use crate::finding::{numbers_with_ids, numbers_with_names, numbers_with_tags};
 use std::alloc::{AllocError, Global};
 use wm_collections::Items;
 use wm_machine::{Record, WorkInfo, WorkQuery};
 use wm_query::{info, matches_work};
-use wm_steps::{View, numbers_with_ids, numbers_with_names, numbers_with_tags};
+use wm_steps::View;
 
 /// What is told of the works that a query asks for, in ascending number. Nothing is copied of the
 /// others. Memory that is refused is the only error.

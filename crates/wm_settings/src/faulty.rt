@@ -4,8 +4,9 @@ ghost use Rattle.wm_settings.specs.Builds.{IsExecuted};
 
 use crate::changes::replying;
 use std::alloc::{AllocError, Global};
+use wm_collections::copied;
 use wm_machine::{Command, LineFault, Refusal, Reply};
-use wm_steps::{StepChange, View, copied};
+use wm_steps::{StepChange, View};
 
 /// What a line that has a fault comes to, in every state.
 pub fn execute(

@@ -9,6 +9,7 @@ mod answering;
 mod changes;
 mod counts;
 pub mod faulty;
+mod finding;
 pub mod hush;
 pub mod moment;
 pub mod observe;
@@ -18,3 +19,4 @@ pub mod settle;
 pub mod summary;
 
 pub use changes::{event_of, replying};
+pub use finding::numbers_with_ids;

@@ -97,7 +97,7 @@ numbers-above : (least number : ℕ) (numbers : List ℕ) → least < number →
     → AllByRecursion (λ later. least < later) (number ∷ numbers)
 numbers-above least number numbers less above = (less, All-weaker numbers (λ later more. omega arith) above)
 
-not-among : (least : ℕ) (numbers : List ℕ) → AllByRecursion (λ later. least < later) numbers → is_among numbers least ≡ false
+pub not-among : (least : ℕ) (numbers : List ℕ) → AllByRecursion (λ later. least < later) numbers → is_among numbers least ≡ false
 not-among least [] above = refl
 not-among least (number ∷ numbers) above =
     let miss = ne_eqb number least (λ e. absurd (omega (arith, above.0))) in

@@ -18,12 +18,16 @@ use Rattle.wm_steps.proofs.EntrySteps.{removed-entries, replaced-entries, told-e
 use Rattle.wm_steps.proofs.EntryUndone.{untagged-entries}
 use Rattle.wm_steps.proofs.ReplacedRecords.{keeps_number, All-seq}
 use Rattle.wm_steps.proofs.StepNodes.{nodes-told, place-there, puts-apart, AreApart}
-use Rattle.wm_steps.specs.Entries.{new_entry, prepared_entries, settled_entries, settling, tagging, with_changed, with_identified, with_untagged, without_entries, AreEntriesOf, AreIdentifiable, HaveEntries, IsBegun, IsBegunIn, IsFollowable, IsPrepared}
+use Rattle.wm_steps.specs.Entries.{new_entry, prepared_entries, settling, tagging, with_changed, with_identified, with_untagged, without_entries, AreEntriesOf, AreIdentifiable, HaveEntries, IsBegun, IsBegunIn, IsFollowable, IsPrepared}
 use Rattle.wm_steps.specs.Nodes.{is_there}
 use Rattle.wm_steps.specs.StepChanges as steps
 use Rattle.wm_steps.specs.StepChanges.{changed_works, put_replaced, put_work, remove_numbered, seqs_of, with_replaced, KeepsPlace}
 use Rattle.wm_steps.specs.declared.change.Replacement.{Replacement}
 use Rattle.wm_steps.specs.declared.change.StepChange.{StepChange}
+
+-- the entries once a change is settled, from those that were prepared
+abbrev pub settled_entries : StepChange → List Entry → List Entry
+settled_entries change entries = with_identified change.placed (without_entries change.removed (with_changed settling change.replaced entries))
 
 -- ---- which entries are there
 

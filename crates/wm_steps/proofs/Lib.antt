@@ -9,7 +9,6 @@ pub mod EntryTags
 pub mod EntryUndone
 pub mod Firsts
 pub mod FoundEntries
-pub mod FoundNumbers
 pub mod IdNumbers
 pub mod IndexedEntries
 pub mod KeptRows
@@ -20,6 +19,7 @@ pub mod ManyRows
 pub mod Marks
 pub mod Moves
 pub mod Nodes
+pub mod NumberedWorks
 pub mod Pointwise
 pub mod ReachedNodes
 pub mod Readies
@@ -27,6 +27,7 @@ pub mod ReadyWorks
 pub mod Readyings
 pub mod RecordsAfter
 pub mod ReplacedRecords
+pub mod Rising
 pub mod StepFits
 pub mod StepNodes
 pub mod Tests

@@ -1,13 +1,15 @@
 -- One record or run of a list, found by its number and changed at its index.
-use Rattle.std.proofs.Common.{◌≡◌, ℕ, zero, suc, ◌<◌, Bool, true, false, cond, ltb, List, [], ◌∷◌, length, find, set, slice_get, Option, Some, None, MatchOption, refl, sym, ◌∙◌, ap, subst, arith}
-use Rattle.std.specs.Prelude.{IsSomeAnd}
+use Rattle.std.proofs.Common.{◌≡◌, ℕ, zero, suc, ◌<◌, Bool, true, false, cond, eqb, ltb, List, [], ◌∷◌, length, find, set, slice_get, Option, Some, None, MatchOption, Bor, refl, sym, ◌∙◌, ap, subst, arith}
+use Rattle.std.specs.Prelude.{IfSome, IsSomeAnd}
 use Rattle.std.specs.List.{AllByRecursion, position, position_or_len}
-use Rattle.std.proofs.lemmas.Bool.{eq-eqb, ltb-true, ltb-false, ne_eqb}
+use Rattle.std.specs.Option.{option_copied}
+use Rattle.std.proofs.lemmas.Bool.{eq-eqb, eqb-true, ltb-true, ltb-false, ne_eqb}
 use Rattle.std.proofs.lemmas.List.Folds.{find_at}
 use Rattle.std.proofs.lemmas.Option.{cond_some, none-some, same_Some, slice_get_past}
-use Rattle.wm_collections.proofs.Lists.{All-stored}
+use Rattle.wm_collections.proofs.Lists.{All-stored, find-passes}
 use Rattle.wm_collections.proofs.Lists as lists
 use Rattle.wm_machine.proofs.Runnings.{WorksAscend}
+use Rattle.wm_machine.specs.Input.{work_numbered}
 use Rattle.wm_machine.specs.Runs.{changed_work}
 use Rattle.wm_collections.specs.Lists.{HasOne}
 use Rattle.wm_machine.specs.declared.record.Record.{Record}
@@ -27,6 +29,14 @@ at-some {T} P xs i x at some = subst (λ (o : Option T). IsSomeAnd o P) at some
 -- the one at an index is one of the list
 pub stored-at : {T : Type 0} (xs : List T) (i : ℕ) (x : T) → slice_get xs i ≡ Some x → HasOne (λ y. y ≡ x) xs
 stored-at xs i x at = All-at (λ z. HasOne (λ y. y ≡ z) xs) xs i x (All-stored xs) at
+
+-- the record that is found by a number is the one of its own
+pub found-there : (number : ℕ) (works : List Record) (found : Option (Bor Record)) → option_copied found ≡ work_numbered number works
+    → IfSome found (λ work. work_numbered work.now.seq works ≡ Some work.now)
+found-there number works None is = tt
+found-there number works (Some work) is =
+    let same : work.now.seq ≡ number = eqb-true work.now.seq number (find-passes (λ (w : Record). eqb w.seq number) works work.now (sym is)) in
+    ap (λ n. work_numbered n works) same ∙ sym is
 
 -- where a search gives none, none is found
 find-none : {T : Type 0} (test : T → Bool) (xs : List T) → position test xs ≡ None → find test xs ≡ None

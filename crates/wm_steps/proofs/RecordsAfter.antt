@@ -67,7 +67,7 @@ replaced-put (replaced ∷ later) works keep ascend =
     ∙ put-twice replaced later works
 
 -- what is put in the place of a record has its number
-put-seq : (replaced : List Replacement) (work : Record) → (put_in replaced work).seq ≡ work.seq
+pub put-seq : (replaced : List Replacement) (work : Record) → (put_in replaced work).seq ≡ work.seq
 put-seq [] work = refl
 put-seq (replaced ∷ later) work =
     put-seq later (put_one replaced.work work)

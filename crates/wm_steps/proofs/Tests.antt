@@ -1,7 +1,9 @@
 -- Whether any element of a list passes a test that is made of others.
-use Rattle.std.proofs.Common.{◌≡◌, ◌&&◌, ◌||◌, ℕ, Bool, true, false, eqb, List, [], ◌∷◌, refl, sym, ◌∙◌, ap, inl, inr}
+use Rattle.std.proofs.Common.{◌≡◌, ◌&&◌, ◌||◌, ℕ, Bool, true, false, eqb, List, [], ◌∷◌, filter, refl, sym, ◌∙◌, ap, inl, inr}
 use Rattle.std.specs.List.{list_any}
 use Rattle.std.proofs.lemmas.Bool.{and_right, cases_Bool, eq-eqb, eqb-false, eqb-true, ne_eqb}
+use Rattle.wm_collections.specs.Lists.{is_among}
+use Rattle.wm_collections.proofs.Lists.{All-any, list_any-agree, list_any-kept}
 
 pub eqb-swap : (m n : ℕ) → eqb m n ≡ eqb n m
 eqb-swap m n = elim (cases_Bool (eqb m n)) [
@@ -50,3 +52,15 @@ pub any-swap : {T U : Type 0} (test : T → U → Bool) (xs : List T) (ys : List
     → list_any (λ x. list_any (test x) ys) xs ≡ list_any (λ y. list_any (λ x. test x y) xs) ys
 any-swap test [] ys = sym (none-any ys)
 any-swap test (x ∷ xs) ys = ap (λ rest. list_any (test x) ys || rest) (any-swap test xs ys) ∙ sym (any-or (test x) (λ y. list_any (λ x. test x y) xs) ys)
+
+only-kept : (keep : ℕ → Bool) (one number : ℕ) → keep number ≡ true → (eqb one number && keep one) ≡ eqb one number
+only-kept keep one number kept = elim (cases_Bool (eqb one number)) [
+  | inl hit ↦ let there = ap keep (eqb-true one number hit) ∙ kept in rw (hit, there) refl
+  | inr miss ↦ rw miss refl
+]
+
+-- a number that is kept is among those that are kept where it is among all
+pub among-kept : (keep : ℕ → Bool) (numbers : List ℕ) (number : ℕ) → keep number ≡ true → is_among (filter keep numbers) number ≡ is_among numbers number
+among-kept keep numbers number kept =
+    list_any-kept (λ one. eqb one number) keep numbers
+    ∙ list_any-agree (λ one. eqb one number && keep one) (λ one. eqb one number) numbers (All-any numbers (λ one. only-kept keep one number kept))

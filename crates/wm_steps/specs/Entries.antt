@@ -80,10 +80,6 @@ AreIdentifiable (work ∷ works) entries =
     (has_unidentified entries work.seq ≡ true) × (by_id entries work.request.id ≡ None)
     × AreIdentifiable works (changed_at (identified work.request.id) work.seq entries)
 
--- the entries once a change is settled, from those that were prepared
-abbrev pub settled_entries : StepChange → List Entry → List Entry
-settled_entries change entries = with_identified change.placed (without_entries change.removed (with_changed settling change.replaced entries))
-
 -- ---- where the rows can't be committed
 
 -- the entries, where that of a number has no other tags than a record

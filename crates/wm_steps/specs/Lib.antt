@@ -10,4 +10,3 @@ pub mod Startables
 pub mod StepChanges
 pub mod Touched
 pub mod Views
-pub mod WorkSets

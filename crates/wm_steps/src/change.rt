@@ -2,9 +2,8 @@
 ghost use Rattle.std.specs.Prelude.{◌≡◌, IfOk};
 ghost use Rattle.wm_steps.specs.StepChanges.{keeping_row, placing, removing, replacing, replacing_all, setting, setting_with};
 
-use crate::joins::{both, one};
 use std::alloc::{AllocError, Global};
-use wm_collections::{Items, Text};
+use wm_collections::{Items, Text, both, one};
 use wm_conditions::Conditions;
 use wm_machine::{Event, Record, Run, WorkQuery};
 

@@ -8,9 +8,7 @@
 pub mod change;
 pub mod covers;
 pub mod entries;
-pub mod finding;
 pub mod follow;
-pub mod joins;
 pub mod laws;
 pub mod numbers;
 pub mod readying;
@@ -19,7 +17,5 @@ pub mod startable;
 pub mod view;
 
 pub use change::{Replacement, RunChange, SettingChange, StepChange};
-pub use finding::{numbers_with_ids, numbers_with_names, numbers_with_tags};
-pub use joins::{at, both, copied, one};
-pub use numbers::is_listed;
+pub use numbers::{Numbers, is_listed};
 pub use view::View;

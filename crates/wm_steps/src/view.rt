@@ -1,34 +1,38 @@
 //! The view: a state with the graph and the index of its records, and those that are ready.
 ghost use Rattle.std.specs.List.{list_any};
-ghost use Rattle.std.specs.Prelude.{◌≡◌, filter, true, Some, IfOk, IfSome};
+ghost use Rattle.std.specs.Prelude.{◌≡◌, ◌<◌, ◌∷◌, [], filter, length, slice_get, true, None, Some, IfOk, IfSome, MatchOption};
 ghost use Rattle.std.specs.Option.{option_copied, option_map};
 ghost use Rattle.wm_collections.specs.Lists.{is_among};
 ghost use Rattle.wm_graph.specs.Descendants.{dependents};
+ghost use Rattle.wm_graph.specs.Marks.{freed_by};
+ghost use Rattle.wm_graph.specs.Nodes.{HasNode};
 ghost use Rattle.wm_machine.specs.Cancelled.{work_with_id};
 ghost use Rattle.wm_machine.specs.Group.{members_of, numbers_in};
 ghost use Rattle.wm_machine.specs.Input.{work_numbered};
 ghost use Rattle.wm_machine.specs.Queried.{has_tag};
+ghost use Rattle.wm_machine.specs.Runs.{run_numbered};
 ghost use Rattle.wm_machine.specs.Shown.{shown_of};
 ghost use Rattle.wm_machine.specs.declared.record.Record.{Record};
 ghost use Rattle.wm_machine.specs.Valid.{Valid};
 ghost use Rattle.wm_steps.specs.Covers.{AreLast, IsMark};
-ghost use Rattle.wm_steps.specs.Nodes.{nodes_of};
-ghost use Rattle.wm_steps.specs.Numbers.{Ascend};
+ghost use Rattle.wm_steps.specs.Nodes.{nodes_of, reached_from, IsUnmarked};
+ghost use Rattle.wm_steps.specs.Numbers.{Ascend, RiseFrom};
 ghost use Rattle.wm_steps.specs.Readied.{IsFirstOf};
 ghost use Rattle.wm_steps.specs.Readiness.{is_ready_in};
 
 use crate::covers::Covers;
 use crate::entries::index_of;
-use crate::joins::both;
-use crate::numbers::{is_listed, numbers_from};
+use crate::numbers::{Numbers, is_listed, numbers_from};
 use crate::startable::Startable;
 use std::alloc::{AllocError, Global};
 use std::marker::Model;
 use uuid::Uuid;
-use wm_collections::Text;
+use wm_collections::{Items, Text, at, both};
 use wm_graph::Graph;
 use wm_index::Index;
-use wm_machine::{Command, Policy, Record, Shown, State, UniqueName, work_numbered};
+use wm_machine::{
+    Command, Policy, Record, Run, Shown, State, UniqueName, index_numbered, work_numbered,
+};
 
 /// The state with what is kept beside it, by which an event finds what it changes and what starts
 /// next: the graph and the index of its records, and those that are ready. Its type keeps that the
@@ -104,9 +108,34 @@ impl View {
 
     /// The work of a number; none where no work has it. It takes no memory.
     pub fn work(&self, number: u64) -> Option<&Record>
-        ensures { option_copied result ≡ work_numbered number self.now.works }
+        ensures found { option_copied result ≡ work_numbered number self.now.works }
+        ensures there { IfSome result (λ work. work_numbered work.now.seq self.now.works ≡ Some work.now) }
     {
         work_numbered(self.state.works.as_slice(), number)
+    }
+
+    /// The place of the work of a number among the records; none where no work has it. It takes no
+    /// memory.
+    pub fn place_of(&self, number: u64) -> Option<usize>
+        ensures { MatchOption result (work_numbered number self.now.works ≡ None) (λ place.
+            (place < length self.now.works) × (work_numbered number self.now.works ≡ slice_get self.now.works place)) }
+    {
+        index_numbered(self.state.works.as_slice(), number)
+    }
+
+    /// The work at a place among the records. It takes no memory.
+    pub fn work_at(&self, place: usize) -> &Record
+        requires { place < length self.now.works }
+        ensures { slice_get self.now.works place ≡ Some result.now }
+    {
+        at(self.state.works.as_slice(), place)
+    }
+
+    /// The run of a number; none where no run has it. It takes no memory.
+    pub fn run(&self, number: u64) -> Option<&Run>
+        ensures { option_copied result ≡ run_numbered number self.now.runs }
+    {
+        run_numbered(self.state.runs.as_slice(), number)
     }
 
     /// Whether a work waits, and each of its prerequisites has succeeded: none of them is unmet. It
@@ -155,6 +184,37 @@ impl View {
         self.graph.dependents(number)
     }
 
+    /// The numbers of a work, which is there, and of its descendants: they rise from its own. Memory
+    /// that is refused is the only error.
+    pub fn descendants(&self, number: u64) -> Result<Numbers, AllocError>
+        requires { HasNode (nodes_of self.now.works) number }
+        ensures found { IfOk result (λ found. found ≡ reached_from (number ∷ []) (nodes_of self.now.works)) }
+        ensures rise { IfOk result (RiseFrom number) }
+    {
+        let found = self.graph.descendants(number)?;
+        Ok(Numbers::of(Items::from_vec(found)))
+    }
+
+    /// The numbers of some works and of the descendants of any of them, ascending. Memory that is
+    /// refused is the only error.
+    pub fn descendants_of(&self, numbers: &[u64]) -> Result<Numbers, AllocError>
+        ensures { IfOk result (λ found. found ≡ reached_from numbers.now (nodes_of self.now.works)) }
+    {
+        let found = self.graph.descendants_of(numbers)?;
+        Ok(Numbers::of(Items::from_vec(found)))
+    }
+
+    /// The numbers of the works that have a work, which hasn't succeeded, as their last missing
+    /// prerequisite: they rise from its own. Memory that is refused is the only error.
+    pub fn freed_by(&self, number: u64) -> Result<Numbers, AllocError>
+        requires { IsUnmarked (nodes_of self.now.works) number }
+        ensures freed { IfOk result (λ freed. freed ≡ freed_by (nodes_of self.now.works) number) }
+        ensures rise { IfOk result (RiseFrom number) }
+    {
+        let freed = self.graph.frees(number)?;
+        Ok(Numbers::of(Items::from_vec(freed)))
+    }
+
     /// The numbers of the last works of a unique name, ascending, by which its leaves are found: each
     /// work of the name before them is known to be a prerequisite of another. It takes no memory.
     pub fn last_members(&self, name: &Text) -> &[u64]
@@ -165,7 +225,7 @@ impl View {
 
     /// Looks ahead of a command: where it appends works to those of a unique name, the last members of
     /// that are as few as memory allows. The state stays.
-    pub fn expect(&mut self, command: &Command)
+    pub fn look_ahead(&mut self, command: &Command)
         ensures { self.new ≡ self.old }
     {
         if let Command::Enqueue {
@@ -173,12 +233,12 @@ impl View {
             ..
         } = command
         {
-            self.expect_under(unique);
+            self.look_ahead_under(unique);
         }
     }
 
     /// The same of an enqueue under a unique name.
-    fn expect_under(&mut self, unique: &UniqueName)
+    fn look_ahead_under(&mut self, unique: &UniqueName)
         ensures { self.new ≡ self.old }
     {
         if let Policy::Append | Policy::AppendOrReplace = unique.policy {
@@ -222,6 +282,13 @@ impl View {
             Err(_) => false,
         }
     }
+}
+
+/// The run of a number among these.
+fn run_numbered(runs: &[Run], number: u64) -> Option<&Run>
+    ensures { option_copied result ≡ run_numbered number runs.now }
+{
+    runs.iter().find(|run| run.run == number)
 }
 
 /// Whether one of these numbers is among others, which ascend.

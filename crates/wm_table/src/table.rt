@@ -33,7 +33,7 @@ use crate::table::carry::{carry_out, carry_return, commit};
 use std::alloc::{AllocError, Global};
 use std::marker::{Model, PhantomData};
 use ticket::{Held, Ticket, held_for};
-use wm_collections::{Items, Replica};
+use wm_collections::{Items, Replica, both};
 use wm_commands::execute;
 use wm_keeper::{KeepFault, Keeper, Row};
 use wm_machine::{Cause, Command, Event, Instance, Reply, Run, State};
@@ -44,7 +44,7 @@ use wm_rows::RowFault;
 use wm_runs::{
     Claimed, Claiming, Ending, claim_first, counts_in, finish, goes_on, is_stopped, next_turn,
 };
-use wm_steps::{StepChange, View, both};
+use wm_steps::{StepChange, View};
 use wm_worker::Told;
 
 /// Why a call of the table changed nothing.
@@ -318,16 +318,16 @@ impl<K: Keeper, M: Mark> Table<K, M> {
             → ChangesRows self.old.state command }
         ensures roll { self.new.roll ≡ self.old.roll }
     {
-        self.expect(&command);
+        self.look_ahead(&command);
         let change = execute(self.alloc, &self.view, line, command)?;
         self.make(change)
     }
 
     /// Looks ahead of a command, so that it finds what comes last of the works that it appends to.
-    fn expect(&mut self, command: &Command)
+    fn look_ahead(&mut self, command: &Command)
         ensures { self.new ≡ self.old }
     {
-        self.view.expect(command);
+        self.view.look_ahead(command);
     }
 
     /// Executes the command of a line, in one event, and answers a copy of its reply, which is made
@@ -344,7 +344,7 @@ impl<K: Keeper, M: Mark> Table<K, M> {
             → ChangesRows self.old.state command }
         ensures roll { self.new.roll ≡ self.old.roll }
     {
-        self.expect(&command);
+        self.look_ahead(&command);
         let (change, reply) = replied(self.alloc, &self.view, line, command)?;
         match self.make(change) {
             Ok(()) => Ok(reply),

@@ -10,7 +10,6 @@ use std::marker::{Model, PhantomData};
 use wm_data::Data;
 use wm_machine::Run;
 use wm_roll::{Part, Token};
-use wm_runs::run_numbered;
 use wm_steps::View;
 use wm_worker::{Kind, Task};
 
@@ -62,7 +61,7 @@ pub(crate) fn held_for(view: &View, number: u64, input: Data) -> Held
     ensures input { result.task.input ≡ input }
     ensures ticket { IsTicketIn view.entry.now result }
 {
-    match run_numbered(view.state.runs.as_slice(), number) {
+    match view.run(number) {
         Some(run) => Held::of_run(run, input),
         None => unreachable!(),
     }

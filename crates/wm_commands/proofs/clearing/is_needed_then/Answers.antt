@@ -1,4 +1,4 @@
-use Rattle.std.proofs.Common.{◌≡◌, List, rules, ◌∙◌, ap}
+use Rattle.std.proofs.Common.{◌≡◌, ◌∙◌, ap}
 use Rattle.std.specs.List.{list_any}
 use Rattle.wm_commands.proofs.ClearedNumbers.{needed-dependents}
 use Rattle.wm_commands.specs.Cleared.{phase_then}
@@ -17,8 +17,6 @@ returns c =
     let number = c.args.number in
     let test = λ (work : Record). is_open (phase_then cancelled work) in
     let order = (reached-view _ s _ c.view.view_is c.view.invariant).works.in_order in
-    let works : c.as_slice-works.result.now ≡ s.works = search rules in
     let numbers : c.deref.result.now ≡ dependents (nodes_of s.works) number =
     c.deref.ensures.value ∙ c.in_ok-dependents.ensures in
-    c.any_open_then.ensures ∙ ap (λ (stored : List Record). list_any (numbered_passes test stored) c.deref.result.now) works
-    ∙ ap (list_any (numbered_passes test s.works)) numbers ∙ needed-dependents cancelled s.works number order c.requires.there
+    c.any_open_then.ensures ∙ ap (list_any (numbered_passes test s.works)) numbers ∙ needed-dependents cancelled s.works number order c.requires

@@ -10,7 +10,7 @@ use Rattle.wm_commands.proofs.clearing.replaced_among.Goals.{in-Some+in_ok-push,
 pub loop-number-preserved : goal.loop-number-preserved
 loop-number-preserved c =
     let change = cleared_by c.args.clearing.now in
-    let works = c.args.works.now in
+    let works = c.args.view.now.works in
     let numbers = c.args.numbers.now in
     let i = c.loop-number.number-index in
     elim c.match-branch-2.branch [

@@ -5,4 +5,4 @@ use Rattle.wm_commands.proofs.clearing.replaced_among.Given as goal
 
 -- the replacements of the numbers so far are there
 abbrev pub invariant-loop-number : goal.invariant-loop-number
-invariant-loop-number l = l.replaced ≡ by_numbers (cleared_by l.clearing) (take l.number-index l.numbers) l.works
+invariant-loop-number l = l.replaced ≡ by_numbers (cleared_by l.clearing) (take l.number-index l.numbers) l.view.works

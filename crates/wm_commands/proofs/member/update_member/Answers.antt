@@ -15,8 +15,8 @@ pub update_of-requires : goal.update_of-requires
 update_of-requires c =
     let s = c.args.view.now in
     let reached = reached-view _ s _ c.view.view_is c.view.invariant in
-    let at : slice_get s.works c.member_index-index.result ≡ Some c.at-work.result.now = search rules in
-    (All-at IsRecord s.works c.member_index-index.result c.at-work.result.now reached.works.records at).fits
+    let at : slice_get s.works c.member_index-index.result ≡ Some c.work_at-work.result.now = search rules in
+    (All-at IsRecord s.works c.member_index-index.result c.work_at-work.result.now reached.works.records at).fits
 
 pub returns : goal.returns
 returns c =
@@ -26,7 +26,7 @@ returns c =
     let batch = c.args.batch in
     let asked = command.Enqueue (Some unique) batch in
     let index = c.member_index-index.result in
-    let work = c.at-work.result.now in
+    let work = c.work_at-work.result.now in
     let request = c.in_ok-unique.request in
     let reached = reached-view _ s _ c.view.view_is c.view.invariant in
     let named : c.in_ok-unique.unique ≡ unique = search rules in

@@ -13,4 +13,5 @@ returns c =
     ≡ placed_records (cleared_state c.in_ok-clearing.clearing s) c.in_ok-name.name plan.after c.args.works.now = search rules in
     let replaced : c.in_ok-replaced.replaced ≡ replaced_by_clearing c.in_ok-clearing.clearing s.works = search rules in
     let stopped : c.in_ok-stopped.stopped ≡ stopped_by c.in_ok-clearing.clearing.cancelled s.runs = search rules in
-    rw (stopped, replaced, placed, name, clearing) refl
+    let removed : c.into_items.result ≡ c.in_ok-clearing.clearing.removed = search rules in
+    rw (removed, stopped, replaced, placed, name, clearing) refl

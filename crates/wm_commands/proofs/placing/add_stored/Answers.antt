@@ -1,4 +1,4 @@
-use Rattle.std.proofs.Common.{◌++◌, ◌∷◌, [], filter, not, sym, ap, ◌∙◌}
+use Rattle.std.proofs.Common.{◌++◌, filter, not, sym, ap, ◌∙◌}
 use Rattle.std.proofs.lemmas.List.{append-nil}
 use Rattle.std.proofs.lemmas.Result.{on_ok_weaker}
 use Rattle.wm_collections.specs.Lists.{is_among}
@@ -12,8 +12,7 @@ returns-in-Some c =
     let removed = c.args.clearing.now.removed in
     let order = (reached-view _ s _ c.view.view_is c.view.invariant).works.in_order in
     on_ok_weaker c.add_kept.result (λ is. is ∙ ap (λ added. c.args.numbers.now ++ added)
-    (ap (λ gone. filter (λ one. not (is_among gone one)) (c.in-Some.number ∷ [])) c.as_slice.ensures
-    ∙ ap (λ found. filter (λ one. not (is_among removed one)) (numbers_of_id found)) (sym c.in-Some.is ∙ c.number_of.ensures)
+    (ap (λ found. filter (λ one. not (is_among removed one)) (numbers_of_id found)) (sym c.in-Some.is ∙ c.number_of.ensures)
     ∙ id-stays s.works removed c.args.id order)) c.add_kept.ensures
 
 pub returns-in-None : goal.returns-in-None

@@ -15,14 +15,14 @@ pub update_of-requires : goal.update_of-requires
 update_of-requires c =
     let s = c.args.view.now in
     let reached = reached-view _ s _ c.view.view_is c.view.invariant in
-    let at : slice_get s.works c.args.index ≡ Some c.at-work.result.now = search rules in
-    (All-at IsRecord s.works c.args.index c.at-work.result.now reached.works.records at).fits
+    let at : slice_get s.works c.args.index ≡ Some c.work_at-work.result.now = search rules in
+    (All-at IsRecord s.works c.args.index c.work_at-work.result.now reached.works.records at).fits
 
 pub returns-in_ok-request : goal.returns-in_ok-request
 returns-in_ok-request c =
     let s = c.args.view.now in
     let index = c.args.index in
-    let work = c.at-work.result.now in
+    let work = c.work_at-work.result.now in
     let request = c.args.request in
     let asked = command.Update request in
     let reached = reached-view _ s _ c.view.view_is c.view.invariant in

@@ -2,6 +2,7 @@ use Rattle.std.proofs.Common.{◌∙◌}
 use Rattle.wm_observe.proofs.AddedPairs.{pairs-all, pairs-on, split-on}
 use Rattle.wm_observe.proofs.comparing.add_old.Goals as goal
 use Rattle.wm_observe.specs.Compared.{pair_at}
+use Rattle.wm_steps.proofs.Views.{reached-view}
 use Rattle.wm_steps.specs.StepChanges.{changed_state}
 
 pub loop-number-preserved : goal.loop-number-preserved
@@ -20,5 +21,5 @@ returns c =
     let change = c.args.change.now in
     let given = c.into_iter-number-iterator.ensures.into_iter_gives in
     c.loop-number.invariant.pairs
-    ∙ pairs-all s change c.requires.valid c.args.numbers.now c.requires.numbers given.4 c.args.pairs.now c.loop-number.yielded
+    ∙ pairs-all s change (reached-view _ s _ c.view.view_is c.view.invariant) c.args.numbers.now c.requires.numbers given.4 c.args.pairs.now c.loop-number.yielded
     c.loop-number.number-iterator c.into_iter-number-iterator.result c.loop-number.invariant.split given.0 c.in-None.ensures.steps.0

@@ -10,7 +10,7 @@ pub has_succeeded-requires : goal.has_succeeded-requires
 has_succeeded-requires c =
     let s = c.args.view.now in
     let reached = reached-view _ s _ c.view.view_is c.view.invariant in
-    rw c.as_slice-in-None.ensures (new-in_order s c.args.change.now reached c.requires.step)
+    rw c.as_slice.ensures (new-in_order s c.args.change.now reached c.requires.step)
 
 pub returns-in-Some : goal.returns-in-Some
 returns-in-Some c =
@@ -24,5 +24,5 @@ returns-in-None c =
     let s = c.args.view.now in
     let reached = reached-view _ s _ c.view.view_is c.view.invariant in
     let none : work_numbered c.args.number s.works ≡ None = search rules in
-    c.has_succeeded.ensures ∙ ap (λ (placed : List Record). has_succeeded placed c.args.number) c.as_slice-in-None.ensures
+    c.has_succeeded.ensures ∙ ap (λ (placed : List Record). has_succeeded placed c.args.number) c.as_slice.ensures
     ∙ new-succeeded s c.args.change.now reached c.requires.step c.args.number none

@@ -4,9 +4,6 @@ use Rattle.wm_observe.proofs.ComparedPairs.{compared-told}
 use Rattle.wm_observe.specs.Compared.{compared_pairs}
 use Rattle.wm_observe.proofs.comparing.step_notes.Goals as goal
 
-pub compared_pairs-requires-clause-valid : goal.compared_pairs-requires-clause-valid
-compared_pairs-requires-clause-valid c = reached-view _ c.args.view.now _ c.view.view_is c.view.invariant
-
 pub returns : goal.returns
 returns c =
     let s = c.args.view.now in

@@ -2,11 +2,12 @@ use Rattle.std.proofs.Common.{◌≡◌, Ok, IfOk, rules, subst}
 use Rattle.wm_machine.specs.Ends.{ended}
 use Rattle.wm_runs.proofs.Reaching.{ended-same}
 use Rattle.wm_runs.proofs.Touched.{same-rise}
-use Rattle.wm_runs.specs.Reached.{numbers_of, RiseFrom}
+use Rattle.wm_runs.specs.Reached.{numbers_of}
+use Rattle.wm_steps.specs.Numbers.{RiseFrom}
 use Rattle.wm_runs.proofs.finishing.replaced_by_end.Goals as goal
 
-pub replaced_by-requires-clause-rises : goal.replaced_by-requires-clause-rises
-replaced_by-requires-clause-rises c =
+pub replaced_by-requires : goal.replaced_by-requires
+replaced_by-requires c =
     let s = c.args.view.now in
     let work = c.args.work.now in
     let end = c.args.end.now in

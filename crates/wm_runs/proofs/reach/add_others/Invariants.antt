@@ -6,5 +6,5 @@ use Rattle.wm_runs.proofs.reach.add_others.Given as goal
 -- the replacements so far and those of the numbers that are left are all
 abbrev pub invariant-loop-number : goal.invariant-loop-number
 invariant-loop-number l =
-    l.replaced ++ by_numbers (change_by l.itself l.reach) (others l.itself.seq (drop l.number-index l.numbers)) l.works
-    ≡ l.fn.replaced ++ by_numbers (change_by l.itself l.reach) (others l.itself.seq l.numbers) l.works
+    l.replaced ++ by_numbers (change_by l.itself l.reach) (others l.itself.seq (drop l.number-index l.numbers)) l.view.works
+    ≡ l.fn.replaced ++ by_numbers (change_by l.itself l.reach) (others l.itself.seq l.numbers) l.view.works

@@ -9,8 +9,8 @@ use Rattle.wm_runs.proofs.RunLookups.{found-at, work-found}
 use Rattle.wm_steps.proofs.Views.{reached-view}
 use Rattle.wm_runs.proofs.reports.found_run.Goals as goal
 
-pub unreachable-requires-in_default-index_numbered : goal.unreachable-requires-in_default-index_numbered
-unreachable-requires-in_default-index_numbered c =
+pub unreachable-requires-in_default-place_of : goal.unreachable-requires-in_default-place_of
+unreachable-requires-in_default-place_of c =
     let s = c.args.view.now in
     let reached = reached-view _ s _ c.view.view_is c.view.invariant in
     let run = c.in-Some.run'.now in
@@ -25,8 +25,8 @@ returns c =
     let number = c.args.number in
     let reached = reached-view _ s _ c.view.view_is c.view.invariant in
     let run = c.in-Some.run'.now in
-    let index = c.in-Some-index_numbered.index in
-    let work = c.at.result.now in
+    let index = c.in-Some-place_of.index in
+    let work = c.work_at.result.now in
     let found : run_numbered number s.runs ≡ Some run = search rules in
     let there : slice_get s.works index ≡ Some work = search rules in
     let same : work_numbered run.seq s.works ≡ slice_get s.works index = search rules in

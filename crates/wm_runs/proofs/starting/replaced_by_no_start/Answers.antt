@@ -2,11 +2,12 @@ use Rattle.std.proofs.Common.{◌≡◌, Ok, IfOk, rules, subst}
 use Rattle.wm_machine.specs.Ends.{not_started}
 use Rattle.wm_runs.proofs.Reaching.{not_started-same}
 use Rattle.wm_runs.proofs.Touched.{same-rise}
-use Rattle.wm_runs.specs.Reached.{numbers_of, RiseFrom}
+use Rattle.wm_runs.specs.Reached.{numbers_of}
+use Rattle.wm_steps.specs.Numbers.{RiseFrom}
 use Rattle.wm_runs.proofs.starting.replaced_by_no_start.Goals as goal
 
-pub replaced_by-requires-clause-rises : goal.replaced_by-requires-clause-rises
-replaced_by-requires-clause-rises c =
+pub replaced_by-requires : goal.replaced_by-requires
+replaced_by-requires c =
     let s = c.args.view.now in
     let work = c.args.work.now in
     let itself = c.in_ok-itself-2.itself in

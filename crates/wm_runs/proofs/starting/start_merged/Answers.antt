@@ -1,21 +1,16 @@
-use Rattle.std.proofs.Common.{refl, sym, ◌∙◌, ap}
+use Rattle.std.proofs.Common.{refl, ◌∙◌}
 use Rattle.wm_machine.proofs.Firsts.{idle_instance-live}
 use Rattle.wm_machine.proofs.Inputs.{start_refusal-no_input}
-use Rattle.wm_machine.specs.Input.{cause_in, input_among, input_of}
-use Rattle.wm_machine.specs.declared.state.State.{State}
+use Rattle.wm_machine.specs.Input.{input_of}
 use Rattle.wm_runs.proofs.starting.start_merged.Goals as goal
 
 pub start-requires-clause-input : goal.start-requires-clause-input
-start-requires-clause-input c =
-    let work = c.args.work.now in
-    let works = c.as_slice.ensures ∙ ap (λ (s : State). s.works) c.view.view_is in
-    sym (ap (λ works. input_among works work) works) ∙ (rw c.in-Ok.is at c.in_ok-input.ensures)
+start-requires-clause-input c = rw c.in-Ok.is at c.in_ok-input.ensures
 
 pub fail-requires-clause-refused : goal.fail-requires-clause-refused
 fail-requires-clause-refused c =
     let s = c.args.view.now in
     let work = c.args.work.now in
     let idle = c.args.idle.now in
-    let works = c.as_slice.ensures ∙ ap (λ (s : State). s.works) c.view.view_is in
-    let refused = sym (ap (λ works. cause_in (input_among works work)) works) ∙ (rw c.in-Err.is at c.in_ok-input.ensures) in
+    let refused = rw c.in-Err.is at c.in_ok-input.ensures in
     start_refusal-no_input s work (input_of s work) (idle_instance-live s.instances work.request.class idle c.requires.idle) refl ∙ refused

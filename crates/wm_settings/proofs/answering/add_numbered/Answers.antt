@@ -2,14 +2,8 @@ use Rattle.std.proofs.Common.{◌≡◌, Some, None, rules}
 use Rattle.std.proofs.lemmas.Result.{on_ok_weaker}
 use Rattle.wm_machine.specs.Input.{work_numbered}
 use Rattle.wm_machine.specs.Queried.{matches}
-use Rattle.wm_settings.proofs.FoundAnswers.{found-there, numbered-none, numbered-some}
+use Rattle.wm_settings.proofs.FoundAnswers.{numbered-none, numbered-some}
 use Rattle.wm_settings.proofs.answering.add_numbered.Goals as goal
-
-pub add_told-requires : goal.add_told-requires
-add_told-requires c =
-    let works = c.args.view.now.works in
-    let found : Some c.in-Some.work.now ≡ work_numbered c.args.number works = search rules in
-    found-there works c.args.number c.in-Some.work.now found
 
 pub returns-in-Some : goal.returns-in-Some
 returns-in-Some c =

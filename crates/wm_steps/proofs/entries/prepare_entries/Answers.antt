@@ -1,11 +1,7 @@
-use Rattle.std.proofs.Common.{◌≡◌, true, Result, Ok, Err, OnErr, sym}
-use Rattle.std.specs.Result.{is_err}
+use Rattle.std.proofs.Common.{sym}
+use Rattle.wm_index.proofs.Founds.{err_given}
 use Rattle.wm_steps.proofs.EntryChanges.{entries-ascend, replaced-there}
 use Rattle.wm_steps.proofs.entries.prepare_entries.Goals as goal
-
-err_given : {A E : Type 0} (r : Result A E) (P : Type 0) → OnErr r P → is_err r ≡ true → P
-err_given (Ok x) P given err = absurd cc
-err_given (Err e) P given err = given
 
 pub put_each-requires-clause-there : goal.put_each-requires-clause-there
 put_each-requires-clause-there c = replaced-there c.args.works.now c.args.change.now c.requires.follows c.args.index.now c.requires.entries

@@ -1,4 +1,3 @@
-use Rattle.std.proofs.Common.{Some, rules, ap, ◌∙◌}
 use Rattle.wm_steps.proofs.Marks.{set-marked}
 use Rattle.wm_steps.proofs.covers.Covers.set.Goals as goal
 

@@ -2,7 +2,6 @@ use Rattle.std.proofs.Common.{subst, sym, OnOk}
 use Rattle.wm_machine.specs.declared.state.State.{State}
 use Rattle.wm_steps.proofs.Marks.{covered-set}
 use Rattle.wm_steps.specs.Covers.{IsMark, IsMarked}
-use Rattle.wm_steps.specs.declared.covers.Covers.{Covers}
 use Rattle.wm_steps.proofs.view.View.cover.Goals as goal
 
 pub invariant_of-self : goal.invariant_of-self

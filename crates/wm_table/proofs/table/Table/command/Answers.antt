@@ -4,12 +4,12 @@ use Rattle.wm_table.proofs.table.Table.command.Goals as goal
 
 pub returns-in-Ok-clause-untouched_keeper : goal.returns-in-Ok-clause-untouched_keeper
 returns-in-Ok-clause-untouched_keeper g c =
-    let state_is : c.expect.new.self.state ≡ c.self.inside.view = cc in
+    let state_is : c.look_ahead.new.self.state ≡ c.self.inside.view = cc in
     let made = c.in_ok-change.ensures in
-    rw (← c.expect.ensures) (λ same. c.in-Ok.ensures.untouched_keeper (no-row-changes _ _ _ c.args.command _ state_is made.executed same))
+    rw (← c.look_ahead.ensures) (λ same. c.in-Ok.ensures.untouched_keeper (no-row-changes _ _ _ c.args.command _ state_is made.executed same))
 
 pub returns-in-Err-clause-untouched_keeper : goal.returns-in-Err-clause-untouched_keeper
 returns-in-Err-clause-untouched_keeper g c =
-    let state_is : c.expect.new.self.state ≡ c.self.inside.view = cc in
+    let state_is : c.look_ahead.new.self.state ≡ c.self.inside.view = cc in
     let made = c.in_ok-change.ensures in
-    rw (← c.expect.ensures) (λ same. c.in-Err.ensures.untouched_keeper (no-row-changes _ _ _ c.args.command _ state_is made.executed same))
+    rw (← c.look_ahead.ensures) (λ same. c.in-Err.ensures.untouched_keeper (no-row-changes _ _ _ c.args.command _ state_is made.executed same))
