@@ -62,6 +62,18 @@ impl Tracker {
         self.met
     }
 
+    /// The bit at the signature of each of the constraints that these conditions meet. Where they are
+    /// the same as before, nothing is reckoned.
+    fn met_under(&self, next: &Conditions) -> u128
+        ensures { AreMet next.now result }
+    {
+        if *next == self.conditions {
+            self.met
+        } else {
+            bits_of(next)
+        }
+    }
+
     /// Takes the next conditions, and tells for which constraints they make a difference. It takes
     /// no memory.
     pub fn update(&mut self, next: Conditions) -> Changed
@@ -69,7 +81,7 @@ impl Tracker {
         ensures rose { AreRisen self.old next result.rose }
         ensures fell { AreFallen self.old next result.fell }
     {
-        let met = bits_of(&next);
+        let met = self.met_under(&next);
         let changed = Changed {
             rose: met & !self.met,
             fell: self.met & !met,

@@ -78,6 +78,15 @@ impl Eq for Data {
     ghost laws = { lists_equiv laws-law };
 }
 
+/// A list that holds no more memory than its elements take, where a smaller block is to be had.
+fn fitted<T: Drop>(items: Items<T>) -> Items<T>
+    ensures { result ≡ items }
+{
+    let mut elements = items.into_vec();
+    elements.shrink_to_fit();
+    Items::from_vec(elements)
+}
+
 impl Data {
     /// No entry. It takes no memory.
     pub fn empty() -> Data
@@ -105,6 +114,7 @@ impl Data {
         if entries.is_empty() {
             return Ok(Data::empty());
         }
+        let entries = fitted(entries);
         Ok(Data {
             entries: Some(Shared::new(alloc, entries)?),
             size,

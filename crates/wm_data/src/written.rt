@@ -28,6 +28,9 @@ impl Data {
     pub fn to_text(&self, alloc: Global) -> Result<Text, AllocError>
         ensures { IfOk result (λ text. text ≡ data_text self.now) }
     {
+        if self.entries().is_empty() {
+            return Text::from_str(alloc, "{}");
+        }
         let value = entries_to_json(alloc, self.entries())?;
         Ok(Text::from_string(value.to_string(alloc)?))
     }

@@ -8,7 +8,7 @@ use Rattle.std.specs.Ordering.{is_eq}
 use Rattle.std.specs.BTreeMap.{is_at}
 use Rattle.std.specs.BTreeSet.{contains, BTreeSet, Updates}
 use Rattle.wm_ready.specs.Entries.{has, is_later, is_same, is_startable, Entry, IsFirst, NonePasses}
-use Rattle.wm_ready.specs.Keys.{entries_of, entry_of, is_open, key_cmp, Any, HasKey, AreKeys, IsLeast, IsKey, Key}
+use Rattle.wm_ready.specs.Keys.{entries_of, entry_of, is_open, key_cmp, Any, AreKeys, HasKey, IsKey, IsLeast, Key}
 use Rattle.wm_ready.specs.Puts.{IsDropped, IsPut}
 
 abbrev pub key_of : Entry → Key
@@ -42,11 +42,11 @@ pub dropped-is : (entry : Entry) (old new : BTreeSet Key) → Updates key_cmp ol
 dropped-is entry old new updates other =
     rw (has-entry new other, has-entry old other, same-key entry (key_of other)) (updates.0 (key_of other) ∙ cond-and (is_eq (key_cmp (key_of entry) (key_of other))) (contains key_cmp old (key_of other)))
 
-either : (b c : Bool) → cond b true c ≡ true → (b ≡ true) ⊎ (c ≡ true)
+pub either : (b c : Bool) → cond b true c ≡ true → (b ≡ true) ⊎ (c ≡ true)
 either true c given = inl refl
 either false c given = inr given
 
-latter : (b c : Bool) → cond b false c ≡ true → c ≡ true
+pub latter : (b c : Bool) → cond b false c ≡ true → c ≡ true
 latter true c given = absurd cc
 latter false c given = given
 

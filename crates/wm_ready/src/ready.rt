@@ -1,12 +1,12 @@
 //! The entries of works that may start.
-ghost use Rattle.std.specs.Prelude.{◌≡◌, ◌&&◌, ◌||◌, ◌≤◌, false, true, not, MatchOption, OnErr, OnOk, [], ◌<◌};
+ghost use Rattle.std.specs.Prelude.{◌≡◌, ◌&&◌, ◌||◌, ◌≤◌, false, true, not, IfSome, MatchOption, OnErr, OnOk, [], ◌<◌};
 ghost use Rattle.wm_ready.specs.Entries.{has, is_later, is_same, is_startable, Entry, IsFirstMoment, IsFirstNumber, NonePasses};
-ghost use Rattle.wm_ready.specs.Keys.{entries_of, AreKeys};
+ghost use Rattle.wm_ready.specs.Keys.{entries_of, moment_of, AreKeys, AreParts};
 ghost use Rattle.wm_ready.specs.Puts.{entry, IsDropped, IsPut};
 
-use crate::keys::{Key, least};
+use crate::keys::{Key, Part, first_of, least};
 use std::alloc::{AllocError, Global};
-use std::collections::BTreeSet;
+use std::collections::{BTreeMap, BTreeSet};
 use std::marker::Model;
 
 /// The works that may start once they are due, their constraints are met and an instance of their
@@ -15,31 +15,52 @@ use std::marker::Model;
 #[derive(Debug, Drop)]
 pub struct Ready {
     keys: BTreeSet<Key>,
+    /// The parts that have keys, each with a moment that none of them is due before, so that what isn't
+    /// due or met, or is busy, is passed by a look at its part.
+    parts: BTreeMap<Part, u64>,
 }
 
 impl Model for Ready {
     ghost use Rattle.std.specs.Prelude.{List};
     ghost use Rattle.wm_ready.specs.Entries.{Entry};
-    ghost use Rattle.wm_ready.specs.Keys.{entries_of, AreKeys};
+    ghost use Rattle.wm_ready.specs.Keys.{entries_of, AreKeys, AreParts};
 
     ghost Value = { List Entry };
 
     ghost view = { λ r. entries_of r.keys };
 
-    ghost invariant = { λ r. AreKeys r.keys };
+    ghost invariant = { λ r. AreKeys r.keys × AreParts r.keys r.parts };
 }
 
 /// The least moment above now, which isn't the last one, of a key whose signature's bit is set and
 /// whose class isn't busy.
-fn moment_after(keys: &BTreeSet<Key>, now: u64, met: u128, busy: &[u32]) -> Option<u64>
+fn moment_after(
+    keys: &BTreeSet<Key>,
+    parts: &BTreeMap<Part, u64>,
+    now: u64,
+    met: u128,
+    busy: &[u32],
+) -> Option<u64>
     requires keys { AreKeys keys.now }
+    requires parts { AreParts keys.now parts.now }
     requires before_end { now < 18446744073709551615 }
     ensures { MatchOption result (NonePasses (entries_of keys.now) (is_later now met busy.now))
         (IsFirstMoment (entries_of keys.now) (is_later now met busy.now)) }
 {
-    match least(keys, now + 1, u64::MAX, met, busy) {
+    match least(keys, parts, now + 1, u64::MAX, met, busy) {
         Some(key) => Some(key.2),
         None => None,
+    }
+}
+
+/// The moment that is kept for a part, or this one, where it is before that or none is kept.
+fn least_with(parts: &BTreeMap<Part, u64>, part: &Part, due: u64) -> u64
+    ensures due { result ≤ due }
+    ensures kept { IfSome (moment_of parts.now part.now) (λ moment. result ≤ moment) }
+{
+    match parts.get(part) {
+        Some(moment) => due.min(*moment),
+        None => due,
     }
 }
 
@@ -50,6 +71,7 @@ impl Ready {
     {
         Ready {
             keys: BTreeSet::new(alloc),
+            parts: BTreeMap::new(alloc),
         }
     }
 
@@ -59,6 +81,9 @@ impl Ready {
         ensures ok { OnOk result (IsPut (entry due seq sig class) self.old self.new) }
         ensures err { OnErr result (self.new ≡ self.old) }
     {
+        let part = (class, sig);
+        let moment = least_with(&self.parts, &part, due);
+        self.parts.insert(part, moment)?;
         self.keys.insert((class, sig, due, seq))?;
         Ok(())
     }
@@ -67,7 +92,17 @@ impl Ready {
     pub fn drop_entry(&mut self, due: u64, seq: u64, sig: u8, class: u32)
         ensures { IsDropped (entry due seq sig class) self.old self.new }
     {
+        let part = (class, sig);
         self.keys.remove(&(class, sig, due, seq));
+        match first_of(&self.keys, &part, 0) {
+            Some(first) => {
+                // the part is there, so it takes no memory
+                let _kept = self.parts.insert(part, first.2);
+            }
+            None => {
+                self.parts.remove(&part);
+            }
+        }
     }
 
     /// The number of the entry with the least moment and number that is due, whose signature's bit
@@ -76,7 +111,7 @@ impl Ready {
         ensures { MatchOption result (NonePasses self.now (is_startable now met busy.now))
             (IsFirstNumber self.now (is_startable now met busy.now)) }
     {
-        match least(&self.keys, 0, now, met, busy) {
+        match least(&self.keys, &self.parts, 0, now, met, busy) {
             Some(key) => Some(key.3),
             None => None,
         }
@@ -88,10 +123,10 @@ impl Ready {
         ensures { MatchOption result (NonePasses self.now (is_later now met busy.now))
             (IsFirstMoment self.now (is_later now met busy.now)) }
     {
-        let keys = &self.keys;
+        let (keys, parts) = (&self.keys, &self.parts);
         if now == u64::MAX {
             return None;
         }
-        moment_after(keys, now, met, busy)
+        moment_after(keys, parts, now, met, busy)
     }
 }

@@ -136,8 +136,8 @@ module _ {K W B : Type 0} {run : Inputs} {tells : Tells K W B} where
       → BookInvariant run tells old → old.status ≡ None
       → IsOneStep tells.store (event.Start ticket.task.run ticket.seq ticket.instance ticket.task.input) old.table table → IsTicketIn table.state ticket
       → table.roll ≡ old.table.roll ++ ticket_part ticket ∷ [] → place ≡ ticket.instance → Some seat ≡ option_map (λ worker. record { number = place; worker = worker }) (idle_at place old.places)
-      → places ≡ changed_at (made_away tells.kind_of) place old.places → signal ≡ record { run = ticket.task.run; never = false } → pending ≡ nothing
-      → book.IsBegun tells.store tells.kind_of ticket seat signal old
+      → places ≡ changed_at (made_away tells.kind_of) place old.places → signal ≡ record { run = ticket.task.run; never = signal.never } → pending ≡ nothing
+      → book.IsBegun tells.store tells.kind_of signal.never ticket seat signal old
       (record old { table = table; places = places; pending = pending; sink = sink })
   IsBegun-taken {old = old} table places pending sink ticket place seat signal kept going step ticket_in roll same taken are signal_is written =
       let seated = seat_is place (idle_at place old.places) seat taken in

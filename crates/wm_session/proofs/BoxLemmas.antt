@@ -1,5 +1,5 @@
 -- What becomes of the workers, after more events.
-use Rattle.std.proofs.Common.{◌≡◌, ℕ, zero, suc, cond, eqb, List, [], ◌∷◌, ◌++◌, map, Option, Some, None, IsSome, IsSomeAnd, slice_get, inl, inr, refl, sym, ◌∙◌, ap, subst}
+use Rattle.std.proofs.Common.{◌≡◌, ℕ, zero, suc, Bool, cond, eqb, List, [], ◌∷◌, ◌++◌, map, Option, Some, None, IsSome, IsSomeAnd, slice_get, inl, inr, refl, sym, ◌∙◌, ap, subst}
 use Rattle.std.proofs.lemmas.Bool.{eq-eqb, false≢true, ne_eqb}
 use Rattle.wm_bench.specs.Places.{changed_at, idle_at, idle_hands, idle_in, made_back, place_of, IsAwayAt, IsAwayIn}
 use Rattle.wm_bench.specs.Seat.{Seat}
@@ -197,9 +197,9 @@ KeepBoxes-begin diary_of book begins number worker idle =
     (idle_at-given hands number worker (rw begins.all_idle at idle))
 
 -- a run starts, whose worker is to write down that it began
-pub KeepBoxes-begun : {K W B : Type 0} {store : K → Store} {kind_of : B → Kind} {ticket : TicketState} {seat : Seat B} {signal : SignalState}
+pub KeepBoxes-begun : {K W B : Type 0} {store : K → Store} {kind_of : B → Kind} {never : Bool} {ticket : TicketState} {seat : Seat B} {signal : SignalState}
     {old new : BookState K W B} (diary_of : B → Option (List Entry)) (given : List (Hand B))
-    → IsBetweenRuns old → IsBegun store kind_of ticket seat signal old new → KeepBoxes diary_of given old
+    → IsBetweenRuns old → IsBegun store kind_of never ticket seat signal old new → KeepBoxes diary_of given old
     → KeepBoxesOut diary_of ticket.instance (diary_of seat.worker) (diary_with (Begun ticket.task.run ∷ []) (diary_of seat.worker)) given new
 KeepBoxes-begun {kind_of = kind_of} {ticket = ticket} {seat = seat} {old = old} {new = new} diary_of given rest begun keep =
     let task = ticket.task in

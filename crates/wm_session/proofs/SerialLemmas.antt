@@ -292,8 +292,8 @@ module _ {K W B : Type 0} (store : K → Store) (old new : BookState K W B) (res
       (rest.no_run going)
 
 -- a run that starts in a book at rest is under way
-pub IsUnderWay-begun : {K W B : Type 0} {store : K → Store} {kind_of : B → Kind} {ticket : TicketState} {seat : Seat B} {signal : SignalState}
-    {old new : BookState K W B} → IsBetweenRuns old → IsBegun store kind_of ticket seat signal old new → IsUnderWay kind_of ticket new
+pub IsUnderWay-begun : {K W B : Type 0} {store : K → Store} {kind_of : B → Kind} {never : Bool} {ticket : TicketState} {seat : Seat B} {signal : SignalState}
+    {old new : BookState K W B} → IsBetweenRuns old → IsBegun store kind_of never ticket seat signal old new → IsUnderWay kind_of ticket new
 IsUnderWay-begun {store = store} {kind_of = kind_of} {ticket = ticket} {seat = seat} {old = old} {new = new} rest begun =
     let task = ticket.task in
     let start = event.Start task.run ticket.seq ticket.instance task.input in

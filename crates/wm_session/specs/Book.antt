@@ -129,9 +129,9 @@ IsSessionOver book = IsSome book.status ⊎ ((book.left ≡ []) × IsQuiet book.
 
 -- ---- a start
 
--- a run began: its ticket holds what it keeps, its part is on the roll, the worker of its instance is out with the seat, and fewer works are left
--- to drain
-pub record IsBegun {K W B : Type 0} (store : K → Store) (kind_of : B → Kind) (ticket : TicketState) (seat : Seat B) (signal : SignalState)
+-- a run began: its ticket holds what it keeps, its part is on the roll, the worker of its instance is out with the seat, its signal may be raised
+-- or never is, and fewer works are left to drain
+pub record IsBegun {K W B : Type 0} (store : K → Store) (kind_of : B → Kind) (never : Bool) (ticket : TicketState) (seat : Seat B) (signal : SignalState)
     (old new : BookState K W B) : Type 0 where
   pub goes_on : GoesOn old new
   pub step : IsOneStep store (event.Start ticket.task.run ticket.seq ticket.instance ticket.task.input) old.table new.table
@@ -141,7 +141,7 @@ pub record IsBegun {K W B : Type 0} (store : K → Store) (kind_of : B → Kind)
   pub kind : kind_of seat.worker ≡ ticket.kind
   pub worker : idle_at ticket.instance old.places ≡ Some seat.worker
   pub places : new.places ≡ changed_at (made_away kind_of) ticket.instance old.places
-  pub signal_is : signal ≡ record { run = ticket.task.run; never = false }
+  pub signal_is : signal ≡ record { run = ticket.task.run; never = never }
   pub left : new.left ≡ old.left
   pub fewer : left_to_drain new.table.state < left_to_drain old.table.state
 
@@ -186,11 +186,11 @@ pub record NothingStarts {K W B : Type 0} (old new : BookState K W B) : Type 0 w
 
 -- Run where a run began; Failed where the work that is first couldn't start; None where nothing is startable; Stopped where the session has
 -- stopped early
-abbrev pub IsClaimed : {K W B M : Type 0} → (K → Store) → (B → Kind) → Job B M → BookState K W B → BookState K W B → Type 0
-IsClaimed store kind_of (job.Run ticket seat signal) old new = IsBegun store kind_of ticket seat signal old new
-IsClaimed store kind_of job.Failed old new = IsStartFailed store old new
-IsClaimed store kind_of job.None old new = NothingStarts old new
-IsClaimed {M = M} store kind_of job.Stopped old new = IsClaimStopped M store old new
+abbrev pub IsClaimed : {K W B M : Type 0} → (K → Store) → (B → Kind) → Bool → Job B M → BookState K W B → BookState K W B → Type 0
+IsClaimed store kind_of never (job.Run ticket seat signal) old new = IsBegun store kind_of never ticket seat signal old new
+IsClaimed store kind_of never job.Failed old new = IsStartFailed store old new
+IsClaimed store kind_of never job.None old new = NothingStarts old new
+IsClaimed {M = M} store kind_of never job.Stopped old new = IsClaimStopped M store old new
 
 -- ---- a report
 

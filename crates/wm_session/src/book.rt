@@ -1,6 +1,6 @@
 //! The book of a session: the table with the bench, the lines that are left, and what is still to
 //! be written.
-ghost use Rattle.std.specs.Prelude.{◌≡◌, ◌≢◌, ◌↔◌, ◌^◌, ◌<◌, ◌≤◌, ◌+◌, [], None, Some, length, map, IsSome, IsNone, IsTrue, IfOk, IfErr, MatchBool, Ok, false};
+ghost use Rattle.std.specs.Prelude.{◌≡◌, ◌≢◌, ◌↔◌, ◌^◌, ◌<◌, ◌≤◌, ◌+◌, [], None, Some, length, map, IsSome, IsNone, IsTrue, IfOk, IfErr, MatchBool, Ok, false, true};
 ghost use Rattle.std.specs.List.{AllByRecursion};
 ghost use Rattle.wm_machine.specs.Outcome.{IsAskable};
 ghost use Rattle.wm_machine.specs.Quiet.{IsQuiet};
@@ -233,7 +233,7 @@ impl<K: Keeper, W: Sink, B: Worker, M: Mark> Book<K, W, B, M> {
     /// Starts the work that is first, tells it, and takes the worker of its instance from the bench. The
     /// run's signal is made before its event, and a share of it kept; none is where nothing is startable.
     pub fn claim(&mut self) -> Job<B, M>
-        ensures { IsClaimed K.store B.kind_of result self.old self.new }
+        ensures { IsClaimed K.store B.kind_of false result self.old self.new }
     {
         if self.status.is_some() {
             return Job::Stopped;
@@ -253,11 +253,23 @@ impl<K: Keeper, W: Sink, B: Worker, M: Mark> Book<K, W, B, M> {
         job
     }
 
-    /// Starts the work that is first, while the session goes on, with the signal of the next run.
+    /// Starts the work that is first as [`Book::claim`] does, for a driver that drives its run to the
+    /// end before the next line: no line stops it, so its signal is never raised, and none is made.
+    pub fn claim_alone(&mut self) -> Job<B, M>
+        ensures { IsClaimed K.store B.kind_of true result self.old self.new }
+    {
+        if self.status.is_some() {
+            return Job::Stopped;
+        }
+        let signal = Signal::never(self.table.next_run());
+        self.start_first(signal)
+    }
+
+    /// Starts the work that is first, while the session goes on, with a signal of the next run.
     fn start_first(&mut self, signal: Signal) -> Job<B, M>
         requires going { self.old.status ≡ None }
-        requires signal { signal ≡ record { run = self.old.table.state.next_run; never = false } }
-        ensures { IsClaimed K.store B.kind_of result self.old self.new }
+        requires signal { signal.run ≡ self.old.table.state.next_run }
+        ensures { IsClaimed K.store B.kind_of signal.never result self.old self.new }
     {
         let claim = match self.table.claim() {
             Ok(Some(claim)) => claim,

@@ -131,11 +131,9 @@ fn drive_first<K: Keeper, W: Sink, B: Worker, M: Mark, G: Gate>(
     ensures boxes { (given : List (Hand B))
         → KeepBoxes B.diary_of given book.old → KeepBoxes B.diary_of given book.new }
 {
-    match book.claim() {
+    match book.claim_alone() {
         Job::Run(ticket, seat, signal) => {
-            drop(signal);
-            let never = Signal::never(ticket.task().run);
-            drive(alloc, book, gate, ticket, seat, &never);
+            drive(alloc, book, gate, ticket, seat, &signal);
             Progress::Driven
         }
         Job::Failed => Progress::Driven,

@@ -10,4 +10,4 @@ returns-then-now-eq18446744073709551615 c =
     let last : c.args.now ≡ 18446744073709551615 = grind (arith, nat_tests, c.if-now-eq18446744073709551615.true) in
     rw (← c.self.view_is)
     (subst (λ now. NonePasses (entries_of c.self.inside.keys) (is_later now c.args.met c.args.busy.now)) (sym last)
-    (none-later c.self.inside.keys c.args.met c.args.busy.now c.self.invariant))
+    (none-later c.self.inside.keys c.args.met c.args.busy.now c.self.invariant.0))

@@ -66,7 +66,7 @@ returns-in-Some g c =
     let run = rw (c.in-Ok-Some.field-0-is, c.in-Run.is) at c.in-Ok-Some.ensures.ok in
     let next : c.args.self.now.table.state.next_run ≡ ticket.task.run =
     ap (λ book. book.table.state.next_run) (sym c.self.view_is) ∙ sym run.step.legal.run_is in
-    let signal_is = c.requires.signal ∙ ap (λ (n : ℕ). record { run = n; never = false }) next in
+    let signal_is = ap (λ (n : ℕ). record { run = n; never = c.args.signal.never }) (c.requires.signal ∙ next) in
     rw (← c.self.view_is)
     (IsBegun-taken c.claim.new.self c.take.new.self told.pending told.sink ticket c.instance.result c.in-Some.seat c.args.signal
     c.self.invariant (subst (λ book. book.status ≡ None) (sym c.self.view_is) c.requires.going) run.step run.ticket_in (rw (c.in-Ok-Some.field-0-is, c.in-Run.is) at c.in-Ok-Some.ensures.roll) c.instance.ensures c.in-Some.ensures.seat c.in-Some.ensures.taken
