@@ -6,7 +6,7 @@ use std::alloc::{AllocError, Global};
 use wm_bench::Hand;
 use wm_collections::Text;
 use wm_data::{Data, Value};
-use wm_worker::{Answer, Entry, Kind, Signal, Task, Told, Worker};
+use wm_worker::{Answer, DoWork, Signal, Simple, Task};
 
 /// How many steps a turn takes: a millisecond's or so.
 const STEPS: u32 = 5_000_000;
@@ -16,43 +16,21 @@ const STEPS: u32 = 5_000_000;
 #[derive(Drop)]
 pub struct Busy;
 
-impl Worker for Busy {
-    ghost use Rattle.std.specs.Prelude.{None};
-    ghost use Rattle.wm_worker.specs.declared.kind.Kind.TheVariants as kind;
-
-    ghost kind_of = { λ _. kind.Custom };
-
-    ghost diary_of = { λ _. None };
-
-    fn kind(&self) -> Kind {
-        Kind::Custom
-    }
-
-    /// It writes nothing down.
-    fn diary(&self) -> Option<&[Entry]> {
-        None
-    }
-
-    /// There is nothing to make ready.
-    fn begin(&mut self, _alloc: Global, _task: &Task) -> Result<(), AllocError> {
-        Ok(())
-    }
-
-    fn turn(
+impl DoWork for Busy {
+    fn do_work(
         &mut self,
-        alloc: Global,
+        _alloc: Global,
         task: &Task,
         k: u32,
         _signal: &Signal,
-    ) -> Result<Told, AllocError> {
-        let answer = if stirred(k) == 0 {
+    ) -> Result<Answer, AllocError> {
+        Ok(if stirred(k) == 0 {
             Answer::Failure(Data::empty())
         } else if i64::from(k) + 1 < turns_of(task) {
             Answer::More(None)
         } else {
             Answer::Success(Data::empty())
-        };
-        Told::new(alloc, Kind::Custom, task, k, answer)
+        })
     }
 }
 
@@ -75,15 +53,15 @@ fn stirred(number: u32) -> u64 {
     stirred
 }
 
-fn busy_hand(alloc: Global) -> Result<Hand<Busy>, AllocError> {
+fn busy_hand(alloc: Global) -> Result<Hand<Simple<Busy>>, AllocError> {
     Ok(Hand {
         class: Text::from_str(alloc, "Busy")?,
-        worker: Busy,
+        worker: Simple::new(Busy),
     })
 }
 
 /// Four workers of class `Busy`.
-pub fn busy_hands(alloc: Global) -> Result<Vec<Hand<Busy>>, AllocError>
+pub fn busy_hands(alloc: Global) -> Result<Vec<Hand<Simple<Busy>>>, AllocError>
     ensures { IfOk result (λ hands. vec_len hands ≤ most_hands) }
 {
     let mut hands = Vec::new(alloc);

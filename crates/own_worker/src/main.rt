@@ -1,17 +1,23 @@
 //! A program of a user's own, which `docs/LIBRARY.md` goes through: it runs a script that it has in
 //! memory, with a worker of its own beside a stock one, and places works that it requests by calls.
 //!
-//! With words it then measures what threads gain: it runs the script on standard input with four
-//! workers of class `Busy`, each of whose turns takes a processor a millisecond or so, over a store in
-//! memory. `bench/pool.sh` times that.
+//! With words it is then measured, over a store in memory. It runs the script on standard input with
+//! four workers of class `Busy`, each of whose turns takes a processor a millisecond or so, which tells
+//! what threads gain (`bench/pool.sh`); and what a seed gives, where the words have one, with the stock
+//! workers, which tells what an engine takes without files (`bench/plain.sh`).
 #![tactic(auto)]
+
+ghost use Rattle.std.specs.Prelude.{◌≤◌, vec_len};
+ghost use Rattle.wm_bench.specs.Places.{most_hands};
 
 mod busy;
 mod photos;
 mod resizer;
+mod stock;
 
 use crate::busy::busy_hands;
 use crate::resizer::Resizer;
+use crate::stock::stock_hands;
 use std::alloc::{AllocError, Global};
 use std::io;
 use std::process::ExitCode;
@@ -25,6 +31,7 @@ use wm_keeper::SureKeeper;
 use wm_pool::OpenGate;
 use wm_program::exit;
 use wm_stock::Echo;
+use wm_worker::{Simple, Worker};
 
 /// A photo is resized, and what comes of that is echoed.
 const SCRIPT: &str =
@@ -46,7 +53,7 @@ fn run<R: Threads + Wait + Sync>(rt: &R, alloc: Global) -> Result<(u8, Vec<u8>),
     let words = words(alloc)?;
     let mut hands: Vec<Hand> = Vec::new(alloc);
     let class = Text::from_str(alloc, "Resize")?;
-    let worker = Box::new(alloc, Resizer)?;
+    let worker = Box::new(alloc, Simple::new(Resizer))?;
     hands.push(Hand { class, worker })?;
     let class = Text::from_str(alloc, "Echo")?;
     let worker = Box::new(alloc, Echo::new())?;
@@ -77,17 +84,37 @@ fn placed(alloc: Global) -> Option<String> {
     format!(in alloc; "{count} works are placed").ok()
 }
 
-/// Runs a script with these words and the busy workers.
-fn run_busy<R: Threads + Wait + Sync, S: Source, W: Sink + Send + Drop>(
+/// Runs a script with these words and workers, over a store in memory.
+fn run_in_memory<R: Threads + Wait + Sync, S: Source, W: Sink + Send + Drop, B: Worker + Send>(
+    rt: &R,
+    alloc: Global,
+    words: &[String],
+    hands: Vec<Hand<B>>,
+    source: &mut S,
+    sink: W,
+) -> Status
+    requires { vec_len hands ≤ most_hands }
+{
+    let keeper = SureKeeper::new(Vec::new(alloc));
+    wm_cli::run(rt, alloc, words, hands, source, sink, keeper, &OpenGate).status
+}
+
+/// Runs what these words ask for: with the stock workers where they give a seed, and else with the
+/// busy ones.
+fn run_measured<R: Threads + Wait + Sync, S: Source, W: Sink + Send + Drop>(
     rt: &R,
     alloc: Global,
     words: &[String],
     source: &mut S,
     sink: W,
 ) -> Result<Status, AllocError> {
-    let hands = busy_hands(alloc)?;
-    let keeper = SureKeeper::new(Vec::new(alloc));
-    Ok(wm_cli::run(rt, alloc, words, hands, source, sink, keeper, &OpenGate).status)
+    if words.iter().any(|word| word.as_str() == "--generate") {
+        let hands = stock_hands(alloc)?;
+        Ok(run_in_memory(rt, alloc, words, hands, source, sink))
+    } else {
+        let hands = busy_hands(alloc)?;
+        Ok(run_in_memory(rt, alloc, words, hands, source, sink))
+    }
 }
 
 fn main(rt: HostRuntime) -> io::Result<ExitCode> {
@@ -101,6 +128,6 @@ fn main(rt: HostRuntime) -> io::Result<ExitCode> {
     }
     let mut source = StdSource::new(rt.stdin());
     let sink = StdSink::new(rt.stdout());
-    let ran = run_busy(&rt, alloc, &words, &mut source, sink);
+    let ran = run_measured(&rt, alloc, &words, &mut source, sink);
     Ok(exit(&rt, alloc, ran))
 }

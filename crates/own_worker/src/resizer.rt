@@ -1,51 +1,29 @@
 //! The program's own worker.
 use std::alloc::{AllocError, Global};
 use wm_data::{Data, DataBuilder, Value};
-use wm_worker::{Answer, Entry, Kind, Signal, Task, Told, Worker};
+use wm_worker::{Answer, DoWork, Signal, Task};
 
 /// Halves the width of a photo. Its first turn tells how far it is, and its second one gives the
 /// new width. It fails where its input has no int under `width`.
 #[derive(Drop)]
 pub struct Resizer;
 
-impl Worker for Resizer {
-    ghost use Rattle.std.specs.Prelude.{None};
-    ghost use Rattle.wm_worker.specs.declared.kind.Kind.TheVariants as kind;
-
-    ghost kind_of = { λ _. kind.Custom };
-
-    ghost diary_of = { λ _. None };
-
-    fn kind(&self) -> Kind {
-        Kind::Custom
-    }
-
-    /// It writes nothing down.
-    fn diary(&self) -> Option<&[Entry]> {
-        None
-    }
-
-    /// There is nothing to make ready.
-    fn begin(&mut self, _alloc: Global, _task: &Task) -> Result<(), AllocError> {
-        Ok(())
-    }
-
-    fn turn(
+impl DoWork for Resizer {
+    fn do_work(
         &mut self,
         alloc: Global,
         task: &Task,
         k: u32,
         _signal: &Signal,
-    ) -> Result<Told, AllocError> {
-        let answer = if k == 0 {
+    ) -> Result<Answer, AllocError> {
+        Ok(if k == 0 {
             Answer::More(Some(number(alloc, "percent", 50)?))
         } else {
             match task.input.get("width") {
                 Some(Value::Int(width)) => Answer::Success(number(alloc, "width", *width / 2)?),
                 _ => Answer::Failure(Data::empty()),
             }
-        };
-        Told::new(alloc, Kind::Custom, task, k, answer)
+        })
     }
 }
 

@@ -2,7 +2,7 @@
 use std::alloc::{AllocError, Global};
 use wm_collections::Replica;
 use wm_data::Data;
-use wm_worker::{Answer, Entry, Kind, Signal, Task, Told, Worker};
+use wm_worker::{Answer, DoWork, Signal, Task};
 
 /// A worker of kind Custom that tells no diary. It wants so many more turns, tells its progress in
 /// each of them, and fails with its output in the next.
@@ -23,39 +23,18 @@ impl Uploader {
     }
 }
 
-impl Worker for Uploader {
-    ghost use Rattle.std.specs.Prelude.{None};
-    ghost use Rattle.wm_worker.specs.declared.kind.Kind.TheVariants as kind;
-
-    ghost kind_of = { λ _. kind.Custom };
-
-    ghost diary_of = { λ _. None };
-
-    fn kind(&self) -> Kind {
-        Kind::Custom
-    }
-
-    fn diary(&self) -> Option<&[Entry]> {
-        None
-    }
-
-    /// There is nothing to make ready.
-    fn begin(&mut self, _alloc: Global, _task: &Task) -> Result<(), AllocError> {
-        Ok(())
-    }
-
-    fn turn(
+impl DoWork for Uploader {
+    fn do_work(
         &mut self,
         alloc: Global,
-        task: &Task,
+        _task: &Task,
         k: u32,
         _signal: &Signal,
-    ) -> Result<Told, AllocError> {
-        let answer = if k < self.turns {
+    ) -> Result<Answer, AllocError> {
+        Ok(if k < self.turns {
             Answer::More(Some(self.progress.replica(alloc)?))
         } else {
             Answer::Failure(self.output.replica(alloc)?)
-        };
-        Told::new(alloc, Kind::Custom, task, k, answer)
+        })
     }
 }
