@@ -1,5 +1,6 @@
-//! Tests of a book whose runs the test drives itself, of whole runs, also with worker threads that a
-//! gate of the test holds, of how a program ends, and of callers at a desk, a module a subject.
+//! Tests of a book whose runs the test drives itself, of whole runs, also over a large input and with
+//! worker threads that a gate of the test holds, of how a program ends, and of callers at a desk, a
+//! module a subject.
 //!
 //! It is otherwise empty. What whole runs do with the program's own workers, worked cases show.
 #![tactic(auto)]
@@ -12,6 +13,8 @@ mod callers;
 mod diaries;
 #[cfg(test)]
 mod ends;
+#[cfg(test)]
+mod generated;
 #[cfg(test)]
 mod runs;
 #[cfg(test)]

@@ -14,14 +14,13 @@ use std::test::Fail;
 use std::thread::Threads;
 use wm_bench::Hand;
 use wm_cli::{Ended, Status, run};
-use wm_collections::Text;
+use wm_collections::{Text, both};
 use wm_data::Value;
 use wm_io::{MemorySink, MemorySource};
 use wm_keeper::SureKeeper;
 use wm_pool::OpenGate;
-use wm_steps::both;
 use wm_stock::Echo;
-use wm_worker::Worker;
+use wm_worker::{Simple, Worker};
 
 /// The words of an ordinary run.
 fn words(alloc: Global) -> Result<Vec<String>, AllocError> {
@@ -195,10 +194,10 @@ run 1 turn 2: Failure {"sent":{"int":2}}
 "#;
 
 /// A caller's own worker, which tells its progress twice, and fails.
-fn uploader(alloc: Global) -> Result<Uploader, AllocError> {
+fn uploader(alloc: Global) -> Result<Simple<Uploader>, AllocError> {
     let progress = data_of(alloc, "of", Value::Int(3))?;
     let (progress, output) = both(progress, data_of(alloc, "sent", Value::Int(2)))?;
-    Ok(Uploader::new(2, progress, output))
+    Ok(Simple::new(Uploader::new(2, progress, output)))
 }
 
 /// A caller's own worker, which may give what it likes: it tells its progress twice, and fails.

@@ -15,7 +15,7 @@ use wm_cli::Status;
 use wm_data::Value;
 use wm_pool::{Gate, Point};
 use wm_stock::Wait;
-use wm_worker::{Answer, Entry, Kind, Signal, Task, Told, Worker};
+use wm_worker::{Answer, DoWork, Signal, Simple, Task};
 
 /// More turns than any run of these tests takes: a worker whose signal is raised from the start is cut
 /// in each of them.
@@ -101,41 +101,20 @@ struct Look<'a, R> {
     until: &'a AtomicBool,
 }
 
-impl<'a, R: Abort> Worker for Look<'a, R> {
-    ghost use Rattle.std.specs.Prelude.{None};
-    ghost use Rattle.wm_worker.specs.declared.kind.Kind.TheVariants as kind;
-
-    ghost kind_of = { λ _. kind.Custom };
-
-    ghost diary_of = { λ _. None };
-
-    fn kind(&self) -> Kind {
-        Kind::Custom
-    }
-
-    /// It writes nothing down.
-    fn diary(&self) -> Option<&[Entry]> {
-        None
-    }
-
-    /// There is nothing to make ready.
-    fn begin(&mut self, _alloc: Global, _task: &Task) -> Result<(), AllocError> {
-        Ok(())
-    }
-
-    fn turn(
+impl<'a, R: Abort> DoWork for Look<'a, R> {
+    fn do_work(
         &mut self,
         alloc: Global,
-        task: &Task,
-        k: u32,
+        _task: &Task,
+        _k: u32,
         signal: &Signal,
-    ) -> Result<Told, AllocError> {
+    ) -> Result<Answer, AllocError> {
         self.watch.wait_for(self.until);
         if let Some(raised) = signal.poll() {
             self.watch.seen.fetch_add(raised.run(), Ordering::SeqCst);
         }
         let output = data_of(alloc, "a", Value::Int(9))?;
-        Told::new(alloc, Kind::Custom, task, k, Answer::Success(output))
+        Ok(Answer::Success(output))
     }
 }
 
@@ -143,7 +122,7 @@ impl<'a, R: Abort> Worker for Look<'a, R> {
 fn looks<'a, R: Abort>(
     alloc: Global,
     watch: &'a Watch<'a, R>,
-) -> Result<Vec<Hand<Look<'a, R>>>, AllocError>
+) -> Result<Vec<Hand<Simple<Look<'a, R>>>>, AllocError>
     ensures { IfOk result (λ hands. vec_len hands ≤ most_hands) }
 {
     let (first, until) = (&watch.met, &watch.passed);
@@ -152,13 +131,23 @@ fn looks<'a, R: Abort>(
         alloc,
         &mut hands,
         "First",
-        Look {
+        Simple::new(Look {
             watch,
             until: first,
-        },
+        }),
     )?;
-    add_hand(alloc, &mut hands, "Look", Look { watch, until })?;
-    add_hand(alloc, &mut hands, "Look", Look { watch, until })?;
+    add_hand(
+        alloc,
+        &mut hands,
+        "Look",
+        Simple::new(Look { watch, until }),
+    )?;
+    add_hand(
+        alloc,
+        &mut hands,
+        "Look",
+        Simple::new(Look { watch, until }),
+    )?;
     Ok(hands)
 }
 

@@ -1,6 +1,6 @@
 -- Layers of works. After the guide's page "Chaining work" and `androidx.work.WorkContinuation`; that a combined layer depends directly on the
 -- last layers of its chains is this project's own choice.
-use Rattle.std.specs.Prelude.{ℕ, List, [], ◌++◌, map}
+use Rattle.std.specs.Prelude.{ℕ, List, [], ◌∷◌, ◌++◌, map}
 use Rattle.std.specs.List.{flat_map}
 use Rattle.wm_request.specs.Requests.{RequestFields}
 use Rattle.wm_request.specs.declared.request.Node.{Node}
@@ -24,6 +24,11 @@ node_after after request = record { request = request; after = after }
 -- one layer more: each of its works is after every work of the layer before, in the order of that layer
 abbrev pub layered : ContinuationFields → List RequestFields → ContinuationFields
 layered chain layer = record { works = chain.works ++ map (node_after chain.last) layer; last = request_ids layer }
+
+-- layers one after another at the end of a chain
+abbrev pub chained : ContinuationFields → List (List RequestFields) → ContinuationFields
+chained chain [] = chain
+chained chain (layer ∷ layers) = chained (layered chain layer) layers
 
 -- chains as one: their works in order, and their last layers in order as the last layer
 abbrev pub combined : List ContinuationFields → ContinuationFields

@@ -11,11 +11,11 @@ use Rattle.wm_cli.specs.declared.words.Options.{Options as ReadOptions}
 use Rattle.wm_cli.specs.declared.words.Origin.{Origin}
 use Rattle.wm_cli.specs.declared.words.Origin.TheVariants.{Script, Seed}
 use Rattle.wm_faults.specs.Faults.{Failed}
+use Rattle.wm_generator.proofs.GeneratedWorks.{AreAskable-generated}
+use Rattle.wm_generator.specs.Generated.{generated}
 use Rattle.wm_machine.specs.Outcome.{IsAskable}
 use Rattle.wm_machine.specs.declared.command.Command.{Command}
 use Rattle.wm_script.proofs.BuiltCommands.{IsAskable-commands_in}
-use Rattle.wm_script.proofs.GeneratedWorks.{AreAskable-generated}
-use Rattle.wm_script.specs.Generated.{generated}
 use Rattle.wm_script.specs.Limits.{first_limit}
 use Rattle.wm_script.specs.declared.limits.Limit.{Limit}
 use Rattle.wm_session.specs.declared.status.Status.{Status}

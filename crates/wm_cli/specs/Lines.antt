@@ -2,8 +2,8 @@
 use Rattle.std.specs.Prelude.{ℕ, List}
 use Rattle.wm_cli.specs.declared.words.Origin.{Origin}
 use Rattle.wm_cli.specs.declared.words.Origin.TheVariants as origin
+use Rattle.wm_generator.specs.Generated.{generated}
 use Rattle.wm_machine.specs.declared.command.Command.{Command}
-use Rattle.wm_script.specs.Generated.{generated}
 use Rattle.wm_script.specs.Lines.{commands_in}
 
 -- how many groups a seed gives

@@ -2,14 +2,14 @@
 use Rattle.std.proofs.Common.{◌≡◌, ◌≤◌, List, length, Some, None, Result, Ok, Err, IfOk, refl}
 use Rattle.std.specs.List.{AllByRecursion}
 use Rattle.serde_json.specs.Data as json
-use Rattle.wm_chain.specs.Layers.{no_layer, ContinuationFields}
+use Rattle.wm_chain.specs.Layers.{chained, no_layer, ContinuationFields}
 use Rattle.wm_chain.specs.Walk.{batched}
 use Rattle.wm_chain.specs.Walk.{IsFaultOf as IsChainFaultOf}
 use Rattle.wm_chain.specs.declared.fault.ChainFault.{ChainFault}
 use Rattle.wm_chain.specs.declared.fault.ChainFault.TheVariants.{IdTwice, PeriodicInChain, Memory}
 use Rattle.wm_request.specs.Requests.{RequestFields}
 use Rattle.wm_script.proofs.PartsLemmas.{some_holds, AreSome}
-use Rattle.wm_script.specs.Batches.{batch_in, chained, layer_in, layers_in}
+use Rattle.wm_script.specs.Batches.{batch_in, layer_in, layers_in}
 use Rattle.wm_script.specs.Parts.{IsFaultOf, of_chain, or_fault, some_in}
 use Rattle.wm_script.specs.Requests.{request_in}
 use Rattle.wm_script.specs.declared.parts.Unread.{Unread}

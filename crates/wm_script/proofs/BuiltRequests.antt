@@ -7,7 +7,7 @@ use Rattle.serde_json.specs.Data as json
 use Rattle.serde_json.specs.Find.{as_str, get}
 use Rattle.uuid.specs.Text.{by_index, parsed}
 use Rattle.wm_chain.proofs.Sound.{IsBatch-sound}
-use Rattle.wm_chain.specs.Layers.{layered, no_layer, node_after, ContinuationFields}
+use Rattle.wm_chain.specs.Layers.{chained, layered, no_layer, node_after, ContinuationFields}
 use Rattle.wm_chain.specs.Walk.{batched, batched_by, fault_in}
 use Rattle.wm_chain.specs.declared.fault.ChainFault.{ChainFault}
 use Rattle.wm_collections.proofs.Options.{either, tested, then_any, then_of}
@@ -25,7 +25,7 @@ use Rattle.wm_schedule.proofs.Clamps.{IsBackoffDelay-clamped, IsPeriod-clamped}
 use Rattle.wm_schedule.specs.Clamped.{clamped_period, IsPeriod}
 use Rattle.wm_script.proofs.PartsLemmas.{bind_any, bind_holds, formed_holds, list_holds, or_holds, some_holds, AreSome}
 use Rattle.wm_script.proofs.PartsLemmas.{tested as tested_ok}
-use Rattle.wm_script.specs.Batches.{are_few, batch_in, chained, layer_in, layers_in, works_in}
+use Rattle.wm_script.specs.Batches.{are_few, batch_in, layer_in, layers_in, works_in}
 use Rattle.wm_script.specs.Parts.{formed, list_at, of_chain, of_data, of_request, or_fault, some_in}
 use Rattle.wm_script.specs.Requests.{asked_for, input_in, node_in, request_in, with_tags}
 use Rattle.wm_script.specs.Values.{id_in, id_part, short_in, text_part, whole_at}

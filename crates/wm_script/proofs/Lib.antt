@@ -1,6 +1,5 @@
 pub mod BatchesLemmas
 pub mod BuiltCommands
 pub mod BuiltRequests
-pub mod GeneratedWorks
 pub mod LinesLemmas
 pub mod PartsLemmas

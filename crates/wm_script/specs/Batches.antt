@@ -2,7 +2,7 @@
 use Rattle.std.specs.Prelude.{ℕ, ◌+◌, Bool, List, [], ◌∷◌, length, nat_le, if◌then◌else◌, Option, Some, None, option_map, unwrap_or, Result, Err}
 use Rattle.serde_json.specs.Data as json
 use Rattle.serde_json.specs.Find.{as_array}
-use Rattle.wm_chain.specs.Layers.{ContinuationFields, layered, no_layer}
+use Rattle.wm_chain.specs.Layers.{chained, no_layer}
 use Rattle.wm_chain.specs.Walk.{batched}
 use Rattle.wm_data.specs.DataRead.{item_list}
 use Rattle.wm_request.specs.Batches.{BatchFields}
@@ -41,11 +41,6 @@ are_few d = nat_le (unwrap_or (option_map (λ items. total (item_list items)) (a
 -- a list of 1 to 1,000 layers, of at most 1,000 works together
 unfoldable pub layers_in : json.Data → Result (List (List RequestFields)) Unread
 layers_in d = if are_few d then some_in layer_in d else Err Form
-
--- layers one after another at the end of a chain
-abbrev pub chained : ContinuationFields → List (List RequestFields) → ContinuationFields
-chained chain [] = chain
-chained chain (layer ∷ layers) = chained (layered chain layer) layers
 
 -- ---- the batch
 

@@ -1,6 +1,5 @@
 pub mod Batches
 pub mod Conditions
-pub mod Generated
 pub mod Limits
 pub mod Lines
 pub mod Names

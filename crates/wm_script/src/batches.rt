@@ -2,9 +2,9 @@
 ghost use Rattle.std.specs.Prelude.{◌≡◌, ◌≤◌, length, nat_le, option_map, IfErr, IfOk, None, Ok, Some};
 ghost use Rattle.std.specs.List.{AllByRecursion};
 ghost use Rattle.serde_json.specs.View.{items_view, view};
-ghost use Rattle.wm_chain.specs.Layers.{no_layer};
+ghost use Rattle.wm_chain.specs.Layers.{chained, no_layer};
 ghost use Rattle.wm_data.specs.DataRead.{item_list};
-ghost use Rattle.wm_script.specs.Batches.{are_few, batch_in, chained, count_in, layers_in, total, works_in};
+ghost use Rattle.wm_script.specs.Batches.{are_few, batch_in, count_in, layers_in, total, works_in};
 ghost use Rattle.wm_script.specs.Parts.{IsFaultOf};
 
 use crate::parts::{Part, Unread, some_in};

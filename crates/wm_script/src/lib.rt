@@ -4,15 +4,10 @@
 //! [`command_of`] reads it. Their definition is `specs/Lines.antt`, with
 //! `Limits`, `Batches`, `Requests`, `Works`, `Names`, `Conditions`, `Queries`, `Objects`, `Parts` and
 //! `Values`; `Onto` says how a list is read item by item.
-//!
-//! [`generate`] gives the commands of a large input from a seed, as `specs/Generated.antt` defines
-//! them.
 #![tactic(auto)]
 
 mod batches;
 mod conditions;
-mod draws;
-pub mod generated;
 pub mod limits;
 pub mod lines;
 mod names;
@@ -20,11 +15,8 @@ mod objects;
 mod parts;
 mod queries;
 mod requests;
-#[cfg(test)]
-mod tests;
 mod values;
 mod works;
 
-pub use generated::generate;
 pub use limits::{Limit, MAX_LINE_BYTES, MAX_LINES, MAX_SCRIPT_BYTES, ScriptFault, first_limit};
 pub use lines::{command_of, first_line, read_lines};

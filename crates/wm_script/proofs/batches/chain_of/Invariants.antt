@@ -2,8 +2,7 @@
 use Rattle.std.proofs.Common.{◌≡◌, ◌≤◌, length}
 use Rattle.std.specs.List.{AllByRecursion}
 use Rattle.std.specs.Vec.Iter.{into_iter_items}
-use Rattle.wm_chain.specs.Layers.{no_layer}
-use Rattle.wm_script.specs.Batches.{chained}
+use Rattle.wm_chain.specs.Layers.{chained, no_layer}
 use Rattle.wm_script.proofs.batches.chain_of.Given as goal
 
 abbrev pub invariant-loop-layer : goal.invariant-loop-layer

@@ -1,7 +1,7 @@
 -- The works of a group have no fault.
-use Rattle.wm_script.proofs.GeneratedWorks.{faultless}
-use Rattle.wm_script.specs.Generated.{works_of}
-use Rattle.wm_script.proofs.generated.group_of.Goals as goal
+use Rattle.wm_generator.proofs.GeneratedWorks.{faultless}
+use Rattle.wm_generator.specs.Generated.{works_of}
+use Rattle.wm_generator.proofs.generated.group_of.Goals as goal
 
 pub batch_of-requires : goal.batch_of-requires
 unfolding works_of

@@ -1,12 +1,11 @@
 //! A large input that a seed gives.
 ghost use Rattle.std.specs.Prelude.{◌≡◌, ◌<◌, ◌≤◌, ◌∷◌, ◌++◌, [], ◌^◌, length, None, Ok, IfOk, OnOk};
 ghost use Rattle.std.specs.List.{AllByRecursion};
-ghost use Rattle.wm_chain.specs.Layers.{layered, no_layer};
+ghost use Rattle.wm_chain.specs.Layers.{chained, layered, no_layer};
 ghost use Rattle.wm_chain.specs.Walk.{fault_in};
 ghost use Rattle.wm_machine.specs.Outcome.{IsAskable};
 ghost use Rattle.wm_request.specs.Building.{built_of, one_time_of};
-ghost use Rattle.wm_script.specs.Batches.{chained};
-ghost use Rattle.wm_script.specs.Generated.{after_groups, before_groups, class_of, drawn_on, drawn_work, first_layer, first_work, generated, group_of, groups_of, id_of, is_late, late_tag, layers_of};
+ghost use Rattle.wm_generator.specs.Generated.{after_groups, before_groups, class_of, drawn_on, drawn_work, first_layer, first_work, generated, group_of, groups_of, id_of, is_late, late_tag, layers_of};
 
 use crate::draws::Draws;
 use std::alloc::{AllocError, Global};

@@ -18,7 +18,7 @@ use Rattle.wm_request.proofs.Limits.{IsShortText-is_short}
 use Rattle.wm_request.specs.Building.{built_of, is_short, one_time_of}
 use Rattle.wm_request.specs.Requests.{AreTags, IsRequest}
 use Rattle.wm_schedule.specs.Moments.{IsDelay}
-use Rattle.wm_script.specs.Generated.{after_groups, class_of, drawn, drawn_input, drawn_on, drawn_work, first_work, generated, group_of, groups_of, id_of, is_late, late_tag, next_number, works_of}
+use Rattle.wm_generator.specs.Generated.{after_groups, class_of, drawn, drawn_input, drawn_on, drawn_work, first_work, generated, group_of, groups_of, id_of, is_late, late_tag, next_number, works_of}
 
 -- ---- ids
 

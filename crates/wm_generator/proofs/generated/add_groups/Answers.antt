@@ -1,7 +1,7 @@
 -- One group more.
 use Rattle.std.proofs.Common.{◌∙◌}
-use Rattle.wm_script.proofs.GeneratedWorks.{drawn_on-six, groups_of-more}
-use Rattle.wm_script.proofs.generated.add_groups.Goals as goal
+use Rattle.wm_generator.proofs.GeneratedWorks.{drawn_on-six, groups_of-more}
+use Rattle.wm_generator.proofs.generated.add_groups.Goals as goal
 
 pub loop-group-preserved : goal.loop-group-preserved
 loop-group-preserved c =

@@ -6,7 +6,7 @@ use Rattle.wm_conditions.specs.Defaults.{opening_conditions}
 use Rattle.wm_conditions.specs.Signatures.{constraints_of}
 use Rattle.wm_conditions.specs.declared.conditions.Conditions.{Conditions as ConditionFields}
 use Rattle.wm_conditions.specs.declared.conditions.Constraints.{Constraints}
-use Rattle.wm_chain.specs.Layers.{no_layer}
+use Rattle.wm_chain.specs.Layers.{chained, no_layer}
 use Rattle.wm_data.specs.declared.data.DataEntry.{DataEntry}
 use Rattle.wm_data.specs.declared.value.Value.TheVariants.{Int}
 use Rattle.wm_machine.specs.declared.command.Command.{Command}
@@ -15,7 +15,6 @@ use Rattle.wm_machine.specs.declared.command.Target.TheVariants.{Tag}
 use Rattle.wm_request.specs.Building.{one_time_of}
 use Rattle.wm_request.specs.Requests.{RequestFields}
 use Rattle.wm_request.specs.declared.request.Node.{Node}
-use Rattle.wm_script.specs.Batches.{chained}
 
 -- ---- draws
 

@@ -1,8 +1,8 @@
 -- What follows of the commands.
 use Rattle.std.proofs.Common.{◌≡◌, rules, arith}
-use Rattle.wm_script.proofs.GeneratedWorks.{AreAskable-generated, length-generated}
-use Rattle.wm_script.specs.Generated.{generated}
-use Rattle.wm_script.proofs.generated.generate.Goals as goal
+use Rattle.wm_generator.proofs.GeneratedWorks.{AreAskable-generated, length-generated}
+use Rattle.wm_generator.specs.Generated.{generated}
+use Rattle.wm_generator.proofs.generated.generate.Goals as goal
 
 pub returns-clause-askable : goal.returns-clause-askable
 unfolding generated

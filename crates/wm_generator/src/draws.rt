@@ -1,6 +1,6 @@
 //! Numbers that are drawn one after another from a first one, and what they are drawn for.
 ghost use Rattle.std.specs.Prelude.{◌≡◌, ◌<◌, IfOk};
-ghost use Rattle.wm_script.specs.Generated.{drawn, drawn_constraints, drawn_input, next_number};
+ghost use Rattle.wm_generator.specs.Generated.{drawn, drawn_constraints, drawn_input, next_number};
 
 use std::alloc::{AllocError, Global};
 use wm_collections::{Items, Text};

@@ -1,0 +1,10 @@
+use Rattle.wm_session.specs.Tells.{inputs_of, tells_of}
+use Rattle.run_tests.proofs.generated.serial_with.Given as goal
+
+-- the mark of the run is what it is given
+abbrev pub ghosts-serial_over : goal.ghosts-serial_over
+ghosts-serial_over g a =
+    record {
+      inputs = inputs_of (tells_of g.K.Keeper.store g.W.Sink.given g.W.Sink.faults g.B.Worker.kind_of g.B.Worker.diary_of) a.keeper a.rows.items
+          a.instances a.commands a.sink a.roll.table_id;
+    }

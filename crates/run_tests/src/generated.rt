@@ -1,0 +1,114 @@
+//! A serial run over a large input that a seed gives.
+ghost use Rattle.std.specs.Prelude.{◌≡◌, ◌≤◌, ◌<◌, ◌^◌, [], length, vec_len, IfOk, IfSome};
+ghost use Rattle.std.specs.List.{AllByRecursion};
+ghost use Rattle.wm_bench.specs.Places.{most_hands};
+ghost use Rattle.wm_machine.specs.Outcome.{IsAskable};
+ghost use Rattle.wm_seating.specs.Hands.{instances_from};
+ghost use Rattle.wm_session.specs.Tells.{tells_of, AreInputs};
+
+use part_tests::hands::add_hand;
+use std::alloc::{AllocError, Global};
+use std::marker::Brand;
+use std::test::Fail;
+use wm_bench::Hand;
+use wm_cli::{Ended, Status, instances_of, open_book};
+use wm_collections::{Items, both};
+use wm_generator::generate;
+use wm_io::{Sink, StdSink};
+use wm_keeper::{Keeper, Row, SureKeeper};
+use wm_machine::{Command, Instance};
+use wm_pool::OpenGate;
+use wm_roll::Roll;
+use wm_session::run_serial;
+use wm_stock::{AnyStock, STOCK_WORKERS};
+use wm_table::Mark;
+use wm_worker::Worker;
+
+/// How a run ended.
+fn status_of<K: Drop, W: Drop, B: Drop>(ended: Ended<K, W, B>) -> Status {
+    ended.status
+}
+
+/// How a serial run of these commands ends over the rows that were loaded. The mark is what the run
+/// is given.
+fn serial_over<K: Keeper + Drop, W: Sink + Drop, B: Worker, M: Mark>(
+    alloc: Global,
+    rows: Vec<Row>,
+    instances: Items<Instance>,
+    roll: Roll,
+    commands: Items<Command>,
+    hands: Vec<Hand<B>>,
+    sink: W,
+    keeper: K,
+) -> Status
+    requires inputs { AreInputs (tells_of K.store W.given W.faults B.kind_of B.diary_of) M.inputs
+        keeper rows.items instances commands sink roll.table_id }
+    requires roll { roll.parts ≡ [] }
+    requires instances { instances ≡ instances_from B.kind_of 0 hands.items }
+    requires rows { IfSome (K.store keeper).rows (λ held. rows.items ≡ held) }
+    requires few_hands { vec_len hands ≤ most_hands }
+    requires askable { AllByRecursion IsAskable commands }
+    requires few { length commands < 2 ^ 32 }
+{
+    match open_book::<W, K, B, M>(alloc, rows, instances, roll, commands, hands, sink, keeper) {
+        Ok(book) => status_of(run_serial(alloc, book, &OpenGate)),
+        Err(ended) => status_of(ended),
+    }
+}
+
+/// How a serial run of these commands ends over the rows of a keeper.
+fn serial_with<K: Keeper + Drop, W: Sink + Drop, B: Worker>(
+    alloc: Global,
+    commands: Items<Command>,
+    hands: Vec<Hand<B>>,
+    sink: W,
+    mut keeper: K,
+) -> Result<Status, AllocError>
+    requires few_hands { vec_len hands ≤ most_hands }
+    requires askable { AllByRecursion IsAskable commands }
+    requires few { length commands < 2 ^ 32 }
+{
+    let Ok(rows) = keeper.load("a") else {
+        return Ok(Status::KeeperFault);
+    };
+    let instances = instances_of(alloc, &hands)?;
+    let roll = Roll::new(alloc)?;
+    Ok(serial_over::<K, W, B, Brand>(alloc, rows, instances, roll, commands, hands, sink, keeper))
+}
+
+/// The workers of the program.
+fn stock_hands(alloc: Global) -> Result<Vec<Hand<AnyStock>>, AllocError>
+    ensures { IfOk result (λ hands. vec_len hands ≤ most_hands) }
+{
+    let mut hands = Vec::new(alloc);
+    for number in 0..STOCK_WORKERS {
+        let worker = AnyStock::numbered(number);
+        add_hand(alloc, &mut hands, worker.name(), worker)?;
+    }
+    Ok(hands)
+}
+
+/// How a serial run ends of what seed 1 gives with 10,000 groups, over a keeper in memory, and what it
+/// writes.
+fn large_run(alloc: Global) -> Result<(Status, Vec<u8>), AllocError> {
+    let commands = generate(alloc, 1, 10_000)?;
+    let (commands, hands) = both(commands, stock_hands(alloc))?;
+    let mut written = Vec::new(alloc);
+    let sink = StdSink::new(&mut written);
+    let keeper = SureKeeper::new(Vec::new(alloc));
+    let status = serial_with(alloc, commands, hands, sink, keeper)?;
+    Ok((status, written))
+}
+
+const LARGE_SUMMARY: &str =
+    r#"{"attempts":42500,"blocked":0,"cancelled":7500,"enqueued":0,"failed":5000,"line":10010,"ok":"summary","running":0,"succeeded":37500}
+"#;
+
+/// 50,000 works come to their ends within the time of a test.
+#[test]
+fn generated_large(rt: HostRuntime) -> Result<(), Fail> {
+    let (status, written) = large_run(rt.alloc())?;
+    assert_eq!(rt; status, Status::Done);
+    assert_eq!(rt; written.as_slice(), LARGE_SUMMARY.as_bytes());
+    Ok(())
+}
