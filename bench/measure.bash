@@ -29,14 +29,14 @@ milliseconds() {
   awk -v us="$best" 'BEGIN { printf "%.1f", us / 1000 }'
 }
 
-# Prints how many microseconds of processor time the best of five runs of a script takes, or of as many as `$times`
-# says, or the first where that takes longer than a second; `-` where the run ends with status 124, as one that is
-# given up.
+# Prints how many microseconds of processor time the best of five runs of a script takes, by `work` or by the program
+# that is named, or of as many as `$times` says, or the first where that takes longer than a second; `-` where the run
+# ends with status 124, as one that is given up.
 processor_time() {
-  local best=0 taken status TIMEFORMAT='%U %S'
+  local best=0 taken status TIMEFORMAT='%U %S' program=${2:-$root/crates/work/out/work}
   for _ in $(seq "${times:-5}"); do
     status=0
-    { time run_anew "$1" "$root/crates/work/out/work"; } 2> "$work/time" || status=$?
+    { time run_anew "$1" "$program"; } 2> "$work/time" || status=$?
     if [ "$status" -eq 124 ]; then echo - && return; fi
     if [ "$status" -ne 0 ]; then cat "$work/time" >&2 && return "$status"; fi
     taken=$(awk 'END { printf "%.0f", ($1 + $2) * 1000000 }' "$work/time")
