@@ -4,33 +4,45 @@ import sqlite3
 
 # So many numbers of rows are used again and again.
 NUMBERS = 1_000
-INSERT = f"INSERT INTO work VALUES ({','.join('?' * 24)})"
+INSERT = f"INSERT INTO work2 VALUES ({','.join('?' * 27)})"
+INSERT_FIRST = f"INSERT INTO work VALUES ({','.join('?' * 24)})"
 
 
-def table_of(store):
-    """The statement of the table of the rows, as the program made it in a store."""
+def tables_of(store):
+    """The statements of the tables of the rows, as the program made them in a store."""
     with sqlite3.connect(store) as connection:
-        (text,) = connection.execute("SELECT sql FROM sqlite_schema WHERE name = 'work'").fetchone()
+        texts = [text for (text,) in connection.execute("SELECT sql FROM sqlite_schema WHERE type = 'table' ORDER BY rowid")]
     connection.close()
-    return text
+    return texts
 
 
 def row(number):
     """The row of a work of class Echo that waits for a minute."""
     id = number.to_bytes(16, "big")
-    return (1, number, id, None, "Echo", 0, 0, 0, 60000, 1, 30000, *[0] * 9, "{}", "{}", b"", "[]")
+    return (2, number, id, None, "Echo", 0, 0, 0, 60000, 1, 30000, *[0] * 9, "{}", "{}", b"", "[]", -1, 0, 0)
 
 
-def commit_by_sqlite(store, table, commits):
-    """So many commits in a new store with this table, each of which deletes and inserts one row."""
+def first_row(number):
+    """That row in version 1, as `work` has it."""
+    return (1, *row(number)[1:24])
+
+
+def make(connection, tables):
+    """Makes the tables."""
+    for table in tables:
+        connection.execute(table)
+
+
+def commit_by_sqlite(store, tables, commits):
+    """So many commits in a new store with these tables, each of which deletes and inserts one row."""
     connection = sqlite3.connect(store, isolation_level=None)
     connection.execute("PRAGMA journal_mode=WAL")
     connection.execute("PRAGMA synchronous=FULL")
-    connection.execute(table)
+    make(connection, tables)
     for commit in range(commits):
         number = commit % NUMBERS + 1
         connection.execute("BEGIN")
-        connection.execute("DELETE FROM work WHERE seq = ?", (number,))
+        connection.execute("DELETE FROM work2 WHERE seq = ?", (number,))
         connection.execute(INSERT, row(number))
         connection.execute("COMMIT")
     connection.close()

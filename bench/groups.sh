@@ -12,7 +12,7 @@ PYTHONDONTWRITEBYTECODE=1 PYTHONPATH=$root/bench python3 - "$root/crates/work/ou
 import resource, subprocess, sys, time
 from pathlib import Path
 
-from commits import commit_by_sqlite, remove, table_of
+from commits import commit_by_sqlite, remove, tables_of
 from generated import commits, script, summary
 
 PROGRAM, FOLDER = sys.argv[1], Path(sys.argv[2])
@@ -46,9 +46,9 @@ print(f"{FEW} groups: {few:.2f} processor seconds")
 print(f"{MANY} groups: {many:.2f} processor seconds")
 print(f"ratio to ten times the first: {many / few * FEW / MANY:.2f}, which is to be at most {LIMIT}")
 
-table = table_of(FOLDER / "build")
+tables = tables_of(FOLDER / "build")
 start = time.perf_counter()
-commit_by_sqlite(FOLDER / "commits", table, commits(MANY))
+commit_by_sqlite(FOLDER / "commits", tables, commits(MANY))
 theirs = time.perf_counter() - start
 print(f"{MANY} groups, {commits(MANY)} commits: {ours:.1f} s by the clock")
 print(f"SQLite: {commits(MANY)} commits: {theirs:.1f} s by the clock")

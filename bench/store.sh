@@ -6,6 +6,7 @@
 #   delete and insert one row (Python's sqlite3, WAL, synchronous=FULL), in turn, each the best of five,
 #   and the ratio;
 # - the time and the memory of opening a store of 100,000 rows, which SQLite wrote;
+# - the time of opening one of 10,000 rows of version 1, in `work`, which are carried over in one commit;
 # - the size of the store of 50,000 finished works, and of the same rows as SQLite's VACUUM writes them.
 set -euo pipefail
 root=$(cd "$(dirname "${BASH_SOURCE[0]}")/.." && pwd)
@@ -16,15 +17,15 @@ PYTHONDONTWRITEBYTECODE=1 PYTHONPATH=$root/bench python3 - "$root/crates/work/ou
 import resource, sqlite3, subprocess, sys, time
 from pathlib import Path
 
-from commits import INSERT, commit_by_sqlite, remove, row, table_of
+from commits import INSERT, INSERT_FIRST, commit_by_sqlite, first_row, make, remove, row, tables_of
 
 PROGRAM, FOLDER = sys.argv[1], Path(sys.argv[2])
 GROUPS, RUNS = 200, 5
-ROWS, FINISHED = 100_000, 50_000
+ROWS, FIRST_ROWS, FINISHED = 100_000, 10_000, 50_000
 WIDE = 1_000
 # How many commits the program makes of the groups: one for each line, each start and each end.
 COMMITS = GROUPS + 2 * 5 * GROUPS
-TABLE = table_of(FOLDER / "build")
+TABLES = tables_of(FOLDER / "build")
 
 
 def work_of(number):
@@ -73,21 +74,37 @@ def commits_by_program(store):
 
 def commits_by_sqlite(store):
     """As many commits by SQLite."""
-    commit_by_sqlite(store, TABLE, COMMITS)
+    commit_by_sqlite(store, TABLES, COMMITS)
 
 
 def write_rows(store):
     """Has SQLite write a store of many rows."""
     with sqlite3.connect(store) as connection:
-        connection.execute(TABLE)
+        make(connection, TABLES)
         connection.executemany(INSERT, (row(number) for number in range(1, ROWS + 1)))
     connection.close()
 
 
-def open_rows(store):
-    """Has the program open them."""
+def open_rows(store, rows):
+    """Has the program open so many."""
     told = summary(store)
-    assert f'"enqueued":{ROWS}' in told, told
+    assert f'"enqueued":{rows}' in told, told
+
+
+def write_first_rows(store):
+    """Has SQLite write a store as it was before there was `work2`."""
+    with sqlite3.connect(store) as connection:
+        make(connection, TABLES[:1])
+        connection.executemany(INSERT_FIRST, (first_row(number) for number in range(1, FIRST_ROWS + 1)))
+    connection.close()
+
+
+def rows_in(store, table):
+    """How many rows stand in a table."""
+    connection = sqlite3.connect(store)
+    (count,) = connection.execute(f"SELECT count(*) FROM {table}").fetchone()
+    connection.close()
+    return count
 
 
 def finish_works(store):
@@ -118,10 +135,18 @@ many = FOLDER / "many"
 write_rows(many)
 before = resource.getrusage(resource.RUSAGE_CHILDREN).ru_maxrss
 start = time.perf_counter()
-open_rows(many)
+open_rows(many, ROWS)
 taken, peak = time.perf_counter() - start, resource.getrusage(resource.RUSAGE_CHILDREN).ru_maxrss
 assert peak > before
 print(f"opening {ROWS} rows: {taken:.2f} s, {peak / 1000:.0f} MB")
+
+first = FOLDER / "first"
+write_first_rows(first)
+start = time.perf_counter()
+open_rows(first, FIRST_ROWS)
+taken = time.perf_counter() - start
+assert (rows_in(first, "work"), rows_in(first, "work2")) == (0, FIRST_ROWS)
+print(f"opening {FIRST_ROWS} rows of version 1: {taken:.2f} s")
 
 taken = seconds(finish_works, FOLDER / "finished")
 log, ours, theirs = sizes(FOLDER / "finished")

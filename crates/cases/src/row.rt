@@ -1,47 +1,11 @@
 //! Rows as text: a JSON object of the fields that differ from those of a plain row.
 
 use crate::reader::LineFault;
+use part_calls::rows::{NUMBER_COUNT, NUMBERS, Others, is_field, numbers_of, row_of};
 use serde_json::{Map, Value, push, put};
 use std::alloc::{AllocError, Global};
 use wm_collections::{Items, Text};
 use wm_keeper::Row;
-
-/// The names of a row's fields.
-const FIELDS: [&str; 24] = [
-    "version",
-    "seq",
-    "id",
-    "name",
-    "class",
-    "kind",
-    "period",
-    "flex",
-    "delay",
-    "policy",
-    "wait",
-    "merger",
-    "network",
-    "flags",
-    "phase",
-    "attempt",
-    "backoff_n",
-    "runs",
-    "generation",
-    "enqueued_at",
-    "input",
-    "output",
-    "prior",
-    "tags",
-];
-
-/// The form of a row that isn't told.
-const VERSION: i64 = 1;
-
-/// The backoff policy of a request that names none.
-const POLICY: i64 = 1;
-
-/// The backoff delay of a request that names none, in milliseconds.
-const WAIT: i64 = 30_000;
 
 /// Data without entries.
 const NO_DATA: &str = "{}";
@@ -51,27 +15,11 @@ const NO_DATA: &str = "{}";
 pub fn read_row(alloc: Global, text: &str) -> Result<Row, LineFault> {
     let value = Value::from_str(alloc, text).map_err(|_| LineFault::Row)?;
     let members = value.as_object().ok_or(LineFault::Row)?;
-    if !members.keys().all(|key| FIELDS.contains(&key.as_str())) {
+    if !members.keys().all(|key| is_field(key.as_str())) {
         return Err(LineFault::Row);
     }
-    Ok(Row {
-        version: number_of(members, "version", VERSION)?,
-        seq: number_of(members, "seq", 0)?,
-        kind: number_of(members, "kind", 0)?,
-        period: number_of(members, "period", 0)?,
-        flex: number_of(members, "flex", 0)?,
-        delay: number_of(members, "delay", 0)?,
-        policy: number_of(members, "policy", POLICY)?,
-        wait: number_of(members, "wait", WAIT)?,
-        merger: number_of(members, "merger", 0)?,
-        network: number_of(members, "network", 0)?,
-        flags: number_of(members, "flags", 0)?,
-        phase: number_of(members, "phase", 0)?,
-        attempt: number_of(members, "attempt", 0)?,
-        backoff_n: number_of(members, "backoff_n", 0)?,
-        runs: number_of(members, "runs", 0)?,
-        generation: number_of(members, "generation", 0)?,
-        enqueued_at: number_of(members, "enqueued_at", 0)?,
+    let numbers = numbers_in(members)?;
+    let others = Others {
         id: id_of(alloc, members)?,
         name: name_of(alloc, members)?,
         class: text_of(alloc, members, "class", "")?,
@@ -79,7 +27,18 @@ pub fn read_row(alloc: Global, text: &str) -> Result<Row, LineFault> {
         output: text_of(alloc, members, "output", NO_DATA)?,
         prior: prior_of(alloc, members)?,
         tags: tags_of(alloc, members)?,
-    })
+    };
+    Ok(row_of(numbers, others))
+}
+
+/// The numbers under the keys of a row.
+fn numbers_in(members: &Map<String, Value>) -> Result<[i64; NUMBER_COUNT], LineFault> {
+    let mut numbers = [0; NUMBER_COUNT];
+    for index in 0..NUMBER_COUNT {
+        let (key, usual) = NUMBERS[index];
+        numbers[index] = number_of(members, key, usual)?;
+    }
+    Ok(numbers)
 }
 
 /// The number under a key, or this one where there is none.
@@ -153,9 +112,11 @@ fn tags_of(alloc: Global, members: &Map<String, Value>) -> Result<Items<Text>, L
 /// The text of a row.
 pub fn row_text(alloc: Global, row: &Row) -> Result<String, AllocError> {
     let mut members = Map::new(alloc);
-    for (key, number, usual) in numbers(row) {
-        if number != usual {
-            put(&mut members, alloc, key, Value::from(number))?;
+    let numbers = numbers_of(row);
+    for index in 0..NUMBER_COUNT {
+        let (key, usual) = NUMBERS[index];
+        if numbers[index] != usual {
+            put(&mut members, alloc, key, Value::from(numbers[index]))?;
         }
     }
     put(
@@ -194,29 +155,6 @@ fn put_lists(alloc: Global, members: &mut Map<String, Value>, row: &Row) -> Resu
         put(members, alloc, "tags", Value::Array(tags))?;
     }
     Ok(())
-}
-
-/// The numbers of a row with their names, and what each usually is.
-fn numbers(row: &Row) -> [(&'static str, i64, i64); 17] {
-    [
-        ("version", row.version, VERSION),
-        ("seq", row.seq, 0),
-        ("kind", row.kind, 0),
-        ("period", row.period, 0),
-        ("flex", row.flex, 0),
-        ("delay", row.delay, 0),
-        ("policy", row.policy, POLICY),
-        ("wait", row.wait, WAIT),
-        ("merger", row.merger, 0),
-        ("network", row.network, 0),
-        ("flags", row.flags, 0),
-        ("phase", row.phase, 0),
-        ("attempt", row.attempt, 0),
-        ("backoff_n", row.backoff_n, 0),
-        ("runs", row.runs, 0),
-        ("generation", row.generation, 0),
-        ("enqueued_at", row.enqueued_at, 0),
-    ]
 }
 
 fn string(alloc: Global, text: &Text) -> Result<Value, AllocError> {

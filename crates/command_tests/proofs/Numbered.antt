@@ -4,6 +4,7 @@ use Rattle.std.specs.Int.{from_be_bytes, to_be_bytes, w128}
 use Rattle.std.proofs.lemmas.List.Elements.{All-from_recursion}
 use Rattle.uuid.proofs.OrderLemmas.{from_be_bytes-to_be_bytes_16}
 use Rattle.wm_collections.proofs.Lists.{All-push, All-weaker, All-with2, AllLater-push}
+use Rattle.wm_machine.proofs.Records.{no_override}
 use Rattle.wm_machine.specs.Valid.{IsBefore, IsOfKind}
 use Rattle.wm_machine.specs.declared.record.Phase.TheVariants as phase
 use Rattle.wm_machine.specs.declared.record.Record.{Record}
@@ -27,6 +28,7 @@ numbered_waits seq work first fits numbered =
     let runs = plain.runs in
     let generation = plain.generation in
     let enqueued_at = plain.enqueued_at in
+    let finished_at = plain.finished_at in
     record {
       within = record {
         number = omega (arith, is, first);
@@ -35,6 +37,8 @@ numbered_waits seq work first fits numbered =
           prior = rw plain.prior (All-from_recursion (λ number. number < 2 ^ 53) [] tt);
           generation = omega (arith, generation);
           enqueued_at = omega (arith, enqueued_at);
+          override_at = rw plain.override_at tt;
+          finished_at = omega (arith, finished_at);
         };
         name = numbered.short;
         request = numbered.request;
@@ -44,6 +48,9 @@ numbered_waits seq work first fits numbered =
         backoff_n = omega (arith, attempt, backoff_n);
         runs = omega (arith, runs);
         kind = of_kind work.request.period work plain;
+        leaves = numbered.leaves;
+        override_at = rw plain.override_at (no_override work.request.period);
+        finished_at = rw plain.phase_is finished_at;
         output = rw plain.phase_is plain.output;
         progress = rw plain.phase_is plain.progress;
       };

@@ -12,6 +12,7 @@ use Rattle.wm_machine.specs.declared.record.Phase.TheVariants as phase
 use Rattle.wm_machine.specs.declared.record.Record.{Record}
 use Rattle.wm_machine.specs.declared.state.State.{State}
 use Rattle.wm_request.specs.Requests.{IsRequest, IsShortText}
+use Rattle.wm_request.specs.declared.request.NextRun.TheVariants.{Leave}
 
 -- a record in its first attempt, in this phase and after these; of its number, its name and its request nothing is said
 pub record IsPlain (own : Phase) (before : List ℕ) (work : Record) : Type 0 where
@@ -22,6 +23,8 @@ pub record IsPlain (own : Phase) (before : List ℕ) (work : Record) : Type 0 wh
   pub runs : work.runs ≡ 0
   pub generation : work.generation ≡ 0
   pub enqueued_at : work.enqueued_at ≡ 0
+  pub override_at : work.override_at ≡ None
+  pub finished_at : work.finished_at ≡ 0
   pub output : work.output ≡ []
   pub progress : work.progress ≡ []
 
@@ -31,6 +34,7 @@ pub record IsNumbered (seq : ℕ) (work : Record) : Type 0 where
   pub name : 2 ≤ seq → work.name ≡ None
   pub short : IfSome work.name IsShortText
   pub request : IsRequest work.request
+  pub leaves : work.request.next ≡ Leave
   pub id : work.request.id ≡ to_be_bytes w128 seq
   pub plain : IsPlain phase.Waiting [] work
 

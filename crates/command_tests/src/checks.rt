@@ -8,6 +8,7 @@ ghost use Rattle.wm_machine.specs.Group.{numbers_in};
 ghost use Rattle.wm_machine.specs.Valid.{IsBefore};
 ghost use Rattle.wm_request.specs.Batches.{has_id};
 ghost use Rattle.wm_request.specs.Requests.{IsRequest, IsShortText};
+ghost use Rattle.wm_request.specs.declared.request.NextRun.TheVariants.{Leave};
 ghost use Rattle.wm_unique.specs.Plans.{is_named_by, names_id};
 
 use crate::unique::{record, record_of, request};
@@ -61,6 +62,7 @@ fn batch(alloc: Global, id: u64, after: (u64, u64)) -> Result<Batch, AllocError>
 pub fn periodic(alloc: Global, number: u64) -> Result<Request, AllocError>
     ensures within { IfOk result IsRequest }
     ensures id { IfOk result (λ request. request.id ≡ to_be_bytes w128 number) }
+    ensures leaves { IfOk result (λ request. request.next ≡ Leave) }
 {
     let id = Uuid::from_u128(number as u128);
     let class = String::from_str(alloc, "Echo")?;

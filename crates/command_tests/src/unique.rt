@@ -5,6 +5,7 @@ ghost use Rattle.command_tests.specs.Waiting.{IsPlain};
 ghost use Rattle.wm_collections.specs.Lists.{AllLater};
 ghost use Rattle.wm_machine.specs.Valid.{IsBefore};
 ghost use Rattle.wm_request.specs.Requests.{IsRequest};
+ghost use Rattle.wm_request.specs.declared.request.NextRun.TheVariants.{Leave};
 ghost use Rattle.wm_unique.specs.Plans.{AreNumbersOf};
 
 use part_tests::requests::within;
@@ -23,6 +24,7 @@ pub fn request(alloc: Global, number: u64) -> Result<Request, AllocError>
     ensures within { IfOk result IsRequest }
     ensures id { IfOk result (λ request. request.id ≡ to_be_bytes w128 number) }
     ensures one_time { IfOk result (λ request. request.period ≡ None) }
+    ensures leaves { IfOk result (λ request. request.next ≡ Leave) }
 {
     let id = Uuid::from_u128(number as u128);
     let class = String::from_str(alloc, "Echo")?;
@@ -48,6 +50,8 @@ pub fn record_of(seq: u64, phase: Phase, prior: Items<u64>, request: Request) ->
         runs: 0,
         generation: 0,
         enqueued_at: 0,
+        override_at: None,
+        finished_at: 0,
         output: Data::empty(),
         progress: Data::empty(),
     }
@@ -64,6 +68,7 @@ pub fn record(
     ensures unnamed { IfOk result (λ work. work.name ≡ None) }
     ensures id { IfOk result (λ work. work.request.id ≡ to_be_bytes w128 seq) }
     ensures request { IfOk result (λ work. IsRequest work.request) }
+    ensures leaves { IfOk result (λ work. work.request.next ≡ Leave) }
     ensures plain { IfOk result (IsPlain phase prior) }
 {
     let (prior, request) = both(prior, request(alloc, seq))?;

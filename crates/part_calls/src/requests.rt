@@ -20,7 +20,7 @@ use wm_request::{Builder, Request, RequestFault};
 use wm_schedule::{Backoff, BackoffPolicy};
 
 /// The keys of a request.
-const KEYS: [&str; 11] = [
+const KEYS: [&str; 12] = [
     "id",
     "class",
     "input",
@@ -32,6 +32,7 @@ const KEYS: [&str; 11] = [
     "initial_delay",
     "period",
     "flex",
+    "keep",
 ];
 
 /// A backoff that is asked for.
@@ -95,6 +96,9 @@ fn set_plain(builder: &mut Builder, row: &Value) -> Result<(), RowFault> {
     }
     if let Some(delay) = number_if(row, "initial_delay")? {
         builder.initial_delay(delay);
+    }
+    if let Some(keep) = number_if(row, "keep")? {
+        builder.keep(keep);
     }
     Ok(())
 }
@@ -202,6 +206,7 @@ fn put_times(told: &mut Told, request: &Request) {
     told.text("policy", backoff_policy_name(policy));
     told.number("delay", delay);
     told.number("initial_delay", request.initial_delay());
+    told.number("keep", request.keep());
     if let Some(period) = request.period() {
         told.number("period", period.period);
         told.number("flex", period.flex);
@@ -216,19 +221,20 @@ fn add_tags(alloc: Global, builder: &mut Builder, count: usize) -> Result<(), Ro
     Ok(())
 }
 
-/// A builder with a class of so many letters and such an initial delay.
+/// A builder with a class of so many letters, and such an initial delay and keeping time.
 fn of_letters(alloc: Global, row: &Value) -> Result<Builder, RowFault> {
     let period = number_if(row, "period")?;
     let delay = number(row, "initial_delay")?;
     let class = letters(alloc, count(row, "class")? as usize)?;
     let mut builder = begin(alloc, Uuid::from_u128(7), class, period, None);
     builder.initial_delay(delay);
+    builder.keep(number(row, "keep")?);
     Ok(builder)
 }
 
 /// Why a request isn't built that has a class of so many letters and so many tags; none where it is.
 pub fn limits(alloc: Global, row: &Value) -> Result<Value, RowFault> {
-    has_only(row, &["class", "tags", "initial_delay", "period"])?;
+    has_only(row, &["class", "tags", "initial_delay", "period", "keep"])?;
     let tags = count(row, "tags")? as usize;
     let mut builder = of_letters(alloc, row)?;
     let added = add_tags(alloc, &mut builder, tags);

@@ -17,7 +17,7 @@ const LAST_MOMENT: u64 = 9_007_199_254_740_991;
 const LONGEST: u64 = 315_360_000_000;
 
 /// The keys of times.
-const TIMES: [&str; 8] = [
+const TIMES: [&str; 9] = [
     "enqueued_at",
     "initial_delay",
     "policy",
@@ -26,6 +26,7 @@ const TIMES: [&str; 8] = [
     "period",
     "flex",
     "runs",
+    "override_at",
 ];
 
 /// The policy of a row's backoff.
@@ -91,6 +92,7 @@ fn times(row: &Value) -> Result<Times, RowFault> {
         backoff_n: count(row, "backoff_n")?,
         period: period_if(row)?,
         runs: count(row, "runs")?,
+        override_at: number_if(row, "override_at")?,
     })
 }
 

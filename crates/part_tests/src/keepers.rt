@@ -42,6 +42,9 @@ fn row(alloc: Global, seq: i64, attempt: i64) -> Row
         output: no_text(alloc),
         prior: Items::new(alloc),
         tags: Items::new(alloc),
+        next_at: -1,
+        keep_for: 0,
+        finished_at: 0,
     }
 }
 

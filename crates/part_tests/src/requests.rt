@@ -17,6 +17,8 @@ fn look_at(request: &Request)
     let _backoff = request.backoff();
     let _delay = request.initial_delay();
     let _period = request.period();
+    let _keep = request.keep();
+    let _next = request.next();
 }
 
 /// A request that was built, looked at.

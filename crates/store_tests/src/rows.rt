@@ -100,6 +100,9 @@ fn row_of(seq: i64, number: i64, texts: Texts, lists: Lists) -> Row
         output: texts.output,
         prior: lists.prior,
         tags: lists.tags,
+        next_at: number,
+        keep_for: number,
+        finished_at: number,
     }
 }
 

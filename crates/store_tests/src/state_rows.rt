@@ -1,5 +1,5 @@
 //! The rows of a state.
-ghost use Rattle.std.specs.Prelude.{◌≡◌, ◌^◌, ◌<◌, All, true};
+ghost use Rattle.std.specs.Prelude.{◌≡◌, ◌^◌, ◌<◌, All, IfSome, true};
 ghost use Rattle.wm_machine.specs.Limits.{FitsRow};
 
 use std::alloc::{AllocError, Global};
@@ -17,6 +17,16 @@ fn are_within(numbers: &[u64]) -> bool
     numbers.iter().all(|number| *number < NUMBERS_END)
 }
 
+/// Whether a moment, where there is one, is within its limits.
+fn is_within(moment: Option<u64>) -> bool
+    ensures { result ≡ true → IfSome moment (λ moment. moment < 2 ^ 53) }
+{
+    match moment {
+        Some(moment) => moment < NUMBERS_END,
+        None => true,
+    }
+}
+
 /// Whether the numbers of a record are within their limits.
 fn fits_row(work: &Record) -> bool
     ensures { result ≡ true → FitsRow work.now }
@@ -24,6 +34,8 @@ fn fits_row(work: &Record) -> bool
     work.seq < NUMBERS_END
         && work.generation < NUMBERS_END
         && work.enqueued_at < NUMBERS_END
+        && is_within(work.override_at)
+        && work.finished_at < NUMBERS_END
         && are_within(work.prior.as_slice())
 }
 

@@ -38,7 +38,7 @@ struct Stored<'a> {
 /// The row of one-time work of class Echo with an input, as a request with the defaults stores it.
 fn row_of(alloc: Global, stored: &Stored<'_>) -> Result<Row, AllocError> {
     Ok(Row {
-        version: 1,
+        version: 2,
         seq: stored.seq,
         id: Items::from_vec(Vec::from_slice(alloc, &ID)?),
         name: None,
@@ -62,6 +62,9 @@ fn row_of(alloc: Global, stored: &Stored<'_>) -> Result<Row, AllocError> {
         output: Text::from_str(alloc, stored.output)?,
         prior: Items::from_vec(Vec::from_slice(alloc, stored.prior)?),
         tags: Items::new(alloc),
+        next_at: -1,
+        keep_for: 0,
+        finished_at: 0,
     })
 }
 
@@ -183,7 +186,7 @@ fn a_row_with_seven_bytes_of_prerequisites_is_refused(rt: HostRuntime) -> Result
     let store = store_of(alloc, row_of(alloc, &finished())?)?;
     let left = run_over(&rt, alloc, store, "")?;
     expect(&rt, &left.told, Status::Done, "");
-    let statement = "UPDATE work SET prior = x'01020304050607'";
+    let statement = "UPDATE work2 SET prior = x'01020304050607'";
     let store = execute_in(alloc, left.files, statement)?;
     let left = run_over(&rt, alloc, store, QUERY)?;
     let refused = Status::BadStore {

@@ -288,7 +288,7 @@ fn swept<R: Threads + Wait + Sync>(
 /// them has, and how many stops find the rows with one further event after the process ended.
 const SWEEPS: [(&str, Failing, usize, usize, usize); 3] = [
     (SCRIPT, Failing::Both, 89, 13, 11),
-    (SCRIPT, Failing::Database, 19, 13, 0),
+    (SCRIPT, Failing::Database, 20, 13, 0),
     (REPLACES, Failing::Both, 64, 7, 6),
 ];
 

@@ -1,13 +1,15 @@
 //! How one record changes where a run of its work begins, ends, is stopped, or can't begin, where it is
 //! closed and where it becomes free, of `wm_lifecycle`, and the row of a record, of `wm_rows`.
-ghost use Rattle.std.specs.Prelude.{◌≡◌, true, ◌^◌, ◌<◌, All};
+ghost use Rattle.std.specs.Prelude.{◌≡◌, true, ◌^◌, ◌<◌, All, IfSome};
 ghost use Rattle.wm_machine.specs.Limits.{FitsRow};
 
 use crate::names::{how_named, phase_name, phase_named};
 use part_calls::fields::{
-    RowFault, both, count, data, field, has_only, list, name, number, text, unless_refused,
+    RowFault, both, count, data, field, has_only, list, name, number, number_if, text,
+    unless_refused,
 };
 use part_calls::requests::request;
+use part_calls::rows::numbers_of;
 use part_calls::told::{Told, list as list_told, string};
 use serde_json::{Value, push};
 use std::alloc::{AllocError, Global};
@@ -29,6 +31,8 @@ struct Plain {
     runs: u32,
     generation: u64,
     enqueued_at: u64,
+    override_at: Option<u64>,
+    finished_at: u64,
 }
 
 fn phase(row: &Value) -> Result<Phase, RowFault> {
@@ -44,6 +48,8 @@ fn plain_of(row: &Value) -> Result<Plain, RowFault> {
         runs: count(row, "runs")?,
         generation: number(row, "generation")?,
         enqueued_at: number(row, "enqueued_at")?,
+        override_at: number_if(row, "override_at")?,
+        finished_at: number(row, "finished_at")?,
     })
 }
 
@@ -82,6 +88,8 @@ fn record_of(plain: Plain, owned: Owned, request: Request) -> Record {
         runs: plain.runs,
         generation: plain.generation,
         enqueued_at: plain.enqueued_at,
+        override_at: plain.override_at,
+        finished_at: plain.finished_at,
         output: owned.output,
         progress: owned.progress,
     }
@@ -158,6 +166,9 @@ fn change_told(alloc: Global, work: &Record) -> Result<Value, AllocError> {
     told.number("backoff_n", u64::from(work.backoff_n));
     told.number("runs", u64::from(work.runs));
     told.number("enqueued_at", work.enqueued_at);
+    if let Some(moment) = work.override_at {
+        told.number("override_at", moment);
+    }
     told.data("output", &work.output);
     told.data("progress", &work.progress);
     told.into_value()
@@ -173,6 +184,16 @@ fn are_within(numbers: &[u64]) -> bool
     numbers.iter().all(|number| *number < NUMBERS_END)
 }
 
+/// Whether a moment, where there is one, is within its limits.
+fn is_within(moment: Option<u64>) -> bool
+    ensures { result ≡ true → IfSome moment (λ moment. moment < 2 ^ 53) }
+{
+    match moment {
+        Some(moment) => moment < NUMBERS_END,
+        None => true,
+    }
+}
+
 /// Whether the numbers of a record are within their limits.
 fn fits_row(work: &Record) -> bool
     ensures { result ≡ true → FitsRow work.now }
@@ -180,6 +201,8 @@ fn fits_row(work: &Record) -> bool
     work.seq < NUMBERS_END
         && work.generation < NUMBERS_END
         && work.enqueued_at < NUMBERS_END
+        && is_within(work.override_at)
+        && work.finished_at < NUMBERS_END
         && are_within(work.prior.as_slice())
 }
 
@@ -201,29 +224,6 @@ pub fn row(alloc: Global, row: &Value) -> Result<Value, RowFault> {
     let told = row_told(alloc, &row);
     drop(row);
     Ok(told?)
-}
-
-/// The numbers of a row, in the order of its fields.
-fn numbers_of(row: &Row) -> [i64; 17] {
-    [
-        row.version,
-        row.seq,
-        row.kind,
-        row.period,
-        row.flex,
-        row.delay,
-        row.policy,
-        row.wait,
-        row.merger,
-        row.network,
-        row.flags,
-        row.phase,
-        row.attempt,
-        row.backoff_n,
-        row.runs,
-        row.generation,
-        row.enqueued_at,
-    ]
 }
 
 /// Numbers with a sign.

@@ -3,6 +3,7 @@
 
 use crate::records::{row_of, row_told};
 use part_calls::fields::{RowFault, both, count, field, has_only, id, items, letters, list, name};
+use part_calls::rows::{NUMBER_COUNT, NUMBERS, Others, SEQ, is_field, row_of as row_made};
 use part_calls::told::{list as list_told, string};
 use serde_json::Value;
 use std::alloc::{AllocError, Global};
@@ -12,28 +13,6 @@ use wm_keeper::Row;
 use wm_machine::Record;
 use wm_rows::{RowFault as StoreFault, check_all, from_row};
 
-/// The numbers of a row.
-#[derive(Clone, Copy)]
-struct Plain {
-    version: i64,
-    seq: i64,
-    kind: i64,
-    period: i64,
-    flex: i64,
-    delay: i64,
-    policy: i64,
-    wait: i64,
-    merger: i64,
-    network: i64,
-    flags: i64,
-    phase: i64,
-    attempt: i64,
-    backoff_n: i64,
-    runs: i64,
-    generation: i64,
-    enqueued_at: i64,
-}
-
 /// The number with a sign under a key; the usual one where there is none.
 fn signed(form: &Value, key: &str, usual: i64) -> Result<i64, RowFault> {
     match form.get(key) {
@@ -42,39 +21,15 @@ fn signed(form: &Value, key: &str, usual: i64) -> Result<i64, RowFault> {
     }
 }
 
-/// The usual numbers are those of one-time work that waits, with the number 1.
-fn plain_of(form: &Value) -> Result<Plain, RowFault> {
-    Ok(Plain {
-        version: signed(form, "version", 1)?,
-        seq: signed(form, "seq", 1)?,
-        kind: signed(form, "kind", 0)?,
-        period: signed(form, "period", 0)?,
-        flex: signed(form, "flex", 0)?,
-        delay: signed(form, "delay", 0)?,
-        policy: signed(form, "policy", 1)?,
-        wait: signed(form, "wait", 30_000)?,
-        merger: signed(form, "merger", 0)?,
-        network: signed(form, "network", 0)?,
-        flags: signed(form, "flags", 0)?,
-        phase: signed(form, "phase", 0)?,
-        attempt: signed(form, "attempt", 0)?,
-        backoff_n: signed(form, "backoff_n", 0)?,
-        runs: signed(form, "runs", 0)?,
-        generation: signed(form, "generation", 0)?,
-        enqueued_at: signed(form, "enqueued_at", 0)?,
-    })
-}
-
-/// The lists and texts of a row.
-#[derive(Drop)]
-struct Owned {
-    id: Items<u8>,
-    name: Option<Text>,
-    class: Text,
-    input: Text,
-    output: Text,
-    prior: Items<i64>,
-    tags: Items<Text>,
+/// The numbers of a row. The usual ones are those of one-time work that waits, with the number 1.
+fn numbers_in(form: &Value) -> Result<[i64; NUMBER_COUNT], RowFault> {
+    let mut numbers = [0; NUMBER_COUNT];
+    for index in 0..NUMBER_COUNT {
+        let (key, usual) = NUMBERS[index];
+        numbers[index] = signed(form, key, usual)?;
+    }
+    numbers[SEQ] = signed(form, "seq", 1)?;
+    Ok(numbers)
 }
 
 /// The bytes of an id. That of work with no id under the key is its number.
@@ -132,7 +87,7 @@ fn prior_of(alloc: Global, form: &Value) -> Result<Items<i64>, RowFault> {
     Ok(numbers)
 }
 
-fn owned_of(alloc: Global, form: &Value, seq: i64) -> Result<Owned, RowFault> {
+fn others_of(alloc: Global, form: &Value, seq: i64) -> Result<Others, RowFault> {
     let (id, name) = both(id_bytes(alloc, form, seq)?, name(alloc, form))?;
     let class = text_of(alloc, form, "class", "a");
     let ((id, name), class) = both((id, name), class)?;
@@ -147,7 +102,7 @@ fn owned_of(alloc: Global, form: &Value, seq: i64) -> Result<Owned, RowFault> {
     let ((id, name, class, input, output), prior) = (texts_so_far, prior);
     let so_far = (id, name, class, input, output, prior);
     let ((id, name, class, input, output, prior), tags) = both(so_far, list(alloc, form, "tags"))?;
-    Ok(Owned {
+    Ok(Others {
         id,
         name,
         class,
@@ -158,76 +113,28 @@ fn owned_of(alloc: Global, form: &Value, seq: i64) -> Result<Owned, RowFault> {
     })
 }
 
-fn joined(plain: Plain, owned: Owned) -> Row {
-    Row {
-        version: plain.version,
-        seq: plain.seq,
-        id: owned.id,
-        name: owned.name,
-        class: owned.class,
-        kind: plain.kind,
-        period: plain.period,
-        flex: plain.flex,
-        delay: plain.delay,
-        policy: plain.policy,
-        wait: plain.wait,
-        merger: plain.merger,
-        network: plain.network,
-        flags: plain.flags,
-        phase: plain.phase,
-        attempt: plain.attempt,
-        backoff_n: plain.backoff_n,
-        runs: plain.runs,
-        generation: plain.generation,
-        enqueued_at: plain.enqueued_at,
-        input: owned.input,
-        output: owned.output,
-        prior: owned.prior,
-        tags: owned.tags,
+/// Whether a value has no key but those of a row.
+fn has_row_keys(form: &Value) -> Result<(), RowFault> {
+    let members = form.as_object().ok_or(RowFault::NoObject)?;
+    for key in members.keys() {
+        if !is_row_key(key.as_str()) {
+            return Err(RowFault::Keys);
+        }
     }
+    Ok(())
 }
 
-/// The keys of a row.
-fn has_row_keys(form: &Value) -> Result<(), RowFault> {
-    has_only(
-        form,
-        &[
-            "version",
-            "seq",
-            "id",
-            "id_bytes",
-            "name",
-            "class",
-            "kind",
-            "period",
-            "flex",
-            "delay",
-            "policy",
-            "wait",
-            "merger",
-            "network",
-            "flags",
-            "phase",
-            "attempt",
-            "backoff_n",
-            "runs",
-            "generation",
-            "enqueued_at",
-            "input",
-            "input_letters",
-            "output",
-            "prior",
-            "tags",
-        ],
-    )
+/// Whether a key is one of a row.
+fn is_row_key(key: &str) -> bool {
+    is_field(key) || key == "id_bytes" || key == "input_letters"
 }
 
 /// The row that a value says.
 fn row_in(alloc: Global, form: &Value) -> Result<Row, RowFault> {
     has_row_keys(form)?;
-    let plain = plain_of(form)?;
-    let owned = owned_of(alloc, form, plain.seq)?;
-    Ok(joined(plain, owned))
+    let numbers = numbers_in(form)?;
+    let others = others_of(alloc, form, numbers[SEQ])?;
+    Ok(row_made(numbers, others))
 }
 
 /// A fault by its name, with the number of its row.
@@ -300,12 +207,10 @@ pub fn store(alloc: Global, row: &Value) -> Result<Value, RowFault> {
 /// The row of one-time work with a number.
 fn usual_row(alloc: Global, seq: u32) -> Result<Row, RowFault> {
     let form = Value::Null;
-    let plain = Plain {
-        seq: i64::from(seq),
-        ..plain_of(&form)?
-    };
-    let owned = owned_of(alloc, &form, plain.seq)?;
-    Ok(joined(plain, owned))
+    let mut numbers = numbers_in(&form)?;
+    numbers[SEQ] = i64::from(seq);
+    let others = others_of(alloc, &form, numbers[SEQ])?;
+    Ok(row_made(numbers, others))
 }
 
 /// So many rows of one-time work, numbered from 1.

@@ -50,10 +50,24 @@ given-each P change i [] all = tt
 given-each P change i (work ∷ works) all = given-by P change (change work) i works all.0 (given-each P change (i + 1) works all.1)
 
 Fits-closed : (work : Record) → FitsRow work → FitsRow (closed how.Cancelled work)
-Fits-closed work is = record { seq = is.seq; prior = is.prior; generation = is.generation; enqueued_at = is.enqueued_at }
+Fits-closed work is = record {
+  seq = is.seq;
+  prior = is.prior;
+  generation = is.generation;
+  enqueued_at = is.enqueued_at;
+  override_at = is.override_at;
+  finished_at = is.finished_at;
+}
 
 Fits-unnamed : (work : Record) → FitsRow work → FitsRow (record work { name = None })
-Fits-unnamed work is = record { seq = is.seq; prior = is.prior; generation = is.generation; enqueued_at = is.enqueued_at }
+Fits-unnamed work is = record {
+  seq = is.seq;
+  prior = is.prior;
+  generation = is.generation;
+  enqueued_at = is.enqueued_at;
+  override_at = is.override_at;
+  finished_at = is.finished_at;
+}
 
 -- the row of a record still fits
 Fits-cleared : (clearing : Clearing) (work : Record) → FitsRow work → FitsRow (cleared clearing work)

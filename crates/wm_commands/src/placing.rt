@@ -6,6 +6,7 @@ ghost use Rattle.wm_collections.specs.Lists.{is_among};
 ghost use Rattle.wm_commands.specs.Cleared.{cleared_state, stays, with_cleared};
 ghost use Rattle.wm_commands.specs.Placed.{is_done, is_then, placed_record, placed_records, with_placed};
 ghost use Rattle.wm_machine.specs.Enqueued.{any_in, first_phase, numbers_of, prior_of};
+ghost use Rattle.wm_request.specs.Requests.{of_record};
 ghost use Rattle.wm_steps.specs.StepChanges.{seqs_of};
 
 use crate::clearing::{Clearing, phase_then, stays};
@@ -14,7 +15,7 @@ use uuid::Uuid;
 use wm_collections::{Items, Replica, Text};
 use wm_data::Data;
 use wm_machine::{How, Phase, Record};
-use wm_request::Node;
+use wm_request::{Node, Request};
 use wm_steps::{Numbers, View};
 
 /// The records of new works, for which there are numbers, once the records are cleared. Under a name
@@ -59,7 +60,7 @@ fn placed_record(
     Ok(Record {
         seq: view.state.next + placed.len() as u64,
         name: name.replica(alloc)?,
-        request: work.request.replica(alloc)?,
+        request: request_of(alloc, work)?,
         prior,
         phase,
         attempt: 0,
@@ -67,9 +68,19 @@ fn placed_record(
         runs: 0,
         generation: 0,
         enqueued_at: view.state.now,
+        override_at: None,
+        finished_at: 0,
         output: Data::empty(),
         progress: Data::empty(),
     })
+}
+
+/// The request of a work, as its record has it.
+fn request_of(alloc: Global, work: &Node) -> Result<Request, AllocError>
+    ensures { IfOk result (λ request. request ≡ of_record work.now.request.id work.now.request.keep work.now.request) }
+{
+    let request = work.request.replica(alloc)?;
+    Ok(request.of_record(work.request.id(), work.request.keep()))
 }
 
 /// The numbers of the prerequisites of a work that names these.

@@ -112,13 +112,13 @@ pub fn update_of(
     replacing(alloc, index, work, changed, event)
 }
 
-/// The record of a work that is asked for anew: the request is replaced but for its id, and it is
-/// updated once more.
+/// The record of a work that is asked for anew: the request is replaced but for its id and its keeping
+/// time, and it is updated once more.
 pub fn updated(alloc: Global, work: &Record, request: Request) -> Result<Record, AllocError>
     ensures { IfOk result (λ changed. changed ≡ updated request work.entry.now) }
 {
     let (request, mut changed) = both(request, work.replica(alloc))?;
-    changed.request = request.with_id(work.request.id());
+    changed.request = request.of_record(work.request.id(), work.request.keep());
     changed.generation = one_update_more(work.generation);
     Ok(changed)
 }

@@ -96,6 +96,8 @@ IsRequest-plain id class sixteen short = record {
     backoff_is = record { least = omega arith; most = omega arith };
     delay_is = omega arith;
     period_is = tt;
+    keep_is = omega arith;
+    next_is = tt;
   };
 }
 
@@ -139,6 +141,8 @@ IsRequest-first seed group number =
         backoff_is = plain.within.backoff_is;
         delay_is = IsDelay-late (is_late group);
         period_is = tt;
+        keep_is = plain.within.keep_is;
+        next_is = tt;
       };
     }
 

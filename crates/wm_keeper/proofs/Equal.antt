@@ -41,6 +41,9 @@ same_row one other e i =
     let input = and_parts _ _ enqueued_at.1 in
     let output = and_parts _ _ input.1 in
     let prior = and_parts _ _ output.1 in
+    let tags = and_parts _ _ prior.1 in
+    let next_at = and_parts _ _ tags.1 in
+    let keep_for = and_parts _ _ next_at.1 in
     record {
       version = (signed_Decides one.version other.version).0 version.0 i;
       seq = (signed_Decides one.seq other.seq).0 seq.0 i;
@@ -65,7 +68,10 @@ same_row one other e i =
       input = (bytes_decides one.input other.input).0 input.0 i;
       output = (bytes_decides one.output other.output).0 output.0 i;
       prior = (pointwise_decides signed_Decides one.prior other.prior).0 prior.0 i;
-      tags = (pointwise_decides bytes_decides one.tags other.tags).0 prior.1 i;
+      tags = (pointwise_decides bytes_decides one.tags other.tags).0 tags.0 i;
+      next_at = (signed_Decides one.next_at other.next_at).0 next_at.0 i;
+      keep_for = (signed_Decides one.keep_for other.keep_for).0 keep_for.0 i;
+      finished_at = (signed_Decides one.finished_at other.finished_at).0 keep_for.1 i;
     }
 
 pub row_decides : (one other : Row) → Decides (rows.eq-value.it one other) (one ≡ other)

@@ -8,7 +8,7 @@ use wm_collections::{Items, Replica, Text};
 /// One stored work. Numbers and codes are as `docs/FORMATS.md`, "Rows", says.
 #[derive(Drop, PartialEq, Eq)]
 pub struct Row {
-    /// The form of the row, 1.
+    /// The form of the row.
     pub version: i64,
     /// The number of the work, under which the row is stored.
     pub seq: i64,
@@ -56,6 +56,13 @@ pub struct Row {
     pub prior: Items<i64>,
     /// Its tags, ascending.
     pub tags: Items<Text>,
+    /// The moment of its next run that takes the place of the one by its period, -1 where there is
+    /// none.
+    pub next_at: i64,
+    /// How long it is kept once it has finished, in milliseconds.
+    pub keep_for: i64,
+    /// The moment at which it finished, 0 before that.
+    pub finished_at: i64,
 }
 
 impl Replica for Row {
@@ -85,6 +92,9 @@ impl Replica for Row {
             output: self.output.replica(alloc)?,
             prior: self.prior.replica(alloc)?,
             tags: self.tags.replica(alloc)?,
+            next_at: self.next_at,
+            keep_for: self.keep_for,
+            finished_at: self.finished_at,
         })
     }
 }

@@ -26,7 +26,8 @@ pub fn started(alloc: Global, work: &Record) -> Result<Record, AllocError>
 
 /// The record of a work whose run ended so at this moment, in milliseconds. A retry puts it back,
 /// with a backoff that counts from its attempt. Else periodic work is enqueued again, and one-time
-/// work has succeeded or failed with its output.
+/// work has succeeded or failed with its output. Work that waits again has no moment for its next run
+/// but the one by its delays.
 pub fn ended(alloc: Global, work: &Record, end: &End, now: u64) -> Result<Record, AllocError>
     ensures { IfOk result (λ changed. changed ≡ ended now end.now work.entry.now) }
 {
@@ -96,6 +97,7 @@ fn retried(alloc: Global, work: &Record, now: u64) -> Result<Record, AllocError>
     changed.phase = Phase::Waiting;
     changed.backoff_n = work.attempt;
     changed.enqueued_at = now;
+    changed.override_at = None;
     changed.progress = Data::empty();
     Ok(changed)
 }
@@ -110,6 +112,7 @@ fn enqueued_again(alloc: Global, work: &Record, now: u64) -> Result<Record, Allo
     changed.backoff_n = 0;
     changed.runs = work.runs.saturating_add(1).min(MAX_COUNT);
     changed.enqueued_at = now;
+    changed.override_at = None;
     changed.output = Data::empty();
     changed.progress = Data::empty();
     Ok(changed)

@@ -357,7 +357,8 @@ module _ (s : State) (run : Run) (valid : Valid s)
       → HasEnded s run (changed (enqueued_again s.now) run.seq)
   has_again period below repeats =
       put_back (enqueued_again s.now) (λ work. record { seq = refl; name = λ text is. is; request = refl; prior = refl }) (λ work. refl)
-      (All-with2 s.works (λ work kind fine e. IsRecord-again period s.now work below (kind e) fine) repeats valid.works.records)
+      (All-with3 s.works (λ work unfinished kind fine e. IsRecord-again period s.now work below (unfinished e) (kind e) fine) running_open repeats
+      valid.works.records)
       (λ change. All-with2 s.works (λ work kind fine e. left-again period s.now (map (changed (enqueued_again s.now) run.seq) s.works) work (kind e)
       (no_prior period work (kind e) fine) fine) repeats valid.works.records)
 

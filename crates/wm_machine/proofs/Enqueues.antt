@@ -21,7 +21,7 @@ use Rattle.wm_machine.specs.declared.record.How.TheVariants as how
 use Rattle.wm_machine.specs.declared.record.Phase.TheVariants as phase
 use Rattle.wm_machine.specs.declared.reply.Refusal.TheVariants.{IdInUse, NumbersSpent, PeriodicInChain, TooManyPrerequisites, TooManyWorks}
 use Rattle.wm_request.specs.Batches.{has_id, ids_of, is_periodic, periodic_ids, AreDifferent, BatchFields}
-use Rattle.wm_request.specs.Requests.{IsRequest, IsShortText, RequestFields}
+use Rattle.wm_request.specs.Requests.{of_record, IsRequest, IsShortText, RequestFields}
 
 -- what is sound stays so beside a record of another number than any that is named
 sound-front : (works : List Record) (work : Record) (p : Phase) (prior : List ℕ) → AllByRecursion (λ number. number ≢ work.seq) prior
@@ -139,7 +139,7 @@ IsOtherOrOneTime id request = bytes_eq request.id id ≡ true → request.period
 abbrev NamesOneTime : List RequestFields → List Node → Type 0
 NamesOneTime requests [] = Unit {0}
 NamesOneTime requests (node ∷ nodes) =
-    AllByRecursion (λ id. AllByRecursion (IsOtherOrOneTime id) requests) node.after × NamesOneTime (requests ++ node.request ∷ []) nodes
+    AllByRecursion (λ id. AllByRecursion (IsOtherOrOneTime id) requests) node.after × NamesOneTime (requests ++ of_record node.request.id node.request.keep node.request ∷ []) nodes
 
 abbrev requests_of : List Record → List RequestFields
 requests_of works = map (λ work. work.request) works
@@ -211,7 +211,7 @@ is_stored-push works work id none differs =
 
 -- the others, once the first is placed
 others_placeable : (works : List Record) (work : Record) (name : Option (List ℕ)) (after : List ℕ) (node : Node) (nodes : List Node)
-    → work.request ≡ node.request → ArePlaceable works name after (node ∷ nodes) → ArePlaceable (works ++ work ∷ []) name after nodes
+    → work.request ≡ of_record node.request.id node.request.keep node.request → ArePlaceable works name after (node ∷ nodes) → ArePlaceable (works ++ work ∷ []) name after nodes
 others_placeable works work name after node nodes same are =
     let period = ap (λ (r : RequestFields). r.period) same in
     record {
@@ -323,8 +323,8 @@ names_each : (all : List Node) (requests : List RequestFields) (works : List Nod
 names_each all requests [] stored batch there = tt
 names_each all requests (work ∷ works) stored batch there = (
   stored.0,
-  names_each all (requests ++ work.request ∷ []) works
-      (All-with2 works (λ node one_here also. All-with2 node.after (λ id one one_is. All-push _ requests work.request one
+  names_each all (requests ++ of_record work.request.id work.request.keep work.request ∷ []) works
+      (All-with2 works (λ node one_here also. All-with2 node.after (λ id one one_is. All-push _ requests (of_record work.request.id work.request.keep work.request) one
       (batch_one_time all (work ∷ []) id one_is (there.0, tt)).0) one_here also) stored.1 batch.1) batch.1 there.1,
 )
 

@@ -8,7 +8,7 @@ use Rattle.wm_machine.proofs.Changes.{IsChange-still, IsSameRequest, KeepsRun, O
 use Rattle.wm_machine.proofs.Closings.{HasNotSucceeded, Valid-work_closed}
 use Rattle.wm_machine.proofs.Endings.{closed_both, closed_in, KeepsRun-same}
 use Rattle.wm_collections.proofs.Lists.{All-any, All-filter, All-map, All-weaker, filter-all, filter-few, list_any-agree, list_any-false, list_any_after, map-reverse, map-same, map-twice, none_pass}
-use Rattle.wm_machine.proofs.Records.{IsRecord-kept}
+use Rattle.wm_machine.proofs.Records.{IsRecord-kept, moments-kept}
 use Rattle.wm_machine.proofs.Removals.{reached-removed, without_gone}
 use Rattle.wm_machine.proofs.Stops.{stopped_in, with_stopped-none, with_stopped-twice}
 use Rattle.wm_machine.specs.Closed.{closed, descendants, is_open, is_reached, is_run_reached, with_closed, with_work_closed, with_works_closed}
@@ -182,7 +182,7 @@ IsRecord-unnamed : (work : Record) → IsRecord work → IsRecord (record work {
 IsRecord-unnamed work is =
     IsRecord-kept work (record work { name = None }) refl is (record {
       name = tt;
-      enqueued_at = is.fits.enqueued_at;
+      moments = moments-kept work (record work { name = None }) refl refl refl is.finished_at is;
       attempt = is.attempt;
       started = is.started;
       backoff_n = is.backoff_n;

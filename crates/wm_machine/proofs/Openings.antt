@@ -4,12 +4,12 @@ use Rattle.wm_collections.proofs.Lists.{All-any, All-map, All-weaker}
 use Rattle.wm_data.specs.declared.data.DataEntry.{DataEntry}
 use Rattle.wm_keeper.specs.declared.row.Row.{Row}
 use Rattle.wm_machine.proofs.Changes.{all_open, AreWorks-changed, IsChange, moves-kept, MovesTo}
-use Rattle.wm_machine.proofs.Records.{IsRecord-kept}
+use Rattle.wm_machine.proofs.Records.{IsRecord-kept, moments-kept}
 use Rattle.wm_machine.proofs.Steps.{Valid-after}
 use Rattle.wm_machine.specs.Opened.{AreFresh, IsOfLog, next_number, Opened, opening_state, reopened, reopened_phase}
 use Rattle.wm_machine.specs.Replay.{Replay}
 use Rattle.wm_machine.specs.Step.{after}
-use Rattle.wm_machine.specs.Valid.{Valid, ArePriorSound, AreWorks, IsAttemptIn, IsOfKind, IsOutputIn, IsPeriodicPhase, IsProgressIn, IsRecord, MaySucceedOrHas}
+use Rattle.wm_machine.specs.Valid.{Valid, ArePriorSound, AreWorks, IsAttemptIn, IsFinishedIn, IsOfKind, IsOutputIn, IsPeriodicPhase, IsProgressIn, IsRecord, MaySucceedOrHas}
 use Rattle.wm_machine.specs.declared.record.Phase.TheVariants as phase
 use Rattle.wm_machine.specs.Types.{Event, Instance, Period, Phase, Record, State}
 
@@ -24,6 +24,11 @@ output-reopened : (p : Phase) (output : List DataEntry) → IsOutputIn p output 
 output-reopened phase.Waiting output is = is
 output-reopened phase.Running output is = is
 output-reopened (phase.Done how) output is = is
+
+finished-reopened : (p : Phase) (finished_at : ℕ) → IsFinishedIn p finished_at → IsFinishedIn (reopened_phase p) finished_at
+finished-reopened phase.Waiting finished_at is = is
+finished-reopened phase.Running finished_at is = is
+finished-reopened (phase.Done how) finished_at is = is
 
 progress-reopened : (p : Phase) → IsProgressIn (reopened_phase p) []
 progress-reopened phase.Waiting = refl
@@ -44,7 +49,7 @@ IsRecord-reopened : (work : Record) → IsRecord work → IsRecord (reopened wor
 IsRecord-reopened work is =
     IsRecord-kept work (reopened work) refl is (record {
       name = is.name;
-      enqueued_at = is.fits.enqueued_at;
+      moments = moments-kept work (reopened work) refl refl refl (finished-reopened work.phase work.finished_at is.finished_at) is;
       attempt = is.attempt;
       started = attempt-reopened work.phase work.attempt is.started;
       backoff_n = is.backoff_n;

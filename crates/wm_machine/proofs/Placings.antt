@@ -7,10 +7,10 @@ use Rattle.std.proofs.lemmas.List.Concat.{flat_map-cons}
 use Rattle.std.proofs.lemmas.List.Elements.{All-from_recursion}
 use Rattle.wm_collections.specs.Lists.{AllLater, HasOne}
 use Rattle.wm_collections.proofs.Lists.{All-append, All-filter, All-map, All-stored, All-weaker, All-with2, All-with3, AllLater-append, AllLater-few, HasOne-weaker, HasOne-with, none_pass, one_gives}
-use Rattle.wm_machine.proofs.Records.{IsData-empty}
+use Rattle.wm_machine.proofs.Records.{IsData-empty, IsRequest-of_record, no_override}
 use Rattle.wm_machine.proofs.Runnings.{all_of_number}
 use Rattle.wm_machine.specs.Enqueued.{any_in, count_prior, first_phase, is_cancelled, is_failed, new_record, numbers_of, prior_of}
-use Rattle.wm_machine.specs.Valid.{ArePrior, ArePriorSound, IsAttemptIn, IsBefore, IsOfKind, MaySucceedOrHas, IsOutputIn, IsPeriodicPhase, IsProgressIn, IsRecord, Valid}
+use Rattle.wm_machine.specs.Valid.{ArePrior, ArePriorSound, IsAttemptIn, IsBefore, IsFinishedIn, IsOfKind, MaySucceedOrHas, IsOutputIn, IsPeriodicPhase, IsProgressIn, IsRecord, Valid}
 use Rattle.wm_machine.specs.declared.record.How.TheVariants as how
 use Rattle.wm_machine.specs.Types.{Node, Period, Phase, Record, State}
 use Rattle.wm_machine.specs.declared.record.Phase.TheVariants as phase
@@ -235,15 +235,20 @@ IsRecord-placed s name prior node valid room short is =
             (All-weaker prior (λ number both. let below = both.1 in omega (arith, below, room)) sound.earlier);
         generation = omega arith;
         enqueued_at = valid.now;
+        override_at = tt;
+        finished_at = omega arith;
       };
       name = short;
-      request = is.request;
+      request = IsRequest-of_record node.request.id node.request.keep node.request is.request.id is.request.within.keep_is is.request;
       prior = sound;
       attempt = omega arith;
       started = first_phase-both (λ p. IsAttemptIn p 0) s.works prior tt tt (λ e f. tt);
       backoff_n = omega arith;
       runs = omega arith;
       kind = kind-placed node.request.period s name prior node refl is;
+      leaves = refl;
+      override_at = no_override node.request.period;
+      finished_at = first_phase-both (λ p. IsFinishedIn p 0) s.works prior tt tt (λ e f. refl);
       output = first_phase-both (λ p. IsOutputIn p []) s.works prior IsData-empty refl (λ e f. refl);
       progress = first_phase-both (λ p. IsProgressIn p []) s.works prior refl refl (λ e f. refl);
     }

@@ -1,5 +1,5 @@
 -- What a change keeps of a record.
-use Rattle.std.proofs.Common.{◌≡◌, ℕ, ◌^◌, ◌<◌, ◌≤◌, ap, true, List, [], Option, Some, None, IfSome, refl, sym, ◌∙◌, subst, arith}
+use Rattle.std.proofs.Common.{◌≡◌, ℕ, ◌^◌, ◌<◌, ◌≤◌, ap, true, List, [], length, Option, Some, None, IfSome, refl, sym, ◌∙◌, subst, arith}
 use Rattle.std.proofs.lemmas.Bool.{false≢true}
 use Rattle.wm_data.specs.Size.{IsData}
 use Rattle.wm_machine.specs.Types.{DataEntry, Period, Phase, Record}
@@ -9,10 +9,12 @@ use Rattle.wm_machine.specs.First.{is_waiting}
 use Rattle.wm_machine.specs.Runs.{started}
 use Rattle.wm_machine.specs.Turns.{telling}
 use Rattle.wm_machine.specs.Updated.{is_same_kind, updated}
-use Rattle.wm_machine.specs.Valid.{IsAttemptIn, IsOfKind, IsOutputIn, IsPeriodic, IsPeriodicPhase, IsProgressIn, IsRecord}
+use Rattle.wm_machine.specs.Valid.{IsAttemptIn, IsFinishedIn, IsOfKind, IsOutputIn, IsOverrideOf, IsPeriodic, IsPeriodicPhase, IsProgressIn, IsRecord}
 use Rattle.wm_machine.specs.declared.record.How.TheVariants as how
 use Rattle.wm_machine.specs.declared.record.Phase.TheVariants as phase
-use Rattle.wm_request.specs.Requests.{IsRequest, IsShortText, RequestFields}
+use Rattle.wm_request.proofs.Limits.{IsWithin-of_record}
+use Rattle.wm_request.specs.Requests.{of_record, IsRequest, IsShortText, RequestFields}
+use Rattle.wm_schedule.specs.Moments.{IsDelay}
 
 -- no entry is Data
 pub IsData-empty : IsData []
@@ -35,14 +37,38 @@ output-waiting phase.Waiting output waits is = is
 output-waiting phase.Running output waits is = absurd (false≢true waits)
 output-waiting (phase.Done how) output waits is = absurd (false≢true waits)
 
+-- what is unfinished has no moment at which it finished
+pub finished-open : (p : Phase) (finished_at : ℕ) → is_open p ≡ true → IsFinishedIn p finished_at → finished_at ≡ 0
+finished-open phase.Waiting finished_at unfinished is = is
+finished-open phase.Running finished_at unfinished is = is
+finished-open (phase.Done how) finished_at unfinished is = absurd (false≢true unfinished)
+
+waiting-open : (p : Phase) → is_waiting p ≡ true → is_open p ≡ true
+waiting-open phase.Waiting waits = refl
+waiting-open phase.Running waits = absurd (false≢true waits)
+waiting-open (phase.Done how) waits = absurd (false≢true waits)
+
+-- work of either kind may be without an override
+pub no_override : (period : Option Period) → IsOverrideOf period None
+no_override None = refl
+no_override (Some period) = tt
+
 -- what a run, an end or a cancel leaves of a record, its name aside
 abbrev asked_of : Record → ℕ × (RequestFields × (List ℕ × ℕ))
 asked_of work = (work.seq, (work.request, (work.prior, work.generation)))
 
+-- the moments of a record are within their limits after a change
+pub record AreMomentsWithin (work now : Record) : Type 0 where
+  pub enqueued_at : now.enqueued_at < 2 ^ 53
+  pub override_at : IsOverrideOf work.request.period now.override_at
+  pub override_fits : IfSome now.override_at (λ moment. moment < 2 ^ 53)
+  pub finished_at : IsFinishedIn now.phase now.finished_at
+  pub finished_fits : now.finished_at < 2 ^ 53
+
 -- the rest of a record is within its limits after a change
 pub record IsRestWithin (work now : Record) : Type 0 where
   pub name : IfSome now.name IsShortText
-  pub enqueued_at : now.enqueued_at < 2 ^ 53
+  pub moments : AreMomentsWithin work now
   pub attempt : now.attempt ≤ 1000000
   pub started : IsAttemptIn now.phase now.attempt
   pub backoff_n : now.backoff_n ≤ now.attempt
@@ -60,7 +86,14 @@ IsRecord-kept work now same is rest =
     let generation = ap (λ l. l.1.1.1) same in
     record {
       number = rw seq is.number;
-      fits = record { seq = rw seq is.fits.seq; prior = rw prior is.fits.prior; generation = rw generation is.fits.generation; enqueued_at = rest.enqueued_at };
+      fits = record {
+        seq = rw seq is.fits.seq;
+        prior = rw prior is.fits.prior;
+        generation = rw generation is.fits.generation;
+        enqueued_at = rest.moments.enqueued_at;
+        override_at = rest.moments.override_fits;
+        finished_at = rest.moments.finished_fits;
+      };
       name = rest.name;
       request = rw request is.request;
       prior = rw (seq, prior) is.prior;
@@ -69,9 +102,34 @@ IsRecord-kept work now same is rest =
       backoff_n = rest.backoff_n;
       runs = rest.runs;
       kind = subst (λ (r : RequestFields). IsOfKind r.period now) (sym request) rest.kind;
+      leaves = rw request is.leaves;
+      override_at = subst (λ (r : RequestFields). IsOverrideOf r.period now.override_at) (sym request) rest.moments.override_at;
+      finished_at = rest.moments.finished_at;
       output = rest.output;
       progress = rest.progress;
     }
+
+-- a change that leaves the moments of a record, in a phase where it has finished or hasn't as before
+pub moments-kept : (work now : Record) → now.enqueued_at ≡ work.enqueued_at → now.override_at ≡ work.override_at → now.finished_at ≡ work.finished_at
+    → IsFinishedIn now.phase work.finished_at → IsRecord work → AreMomentsWithin work now
+moments-kept work now enqueued override finished phase_is is = record {
+  enqueued_at = rw enqueued is.fits.enqueued_at;
+  override_at = rw override is.override_at;
+  override_fits = rw override is.fits.override_at;
+  finished_at = rw finished phase_is;
+  finished_fits = rw finished is.fits.finished_at;
+}
+
+-- a change that has its delay count from this moment on, which uses its override up, in a phase where it hasn't finished
+moments-now : (at : ℕ) (work now : Record) → at < 2 ^ 53 → now.enqueued_at ≡ at → now.override_at ≡ None → now.finished_at ≡ work.finished_at
+    → is_open work.phase ≡ true → IsFinishedIn now.phase 0 → IsRecord work → AreMomentsWithin work now
+moments-now at work now below enqueued override finished unfinished phase_is is = record {
+  enqueued_at = rw enqueued below;
+  override_at = rw override (no_override work.request.period);
+  override_fits = rw override tt;
+  finished_at = rw (finished, finished-open work.phase work.finished_at unfinished is.finished_at) phase_is;
+  finished_fits = rw finished is.fits.finished_at;
+}
 
 -- what is of a kind stays so, where it is put into a phase of that kind
 IsOfKind-kept : (period : Option Period) (work changed : Record) → IsPeriodicPhase changed.phase → changed.runs ≡ work.runs → changed.output ≡ work.output
@@ -92,7 +150,8 @@ IsRecord-started work waits is =
     let most = is.attempt in
     IsRecord-kept work (started work) refl is (record {
       name = is.name;
-      enqueued_at = is.fits.enqueued_at;
+      moments = moments-kept work (started work) refl refl refl
+          (finished-open work.phase work.finished_at (waiting-open work.phase waits) is.finished_at) is;
       attempt = omega arith;
       started = omega arith;
       backoff_n = omega arith;
@@ -109,7 +168,7 @@ IsRecord-telling None work told running is = is
 IsRecord-telling (Some progress) work told running is =
     IsRecord-kept work (telling (Some progress) work) refl is (record {
       name = is.name;
-      enqueued_at = is.fits.enqueued_at;
+      moments = moments-kept work (telling (Some progress) work) refl refl refl is.finished_at is;
       attempt = is.attempt;
       started = is.started;
       backoff_n = is.backoff_n;
@@ -124,7 +183,7 @@ pub IsRecord-retried : (now : ℕ) (work : Record) → now < 2 ^ 53 → work.pha
 IsRecord-retried now work below running is =
     IsRecord-kept work (retried now work) refl is (record {
       name = is.name;
-      enqueued_at = below;
+      moments = moments-now now work (retried now work) below refl refl refl (ap is_open running) refl is;
       attempt = is.attempt;
       started = tt;
       backoff_n = omega arith;
@@ -143,7 +202,13 @@ pub IsRecord-freed : (now : ℕ) (work : Record) → now < 2 ^ 53 → IsRecord w
 IsRecord-freed now work below is =
     IsRecord-kept work (record work { enqueued_at = now }) refl is (record {
       name = is.name;
-      enqueued_at = below;
+      moments = record {
+        enqueued_at = below;
+        override_at = is.override_at;
+        override_fits = is.fits.override_at;
+        finished_at = is.finished_at;
+        finished_fits = is.fits.finished_at;
+      };
       attempt = is.attempt;
       started = is.started;
       backoff_n = is.backoff_n;
@@ -159,7 +224,7 @@ pub IsRecord-failed : (output : List DataEntry) (work : Record) → IsData outpu
 IsRecord-failed output work gave one_time is =
     IsRecord-kept work (with_output output (closed how.Failed work)) refl is (record {
       name = is.name;
-      enqueued_at = is.fits.enqueued_at;
+      moments = moments-kept work (with_output output (closed how.Failed work)) refl refl refl tt is;
       attempt = is.attempt;
       started = tt;
       backoff_n = is.backoff_n;
@@ -180,7 +245,7 @@ pub IsRecord-cancelled : (work : Record) → is_open work.phase ≡ true → IsR
 IsRecord-cancelled work unfinished is =
     IsRecord-kept work (closed how.Cancelled work) refl is (record {
       name = is.name;
-      enqueued_at = is.fits.enqueued_at;
+      moments = moments-kept work (closed how.Cancelled work) refl refl refl tt is;
       attempt = is.attempt;
       started = tt;
       backoff_n = is.backoff_n;
@@ -196,7 +261,7 @@ pub IsRecord-succeeded : (output : List DataEntry) (work : Record) → IsData ou
 IsRecord-succeeded output work gave running one_time is =
     IsRecord-kept work (succeeded output work) refl is (record {
       name = is.name;
-      enqueued_at = is.fits.enqueued_at;
+      moments = moments-kept work (succeeded output work) refl refl refl tt is;
       attempt = is.attempt;
       started = subst (λ phase. IsAttemptIn phase work.attempt) running is.started;
       backoff_n = is.backoff_n;
@@ -206,13 +271,13 @@ IsRecord-succeeded output work gave running one_time is =
       progress = refl;
     })
 
-pub IsRecord-again : (period : Period) (now : ℕ) (work : Record) → now < 2 ^ 53 → work.request.period ≡ Some period → IsRecord work
-    → IsRecord (enqueued_again now work)
-IsRecord-again period now work below repeats is =
+pub IsRecord-again : (period : Period) (now : ℕ) (work : Record) → now < 2 ^ 53 → is_open work.phase ≡ true → work.request.period ≡ Some period
+    → IsRecord work → IsRecord (enqueued_again now work)
+IsRecord-again period now work below unfinished repeats is =
     let kind : IsPeriodic work = subst (λ kind. IsOfKind kind work) repeats is.kind in
     IsRecord-kept work (enqueued_again now work) refl is (record {
       name = is.name;
-      enqueued_at = below;
+      moments = moments-now now work (enqueued_again now work) below refl refl refl unfinished refl is;
       attempt = omega arith;
       started = tt;
       backoff_n = omega arith;
@@ -231,20 +296,43 @@ updated-kind (Some before) None request work same kind = absurd (false≢true sa
 updated-kind (Some before) (Some period) request work same kind =
     record { phase_is = kind.phase_is; no_output = kind.no_output; no_prerequisite = kind.no_prerequisite }
 
+updated-override : (before now : Option Period) (override_at : Option ℕ) → is_same_kind now before ≡ true → IsOverrideOf before override_at
+    → IsOverrideOf now override_at
+updated-override None None override_at same is = is
+updated-override None (Some period) override_at same is = absurd (false≢true same)
+updated-override (Some before) None override_at same is = absurd (false≢true same)
+updated-override (Some before) (Some period) override_at same is = tt
+
+-- a request as the record of a work has it
+pub IsRequest-of_record : (id : List ℕ) (keep : ℕ) (request : RequestFields) → length id ≡ 16 → IsDelay keep → IsRequest request
+    → IsRequest (of_record id keep request)
+IsRequest-of_record id keep request sixteen short asked =
+    record { id = sixteen; input = asked.input; within = IsWithin-of_record request keep short asked.within }
+
 -- a work that is updated by a request of its kind
 pub IsRecord-updated : (request : RequestFields) (work : Record) → IsRequest request → is_same_kind request.period work.request.period ≡ true
     → IsRecord work → IsRecord (updated request work)
 IsRecord-updated request work asked same is = record {
   number = is.number;
-  fits = record { seq = is.fits.seq; prior = is.fits.prior; generation = omega arith; enqueued_at = is.fits.enqueued_at };
+  fits = record {
+    seq = is.fits.seq;
+    prior = is.fits.prior;
+    generation = omega arith;
+    enqueued_at = is.fits.enqueued_at;
+    override_at = is.fits.override_at;
+    finished_at = is.fits.finished_at;
+  };
   name = is.name;
-  request = record { id = is.request.id; input = asked.input; within = asked.within };
+  request = IsRequest-of_record work.request.id work.request.keep request is.request.id is.request.within.keep_is asked;
   prior = is.prior;
   attempt = is.attempt;
   started = is.started;
   backoff_n = is.backoff_n;
   runs = is.runs;
   kind = updated-kind work.request.period request.period request work same is.kind;
+  leaves = refl;
+  override_at = updated-override work.request.period request.period work.override_at same is.override_at;
+  finished_at = is.finished_at;
   output = is.output;
   progress = is.progress;
 }

@@ -1,5 +1,5 @@
 -- The rows of records.
-use Rattle.std.proofs.Common.{◌≡◌, ℕ, suc, ◌<◌, pos, List, [], ◌∷◌, length, map, refl, ap, rules}
+use Rattle.std.proofs.Common.{◌≡◌, ℕ, suc, ◌<◌, pos, List, [], ◌∷◌, length, map, refl, ap, inl, inr, rules}
 use Rattle.std.specs.List.{AllByRecursion}
 use Rattle.std.specs.Prelude.{◌<ℤ◌}
 use Rattle.wm_machine.specs.Types.{Record, Row}
@@ -16,18 +16,12 @@ rows_below (work ∷ works) next below = (search (rules, below.0), rows_below wo
 -- the rows that are kept for records are theirs
 pub AreRowsOf-kept : (works : List Record) → AreRowsOf (map row_of works) works
 AreRowsOf-kept [] = tt
-AreRowsOf-kept (work ∷ works) = (refl, AreRowsOf-kept works)
+AreRowsOf-kept (work ∷ works) = (inl refl, AreRowsOf-kept works)
 
 -- a row of a record has its number
 pub row-number : (row : Row) (work : Record) → IsRowOf row work → row.seq ≡ pos work.seq
-row-number row work is = ap (λ (r : Row). r.seq) is
-
--- rows that are those of records are the rows that are kept for these
-pub rows-theirs : (rows : List Row) (works : List Record) → AreRowsOf rows works → rows ≡ map row_of works
-rows-theirs [] [] are = refl
-rows-theirs (row ∷ rows) (work ∷ works) are = rw (are.0, rows-theirs rows works are.1) refl
-rows-theirs [] (work ∷ works) are = absurd are
-rows-theirs (row ∷ rows) [] are = absurd are
+row-number row work (inl is) = ap (λ (r : Row). r.seq) is
+row-number row work (inr is) = ap (λ (r : Row). r.seq) is.0
 
 -- there are as many
 pub rows-as_many : (rows : List Row) (works : List Record) → AreRowsOf rows works → length rows ≡ length works

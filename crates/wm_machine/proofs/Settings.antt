@@ -8,13 +8,14 @@ use Rattle.wm_conditions.specs.declared.conditions.Conditions.{Conditions}
 use Rattle.wm_machine.proofs.Changes.{all_open, IsChange, IsSameRequest, KeepsRun, moves-kept, MovesTo, Succeeded}
 use Rattle.wm_machine.proofs.Endings.{KeepsRun-same}
 use Rattle.wm_machine.proofs.Owed.{IsAnswered, IsLinedIn-quiet, IsLinedIn-stops}
-use Rattle.wm_machine.proofs.Records.{IsRecord-kept}
+use Rattle.wm_machine.proofs.Records.{finished-open, IsRecord-kept, moments-kept}
 use Rattle.wm_machine.proofs.Runnings.{all_of_number, each_or_apart}
 use Rattle.wm_machine.proofs.Stops.{and_fails, IsStop, Valid-stopped}
 use Rattle.wm_machine.specs.Frame.{untouched}
 use Rattle.wm_machine.specs.Replied.{Outcome, unchanged}
 use Rattle.wm_machine.specs.Settings.{conditioned, is_put_back_by, is_stopped_by, put_back}
 use Rattle.wm_machine.specs.Types.{Command, Period, Record, Run, State}
+use Rattle.wm_machine.specs.Closed.{is_open}
 use Rattle.wm_machine.specs.Valid.{AreApart, IsCurrentOf, IsOfKind, IsOutputIn, IsRecord, MaySucceedOrHas, Valid}
 use Rattle.wm_machine.specs.declared.command.Command.TheVariants as command
 use Rattle.wm_machine.specs.declared.record.How.TheVariants as how
@@ -85,7 +86,7 @@ IsRecord-put_back : (work : Record) → work.phase ≡ phase.Running → IsRecor
 IsRecord-put_back work running is =
     IsRecord-kept work (put_back work) refl is (record {
       name = is.name;
-      enqueued_at = is.fits.enqueued_at;
+      moments = moments-kept work (put_back work) refl refl refl (finished-open work.phase work.finished_at (ap is_open running) is.finished_at) is;
       attempt = is.attempt;
       started = tt;
       backoff_n = is.backoff_n;

@@ -75,7 +75,8 @@ module _ (s : State) (work : Record) (valid : Valid s) (first : first_of s ≡ S
       let is =
       IsChange-one s.works work.seq back (λ other. record { seq = refl; name = λ text is. is; request = refl; prior = refl })
       valid.works.records valid.works.sound
-      (All-with2 s.works (λ other kind fine e. IsRecord-again period s.now other valid.now (kind e) fine) repeats valid.works.records)
+      (All-with3 s.works (λ other waiting kind fine e. IsRecord-again period s.now other valid.now (waiting e) (kind e) fine) unfinished repeats
+      valid.works.records)
       (All-weaker s.works (λ other is e. (is e, all_open s.works change other.prior open_then)) unfinished) not_yet (All-any s.works (λ other e. tt)) in
       let here : change work ≡ back work = ap (λ b. cond b (back work) work) (eq-eqb work.seq work.seq refl) in
       record {

@@ -13,6 +13,7 @@ times_of work = record {
   backoff_n = work.backoff_n;
   period = work.request.period;
   runs = work.runs;
+  override_at = work.override_at;
 }
 
 -- the moment from which on a work may start

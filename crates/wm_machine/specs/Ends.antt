@@ -34,11 +34,12 @@ succeeded output work = record work { phase = phase.Done how.Succeeded; output =
 abbrev pub with_output : List DataEntry → Record → Record
 with_output output work = record work { output = output }
 
--- a work whose attempt is to be retried
+-- a work whose attempt is to be retried; the moment that its next run was given is used up
 abbrev pub retried : ℕ → Record → Record
-retried now work = record work { phase = phase.Waiting; backoff_n = work.attempt; enqueued_at = now; progress = [] }
+retried now work =
+    record work { phase = phase.Waiting; backoff_n = work.attempt; enqueued_at = now; override_at = None; progress = [] }
 
--- a periodic work that is enqueued again, for its next period
+-- a periodic work that is enqueued again, for its next period; the moment that this run was given is used up
 abbrev pub enqueued_again : ℕ → Record → Record
 enqueued_again now work = record work {
   phase = phase.Waiting;
@@ -46,6 +47,7 @@ enqueued_again now work = record work {
   backoff_n = 0;
   runs = min (work.runs + 1) 1000000;
   enqueued_at = now;
+  override_at = None;
   output = [];
   progress = [];
 }

@@ -23,6 +23,7 @@ use Rattle.wm_machine.specs.declared.reply.Refusal.TheVariants as refusal
 use Rattle.wm_machine.specs.declared.reply.Reply.TheVariants as reply
 use Rattle.wm_machine.specs.declared.state.State.{State}
 use Rattle.wm_request.specs.Batches.{has_id}
+use Rattle.wm_request.specs.Requests.{of_record}
 use Rattle.wm_request.specs.declared.request.Node.{Node}
 
 -- ---- the checks, in their order
@@ -157,7 +158,7 @@ abbrev pub new_record : State → Option (List ℕ) → List ℕ → Node → Re
 new_record s name prior node = record {
   seq = s.next;
   name = name;
-  request = node.request;
+  request = of_record node.request.id node.request.keep node.request;
   prior = prior;
   phase = first_phase s.works prior;
   attempt = 0;
@@ -165,6 +166,8 @@ new_record s name prior node = record {
   runs = 0;
   generation = 0;
   enqueued_at = s.now;
+  override_at = None;
+  finished_at = 0;
   output = [];
   progress = [];
 }

@@ -1,5 +1,5 @@
 -- The rows that are kept for a state. The form is this project's own choice.
-use Rattle.std.specs.Prelude.{◌≡◌, ℕ, ◌+◌, ℤ, pos, Bool, List, [], ◌∷◌, map, Option, Some, None, if◌then◌else◌}
+use Rattle.std.specs.Prelude.{◌≡◌, ◌⊎◌, ℕ, ◌+◌, ℤ, pos, negsuc, Bool, List, [], ◌∷◌, map, Option, Some, None, if◌then◌else◌}
 use Rattle.wm_conditions.specs.declared.conditions.Constraints.{Constraints}
 use Rattle.wm_conditions.specs.declared.conditions.Network.{Network}
 use Rattle.wm_conditions.specs.declared.conditions.Network.TheVariants as network
@@ -57,10 +57,15 @@ phase_code (phase.Done how.Succeeded) = pos 2
 phase_code (phase.Done how.Failed) = pos 3
 phase_code (phase.Done how.Cancelled) = pos 4
 
+-- a moment, or -1 where there is none
+abbrev pub moment_code : Option ℕ → ℤ
+moment_code None = negsuc 0
+moment_code (Some moment) = pos moment
+
 -- the row of a record; progress isn't stored
 abbrev pub row_of : Record → Row
 row_of work = record {
-  version = pos 1;
+  version = pos 2;
   seq = pos work.seq;
   id = work.request.id;
   name = work.name;
@@ -84,11 +89,24 @@ row_of work = record {
   output = data_text work.output;
   prior = map pos work.prior;
   tags = work.request.tags;
+  next_at = moment_code work.override_at;
+  keep_for = pos work.request.keep;
+  finished_at = pos work.finished_at;
 }
 
--- a row is one of a record: the one that is kept for it
+-- a row as the first form has it, which tells nothing of the next run, the keeping time or the moment at which the work finished
+abbrev pub in_first_form : Row → Row
+in_first_form row = record row { version = pos 1 }
+
+-- a record has none of what the first form doesn't tell
+pub record FitsFirstForm (work : Record) : Type 0 where
+  pub no_override : work.override_at ≡ None
+  pub not_kept : work.request.keep ≡ 0
+  pub no_moment : work.finished_at ≡ 0
+
+-- a row is one of a record: the one that is kept for it, or that one in the first form
 abbrev pub IsRowOf : Row → Record → Type 0
-IsRowOf row work = row ≡ row_of work
+IsRowOf row work = (row ≡ row_of work) ⊎ ((row ≡ in_first_form (row_of work)) × FitsFirstForm work)
 
 -- the rows are those of these records, side by side
 abbrev pub AreRowsOf : List Row → List Record → Type 0

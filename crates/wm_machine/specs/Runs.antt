@@ -54,6 +54,7 @@ run_on s work instance input = record {
   constraints = work.request.constraints;
   turn = 0;
   current = true;
+  renewed = false;
 }
 
 -- a run that isn't current any more: how it ends doesn't count

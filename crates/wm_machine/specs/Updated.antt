@@ -13,7 +13,7 @@ use Rattle.wm_machine.specs.declared.reply.Applied.TheVariants.{NotApplied, Imme
 use Rattle.wm_machine.specs.declared.reply.Refusal.TheVariants.{KindMismatch, NoSuchWork}
 use Rattle.wm_machine.specs.declared.reply.Reply.TheVariants as reply
 use Rattle.wm_machine.specs.declared.state.State.{State}
-use Rattle.wm_request.specs.Requests.{RequestFields}
+use Rattle.wm_request.specs.Requests.{of_record, RequestFields}
 use Rattle.wm_schedule.specs.declared.schedule.Period.{Period}
 
 -- ---- the record
@@ -22,10 +22,10 @@ use Rattle.wm_schedule.specs.declared.schedule.Period.{Period}
 abbrev pub one_update_more : ℕ → ℕ
 one_update_more generation = min (generation + 1) (2 ^ 53 - 1)
 
--- a work that is asked for anew: the request is replaced but for its id, and all else of the record stays
+-- a work that is asked for anew: the request is replaced but for its id and its keeping time, and all else of the record stays
 abbrev pub updated : RequestFields → Record → Record
 updated request work = record work {
-  request = record request { id = work.request.id };
+  request = of_record work.request.id work.request.keep request;
   generation = one_update_more work.generation;
 }
 

@@ -13,6 +13,7 @@ use Rattle.wm_machine.specs.declared.state.Instance.{Instance}
 use Rattle.wm_machine.specs.declared.state.Run.{Run}
 use Rattle.wm_machine.specs.declared.state.State.{State}
 use Rattle.wm_request.specs.Requests.{IsRequest, IsShortText}
+use Rattle.wm_request.specs.declared.request.NextRun.TheVariants.{Leave}
 use Rattle.wm_schedule.specs.declared.schedule.Period.{Period}
 
 -- ---- a record by itself
@@ -33,6 +34,16 @@ IsOutputIn _ output = output ≡ []
 abbrev pub IsProgressIn : Phase → List DataEntry → Type 0
 IsProgressIn phase.Running progress = IsData progress
 IsProgressIn _ progress = progress ≡ []
+
+-- only finished work has a moment at which it finished
+abbrev pub IsFinishedIn : Phase → ℕ → Type 0
+IsFinishedIn (phase.Done how) finished_at = Unit {0}
+IsFinishedIn _ finished_at = finished_at ≡ 0
+
+-- only periodic work has a moment that takes the place of its period's
+abbrev pub IsOverrideOf : Option Period → Option ℕ → Type 0
+IsOverrideOf None override_at = override_at ≡ None
+IsOverrideOf (Some period) override_at = Unit {0}
 
 -- periodic work never succeeds or fails for good
 abbrev pub IsPeriodicPhase : Phase → Type 0
@@ -68,6 +79,9 @@ pub record IsRecord (work : Record) : Type 0 where
   pub backoff_n : work.backoff_n ≤ work.attempt
   pub runs : work.runs ≤ 1000000
   pub kind : IsOfKind work.request.period work
+  pub leaves : work.request.next ≡ Leave
+  pub override_at : IsOverrideOf work.request.period work.override_at
+  pub finished_at : IsFinishedIn work.phase work.finished_at
   pub output : IsOutputIn work.phase work.output
   pub progress : IsProgressIn work.phase work.progress
 

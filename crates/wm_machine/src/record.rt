@@ -98,6 +98,10 @@ pub struct Record {
     pub generation: u64,
     /// The moment from which its delay counts.
     pub enqueued_at: u64,
+    /// The moment from which its next run may start whatever its period says, where there is one.
+    pub override_at: Option<u64>,
+    /// The moment at which it finished, 0 before that.
+    pub finished_at: u64,
     /// What it gave in the end.
     pub output: Data,
     /// What it told while it runs.
@@ -125,6 +129,7 @@ impl Record {
             backoff_n: self.backoff_n,
             period: self.request.period(),
             runs: self.runs,
+            override_at: self.override_at,
         }
     }
 }
@@ -142,6 +147,8 @@ impl Replica for Record {
             runs: self.runs,
             generation: self.generation,
             enqueued_at: self.enqueued_at,
+            override_at: self.override_at,
+            finished_at: self.finished_at,
             output: self.output.replica(alloc)?,
             progress: self.progress.replica(alloc)?,
         })

@@ -30,6 +30,8 @@ pub struct Run {
     pub turn: u32,
     /// Whether its end still counts.
     pub current: bool,
+    /// Whether what its work has for the next run was set anew since it began.
+    pub renewed: bool,
 }
 
 /// One boxed worker, by its number.

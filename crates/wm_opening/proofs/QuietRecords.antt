@@ -1,13 +1,13 @@
 -- What a store keeps of records that have told something, and that it says what they open to.
-use Rattle.std.proofs.Common.{◌≡◌, ℕ, List, [], ◌∷◌, map, Option, Some, None, Ok, refl, sym, ap, ◌∙◌, subst}
+use Rattle.std.proofs.Common.{◌≡◌, ℕ, List, [], ◌∷◌, map, Option, Some, None, Ok, refl, sym, ap, ◌∙◌, subst, inl, inr}
 use Rattle.std.specs.List.{AllByRecursion}
 use Rattle.wm_collections.proofs.Lists.{All-weaker, map-twice}
 use Rattle.wm_keeper.specs.declared.row.Row.{Row}
 use Rattle.wm_machine.proofs.Changes.{AreWorks-changed, IsChange-still}
-use Rattle.wm_machine.proofs.Records.{IsData-empty, IsRecord-kept}
-use Rattle.wm_machine.proofs.Rows.{AreRowsOf-kept, rows-theirs}
+use Rattle.wm_machine.proofs.Records.{IsData-empty, IsRecord-kept, moments-kept}
+use Rattle.wm_machine.proofs.Rows.{AreRowsOf-kept}
 use Rattle.wm_machine.specs.Opened.{AreFresh, next_number, Opened, opening_state, reopened}
-use Rattle.wm_machine.specs.Rows.{row_of, rows_of, AreRowsOf}
+use Rattle.wm_machine.specs.Rows.{row_of, rows_of, AreRowsOf, IsRowOf}
 use Rattle.wm_machine.specs.Valid.{AreWorks, IsOfKind, IsProgressIn, IsRecord, Valid}
 use Rattle.wm_machine.specs.declared.record.Phase.{Phase}
 use Rattle.wm_machine.specs.declared.record.Phase.TheVariants as phase
@@ -38,7 +38,7 @@ IsRecord-quiet : (work : Record) → IsRecord work → IsRecord (quiet work)
 IsRecord-quiet work is =
     IsRecord-kept work (quiet work) refl is (record {
       name = is.name;
-      enqueued_at = is.fits.enqueued_at;
+      moments = moments-kept work (quiet work) refl refl refl is.finished_at is;
       attempt = is.attempt;
       started = is.started;
       backoff_n = is.backoff_n;
@@ -67,15 +67,24 @@ rows-quiet works = map-twice quiet row_of works
 reopened-quiet : (works : List Record) → map reopened (map quiet works) ≡ map reopened works
 reopened-quiet works = map-twice quiet reopened works
 
--- they are read as the records
-checked-quiet : (next : ℕ) (works : List Record) → AreWorks next works → checked (map row_of works) ≡ Ok (map quiet works)
-checked-quiet next works are =
-    subst (λ (rows : List Row). checked rows ≡ Ok (map quiet works)) (rows-quiet works)
-    (checked-written next (map quiet works) (AreWorks-quiet next works are) (quiet-told works))
+row-quiet : (row : Row) (work : Record) → IsRowOf row work → IsRowOf row (quiet work)
+row-quiet row work (inl same) = inl same
+row-quiet row work (inr same) =
+    inr (same.0, record { no_override = same.1.no_override; not_kept = same.1.not_kept; no_moment = same.1.no_moment })
+
+theirs-quiet : (rows : List Row) (works : List Record) → AreRowsOf rows works → AreRowsOf rows (map quiet works)
+theirs-quiet [] [] theirs = tt
+theirs-quiet (row ∷ rows) (work ∷ works) theirs = (row-quiet row work theirs.0, theirs-quiet rows works theirs.1)
+theirs-quiet [] (work ∷ works) theirs = absurd theirs
+theirs-quiet (row ∷ rows) [] theirs = absurd theirs
 
 -- rows that are theirs are read as them
-checked-theirs : (rows : List Row) (works : List Record) → AreRowsOf rows works → AreWorks (next_number works) works → checked rows ≡ Ok (map quiet works)
-checked-theirs rows works theirs are = ap checked (rows-theirs rows works theirs) ∙ checked-quiet (next_number works) works are
+checked-theirs : (next : ℕ) (rows : List Row) (works : List Record) → AreRowsOf rows works → AreWorks next works → checked rows ≡ Ok (map quiet works)
+checked-theirs next rows works theirs are =
+    checked-written next rows (map quiet works) (theirs-quiet rows works theirs) (AreWorks-quiet next works are) (quiet-told works)
+
+checked-quiet : (next : ℕ) (works : List Record) → AreWorks next works → checked (map row_of works) ≡ Ok (map quiet works)
+checked-quiet next works are = checked-theirs next (map row_of works) works (AreRowsOf-kept works) are
 
 -- ---- what they open to
 
@@ -85,8 +94,8 @@ pub opened-once : (rows : List Row) (instances : List Instance) (first other : S
 opened-once rows instances first other one two =
     let works = one.stored in
     let others = two.stored in
-    let here = checked-theirs rows works one.rows_are_theirs one.sound in
-    let there = checked-theirs rows others two.rows_are_theirs two.sound in
+    let here = checked-theirs (next_number works) rows works one.rows_are_theirs one.sound in
+    let there = checked-theirs (next_number others) rows others two.rows_are_theirs two.sound in
     let reading : Ok (map quiet works) ≡ Ok (map quiet others) = sym here ∙ there in
     let quiets : map quiet works ≡ map quiet others = cc in
     let same : map reopened works ≡ map reopened others = sym (reopened-quiet works) ∙ ap (map reopened) quiets ∙ reopened-quiet others in

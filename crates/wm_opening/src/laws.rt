@@ -8,8 +8,8 @@ ghost use Rattle.wm_machine.specs.declared.state.Instance.{Instance};
 ghost use Rattle.wm_machine.specs.declared.state.State.{State};
 ghost use Rattle.wm_rows.specs.Sound.{AreSound};
 
-/// What rows open to is what its own rows open to, so that a store which was opened and then left alone
-/// opens to the same.
+/// What rows open to, in either form, is what its own rows open to, so that a store which was opened and
+/// then left alone opens to the same.
 pub fn opening_again_changes_nothing()
     ensures { (rows : List Row) (instances : List Instance) (first : State) → Opened rows instances first
         → Opened (rows_of first) instances first }

@@ -31,8 +31,8 @@ pub struct Opening {
 
 /// Opens a store that holds these rows, with these instances.
 ///
-/// The records are those of the rows; work that was running waits again, and nothing else of it
-/// changes. Rows that aren't those of a store are refused as `check_all` refuses them: the first row
+/// The records are those of the rows, in either form; work that was running waits again, and nothing
+/// else of it changes. Rows that aren't those of a store are refused as `check_all` refuses them: the first row
 /// with a fault decides, by `BadRow` or `Unsound`. `Memory` comes where memory was refused.
 pub fn open(alloc: Global, rows: &[Row], instances: Items<Instance>) -> Result<Opening, RowFault>
     requires { AreFresh instances }

@@ -1,4 +1,5 @@
-//! Work that was running when its store was last used, and the rows that change as it waits again.
+//! Work that was running when its store was last used, and the rows that change as it waits again or as
+//! they come into the form in which rows are kept.
 ghost use Rattle.std.specs.List.{AllByRecursion};
 ghost use Rattle.std.specs.Prelude.{◌≡◌, ◌++◌, ◌∷◌, [], map, List, IfOk, OnOk};
 ghost use Rattle.wm_machine.specs.Opened.{reopened};

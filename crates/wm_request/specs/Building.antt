@@ -8,6 +8,7 @@ use Rattle.wm_data.specs.declared.merger.Merger.TheVariants.{Overwriting}
 use Rattle.wm_request.specs.Requests.{AreSortedTags, RequestFields}
 use Rattle.wm_request.specs.declared.fault.RequestFault.{RequestFault}
 use Rattle.wm_request.specs.declared.fault.RequestFault.TheVariants as fault
+use Rattle.wm_request.specs.declared.request.NextRun.TheVariants.{Leave}
 use Rattle.wm_schedule.specs.Clamped.{clamped_delay, clamped_period, IsBackoffDelay, IsPeriod}
 use Rattle.wm_schedule.specs.Defaults.{default_backoff}
 use Rattle.wm_schedule.specs.declared.schedule.Backoff.{Backoff}
@@ -16,7 +17,7 @@ use Rattle.wm_schedule.specs.declared.schedule.Period.{Period}
 
 -- ---- the fields
 
--- one-time work of this id and class: no input, tag, constraint or delay, and exponential backoff from 30,000 ms
+-- one-time work of this id and class: no input, tag, constraint, delay or keeping time, and exponential backoff from 30,000 ms
 abbrev pub one_time_of : List ℕ → List ℕ → RequestFields
 one_time_of id class = record {
   id = id;
@@ -28,6 +29,8 @@ one_time_of id class = record {
   backoff = default_backoff;
   initial_delay = 0;
   period = None;
+  keep = 0;
+  next = Leave;
 }
 
 -- the same that repeats, with its period and flex interval clamped
@@ -58,10 +61,13 @@ is_short text = nat_lt 0 (length text) && nat_le (length text) 200
 abbrev pub is_long : ℕ → Bool
 is_long delay = nat_lt 315360000000 delay
 
-abbrev pub has_long_delay : RequestFields → Bool
-has_long_delay asked = is_long asked.initial_delay || unwrap_or (option_map (λ period. is_long period.period) asked.period) false
+abbrev pub has_long_period : Option Period → Bool
+has_long_period period = unwrap_or (option_map (λ period. is_long period.period) period) false
 
--- the request, or why there is none: its class first, then its tags, then its delays
+abbrev pub has_long_delay : RequestFields → Bool
+has_long_delay asked = (is_long asked.initial_delay || is_long asked.keep) || has_long_period asked.period
+
+-- the request, or why there is none: its class first, then its tags, then its delays and its keeping time
 abbrev pub built_of : RequestFields → Result RequestFields RequestFault
 built_of asked =
     if not (is_short asked.class) then Err fault.NoClass

@@ -1,10 +1,10 @@
 //! A request that is put together, and the limits of its parts.
 ghost use Rattle.std.specs.Prelude.{◌≡◌, ◌≤◌, insert, length, Ok, IfOk, IfErr, MatchOption, OnOk, OnErr, string_bytes};
-ghost use Rattle.wm_request.specs.Building.{backoff_of, built_of, has_long_delay, is_long, is_short, one_time_of, periodic_of, with_tag, IsFaultOf};
+ghost use Rattle.wm_request.specs.Building.{backoff_of, built_of, has_long_delay, has_long_period, is_long, is_short, one_time_of, periodic_of, with_tag, IsFaultOf};
 ghost use Rattle.wm_request.specs.Requests.{IsShortText, RequestFields};
 
 use crate::fault::RequestFault;
-use crate::request::{Request, Terms};
+use crate::request::{NextRun, Request, Terms};
 use std::alloc::{AllocError, Global};
 use std::cmp::Ordering;
 use std::marker::Model;
@@ -20,7 +20,7 @@ pub const MAX_TEXT_BYTES: usize = 200;
 /// The most tags that a request has.
 pub const MAX_TAGS: usize = 32;
 
-/// The longest initial delay and the longest period, in milliseconds.
+/// The longest initial delay, period and keeping time, in milliseconds.
 pub const MAX_DELAY: u64 = 315_360_000_000;
 
 /// A request that is being put together, after `androidx.work.WorkRequest.Builder`. A contract
@@ -36,11 +36,13 @@ pub struct Builder {
     backoff: Backoff,
     initial_delay: u64,
     period: Option<Period>,
+    keep: u64,
 }
 
 impl Model for Builder {
     ghost use Rattle.wm_request.specs.Building.{IsBuilding};
     ghost use Rattle.wm_request.specs.Requests.{RequestFields};
+    ghost use Rattle.wm_request.specs.declared.request.NextRun.TheVariants.{Leave};
 
     ghost Value = { RequestFields };
 
@@ -54,14 +56,16 @@ impl Model for Builder {
       backoff = b.backoff;
       initial_delay = b.initial_delay;
       period = b.period;
+      keep = b.keep;
+      next = Leave;
     } };
 
     ghost invariant = { λ b. IsBuilding b.tags.items b.backoff b.period };
 }
 
 impl Builder {
-    /// One-time work of this id and class: without input, tag, constraint or delay, with the merger
-    /// Overwriting, and with exponential backoff from 30,000 ms. It takes no memory.
+    /// One-time work of this id and class: without input, tag, constraint, delay or keeping time, with
+    /// the merger Overwriting, and with exponential backoff from 30,000 ms. It takes no memory.
     pub fn one_time(alloc: Global, id: Uuid, class: String) -> Builder
         ensures { result ≡ one_time_of id (string_bytes class) }
     {
@@ -75,6 +79,7 @@ impl Builder {
             backoff: Backoff::DEFAULT,
             initial_delay: 0,
             period: None,
+            keep: 0,
         }
     }
 
@@ -134,6 +139,13 @@ impl Builder {
         self.initial_delay = delay;
     }
 
+    /// Sets how long its record is kept once the work has finished, in milliseconds. It takes no memory.
+    pub fn keep(&mut self, keep: u64)
+        ensures { self.new ≡ record self.old { keep = keep } }
+    {
+        self.keep = keep;
+    }
+
     /// Adds a tag of 1 to 200 bytes. One that is there changes nothing. Where memory is refused, the
     /// builder is as it was.
     pub fn tag(&mut self, tag: String) -> Result<(), AllocError>
@@ -146,8 +158,8 @@ impl Builder {
     }
 
     /// The request. NoClass where the class is empty or has more than 200 bytes, else TooManyTags
-    /// where it has more than 32 tags, else DelayTooLong where the initial delay or the period is
-    /// above 315,360,000,000 ms.
+    /// where it has more than 32 tags, else DelayTooLong where the initial delay, the period or the
+    /// keeping time is above 315,360,000,000 ms.
     pub fn build(self) -> Result<Request, RequestFault>
         ensures ok { IfOk result (λ request. built_of self ≡ Ok request) }
         ensures err { IfErr result (IsFaultOf (built_of self)) }
@@ -158,7 +170,7 @@ impl Builder {
         if self.tags.len() > MAX_TAGS {
             return Err(RequestFault::TooManyTags);
         }
-        if has_long_delay(self.initial_delay, self.period) {
+        if has_long_delay(self.initial_delay, self.period, self.keep) {
             return Err(RequestFault::DelayTooLong);
         }
         let alloc = *self.tags.allocator();
@@ -174,6 +186,8 @@ impl Builder {
         };
         Ok(Request {
             id: self.id,
+            keep: self.keep,
+            next: NextRun::Leave,
             terms: Shared::new(alloc, terms).map_err(AllocError::from)?,
         })
     }
@@ -212,10 +226,17 @@ fn is_short(text: &str) -> bool
     !text.is_empty() && text.len() <= MAX_TEXT_BYTES
 }
 
-/// Whether an initial delay or a period is above the longest.
-fn has_long_delay(initial_delay: u64, period: Option<Period>) -> bool
-    ensures { (asked : RequestFields) → asked.initial_delay ≡ initial_delay → asked.period ≡ period
+/// Whether an initial delay, a period or a keeping time is above the longest.
+fn has_long_delay(initial_delay: u64, period: Option<Period>, keep: u64) -> bool
+    ensures { (asked : RequestFields) → asked.initial_delay ≡ initial_delay → asked.period ≡ period → asked.keep ≡ keep
         → result ≡ has_long_delay asked }
 {
-    initial_delay > MAX_DELAY || period.is_some_and(|period| period.period > MAX_DELAY)
+    initial_delay > MAX_DELAY || keep > MAX_DELAY || has_long_period(period)
+}
+
+/// Whether a period, where there is one, is above the longest.
+fn has_long_period(period: Option<Period>) -> bool
+    ensures { result ≡ has_long_period period }
+{
+    period.is_some_and(|period| period.period > MAX_DELAY)
 }

@@ -10,7 +10,7 @@ pub enum RequestFault {
     NoClass,
     /// It has more than 32 tags.
     TooManyTags,
-    /// Its initial delay or its period has more than 315,360,000,000 ms.
+    /// Its initial delay, its period or its keeping time has more than 315,360,000,000 ms.
     DelayTooLong,
     /// Memory was refused.
     Memory,

@@ -13,4 +13,4 @@ pub mod request;
 pub use builder::{Builder, MAX_DELAY, MAX_TAGS, MAX_TEXT_BYTES};
 pub use fault::RequestFault;
 pub use nodes::{has_id, has_work};
-pub use request::{Batch, Node, Request};
+pub use request::{Batch, NextRun, Node, Request};

@@ -1,7 +1,7 @@
 //! A request, whose type keeps its limits.
 ghost use Rattle.std.specs.Prelude.{◌≡◌, IfSome};
 ghost use Rattle.wm_request.specs.Batches.{IsBatch};
-ghost use Rattle.wm_request.specs.Requests.{AreTags, IsShortText, IsWithin};
+ghost use Rattle.wm_request.specs.Requests.{of_record, AreTags, IsNextRun, IsShortText, IsWithin};
 ghost use Rattle.wm_schedule.specs.Clamped.{IsBackoffDelay, IsPeriod};
 ghost use Rattle.wm_schedule.specs.Moments.{IsDelay};
 
@@ -13,16 +13,30 @@ use wm_conditions::Constraints;
 use wm_data::{Data, Merger};
 use wm_schedule::{Backoff, Period};
 
+/// What a request asks of the next run of periodic work, after the next schedule time override of
+/// `androidx.work.PeriodicWorkRequest.Builder`.
+#[derive(Clone, Copy, Debug, PartialEq, Eq)]
+pub enum NextRun {
+    /// What is known of it stays.
+    Leave,
+    /// It may start from this moment on, whatever the period says, in milliseconds.
+    At(u64),
+    /// It may start as the period says.
+    Clear,
+}
+
 /// What is asked for, after `androidx.work.WorkRequest`. Its type keeps the limits of a request: of
-/// its class, its tags and its delays. A [`Builder`](crate::Builder) makes it. A contract sees it
-/// as the record of its fields. Its copies share all but the id.
+/// its class, its tags, its delays and the moment of its next run. A [`Builder`](crate::Builder)
+/// makes it. A contract sees it as the record of its fields. Its copies share its terms.
 #[derive(Debug, Drop)]
 pub struct Request {
     pub(crate) id: Uuid,
+    pub(crate) keep: u64,
+    pub(crate) next: NextRun,
     pub(crate) terms: Shared<Terms>,
 }
 
-/// What a request asks for, whatever its id is.
+/// What a request asks for, whatever its id is, how long its record is kept, and when the next run is.
 #[derive(Debug, Drop)]
 pub struct Terms {
     pub(crate) class: Text,
@@ -50,9 +64,11 @@ impl Model for Request {
       backoff = r.terms.backoff;
       initial_delay = r.terms.initial_delay;
       period = r.terms.period;
+      keep = r.keep;
+      next = r.next;
     } };
 
-    ghost invariant = { λ r. IsWithin r.terms.class r.terms.tags r.terms.backoff r.terms.initial_delay r.terms.period };
+    ghost invariant = { λ r. IsWithin r.terms.class r.terms.tags r.terms.backoff r.terms.initial_delay r.terms.period r.keep r.next };
 }
 
 impl Request {
@@ -63,11 +79,15 @@ impl Request {
         self.id
     }
 
-    /// The same request under another id.
-    pub fn with_id(mut self, id: Uuid) -> Request
-        ensures { result ≡ record self { id = id } }
+    /// The same request under another id, with another keeping time, in milliseconds, and with nothing
+    /// to ask of the next run: as the record of a work has it. It takes no memory.
+    pub fn of_record(mut self, id: Uuid, keep: u64) -> Request
+        requires { IsDelay keep }
+        ensures { result ≡ of_record id keep self }
     {
         self.id = id;
+        self.keep = keep;
+        self.next = NextRun::Leave;
         self
     }
 
@@ -131,12 +151,32 @@ impl Request {
     {
         self.terms.value().period
     }
+
+    /// How long its record is kept once the work has finished, in milliseconds, at most
+    /// 315,360,000,000.
+    pub fn keep(&self) -> u64
+        ensures keep { result ≡ self.now.keep }
+        ensures within { IsDelay self.now.keep }
+    {
+        self.keep
+    }
+
+    /// What it asks of the next run. Only periodic work asks anything, and for a moment of at most
+    /// 2^53 - 1.
+    pub fn next(&self) -> NextRun
+        ensures next { result ≡ self.now.next }
+        ensures within { IsNextRun self.now.period self.now.next }
+    {
+        self.next
+    }
 }
 
 impl Replica for Request {
     fn replica(&self, alloc: Global) -> Result<Request, AllocError> {
         Ok(Request {
             id: self.id,
+            keep: self.keep,
+            next: self.next,
             terms: self.terms.replica(alloc)?,
         })
     }

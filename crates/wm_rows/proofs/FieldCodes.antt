@@ -1,18 +1,23 @@
 -- A field that is read has the code of what it is read as, and the code of a value is read as that value.
-use Rattle.std.proofs.Common.{◌≡◌, ℕ, zero, suc, ◌+◌, ◌<◌, ◌≤◌, ℤ, pos, negsuc, Bool, true, false, not, ◌&&◌, ◌||◌, cond, List, [], ◌∷◌, length, map, nat_le, slice_get, Option, Some, None, is_none, option_and_then, unwrap_or, IfSome, refl, sym, ap, ◌∙◌, subst, arith}
-use Rattle.std.proofs.lemmas.Bool.{and_parts, le-leb, leb-true}
+use Rattle.std.proofs.Common.{◌≡◌, ℕ, zero, suc, ◌+◌, ◌<◌, ◌≤◌, ◌==◌, ℤ, pos, negsuc, int_eq, Bool, true, false, not, ◌&&◌, ◌||◌, cond, List, [], ◌∷◌, length, map, nat_le, slice_get, Option, Some, None, is_none, option_and_then, option_map, unwrap_or, IfSome, refl, sym, ap, ◌∙◌, subst, arith}
+use Rattle.std.proofs.lemmas.Bool.{and_parts, le-leb, leb-true, true≢false}
 use Rattle.std.proofs.lemmas.List.{length-map}
+use Rattle.std.specs.Cmp.{signed_Decides}
 use Rattle.std.specs.List.{AllByRecursion}
 use Rattle.wm_conditions.specs.declared.conditions.Constraints.{Constraints}
 use Rattle.wm_conditions.specs.declared.conditions.Network.{Network}
 use Rattle.wm_conditions.specs.declared.conditions.Network.TheVariants as network
 use Rattle.wm_data.specs.declared.merger.Merger.{Merger}
 use Rattle.wm_data.specs.declared.merger.Merger.TheVariants.{Overwriting, ArrayCreating}
-use Rattle.wm_machine.specs.Rows.{flag, flags_code, flex_code, kind_code, merger_code, network_code, period_code, phase_code, policy_code}
+use Rattle.wm_keeper.specs.declared.row.Row.{Row}
+use Rattle.wm_machine.specs.Rows.{flag, flags_code, flex_code, kind_code, merger_code, moment_code, network_code, period_code, phase_code, policy_code, row_of}
 use Rattle.wm_machine.specs.declared.record.How.TheVariants as how
 use Rattle.wm_machine.specs.declared.record.Phase.{Phase}
 use Rattle.wm_machine.specs.declared.record.Phase.TheVariants as phase
-use Rattle.wm_rows.specs.Fields.{coded, constraints_in, each_in, greatest, has_flag, has_given, kinds, mergers, most_prior, networks, number_in, period_in, period_of, phase_in, phases, policies, prior_in, where_it_is}
+use Rattle.wm_machine.specs.declared.record.Record.{Record}
+use Rattle.wm_rows.specs.Fields.{coded, constraints_in, each_in, form_in, greatest, has_flag, has_given, kinds, mergers, moment_in, most_prior, networks, number_in, period_in, period_of, phase_in, phases, policies, prior_in, where_it_is}
+use Rattle.wm_rows.specs.declared.fields.Form.{Form}
+use Rattle.wm_rows.specs.declared.fields.Form.TheVariants.{First, Second}
 use Rattle.wm_schedule.specs.Clamped.{IsPeriod}
 use Rattle.wm_schedule.specs.Moments.{IsDelay}
 use Rattle.wm_schedule.specs.declared.schedule.BackoffPolicy.{BackoffPolicy}
@@ -51,6 +56,36 @@ number_in-read least most (negsuc n) number is = absurd (cc)
 pub number_in-written : (least most number : ℕ) → least ≤ number → number ≤ most → number_in least most (pos number) ≡ Some number
 unfolding number_in
 number_in-written least most number above below = rw (le-leb least number above, le-leb number most below) refl
+
+-- ---- a form
+
+-- the version of a form
+abbrev pub version_of : Form → ℤ
+version_of First = pos 1
+version_of Second = pos 2
+
+-- the row of a record in a form
+abbrev pub row_in : Form → Record → Row
+row_in form work = record (row_of work) { version = version_of form }
+
+-- a number from 1 to 2 is the version of its form
+version-numbered : (n : ℕ) → 1 ≤ n → n ≤ 2 → version_of (cond (n == 1) First Second) ≡ pos n
+version-numbered zero above below = absurd (omega (arith, above))
+version-numbered (suc zero) above below = refl
+version-numbered (suc (suc zero)) above below = refl
+version-numbered (suc (suc (suc n))) above below = absurd (omega (arith, below))
+
+pub form_in-read : (version : ℤ) (form : Form) → form_in version ≡ Some form → version_of form ≡ version
+unfolding form_in
+form_in-read version form is =
+    let number = bound (number_in 1 2 version) _ form is in
+    let read = number_in-read 1 2 version number.0 number.1 in
+    ap version_of (sym (of_some number.2)) ∙ version-numbered number.0 read.above read.below ∙ read.is
+
+pub form_in-written : (form : Form) → form_in (version_of form) ≡ Some form
+unfolding form_in number_in
+form_in-written First = refl
+form_in-written Second = refl
 
 -- ---- codes
 
@@ -265,6 +300,43 @@ phase_in-read period value phase is =
 pub phase_in-written : (period : Option Period) (phase : Phase) → may_be_in period phase ≡ true → phase_in period (phase_code phase) ≡ Some phase
 unfolding phase_in
 phase_in-written period phase may = rw (phase_code-written phase, may) refl
+
+-- ---- moments
+
+-- a moment has this code, and is within its limits; where there may be none, there is none
+pub record IsMomentIn (may : Bool) (value : ℤ) (moment : Option ℕ) : Type 0 where
+  pub is : moment_code moment ≡ value
+  pub within : IfSome moment (λ m. m ≤ greatest)
+  pub none : may ≡ false → moment ≡ None
+
+some_number : (found moment : Option ℕ) → option_map Some found ≡ Some moment → (n : ℕ) × (found ≡ Some n) × (Some n ≡ moment)
+some_number None moment some = absurd (cc)
+some_number (Some n) moment some = (n, refl, of_some some)
+
+pub moment_in-read : (may : Bool) (value : ℤ) (moment : Option ℕ) → moment_in may value ≡ Some moment → IsMomentIn may value moment
+unfolding moment_in
+moment_in-read may value moment is = by_test (int_eq value (negsuc 0)) refl may refl is where
+  by_test : (b : Bool) → int_eq value (negsuc 0) ≡ b → (c : Bool) → may ≡ c
+      → cond b (Some None) (cond c (option_map Some (number_in 0 greatest value)) None) ≡ Some moment → IsMomentIn may value moment
+  by_test true none c may_is same =
+      let here : None ≡ moment = of_some same in
+      subst (IsMomentIn may value) here (record { is = sym ((signed_Decides value (negsuc 0)).0 none); within = tt; none = λ e. refl })
+  by_test false some true may_is same =
+      let read = some_number (number_in 0 greatest value) moment same in
+      let number = number_in-read 0 greatest value read.0 read.1 in
+      subst (IsMomentIn may value) read.2 (record {
+        is = number.is;
+        within = number.below;
+        none = λ e. absurd (true≢false (sym may_is ∙ e));
+      })
+  by_test false some false may_is same = absurd (cc)
+
+pub moment_in-written : (may : Bool) (moment : Option ℕ) → (may ≡ false → moment ≡ None) → IfSome moment (λ m. m ≤ greatest)
+    → moment_in may (moment_code moment) ≡ Some moment
+unfolding moment_in
+moment_in-written may None none within = refl
+moment_in-written true (Some moment) none within = rw (number_in-written 0 greatest moment (omega arith) within) refl
+moment_in-written false (Some moment) none within = let clash : Some moment ≡ None = none refl in absurd (cc)
 
 -- ---- prerequisites
 

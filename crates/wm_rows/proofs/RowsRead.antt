@@ -1,5 +1,5 @@
 -- What is read from a row has that row.
-use Rattle.std.proofs.Common.{◌≡◌, ℕ, ◌^◌, ◌<◌, ◌≤◌, ◌==◌, pos, Bool, true, false, not, ◌&&◌, ◌||◌, List, [], ◌∷◌, length, map, nat_le, Option, Some, None, option_map, IfSome, IfOk, Result, Ok, Err, refl, sym, ap, ◌∙◌, subst, arith}
+use Rattle.std.proofs.Common.{◌≡◌, ℕ, ◌^◌, ◌<◌, ◌≤◌, ◌==◌, pos, Bool, true, false, not, ◌&&◌, ◌||◌, List, [], ◌∷◌, length, map, nat_le, Option, Some, None, option_map, IfSome, IfOk, Result, Ok, Err, refl, sym, ap, ◌∙◌, subst, inl, inr, arith}
 use Rattle.std.proofs.lemmas.Bool.{and_parts, eqb-true, leb-true}
 use Rattle.std.proofs.lemmas.List.Elements.{All-from_recursion}
 use Rattle.std.specs.List.{list_all}
@@ -15,8 +15,8 @@ use Rattle.wm_data.specs.declared.data.DataEntry.{DataEntry}
 use Rattle.wm_data.specs.declared.fault.DataFault.{DataFault}
 use Rattle.wm_keeper.specs.declared.row.Row.{Row}
 use Rattle.wm_machine.proofs.Placings.{bytes_eq-same}
-use Rattle.wm_machine.specs.Rows.{flags_code, flex_code, kind_code, merger_code, network_code, period_code, phase_code, policy_code, row_of}
-use Rattle.wm_machine.specs.Valid.{IsAttemptIn, IsOfKind, IsOutputIn, IsPeriodicPhase}
+use Rattle.wm_machine.specs.Rows.{flags_code, flex_code, kind_code, merger_code, network_code, period_code, phase_code, policy_code, row_of, FitsFirstForm, IsRowOf}
+use Rattle.wm_machine.specs.Valid.{IsAttemptIn, IsFinishedIn, IsOfKind, IsOutputIn, IsOverrideOf, IsPeriodicPhase}
 use Rattle.wm_machine.specs.declared.record.How.TheVariants as how
 use Rattle.wm_machine.specs.declared.record.Phase.{Phase}
 use Rattle.wm_machine.specs.declared.record.Phase.TheVariants as phase
@@ -24,10 +24,12 @@ use Rattle.wm_machine.specs.declared.record.Record.{Record}
 use Rattle.wm_request.proofs.Limits.{IsShortText-is_short}
 use Rattle.wm_request.specs.Building.{is_short}
 use Rattle.wm_request.specs.Requests.{AreTags, IsRequest, IsShortText, RequestFields}
-use Rattle.wm_rows.proofs.FieldCodes.{ArePriorIn, bound, constraints_in-read, IsNumberIn, may_be_in, merger-read, number_in-read, of_some, passed, period_in-read, phase_in-read, policy-read, prior_in-read}
+use Rattle.wm_rows.proofs.FieldCodes.{ArePriorIn, bound, constraints_in-read, form_in-read, IsMomentIn, IsNumberIn, may_be_in, merger-read, moment_in-read, number_in-read, version_of, of_some, passed, period_in-read, phase_in-read, policy-read, prior_in-read, row_in}
 use Rattle.wm_rows.proofs.Tags.{AscendByBytes-ascend}
-use Rattle.wm_rows.specs.Fields.{are_tags, ascend, coded, constraints_in, data_in, greatest, has_given, id_in, least_attempt, mergers, most_prior, most_runs, name_in, number_in, output_in, period_in, phase_in, policies, prior_in, short_in, tags_in, where_it_is}
+use Rattle.wm_rows.specs.Fields.{are_tags, ascend, coded, constraints_in, data_in, form_in, greatest, has_given, id_in, last_finish, least_attempt, may_override, mergers, moment_in, most_keep, most_prior, most_runs, name_in, number_in, output_in, period_in, phase_in, policies, prior_in, short_in, tags_in, where_it_is}
 use Rattle.wm_rows.specs.Grammar.{asked_of, AreTerms, IsStored, read_row, record_of, request_in, standing_in, terms_in}
+use Rattle.wm_rows.specs.declared.fields.Form.{Form}
+use Rattle.wm_rows.specs.declared.fields.Form.TheVariants.{First, Second}
 use Rattle.wm_rows.specs.declared.reading.Standing.{Standing}
 use Rattle.wm_rows.specs.declared.reading.Terms.{Terms}
 use Rattle.wm_schedule.specs.declared.schedule.Period.{Period}
@@ -90,7 +92,7 @@ AreTags-are_tags tags are =
 -- ---- what was asked for
 
 -- terms that are read have these codes, and are within their limits
-record AreTermsOf (row : Row) (terms : Terms) : Type 0 where
+record AreTermsOf (form : Form) (row : Row) (terms : Terms) : Type 0 where
   kind : kind_code terms.period ≡ row.kind
   period : period_code terms.period ≡ row.period
   flex : flex_code terms.period ≡ row.flex
@@ -100,11 +102,16 @@ record AreTermsOf (row : Row) (terms : Terms) : Type 0 where
   merger : merger_code terms.merger ≡ row.merger
   network : network_code terms.constraints.network ≡ row.network
   flags : flags_code terms.constraints ≡ row.flags
+  keep : IsNumberIn 0 (most_keep form) row.keep_for terms.keep
   within : AreTerms terms
 
-terms_in-read : (row : Row) (terms : Terms) → terms_in row ≡ Some terms → AreTermsOf row terms
+kept_most : (form : Form) → most_keep form ≤ 315360000000
+kept_most First = omega arith
+kept_most Second = omega arith
+
+terms_in-read : (form : Form) (row : Row) (terms : Terms) → terms_in form row ≡ Some terms → AreTermsOf form row terms
 unfolding terms_in
-terms_in-read row terms is =
+terms_in-read form row terms is =
     let period = bound (period_in row.kind row.period row.flex) _ terms is in
     let delay = bound (number_in 0 315360000000 row.delay) _ terms period.2 in
     let policy = bound (coded policies row.policy) _ terms delay.2 in
@@ -114,8 +121,10 @@ terms_in-read row terms is =
     let p = period_in-read row.kind row.period row.flex period.0 period.1 in
     let d = number_in-read 0 315360000000 row.delay delay.0 delay.1 in
     let w = number_in-read 10000 18000000 row.wait wait.0 wait.1 in
+    let keep = bound (number_in 0 (most_keep form) row.keep_for) _ terms constraints.2 in
     let c = constraints_in-read row.network row.flags constraints.0 constraints.1 in
-    subst (AreTermsOf row) (of_some constraints.2) (record {
+    let k = number_in-read 0 (most_keep form) row.keep_for keep.0 keep.1 in
+    subst (AreTermsOf form row) (of_some keep.2) (record {
       kind = p.kind_is;
       period = p.value_is;
       flex = p.flex_is;
@@ -125,13 +134,18 @@ terms_in-read row terms is =
       merger = merger-read row.merger merger.0 merger.1;
       network = c.0;
       flags = c.1;
-      within = record { backoff = record { least = w.above; most = w.below }; delay = d.below; period = p.within };
+      keep = k;
+      within = record {
+        backoff = record { least = w.above; most = w.below };
+        delay = d.below;
+        period = p.within;
+        keep = omega (arith, k.below, kept_most form);
+      };
     })
 
 -- ---- how far it has come
 
-record IsStandingOf (period : Option Period) (row : Row) (standing : Standing) : Type 0 where
-  version : pos 1 ≡ row.version
+record IsStandingOf (form : Form) (period : Option Period) (row : Row) (standing : Standing) : Type 0 where
   seq : IsNumberIn 1 greatest row.seq standing.seq
   phase : phase_code standing.phase ≡ row.phase
   may : may_be_in period standing.phase ≡ true
@@ -140,22 +154,24 @@ record IsStandingOf (period : Option Period) (row : Row) (standing : Standing) :
   runs : IsNumberIn 0 (most_runs period) row.runs standing.runs
   generation : IsNumberIn 0 greatest row.generation standing.generation
   enqueued_at : IsNumberIn 0 greatest row.enqueued_at standing.enqueued_at
+  override_at : IsMomentIn (may_override form period) row.next_at standing.override_at
+  finished_at : IsNumberIn 0 (last_finish form standing.phase) row.finished_at standing.finished_at
 
-standing_in-read : (terms : Terms) (row : Row) (standing : Standing) → standing_in terms row ≡ Some standing → IsStandingOf terms.period row standing
+standing_in-read : (form : Form) (terms : Terms) (row : Row) (standing : Standing) → standing_in form terms row ≡ Some standing
+    → IsStandingOf form terms.period row standing
 unfolding standing_in
-standing_in-read terms row standing is =
-    let version = bound (number_in 1 1 row.version) _ standing is in
-    let seq = bound (number_in 1 greatest row.seq) _ standing version.2 in
+standing_in-read form terms row standing is =
+    let seq = bound (number_in 1 greatest row.seq) _ standing is in
     let phase = bound (phase_in terms.period row.phase) _ standing seq.2 in
     let attempt = bound (number_in (least_attempt phase.0) 1000000 row.attempt) _ standing phase.2 in
     let backoff_n = bound (number_in 0 attempt.0 row.backoff_n) _ standing attempt.2 in
     let runs = bound (number_in 0 (most_runs terms.period) row.runs) _ standing backoff_n.2 in
     let generation = bound (number_in 0 greatest row.generation) _ standing runs.2 in
     let enqueued_at = bound (number_in 0 greatest row.enqueued_at) _ standing generation.2 in
-    let v = number_in-read 1 1 row.version version.0 version.1 in
+    let override_at = bound (moment_in (may_override form terms.period) row.next_at) _ standing enqueued_at.2 in
+    let finished_at = bound (number_in 0 (last_finish form phase.0) row.finished_at) _ standing override_at.2 in
     let p = phase_in-read terms.period row.phase phase.0 phase.1 in
-    subst (IsStandingOf terms.period row) (of_some enqueued_at.2) (record {
-      version = ap pos (omega (arith, v.above, v.below)) ∙ v.is;
+    subst (IsStandingOf form terms.period row) (of_some finished_at.2) (record {
       seq = number_in-read 1 greatest row.seq seq.0 seq.1;
       phase = p.0;
       may = p.1;
@@ -164,6 +180,8 @@ standing_in-read terms row standing is =
       runs = number_in-read 0 (most_runs terms.period) row.runs runs.0 runs.1;
       generation = number_in-read 0 greatest row.generation generation.0 generation.1;
       enqueued_at = number_in-read 0 greatest row.enqueued_at enqueued_at.0 enqueued_at.1;
+      override_at = moment_in-read (may_override form terms.period) row.next_at override_at.0 override_at.1;
+      finished_at = number_in-read 0 (last_finish form phase.0) row.finished_at finished_at.0 finished_at.1;
     })
 
 -- ---- the request
@@ -202,6 +220,8 @@ request_in-read terms row request are is =
           backoff_is = are.backoff;
           delay_is = are.delay;
           period_is = are.period;
+          keep_is = are.keep;
+          next_is = tt;
         };
       };
     })
@@ -248,15 +268,40 @@ few_prior : (period : Option Period) (count : ℕ) → count ≤ most_prior peri
 few_prior None count few = few
 few_prior (Some period) count few = omega (arith, few)
 
-module _ (row : Row) (terms : Terms) (standing : Standing) (name : Option (List ℕ)) (request : RequestFields) (prior : List ℕ) (output : List DataEntry)
-    (t : AreTermsOf row terms) (s : IsStandingOf terms.period row standing) (r : IsRequestOf terms row request) where
+-- only a row of the second form, of periodic work, may tell of a moment for the next run
+override_none : (form : Form) (period : Option Period) (moment : Option ℕ) → (may_override form period ≡ false → moment ≡ None) → IsOverrideOf period moment
+override_none First None moment none = none refl
+override_none Second None moment none = none refl
+override_none form (Some period) moment none = tt
+
+finish_none : (form : Form) (p : Phase) (finished_at : ℕ) → finished_at ≤ last_finish form p → IsFinishedIn p finished_at
+finish_none First phase.Waiting finished_at within = omega (arith, within)
+finish_none First phase.Running finished_at within = omega (arith, within)
+finish_none First (phase.Done how) finished_at within = tt
+finish_none Second phase.Waiting finished_at within = omega (arith, within)
+finish_none Second phase.Running finished_at within = omega (arith, within)
+finish_none Second (phase.Done how) finished_at within = tt
+
+finish_below : (form : Form) (p : Phase) → last_finish form p ≤ greatest
+finish_below First p = omega arith
+finish_below Second phase.Waiting = omega arith
+finish_below Second phase.Running = omega arith
+finish_below Second (phase.Done how) = omega arith
+
+moment_below : (moment : Option ℕ) → IfSome moment (λ m. m ≤ greatest) → IfSome moment (λ m. m < 2 ^ 53)
+moment_below None within = tt
+moment_below (Some moment) within = omega (arith, within)
+
+module _ (form : Form) (row : Row) (terms : Terms) (standing : Standing) (name : Option (List ℕ)) (request : RequestFields) (prior : List ℕ)
+    (output : List DataEntry) (version : version_of form ≡ row.version) (t : AreTermsOf form row terms) (s : IsStandingOf form terms.period row standing)
+    (r : IsRequestOf terms row request) where
   period_is : request.period ≡ terms.period
   period_is = ap (λ (q : RequestFields). q.period) r.asked
 
   -- the row of what is read, field by field
-  row-same : name ≡ row.name → map pos prior ≡ row.prior → data_text output ≡ row.output → row_of (record_of standing name request prior output) ≡ row
+  row-same : name ≡ row.name → map pos prior ≡ row.prior → data_text output ≡ row.output
+      → row_in form (record_of standing name request prior output) ≡ row
   row-same name_is prior_is output_is =
-      let version = s.version in
       let seq = s.seq.is in
       let id = r.id in
       let class = r.class in
@@ -278,7 +323,10 @@ module _ (row : Row) (terms : Terms) (standing : Standing) (name : Option (List 
       let enqueued_at = s.enqueued_at.is in
       let input = r.input in
       let tags = r.tags in
-      let whole : row_of (record_of standing name request prior output) ≡ record {
+      let next_at = s.override_at.is in
+      let keep_for : pos request.keep ≡ row.keep_for = ap (λ (q : RequestFields). pos q.keep) r.asked ∙ t.keep.is in
+      let finished_at = s.finished_at.is in
+      let whole : row_in form (record_of standing name request prior output) ≡ record {
         version = row.version;
         seq = row.seq;
         id = row.id;
@@ -303,20 +351,42 @@ module _ (row : Row) (terms : Terms) (standing : Standing) (name : Option (List 
         output = row.output;
         prior = row.prior;
         tags = row.tags;
+        next_at = row.next_at;
+        keep_for = row.keep_for;
+        finished_at = row.finished_at;
       } = cc in
       whole
 
+  -- what a row of the first form doesn't tell
+  fits-first : most_keep form ≡ 0 → last_finish form standing.phase ≡ 0 → may_override form terms.period ≡ false
+      → FitsFirstForm (record_of standing name request prior output)
+  fits-first keep finish none = record {
+    no_override = s.override_at.none none;
+    not_kept = ap (λ (q : RequestFields). q.keep) r.asked ∙ omega (arith, t.keep.below, keep);
+    no_moment = omega (arith, s.finished_at.below, finish);
+  }
+
+-- the row of a record in a form is one of its rows
+row-of_form : (form : Form) (row : Row) (work : Record) → row_in form work ≡ row → (form ≡ First → FitsFirstForm work) → IsRowOf row work
+row-of_form First row work same fits = inr (sym same, fits refl)
+row-of_form Second row work same fits = inl (sym same)
+
 -- what is read has just that row, and is within its limits
 pub record IsRecordOf (row : Row) (work : Record) : Type 0 where
-  pub same : row_of work ≡ row
+  pub same : IsRowOf row work
   pub stored : IsStored work
 
-module _ (row : Row) (terms : Terms) (standing : Standing) (name : Option (List ℕ)) (request : RequestFields) (prior : List ℕ) (output : List DataEntry) where
-  gives : AreTermsOf row terms → IsStandingOf terms.period row standing → (name ≡ row.name) × IfSome name IsShortText → ArePriorIn terms.period row.prior prior
+module _ (form : Form) (row : Row) (terms : Terms) (standing : Standing) (name : Option (List ℕ)) (request : RequestFields) (prior : List ℕ)
+    (output : List DataEntry) where
+  gives : version_of form ≡ row.version → AreTermsOf form row terms → IsStandingOf form terms.period row standing
+      → (name ≡ row.name) × IfSome name IsShortText → ArePriorIn terms.period row.prior prior
       → (data_text output ≡ row.output) × IsOutputIn standing.phase output → IsRequestOf terms row request
       → IsRecordOf row (record_of standing name request prior output)
-  gives t s n p o r = record {
-    same = row-same row terms standing name request prior output t s r n.0 p.are o.0;
+  gives v t s n p o r = record {
+    same = row-of_form form row (record_of standing name request prior output)
+        (row-same form row terms standing name request prior output v t s r n.0 p.are o.0)
+        (λ first. fits-first form row terms standing name request prior output v t s r (ap most_keep first)
+        (ap (λ f. last_finish f standing.phase) first) (ap (λ f. may_override f terms.period) first));
     stored = record {
       number = s.seq.above;
       fits = record {
@@ -324,6 +394,8 @@ module _ (row : Row) (terms : Terms) (standing : Standing) (name : Option (List 
         prior = All-from_recursion (λ number. number < 2 ^ 53) prior (All-weaker prior (λ number is. omega (arith, is.1)) p.each);
         generation = omega (arith, s.generation.below);
         enqueued_at = omega (arith, s.enqueued_at.below);
+        override_at = moment_below standing.override_at s.override_at.within;
+        finished_at = omega (arith, s.finished_at.below, finish_below form standing.phase);
       };
       name = n.1;
       request = r.within;
@@ -335,6 +407,10 @@ module _ (row : Row) (terms : Terms) (standing : Standing) (name : Option (List 
       runs = few_runs terms.period standing.runs s.runs.below;
       kind = subst (λ (q : Option Period). IsOfKind q (record_of standing name request prior output)) (sym (ap (λ (q : RequestFields). q.period) r.asked))
           (kind_of terms.period (record_of standing name request prior output) s.may s.runs.below p.few o.1);
+      leaves = ap (λ (q : RequestFields). q.next) r.asked;
+      override_at = subst (λ (q : Option Period). IsOverrideOf q standing.override_at) (sym (ap (λ (q : RequestFields). q.period) r.asked))
+          (override_none form terms.period standing.override_at s.override_at.none);
+      finished_at = finish_none form standing.phase standing.finished_at s.finished_at.below;
       output = o.1;
       progress = refl;
     };
@@ -343,16 +419,18 @@ module _ (row : Row) (terms : Terms) (standing : Standing) (name : Option (List 
 pub read_row-gives : (row : Row) (work : Record) → read_row row ≡ Some work → IsRecordOf row work
 unfolding read_row
 read_row-gives row work is =
-    let terms = bound (terms_in row) _ work is in
-    let standing = bound (standing_in terms.0 row) _ work terms.2 in
+    let form = bound (form_in row.version) _ work is in
+    let terms = bound (terms_in form.0 row) _ work form.2 in
+    let standing = bound (standing_in form.0 terms.0 row) _ work terms.2 in
     let name = bound (name_in row.name) _ work standing.2 in
     let prior = bound (prior_in terms.0.period row.prior) _ work name.2 in
     let output = bound (output_in standing.0.phase row.output) _ work prior.2 in
     let request = bound (request_in terms.0 row) _ work output.2 in
-    let t = terms_in-read row terms.0 terms.1 in
-    subst (IsRecordOf row) (of_some request.2) (gives row terms.0 standing.0 name.0 request.0 prior.0 output.0
+    let t = terms_in-read form.0 row terms.0 terms.1 in
+    subst (IsRecordOf row) (of_some request.2) (gives form.0 row terms.0 standing.0 name.0 request.0 prior.0 output.0
+    (form_in-read row.version form.0 form.1)
     t
-    (standing_in-read terms.0 row standing.0 standing.1)
+    (standing_in-read form.0 terms.0 row standing.0 standing.1)
     (name_in-read row.name name.0 name.1)
     (prior_in-read terms.0.period row.prior prior.0 prior.1)
     (output_in-read standing.0.phase row.output output.0 output.1)

@@ -187,7 +187,7 @@ checked-from before (row ∷ rows) works are is =
     record {
       more = work.0 ∷ rest.more;
       whole = rest.whole ∙ append_assoc before (work.0 ∷ []) rest.more;
-      rows_are = (sym of_row.same, rest.rows_are);
+      rows_are = (of_row.same, rest.rows_are);
       sound = rest.sound;
     }
 
@@ -222,6 +222,9 @@ IsRecord-stored work is prior = record {
   backoff_n = is.backoff_n;
   runs = is.runs;
   kind = is.kind;
+  leaves = is.leaves;
+  override_at = is.override_at;
+  finished_at = is.finished_at;
   output = is.output;
   progress = none_told work.phase work.progress is.progress;
 }

@@ -1,17 +1,18 @@
 -- Works as the machine has them have sound rows.
-use Rattle.std.proofs.Common.{◌≡◌, ◌≢◌, ℕ, ◌<◌, ◌==◌, Bool, true, false, ◌&&◌, ◌||◌, not, List, [], ◌∷◌, ◌++◌, append-nil, append_assoc, length, map, nat_lt, Option, Some, None, is_some, Ok, refl, sym, ap, ◌∙◌, subst, arith, lt-ltb, inl, inr}
+use Rattle.std.proofs.Common.{◌≡◌, ◌≢◌, ℕ, ◌<◌, ◌==◌, Bool, true, false, ◌&&◌, ◌||◌, not, List, [], ◌∷◌, ◌++◌, append-nil, append_assoc, length, nat_lt, Option, Some, None, is_some, Ok, refl, sym, ap, ◌∙◌, subst, arith, lt-ltb, inl, inr}
 use Rattle.std.proofs.lemmas.Bool.{and_from, and_right, eq-eqb, eqb-true, ne_eqb}
 use Rattle.std.proofs.lemmas.List.{length-append}
 use Rattle.std.specs.List.{AllByRecursion}
 use Rattle.std.specs.Str.{bytes_eq}
 use Rattle.wm_collections.proofs.Lists.{All-any, All-front, All-of_one, All-weaker, All-with2, AllLater-front, HasOne-weaker, find-passes, find-stored, list_all-each, list_any-false, one_gives}
 use Rattle.wm_collections.specs.Lists.{AllLater, HasOne, is_among}
+use Rattle.wm_keeper.specs.declared.row.Row.{Row}
 use Rattle.wm_machine.proofs.Placings.{bytes_eq-same}
 use Rattle.wm_machine.specs.Closed.{is_open}
 use Rattle.wm_machine.specs.First.{is_succeeded}
 use Rattle.wm_machine.specs.Group.{is_name}
 use Rattle.wm_machine.specs.Input.{work_numbered}
-use Rattle.wm_machine.specs.Rows.{row_of}
+use Rattle.wm_machine.specs.Rows.{AreRowsOf}
 use Rattle.wm_machine.specs.Valid.{ArePriorSound, AreWorks, HasSucceeded, IsBefore, IsPrerequisite, IsRecord, MaySucceedOrHas}
 use Rattle.wm_machine.specs.declared.record.How.TheVariants as how
 use Rattle.wm_machine.specs.declared.record.Phase.{Phase}
@@ -172,6 +173,9 @@ IsStored-record work is none = record {
   backoff_n = is.backoff_n;
   runs = is.runs;
   kind = is.kind;
+  leaves = is.leaves;
+  override_at = is.override_at;
+  finished_at = is.finished_at;
   output = is.output;
   progress = none;
 }
@@ -201,16 +205,18 @@ sound next before work more are =
 
 -- ---- all of them
 
-checked-from : (next : ℕ) (before more : List Record) → AreWorks next (before ++ more) → AllByRecursion (λ work. work.progress ≡ []) more
-    → checked_after before (map row_of more) ≡ Ok (before ++ more)
-checked-from next before [] are none = ap Ok (sym (append-nil before))
-checked-from next before (work ∷ more) are none =
-    let reading = read_row-written work (IsStored-record work (All-middle IsRecord before work more are.records) none.0) in
+checked-from : (next : ℕ) (before : List Record) (rows : List Row) (more : List Record) → AreRowsOf rows more → AreWorks next (before ++ more)
+    → AllByRecursion (λ work. work.progress ≡ []) more → checked_after before rows ≡ Ok (before ++ more)
+checked-from next before [] [] theirs are none = ap Ok (sym (append-nil before))
+checked-from next before (row ∷ rows) (work ∷ more) theirs are none =
+    let reading = read_row-written row work theirs.0 (IsStored-record work (All-middle IsRecord before work more are.records) none.0) in
     let passes = sound next before work more are in
     let whole = append_assoc before (work ∷ []) more in
     rw (reading, passes)
-    (checked-from next (before ++ work ∷ []) more (subst (AreWorks next) (sym whole) are) none.1 ∙ ap Ok whole)
+    (checked-from next (before ++ work ∷ []) rows more theirs.1 (subst (AreWorks next) (sym whole) are) none.1 ∙ ap Ok whole)
+checked-from next before [] (work ∷ more) theirs are none = absurd theirs
+checked-from next before (row ∷ rows) [] theirs are none = absurd theirs
 
-pub checked-written : (next : ℕ) (works : List Record) → AreWorks next works → AllByRecursion (λ work. work.progress ≡ []) works
-    → checked (map row_of works) ≡ Ok works
-checked-written next works are none = checked-from next [] works are none
+pub checked-written : (next : ℕ) (rows : List Row) (works : List Record) → AreRowsOf rows works → AreWorks next works
+    → AllByRecursion (λ work. work.progress ≡ []) works → checked rows ≡ Ok works
+checked-written next rows works theirs are none = checked-from next [] rows works theirs are none

@@ -2,7 +2,7 @@
 use Rattle.std.specs.Prelude.{ℕ, ◌-◌, ◌/◌, ◌%◌, ◌^◌, ◌==◌, ℤ, pos, negsuc, ◌&&◌, ◌||◌, Bool, true, false, not, List, [], ◌∷◌, length, nat_le, slice_get, if◌then◌else◌, Option, Some, None, is_none, option_map, option_and_then}
 use Rattle.std.specs.Cmp.Lexicographic.{slice_cmp}
 use Rattle.std.specs.List.{list_all}
-use Rattle.std.specs.Ordering.{is_lt, nat_cmp}
+use Rattle.std.specs.Ordering.{int_eq, is_lt, nat_cmp}
 use Rattle.std.specs.Result.{result_ok}
 use Rattle.std.specs.Str.{bytes_eq}
 use Rattle.serde_json.specs.Read.{read}
@@ -18,6 +18,8 @@ use Rattle.wm_machine.specs.declared.record.How.TheVariants as how
 use Rattle.wm_machine.specs.declared.record.Phase.{Phase}
 use Rattle.wm_machine.specs.declared.record.Phase.TheVariants as phase
 use Rattle.wm_request.specs.Building.{is_short}
+use Rattle.wm_rows.specs.declared.fields.Form.{Form}
+use Rattle.wm_rows.specs.declared.fields.Form.TheVariants.{First, Second}
 use Rattle.wm_schedule.specs.declared.schedule.BackoffPolicy.{BackoffPolicy}
 use Rattle.wm_schedule.specs.declared.schedule.BackoffPolicy.TheVariants.{Linear, Exponential}
 use Rattle.wm_schedule.specs.declared.schedule.Period.{Period}
@@ -48,6 +50,12 @@ greatest = 2 ^ 53 - 1
 unfoldable pub number_in : ℕ → ℕ → ℤ → Option ℕ
 number_in least most (pos n) = where_it_is (nat_le least n && nat_le n most) n
 number_in least most (negsuc n) = None
+
+-- the form of a row of this version
+unfoldable pub form_in : ℤ → Option Form
+form_in version = do
+  number ← number_in 1 2 version
+  Some (if number == 1 then First else Second)
 
 -- what a code stands for: its place among these
 abbrev pub coded : {T : Type 0} → List T → ℤ → Option T
@@ -102,6 +110,11 @@ constraints_in network flags = do
     storage_not_low = has_flag 1 flags;
   })
 
+-- how long a record is kept at most; the first form doesn't tell
+abbrev pub most_keep : Form → ℕ
+most_keep First = 0
+most_keep Second = 315360000000
+
 -- ---- how far work has come
 
 -- whether work in this phase has given something
@@ -126,6 +139,22 @@ least_attempt _ = 0
 abbrev pub most_runs : Option Period → ℕ
 most_runs None = 0
 most_runs (Some period) = 1000000
+
+-- whether a row of this form may tell of a moment for the next run, which periodic work has alone
+abbrev pub may_override : Form → Option Period → Bool
+may_override Second (Some period) = true
+may_override _ _ = false
+
+-- a moment, where there may be one, and -1 where there is none
+unfoldable pub moment_in : Bool → ℤ → Option (Option ℕ)
+moment_in may value =
+    if int_eq value (negsuc 0) then Some None
+    else if may then option_map Some (number_in 0 greatest value) else None
+
+-- the last moment at which work in this phase may have finished: it is told of finished work alone, and not in the first form
+abbrev pub last_finish : Form → Phase → ℕ
+last_finish Second (phase.Done how) = greatest
+last_finish _ _ = 0
 
 -- the prerequisites by their numbers; periodic work has none
 abbrev pub most_prior : Option Period → ℕ

@@ -4,38 +4,41 @@ use Rattle.std.specs.List.{AllByRecursion}
 use Rattle.wm_data.specs.declared.data.DataEntry.{DataEntry}
 use Rattle.wm_keeper.specs.declared.row.Row.{Row}
 use Rattle.wm_machine.specs.Limits.{FitsRow}
-use Rattle.wm_machine.specs.Valid.{IsAttemptIn, IsOfKind, IsOutputIn}
+use Rattle.wm_machine.specs.Valid.{IsAttemptIn, IsFinishedIn, IsOfKind, IsOutputIn, IsOverrideOf}
 use Rattle.wm_machine.specs.declared.record.Record.{Record}
 use Rattle.wm_request.specs.Requests.{IsRequest, IsShortText, RequestFields}
+use Rattle.wm_request.specs.declared.request.NextRun.TheVariants.{Leave}
 use Rattle.wm_schedule.specs.Clamped.{IsBackoffDelay, IsPeriod}
 use Rattle.wm_schedule.specs.Moments.{IsDelay}
-use Rattle.wm_rows.specs.Fields.{◌>>=◌, coded, constraints_in, data_in, greatest, id_in, least_attempt, mergers, most_runs, name_in, number_in, output_in, period_in, phase_in, policies, prior_in, short_in, tags_in}
+use Rattle.wm_rows.specs.Fields.{◌>>=◌, coded, constraints_in, data_in, form_in, greatest, id_in, last_finish, least_attempt, may_override, mergers, moment_in, most_keep, most_runs, name_in, number_in, output_in, period_in, phase_in, policies, prior_in, short_in, tags_in}
+use Rattle.wm_rows.specs.declared.fields.Form.{Form}
 use Rattle.wm_rows.specs.declared.reading.Standing.{Standing}
 use Rattle.wm_rows.specs.declared.reading.Terms.{Terms}
 
 -- ---- reading a row
 
 -- the plain values of what was asked for
-unfoldable pub terms_in : Row → Option Terms
-terms_in row = do
+unfoldable pub terms_in : Form → Row → Option Terms
+terms_in form row = do
   period ← period_in row.kind row.period row.flex
   delay ← number_in 0 315360000000 row.delay
   policy ← coded policies row.policy
   wait ← number_in 10000 18000000 row.wait
   merger ← coded mergers row.merger
   constraints ← constraints_in row.network row.flags
+  keep ← number_in 0 (most_keep form) row.keep_for
   Some (record {
     merger = merger;
     constraints = constraints;
     backoff = record { policy = policy; delay = wait };
     initial_delay = delay;
     period = period;
+    keep = keep;
   })
 
 -- how far work of these terms has come
-unfoldable pub standing_in : Terms → Row → Option Standing
-standing_in terms row = do
-  version ← number_in 1 1 row.version
+unfoldable pub standing_in : Form → Terms → Row → Option Standing
+standing_in form terms row = do
   seq ← number_in 1 greatest row.seq
   phase ← phase_in terms.period row.phase
   attempt ← number_in (least_attempt phase) 1000000 row.attempt
@@ -43,6 +46,8 @@ standing_in terms row = do
   runs ← number_in 0 (most_runs terms.period) row.runs
   generation ← number_in 0 greatest row.generation
   enqueued_at ← number_in 0 greatest row.enqueued_at
+  override_at ← moment_in (may_override form terms.period) row.next_at
+  finished_at ← number_in 0 (last_finish form phase) row.finished_at
   Some (record {
     seq = seq;
     phase = phase;
@@ -51,6 +56,8 @@ standing_in terms row = do
     runs = runs;
     generation = generation;
     enqueued_at = enqueued_at;
+    override_at = override_at;
+    finished_at = finished_at;
   })
 
 -- the request of these terms with an id, a class, tags and an input
@@ -65,6 +72,8 @@ asked_of terms id class tags input = record {
   backoff = terms.backoff;
   initial_delay = terms.initial_delay;
   period = terms.period;
+  keep = terms.keep;
+  next = Leave;
 }
 
 unfoldable pub request_in : Terms → Row → Option RequestFields
@@ -88,6 +97,8 @@ record_of standing name request prior output = record {
   runs = standing.runs;
   generation = standing.generation;
   enqueued_at = standing.enqueued_at;
+  override_at = standing.override_at;
+  finished_at = standing.finished_at;
   output = output;
   progress = [];
 }
@@ -95,8 +106,9 @@ record_of standing name request prior output = record {
 -- the record whose row this is
 unfoldable pub read_row : Row → Option Record
 read_row row = do
-  terms ← terms_in row
-  standing ← standing_in terms row
+  form ← form_in row.version
+  terms ← terms_in form row
+  standing ← standing_in form terms row
   name ← name_in row.name
   prior ← prior_in terms.period row.prior
   output ← output_in standing.phase row.output
@@ -114,6 +126,7 @@ pub record AreTerms (terms : Terms) : Type 0 where
   pub backoff : IsBackoffDelay terms.backoff.delay
   pub delay : IsDelay terms.initial_delay
   pub period : IfSome terms.period (λ period. IsPeriod period × IsDelay period.period)
+  pub keep : IsDelay terms.keep
 
 -- a record within the limits of a row, which has told nothing: its own limits, but for what asks for the numbers of its prerequisites
 pub record IsStored (work : Record) : Type 0 where
@@ -128,5 +141,8 @@ pub record IsStored (work : Record) : Type 0 where
   pub backoff_n : work.backoff_n ≤ work.attempt
   pub runs : work.runs ≤ 1000000
   pub kind : IsOfKind work.request.period work
+  pub leaves : work.request.next ≡ Leave
+  pub override_at : IsOverrideOf work.request.period work.override_at
+  pub finished_at : IsFinishedIn work.phase work.finished_at
   pub output : IsOutputIn work.phase work.output
   pub progress : work.progress ≡ []

@@ -1,6 +1,7 @@
 //! How the plain fields of a row are read. Each answers none where its field isn't in the grammar.
 ghost use Rattle.std.specs.Prelude.{◌≡◌, ◌≤◌, IfOk, IfSome};
-ghost use Rattle.wm_rows.specs.Fields.{coded, constraints_in, each_in, greatest, has_flag, has_given, least_attempt, mergers, most_prior, most_runs, networks, number_in, period_in, period_of, phase_in, phases, policies, prior_in};
+ghost use Rattle.wm_rows.specs.Fields.{coded, constraints_in, each_in, form_in, greatest, has_flag, has_given, last_finish, least_attempt, may_override, mergers, moment_in, most_keep, most_prior, most_runs, networks, number_in, period_in, period_of, phase_in, phases, policies, prior_in};
+ghost use Rattle.wm_rows.specs.declared.fields.Form.TheVariants.{Second};
 ghost use Rattle.wm_schedule.specs.Clamped.{IsPeriod};
 ghost use Rattle.wm_schedule.specs.Moments.{IsDelay};
 
@@ -11,6 +12,15 @@ use wm_data::Merger;
 use wm_machine::{How, Phase};
 use wm_request::MAX_DELAY;
 use wm_schedule::{BackoffPolicy, Period};
+
+/// The form of a row.
+#[derive(Clone, Copy)]
+pub(crate) enum Form {
+    /// It tells neither of the next run nor how long the record is kept nor when the work finished.
+    First,
+    /// It tells of all of it.
+    Second,
+}
 
 /// The greatest number of a work, and the greatest generation and moment.
 pub(crate) const GREATEST: u64 = (1 << 53) - 1;
@@ -36,6 +46,19 @@ pub(crate) fn number_in(least: u64, most: u64, value: i64) -> Option<u64>
         Some(number)
     } else {
         None
+    }
+}
+
+/// The form of a row of this version.
+#[tactic(auto, unfolding(crate::specs::Fields::form_in))]
+pub(crate) fn form_in(version: i64) -> Option<Form>
+    ensures { result ≡ form_in version }
+{
+    let number = number_in(1, 2, version)?;
+    if number == 1 {
+        Some(Form::First)
+    } else {
+        Some(Form::Second)
     }
 }
 
@@ -125,6 +148,17 @@ pub(crate) fn constraints_in(network: i64, flags: i64) -> Option<Constraints>
     })
 }
 
+/// How long a record is kept at most, in milliseconds.
+pub(crate) fn most_keep(form: Form) -> u64
+    ensures keep { result ≡ most_keep form }
+    ensures within { IsDelay result }
+{
+    match form {
+        Form::First => 0,
+        Form::Second => MAX_DELAY,
+    }
+}
+
 /// Whether work in this phase has given something.
 pub(crate) fn has_given(phase: Phase) -> bool
     ensures { result ≡ has_given phase }
@@ -176,6 +210,58 @@ pub(crate) fn most_runs(period: Option<Period>) -> u64
     match period {
         None => 0,
         Some(_) => MOST_RUNS,
+    }
+}
+
+/// The moment of the next run, which a row of the second form tells of periodic work.
+pub(crate) fn override_in(form: Form, period: Option<Period>, value: i64) -> Option<Option<u64>>
+    ensures { result ≡ moment_in (may_override form period) value }
+{
+    moment_in(may_override(form, period), value)
+}
+
+/// Whether a row of this form may tell of a moment for the next run.
+fn may_override(form: Form, period: Option<Period>) -> bool
+    ensures { result ≡ may_override form period }
+{
+    match form {
+        Form::First => false,
+        Form::Second => period.is_some(),
+    }
+}
+
+/// A moment, where there may be one, and -1 where there is none.
+#[tactic(auto, unfolding(crate::specs::Fields::moment_in))]
+fn moment_in(may: bool, value: i64) -> Option<Option<u64>>
+    ensures { result ≡ moment_in may value }
+{
+    if value == -1 {
+        return Some(None);
+    }
+    if !may {
+        return None;
+    }
+    let moment = number_in(0, GREATEST, value)?;
+    Some(Some(moment))
+}
+
+/// The last moment at which work in this phase may have finished.
+pub(crate) fn last_finish(form: Form, phase: Phase) -> u64
+    ensures { result ≡ last_finish form phase }
+{
+    match form {
+        Form::First => 0,
+        Form::Second => last_moment(phase),
+    }
+}
+
+/// The last moment at which work in this phase finished, which is told of finished work.
+fn last_moment(phase: Phase) -> u64
+    ensures { result ≡ last_finish Second phase }
+{
+    match phase {
+        Phase::Done(_) => GREATEST,
+        _ => 0,
     }
 }
 

@@ -8,8 +8,8 @@ ghost use Rattle.wm_schedule.specs.Clamped.{IsPeriod};
 
 use crate::fault::RowFault;
 use crate::fields::{
-    GREATEST, constraints_in, least_attempt, merger_in, most_runs, number_in, period_in, phase_in,
-    policy_in, prior_in,
+    Form, GREATEST, constraints_in, form_in, last_finish, least_attempt, merger_in, most_keep,
+    most_runs, number_in, override_in, period_in, phase_in, policy_in, prior_in,
 };
 use crate::texts::{are_tags, data_in, id_in, is_short, name_in, output_in};
 use std::alloc::{AllocError, Global};
@@ -38,6 +38,7 @@ pub(crate) struct Terms {
     pub(crate) backoff: Backoff,
     pub(crate) initial_delay: u64,
     pub(crate) period: Option<Period>,
+    pub(crate) keep: u64,
 }
 
 /// How far work has come.
@@ -50,6 +51,8 @@ pub(crate) struct Standing {
     pub(crate) runs: u32,
     pub(crate) generation: u64,
     pub(crate) enqueued_at: u64,
+    pub(crate) override_at: Option<u64>,
+    pub(crate) finished_at: u64,
 }
 
 /// The record whose row this is. It has told nothing: progress isn't stored.
@@ -70,10 +73,13 @@ pub fn from_row(alloc: Global, row: &Row) -> Result<Record, RowFault>
 fn read_row(alloc: Global, row: &Row) -> Result<Option<Record>, AllocError>
     ensures { IfOk result (λ read. read ≡ read_row row.now) }
 {
-    let Some(terms) = terms_in(row) else {
+    let Some(form) = form_in(row.version) else {
         return Ok(None);
     };
-    let Some(standing) = standing_in(&terms, row) else {
+    let Some(terms) = terms_in(form, row) else {
+        return Ok(None);
+    };
+    let Some(standing) = standing_in(form, &terms, row) else {
         return Ok(None);
     };
     let Some(name) = name_in(alloc, &row.name)? else {
@@ -99,6 +105,8 @@ fn read_row(alloc: Global, row: &Row) -> Result<Option<Record>, AllocError>
         runs: standing.runs,
         generation: standing.generation,
         enqueued_at: standing.enqueued_at,
+        override_at: standing.override_at,
+        finished_at: standing.finished_at,
         output,
         progress: Data::empty(),
     }))
@@ -106,8 +114,8 @@ fn read_row(alloc: Global, row: &Row) -> Result<Option<Record>, AllocError>
 
 /// The plain values of what was asked for.
 #[tactic(auto, unfolding(crate::specs::Grammar::terms_in))]
-fn terms_in(row: &Row) -> Option<Terms>
-    ensures terms { result ≡ terms_in row.now }
+fn terms_in(form: Form, row: &Row) -> Option<Terms>
+    ensures terms { result ≡ terms_in form row.now }
     ensures within { IfSome result AreTerms }
 {
     let period = period_in(row.kind, row.period, row.flex)?;
@@ -116,6 +124,7 @@ fn terms_in(row: &Row) -> Option<Terms>
     let delay = number_in(LEAST_WAIT, MOST_WAIT, row.wait)?;
     let merger = merger_in(row.merger)?;
     let constraints = constraints_in(row.network, row.flags)?;
+    let keep = number_in(0, most_keep(form), row.keep_for)?;
     let backoff = Backoff { policy, delay };
     Some(Terms {
         merger,
@@ -123,15 +132,15 @@ fn terms_in(row: &Row) -> Option<Terms>
         backoff,
         initial_delay,
         period,
+        keep,
     })
 }
 
 /// How far work of these terms has come.
 #[tactic(auto, unfolding(crate::specs::Grammar::standing_in))]
-fn standing_in(terms: &Terms, row: &Row) -> Option<Standing>
-    ensures { result ≡ standing_in terms.now row.now }
+fn standing_in(form: Form, terms: &Terms, row: &Row) -> Option<Standing>
+    ensures { result ≡ standing_in form terms.now row.now }
 {
-    number_in(1, 1, row.version)?;
     let seq = number_in(1, GREATEST, row.seq)?;
     let phase = phase_in(terms.period, row.phase)?;
     let attempt = number_in(least_attempt(phase), MOST_ATTEMPT, row.attempt)?;
@@ -139,6 +148,8 @@ fn standing_in(terms: &Terms, row: &Row) -> Option<Standing>
     let runs = number_in(0, most_runs(terms.period), row.runs)?;
     let generation = number_in(0, GREATEST, row.generation)?;
     let enqueued_at = number_in(0, GREATEST, row.enqueued_at)?;
+    let override_at = override_in(form, terms.period, row.next_at)?;
+    let finished_at = number_in(0, last_finish(form, phase), row.finished_at)?;
     Some(Standing {
         seq,
         phase,
@@ -147,6 +158,8 @@ fn standing_in(terms: &Terms, row: &Row) -> Option<Standing>
         runs: runs as u32,
         generation,
         enqueued_at,
+        override_at,
+        finished_at,
     })
 }
 
@@ -186,6 +199,7 @@ fn request_of(
     builder.constraints(terms.constraints);
     builder.backoff(terms.backoff.policy, terms.backoff.delay);
     builder.initial_delay(terms.initial_delay);
+    builder.keep(terms.keep);
     add_tags(alloc, &mut builder, row.tags.as_slice())?;
     builder.build().map_err(|_| AllocError)
 }

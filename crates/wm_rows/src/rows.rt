@@ -1,7 +1,7 @@
 //! The row of a record, and whether two records have one row.
 ghost use Rattle.std.specs.Prelude.{◌≡◌, ◌^◌, ◌<◌, All, map, pos, Decides, IfOk, IfSome};
 ghost use Rattle.wm_machine.specs.Limits.{FitsRow};
-ghost use Rattle.wm_machine.specs.Rows.{row_of, kind_code, period_code, flex_code, policy_code, merger_code, network_code, flags_code, phase_code};
+ghost use Rattle.wm_machine.specs.Rows.{row_of, kind_code, period_code, flex_code, policy_code, merger_code, moment_code, network_code, flags_code, phase_code};
 
 use std::alloc::{AllocError, Global};
 use uuid::Uuid;
@@ -13,7 +13,7 @@ use wm_machine::{How, Phase, Record};
 use wm_schedule::{BackoffPolicy, Period};
 
 /// The form of the rows that are written.
-const ROW_VERSION: i64 = 1;
+const ROW_VERSION: i64 = 2;
 
 fn kind_code(period: &Option<Period>) -> i64
     ensures { result ≡ kind_code period.now }
@@ -97,6 +97,16 @@ fn phase_code(phase: Phase) -> i64
     }
 }
 
+fn moment_code(moment: Option<u64>) -> i64
+    requires { IfSome moment (λ moment. moment < 2 ^ 53) }
+    ensures { result ≡ moment_code moment }
+{
+    match moment {
+        None => -1,
+        Some(moment) => stored_number(moment),
+    }
+}
+
 /// A number as a row holds it.
 fn stored_number(number: u64) -> i64
     requires { number < 2 ^ 53 }
@@ -157,6 +167,9 @@ pub fn to_row(alloc: Global, work: &Record) -> Result<Row, AllocError>
         output: work.output.to_text(alloc)?,
         prior: stored_numbers(alloc, work.prior.as_slice())?,
         tags: request.tags().replica(alloc)?,
+        next_at: moment_code(work.override_at),
+        keep_for: stored_number(request.keep()),
+        finished_at: stored_number(work.finished_at),
     })
 }
 

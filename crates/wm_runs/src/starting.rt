@@ -153,6 +153,7 @@ fn run_on(state: &State, work: &Record, attempt: u32, instance: &Instance, input
         constraints: work.request.constraints(),
         turn: 0,
         current: true,
+        renewed: false,
     }
 }
 

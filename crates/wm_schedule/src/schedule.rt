@@ -43,4 +43,6 @@ pub struct Times {
     pub period: Option<Period>,
     /// How many periods of it have run.
     pub runs: u32,
+    /// The moment from which it may start whatever all of this says, where there is one.
+    pub override_at: Option<u64>,
 }

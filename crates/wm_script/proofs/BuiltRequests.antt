@@ -100,7 +100,7 @@ IsRequest-asked work tags input sixteen short is_data =
       backoff_is = IsBackoffDelay-clamped work.backoff.delay;
       period_is = IsPeriod-asked work.period;
     } in
-    built_of-cases (λ built. IfOk (or_fault of_request built) IsRequest) asked building tt tt tt
+    built_of-cases (λ built. IfOk (or_fault of_request built) IsRequest) asked building refl tt tt tt
     (λ limits. record { id = sixteen; input = is_data; within = limits })
 
 IsData-input_in : (input : Option json.Data) → IfOk (input_in input) IsData

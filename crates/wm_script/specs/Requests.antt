@@ -7,6 +7,7 @@ use Rattle.wm_data.specs.declared.data.DataEntry.{DataEntry}
 use Rattle.wm_data.specs.declared.fault.DataFault.{DataFault}
 use Rattle.wm_request.specs.Building.{backoff_of, built_of, with_tag}
 use Rattle.wm_request.specs.Requests.{RequestFields}
+use Rattle.wm_request.specs.declared.request.NextRun.TheVariants.{Leave}
 use Rattle.wm_request.specs.declared.request.Node.{Node}
 use Rattle.wm_schedule.specs.Clamped.{clamped_period}
 use Rattle.wm_script.specs.Parts.{◌>>=◌, formed, list_at, of_data, of_request, or_fault}
@@ -32,6 +33,8 @@ asked_for work tags input = record {
   backoff = backoff_of work.backoff.policy work.backoff.delay;
   initial_delay = work.delay;
   period = option_map (λ p. clamped_period p.period p.flex) work.period;
+  keep = 0;
+  next = Leave;
 }
 
 -- the Data of an input, which is empty where there is none

@@ -1,7 +1,11 @@
 -- What puts and removals make of rows that ascend: where they may change places, and where the rows may stand in any order.
-use Rattle.std.proofs.Common.{◌≡◌, ◌≢◌, ℤ, List, [], ◌∷◌, ◌++◌, IsPermutation, refl, sym, ◌∙◌, ap, arith}
-use Rattle.std.specs.Prelude.{◌<ℤ◌}
-use Rattle.std.specs.List.{AllByRecursion}
+use Rattle.std.proofs.Common.{◌≡◌, ◌≢◌, ◌&&◌, ◌+◌, suc, get_or, subst, ℤ, Bool, true, false, cond, not, List, [], ◌∷◌, ◌++◌, Some, None, IfSome, IsPermutation, refl, sym, ◌∙◌, ap, arith}
+use Rattle.std.specs.Prelude.{◌<ℤ◌, ◌≤ℤ◌}
+use Rattle.std.specs.Ordering.{int_cmp, int_eq, is_lt}
+use Rattle.std.specs.List.Sorted.{IsSortedByKey}
+use Rattle.std.proofs.lemmas.Bool.{and_parts, false≢true}
+use Rattle.std.proofs.lemmas.Bool.Decides.{Decides-int_eq}
+use Rattle.std.specs.List.{AllByRecursion, list_all}
 use Rattle.std.proofs.lemmas.Int.{ints, by_lt_z}
 use Rattle.sqlite_keyed.proofs.ListLemmas.{along_permutation}
 use Rattle.wm_collections.proofs.Lists.{All-weaker}
@@ -10,7 +14,7 @@ use Rattle.wm_keeper.specs.Keeper.{AreOfDifferentNumbers, Ascends, changed, chan
 use Rattle.wm_keeper.specs.declared.row.Change.{Change}
 use Rattle.wm_keeper.specs.declared.row.Change.TheVariants.{Put, Remove}
 use Rattle.wm_keeper.specs.declared.row.Row.{Row}
-use Rattle.wm_sqlite.specs.Held.{added, Differ, in_order, removed}
+use Rattle.wm_sqlite.specs.Held.{added, differ, Differ, in_order, removed, told_rows}
 
 -- ---- one step
 
@@ -204,6 +208,104 @@ Differ-same xs ys same = (AreSame-permutation xs ys same).differ
 -- rows of different numbers are the same in order, in whatever order they stood
 pub in_order-same : (xs ys : List Row) → IsPermutation xs ys → Differ xs → in_order xs ≡ in_order ys
 in_order-same xs ys same = (AreSame-permutation xs ys same).ordered
+
+-- ---- rows that are told
+
+both : (a b : Bool) → a ≡ true → b ≡ true → (a && b) ≡ true
+both true b is are = are
+both false b is are = absurd (false≢true is)
+
+denied : (b : Bool) → ¬ (b ≡ true) → not b ≡ true
+denied true never = absurd (never refl)
+denied false never = refl
+
+all_apart : (n : ℤ) (rows : List Row) → list_all (λ later. not (int_eq n later.seq)) rows ≡ true → IsNew n rows
+all_apart n [] e = tt
+all_apart n (later ∷ rows) e =
+    let parts = and_parts _ _ e in
+    (λ same. false≢true (sym (ap not ((Decides-int_eq n later.seq).1 same)) ∙ parts.0), all_apart n rows parts.1)
+
+apart_all : (n : ℤ) (rows : List Row) → IsNew n rows → list_all (λ later. not (int_eq n later.seq)) rows ≡ true
+apart_all n [] new = refl
+apart_all n (later ∷ rows) new =
+    both _ _ (denied (int_eq n later.seq) (λ e. new.0 ((Decides-int_eq n later.seq).0 e))) (apart_all n rows new.1)
+
+-- the test of numbers decides whether they differ
+pub differ-apart : (rows : List Row) → differ rows ≡ true → Differ rows
+differ-apart [] e = tt
+differ-apart (row ∷ rows) e = let parts = and_parts _ _ e in (all_apart row.seq rows parts.0, differ-apart rows parts.1)
+
+pub apart-differ : (rows : List Row) → Differ rows → differ rows ≡ true
+apart-differ [] apart = refl
+apart-differ (row ∷ rows) apart = both _ _ (apart_all row.seq rows apart.0) (apart-differ rows apart.1)
+
+-- rows of different numbers are told in order
+pub told-apart : (rows : List Row) → Differ rows → told_rows rows ≡ Some (in_order rows)
+told-apart rows apart = rw (apart-differ rows apart) refl
+
+-- and those that are told are of different numbers
+pub told-some : (rows held : List Row) → told_rows rows ≡ Some held → Differ rows × (in_order rows ≡ held)
+told-some rows held told = go (differ rows) refl told
+  where
+    go : (b : Bool) → differ rows ≡ b → cond b (Some (in_order rows)) None ≡ Some held → Differ rows × (in_order rows ≡ held)
+    go true e is = (differ-apart rows e, cc)
+    go false e is = absurd cc
+
+-- none are told where two have one number
+pub told-none : (rows : List Row) → ¬ Differ rows → told_rows rows ≡ None
+told-none rows never = go (differ rows) refl
+  where
+    go : (b : Bool) → differ rows ≡ b → cond b (Some (in_order rows)) None ≡ None
+    go true e = absurd (never (differ-apart rows e))
+    go false e = refl
+
+-- rows that are told rise
+pub told-ascends : (rows : List Row) → IfSome (told_rows rows) Ascends
+told-ascends rows = go (differ rows)
+  where
+    go : (b : Bool) → IfSome (cond b (Some (in_order rows)) None) Ascends
+    go true = ascends-in_order rows
+    go false = tt
+
+-- ---- rows that were sorted
+
+-- two that stand together don't fall
+abbrev Climbs : List Row → Type 0
+Climbs [] = Unit {0}
+Climbs (row ∷ []) = Unit {0}
+Climbs (row ∷ next ∷ rows) = (row.seq ≤ℤ next.seq) × Climbs (next ∷ rows)
+
+above_all : (row : Row) (rows : List Row) → Climbs (row ∷ rows) → AllByRecursion (λ later. row.seq ≤ℤ later.seq) rows
+above_all row [] up = tt
+above_all row (next ∷ rows) up = (up.0, All-weaker rows (λ later h. omega (arith, ints, up.0, h)) (above_all next rows up.1))
+
+apart_above : (row : Row) (rows : List Row) → AllByRecursion (λ later. row.seq ≤ℤ later.seq) rows → IsNew row.seq rows
+    → AllByRecursion (λ later. row.seq <ℤ later.seq) rows
+apart_above row [] up new = tt
+apart_above row (later ∷ rows) up new =
+    (by_order row.seq later.seq (λ lower. lower) (λ same. absurd (new.0 same)) (λ higher. omega (arith, ints, up.0, higher)), apart_above row rows up.1 new.1)
+
+at_most : (a b : ℤ) → is_lt (int_cmp b a) ≡ false → a ≤ℤ b
+at_most a b e = grind (arith, ints)
+
+-- rows that were sorted by number don't fall
+pub sorted_climbs : (rows : List Row) → IsSortedByKey (λ (row : Row). row.seq) int_cmp rows → Climbs rows
+sorted_climbs [] up = tt
+sorted_climbs (row ∷ []) up = tt
+sorted_climbs (row ∷ next ∷ rows) up = (
+  at_most row.seq next.seq (up 0 row (omega arith) (omega arith)),
+  sorted_climbs (next ∷ rows) (λ k d low high.
+      let shift : suc k + 1 ≡ suc (k + 1) = omega arith in
+      subst (λ m. is_lt (int_cmp (get_or (row ∷ next ∷ rows) m d).seq (get_or (next ∷ rows) k d).seq) ≡ false) shift
+      (up (suc k) d (omega arith) (omega (arith, high)))),
+)
+
+-- rows that don't fall rise where their numbers differ
+pub climbs_ascends : (rows : List Row) → Climbs rows → Differ rows → Ascends rows
+climbs_ascends [] up apart = tt
+climbs_ascends (row ∷ []) up apart = (tt, tt)
+climbs_ascends (row ∷ next ∷ rows) up apart =
+    (apart_above row (next ∷ rows) (above_all row (next ∷ rows) up) apart.0, climbs_ascends (next ∷ rows) up.1 apart.1)
 
 -- ---- changes
 

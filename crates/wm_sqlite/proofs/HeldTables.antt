@@ -1,53 +1,39 @@
--- The rows that a table holds, where a row of it is deleted or inserted, and where they are shown in ascending number.
-use Rattle.sqlite.specs.Values.{or_null}
+-- The rows that tables hold, where a row of them is deleted or inserted, and where they are shown.
 use Rattle.sqlite_rules.specs.Edit.{id_in}
-use Rattle.sqlite_trees.specs.Tree.{has_rowid, IsTable, put_row as put_cells, rowid, without_rowid}
+use Rattle.sqlite_trees.specs.Tree.{has_rowid, put_row as put_cells, rowid, without_rowid}
 use Rattle.sqlite_trees.specs.View.{is_int}
 use Rattle.sqlite_value.proofs.OrderLemmas.{value_cmp-Int}
-use Rattle.sqlite_value.specs.Order.{Row as Cells, value_cmp}
+use Rattle.sqlite_value.specs.Order.{Row as Cells, column, value_cmp}
 use Rattle.sqlite_value.specs.declared.value.Value.{Value}
 use Rattle.sqlite_value.specs.declared.value.Value.TheVariants.{Null, Int, Real, Text, Blob}
-use Rattle.std.proofs.Common.{◌≡◌, ◌≢◌, ℕ, ℤ, Bool, true, false, cond, not, IsTrue, Option, None, Some, Less, Equal, Greater}
-use Rattle.std.proofs.Common.{List, [], ◌∷◌, filter, map, IsPermutation, refl, sym, subst, ◌∙◌, ap, arith}
+use Rattle.std.proofs.Common.{◌≡◌, ◌≢◌, ℕ, ℤ, Bool, true, false, cond, not, IsTrue, Less, Equal, Greater}
+use Rattle.std.proofs.Common.{List, [], ◌∷◌, ◌++◌, filter, map, IsPermutation, refl, sym, subst, ◌∙◌, ap, arith}
 use Rattle.std.specs.List.{AllByRecursion}
-use Rattle.std.specs.Prelude.{◌<ℤ◌}
 use Rattle.std.specs.Ordering.{int_cmp, is_eq, match_ordering}
 use Rattle.std.specs.declared.cmp.Ordering.{Ordering}
 use Rattle.std.proofs.lemmas.Bool.{cond_both, false≢true}
 use Rattle.std.proofs.lemmas.Bool.Decides.{nat_tests}
 use Rattle.std.proofs.lemmas.Int.{ints}
 use Rattle.std.proofs.lemmas.List.Elements.{All-from_recursion, recursion_from_All}
-use Rattle.std.proofs.lemmas.List.Sorted.{All-permutation, IsPermutation-map, IsPermutation-sym}
+use Rattle.std.proofs.lemmas.List.Sorted.{All-permutation, IsPermutation-append_left, IsPermutation-append_right, IsPermutation-map, IsPermutation-sym, IsPermutation-trans}
+use Rattle.std.proofs.lemmas.List.{map-append}
 use Rattle.wm_collections.proofs.Lists.{All-kept, All-map, All-unmap}
 use Rattle.wm_keeper.specs.Keeper.{Ascends, put_row, remove_row}
 use Rattle.wm_keeper.specs.declared.row.Row.{Row}
 use Rattle.wm_sqlite.proofs.HeldRows.{Ascends-differ, ascends-in_order, Differ-same, in_order-ascending, in_order-same, IsNew}
 use Rattle.wm_sqlite.proofs.HeldRows.{put-put, put-removed, remove-put, remove-put-same}
-use Rattle.wm_sqlite.specs.Columns.{prior_in, tags_in}
-use Rattle.wm_sqlite.specs.Held.{Differ, held_in, IsListed, IsStored, lists_of, row_in, row_of, row_with}
-use Rattle.wm_sqlite.specs.Table.{cells, read_row, shown_row, Stored, text_in}
+use Rattle.wm_columns.specs.Values.{AreLists, row_of}
+use Rattle.wm_sqlite.specs.Held.{all_rows, AreNumbered, Differ, held_in, in_order, IsListed, row_in, Tables, with_cells, without}
+use Rattle.wm_sqlite.specs.Standing.{ShowsTable, ShowsTables}
+use Rattle.wm_columns.specs.Values.{values_of}
+use Rattle.wm_columns.proofs.Values.{row_of-values}
+use Rattle.wm_sqlite.specs.Table.{carried, cells, shown_row}
 
 -- ---- one row
 
--- a name reads as it was written
-text_in-or_null : (name : Option (List ℕ)) → text_in (or_null Text name) ≡ name
-text_in-or_null None = refl
-text_in-or_null (Some text) = refl
-
--- the columns of a stored row read as that row
-pub read_row-shown : (s : Stored) → read_row (shown_row (cells s)) ≡ s
-read_row-shown s = ap (λ name. record s { name = name }) (text_in-or_null s.name)
-
--- lists that are read
-lists_of-read : (version : ℤ) (prior : Option (List ℤ)) (tags : Option (List (List ℕ))) (numbers : List ℤ) (texts : List (List ℕ)) → prior ≡ Some numbers
-    → tags ≡ Some texts → lists_of version prior tags ≡ (version, numbers, texts)
-lists_of-read version prior tags numbers texts is are = rw (is, are) refl
-
--- a stored row is the row that it was made of
-pub row_in-stored : (row : Row) (s : Stored) → IsStored row s → row_in (cells s) ≡ row
-row_in-stored row s is =
-    ap row_of (read_row-shown s) ∙ ap (row_with s) (lists_of-read s.version (prior_in s.prior) (tags_in s.tags) row.prior row.tags is.prior is.tags)
-    ∙ ap (λ version. row_with s (version, row.prior, row.tags)) is.version ∙ is.same
+-- the cells of a row are read as that row
+pub row_in-cells : (row : Row) (prior tags : List ℕ) → AreLists row prior tags → row_in (cells (values_of row prior tags)) ≡ row
+row_in-cells = row_of-values
 
 is_numbered : (n : ℤ) (v : Value) → IsTrue (is_int v) → is_eq (value_cmp v (Int n)) ≡ true → n ≡ id_in v
 is_numbered n (Int m) is e = let o : is_eq (int_cmp m n) ≡ true = sym (ap is_eq (value_cmp-Int m n)) ∙ e in grind (arith, ints, nat_tests)
@@ -96,7 +82,7 @@ differ_kept keep (r ∷ table) differ =
 pub IsListed-without : (n : ℤ) (table : List Cells) → IsListed table → IsListed (without_rowid n table)
 IsListed-without n table listed = record {
   numbered = All-kept (λ r. IsTrue (is_int (rowid r))) (λ r. not (has_rowid n r)) table listed.numbered;
-  differ = differ_kept (λ r. not (has_rowid n r)) table listed.differ;
+  apart = differ_kept (λ r. not (has_rowid n r)) table listed.apart;
 }
 
 -- after a delete no row has the rowid
@@ -162,91 +148,182 @@ differ_put new (r ∷ table) differ none = go (value_cmp (rowid r) (rowid new)) 
     go Equal rest = (none.1, differ.1)
     go Greater rest = (none, differ)
 
--- after an insert at a new rowid the numbers of a table are still integers, no two the same
-pub IsListed-put : (s : Stored) (table : List Cells) → IsListed table → AllByRecursion (λ r. has_rowid s.seq r ≡ false) table
-    → IsListed (put_cells (cells s) table)
-IsListed-put s table listed none = record {
-  numbered = All-put_cells (λ r. IsTrue (is_int (rowid r))) (cells s) table refl listed.numbered;
-  differ = differ_put (cells s) table listed.differ (new_row s.seq table listed.numbered none);
-}
+-- a row that stands before the table
+new_put_after : (n : ℤ) (new : Cells) (xs table : List Cells) → n ≢ (row_in new).seq → IsNew n (map row_in (xs ++ table))
+    → IsNew n (map row_in (xs ++ put_cells new table))
+new_put_after n new [] table other none = new_put n new table other none
+new_put_after n new (r ∷ xs) table other none = (none.0, new_put_after n new xs table other none.1)
 
-held_put : (s : Stored) (table : List Cells) → AllByRecursion (λ r. IsTrue (is_int (rowid r))) table → AllByRecursion (λ r. has_rowid s.seq r ≡ false) table
-    → held_in (put_cells (cells s) table) ≡ put_row (row_in (cells s)) (held_in table)
-held_put s [] numbered none = refl
-held_put s (r ∷ table) numbered none = go (value_cmp (rowid r) (Int s.seq)) refl (held_put s table numbered.1 none.1)
+differ_put_after : (new : Cells) (xs table : List Cells) → Differ (map row_in (xs ++ table)) → IsNew (row_in new).seq (map row_in (xs ++ table))
+    → Differ (map row_in (xs ++ put_cells new table))
+differ_put_after new [] table differ none = differ_put new table differ none
+differ_put_after new (r ∷ xs) table differ none =
+    (new_put_after (row_in r).seq new xs table (λ e. none.0 (sym e)) differ.0, differ_put_after new xs table differ.1 none.1)
+
+All-put_after : (P : Cells → Type 0) (new : Cells) (xs table : List Cells) → P new → AllByRecursion P (xs ++ table) → AllByRecursion P (xs ++ put_cells new table)
+All-put_after P new [] table p all = All-put_cells P new table p all
+All-put_after P new (r ∷ xs) table p all = (all.0, All-put_after P new xs table p all.1)
+
+-- ---- a row of a number in place of any
+
+module _ (row : Row) (prior tags : List ℕ) (are : AreLists row prior tags) where
+  abbrev its : Cells
+  its = cells (values_of row prior tags)
+
+  numbered_so : (row_in its).seq ≡ row.seq
+  numbered_so = ap (λ (one : Row). one.seq) (row_in-cells row prior tags are)
+
+  held_put : (table : List Cells) → AreNumbered table → AllByRecursion (λ r. has_rowid row.seq r ≡ false) table
+      → held_in (put_cells its table) ≡ put_row (row_in its) (held_in table)
+  held_put [] numbered none = refl
+  held_put (r ∷ table) numbered none = go (value_cmp (rowid r) (Int row.seq)) refl (held_put table numbered.1 none.1)
+    where
+      go : (o : Ordering) → value_cmp (rowid r) (Int row.seq) ≡ o → held_in (put_cells its table) ≡ put_row (row_in its) (held_in table)
+          → held_in (match_ordering o (r ∷ put_cells its table) (its ∷ table) (its ∷ r ∷ table)) ≡ put_row (row_in its) (put_row (row_in r) (held_in table))
+      go Less e rest =
+          ap (put_row (row_in r)) rest
+          ∙ put-put (row_in r) (row_in its) (held_in table) (λ same. hasnt_rowid-seq row.seq r numbered.0 none.0 (sym same))
+      go Equal e rest = absurd (false≢true (sym none.0 ∙ ap is_eq e))
+      go Greater e rest = refl
+
+  held_put_after : (xs table : List Cells) → AreNumbered (xs ++ table) → AllByRecursion (λ r. has_rowid row.seq r ≡ false) (xs ++ table)
+      → held_in (xs ++ put_cells its table) ≡ put_row (row_in its) (held_in (xs ++ table))
+  held_put_after [] table numbered none = held_put table numbered none
+  held_put_after (r ∷ xs) table numbered none =
+      ap (put_row (row_in r)) (held_put_after xs table numbered.1 none.1)
+      ∙ put-put (row_in r) (row_in its) (held_in (xs ++ table)) (λ same. hasnt_rowid-seq row.seq r numbered.0 none.0 (sym same))
+
+-- ---- both tables
+
+without-map : (n : ℤ) (table : List Cells) → map carried (without_rowid n table) ≡ without_rowid n (map carried table)
+without-map n [] = refl
+without-map n (r ∷ table) = go (has_rowid n r) (without-map n table)
   where
-    go : (o : Ordering) → value_cmp (rowid r) (Int s.seq) ≡ o → held_in (put_cells (cells s) table) ≡ put_row (row_in (cells s)) (held_in table)
-        → held_in (match_ordering o (r ∷ put_cells (cells s) table) (cells s ∷ table) (cells s ∷ r ∷ table))
-        ≡ put_row (row_in (cells s)) (put_row (row_in r) (held_in table))
-    go Less e rest =
-        ap (put_row (row_in r)) rest
-        ∙ put-put (row_in r) (row_in (cells s)) (held_in table) (λ same. hasnt_rowid-seq s.seq r numbered.0 none.0 (sym same))
-    go Equal e rest = absurd (false≢true (sym none.0 ∙ ap is_eq e))
-    go Greater e rest = refl
+    go : (b : Bool) → map carried (without_rowid n table) ≡ without_rowid n (map carried table)
+        → map carried (cond (not b) (r ∷ without_rowid n table) (without_rowid n table))
+        ≡ cond (not b) (carried r ∷ without_rowid n (map carried table)) (without_rowid n (map carried table))
+    go true rest = rest
+    go false rest = ap (λ rows. carried r ∷ rows) rest
 
--- an insert at a new rowid puts the row
-pub held-put : (s : Stored) (table : List Cells) → IsListed table → AllByRecursion (λ r. has_rowid s.seq r ≡ false) table
-    → held_in (put_cells (cells s) table) ≡ put_row (row_in (cells s)) (held_in table)
-held-put s table listed none = held_put s table listed.numbered none
+without-append : (n : ℤ) (xs ys : List Cells) → without_rowid n xs ++ without_rowid n ys ≡ without_rowid n (xs ++ ys)
+without-append n [] ys = refl
+without-append n (r ∷ xs) ys = go (has_rowid n r) (without-append n xs ys)
+  where
+    go : (b : Bool) → without_rowid n xs ++ without_rowid n ys ≡ without_rowid n (xs ++ ys)
+        → cond (not b) (r ∷ without_rowid n xs) (without_rowid n xs) ++ without_rowid n ys
+        ≡ cond (not b) (r ∷ without_rowid n (xs ++ ys)) (without_rowid n (xs ++ ys))
+    go true rest = rest
+    go false rest = ap (λ rows. r ∷ rows) rest
 
--- a delete and an insert of one number leave integers, no two the same
-pub IsListed-replaced : (s : Stored) (table : List Cells) → IsListed table → IsListed (put_cells (cells s) (without_rowid s.seq table))
-IsListed-replaced s table listed = IsListed-put s (without_rowid s.seq table) (IsListed-without s.seq table listed) (without-absent s.seq table)
+-- a number that is deleted from both is deleted from all rows
+pub without-all : (n : ℤ) (tables : Tables) → all_rows (without n tables) ≡ without_rowid n (all_rows tables)
+without-all n tables =
+    ap (λ rows. rows ++ without_rowid n tables.1) (without-map n tables.0) ∙ without-append n (map carried tables.0) tables.1
 
--- a delete and an insert of one number put the row in place of any that stood there
-pub held-replaced : (row : Row) (s : Stored) (table : List Cells) → IsStored row s → IsListed table
-    → held_in (put_cells (cells s) (without_rowid s.seq table)) ≡ put_row row (held_in table)
-held-replaced row s table is listed =
-    held-put s (without_rowid s.seq table) (IsListed-without s.seq table listed) (without-absent s.seq table)
-    ∙ ap (put_row (row_in (cells s))) (held-without s.seq table listed)
-    ∙ put-removed (row_in (cells s)) (held_in table) (ascends-in_order (map row_in table))
-    ∙ ap (λ one. put_row one (held_in table)) (row_in-stored row s is)
+-- after a delete the numbers are still integers, no two the same
+pub IsListed-deleted : (n : ℤ) (tables : Tables) → IsListed (all_rows tables) → IsListed (all_rows (without n tables))
+IsListed-deleted n tables listed = rw (without-all n tables) (IsListed-without n (all_rows tables) listed)
+
+-- and the row of the number is removed
+pub held-deleted : (n : ℤ) (tables : Tables) → IsListed (all_rows tables)
+    → held_in (all_rows (without n tables)) ≡ remove_row n (held_in (all_rows tables))
+held-deleted n tables listed = ap held_in (without-all n tables) ∙ held-without n (all_rows tables) listed
+
+-- after a delete no row has the number
+absent : (n : ℤ) (tables : Tables) → AllByRecursion (λ r. has_rowid n r ≡ false) (all_rows (without n tables))
+absent n tables = rw (without-all n tables) (without-absent n (all_rows tables))
+
+module _ (row : Row) (prior tags : List ℕ) (are : AreLists row prior tags) (tables : Tables) (listed : IsListed (all_rows tables)) where
+  abbrev left : Tables
+  left = without row.seq tables
+
+  abbrev replaced : Tables
+  replaced = with_cells (cells (values_of row prior tags)) left
+
+  left_listed : IsListed (all_rows left)
+  left_listed = IsListed-deleted row.seq tables listed
+
+  -- a delete from both and an insert into `work2` leave integers, no two the same
+  pub IsListed-replaced : IsListed (all_rows replaced)
+  IsListed-replaced = record {
+    numbered = All-put_after (λ r. IsTrue (is_int (rowid r))) (cells (values_of row prior tags)) (map carried left.0) left.1 refl left_listed.numbered;
+    apart = differ_put_after (cells (values_of row prior tags)) (map carried left.0) left.1 left_listed.apart
+        (subst (λ n. IsNew n (map row_in (all_rows left))) (sym (numbered_so row prior tags are))
+        (new_row row.seq (all_rows left) left_listed.numbered (absent row.seq tables)));
+  }
+
+  -- and put the row in place of any that stood there
+  pub held-replaced : held_in (all_rows replaced) ≡ put_row row (held_in (all_rows tables))
+  held-replaced =
+      held_put_after row prior tags are (map carried left.0) left.1 left_listed.numbered (absent row.seq tables)
+      ∙ ap (λ one. put_row one (held_in (all_rows left))) (row_in-cells row prior tags are)
+      ∙ ap (put_row row) (held-deleted row.seq tables listed)
+      ∙ put-removed row (held_in (all_rows tables)) (ascends-in_order (map row_in (all_rows tables)))
+
+-- the numbers of each table are integers
+numbered_before : (xs : List Cells) (table : List Cells) → AreNumbered (map carried xs ++ table) → AreNumbered xs × AreNumbered table
+numbered_before [] table all = (tt, all)
+numbered_before (r ∷ xs) table all = let rest = numbered_before xs table all.1 in ((all.0, rest.0), rest.1)
+
+pub AreNumbered-first : (tables : Tables) → IsListed (all_rows tables) → AreNumbered tables.0
+AreNumbered-first tables listed = (numbered_before tables.0 tables.1 listed.numbered).0
+
+pub AreNumbered-second : (tables : Tables) → IsListed (all_rows tables) → AreNumbered tables.1
+AreNumbered-second tables listed = (numbered_before tables.0 tables.1 listed.numbered).1
 
 -- ---- the rows that are shown
 
--- rows that are shown in ascending number are those of the table, which has no two of one number
-pub listed-shown : (table ordered : List Cells) → IsPermutation table ordered → AllByRecursion (λ r. IsTrue (is_int (rowid r))) ordered
-    → Ascends (map row_in ordered) → IsListed table × (held_in table ≡ map row_in ordered)
-listed-shown table ordered same numbered up =
-    let back = IsPermutation-sym table ordered same in
-    let differ = Differ-same (map row_in ordered) (map row_in table) (IsPermutation-map row_in ordered table back) (Ascends-differ (map row_in ordered) up) in (
-      record {
-        numbered = recursion_from_All (λ r. IsTrue (is_int (rowid r))) table
-            (All-permutation (λ r. IsTrue (is_int (rowid r))) ordered table back (All-from_recursion (λ r. IsTrue (is_int (rowid r))) ordered numbered));
-        differ = differ;
-      },
-      in_order-same (map row_in table) (map row_in ordered) (IsPermutation-map row_in table ordered same) differ ∙ in_order-ascending (map row_in ordered) up,
-    )
+-- a table shown in whatever order has integers for its numbers where what is shown has
+numbered_shown : (table shown : List Cells) → ShowsTable table shown → AllByRecursion (λ values. IsTrue (is_int (column values 1))) shown → AreNumbered table
+numbered_shown table shown shows all =
+    let back = IsPermutation-sym table shows.ordered shows.permutes in
+    let seen : AllByRecursion (λ values. IsTrue (is_int (column values 1))) (map shown_row shows.ordered) =
+    subst (AllByRecursion (λ values. IsTrue (is_int (column values 1)))) shows.is all in
+    recursion_from_All (λ r. IsTrue (is_int (rowid r))) table
+    (All-permutation (λ r. IsTrue (is_int (rowid r))) shows.ordered table back
+    (All-from_recursion (λ r. IsTrue (is_int (rowid r))) shows.ordered
+    (All-unmap (λ values. IsTrue (is_int (column values 1))) shown_row shows.ordered seen)))
 
--- a lower rowid is a lower number
-lower_seq : (one other : Value) → IsTrue (is_int one) → IsTrue (is_int other) → value_cmp one other ≡ Less → id_in one <ℤ id_in other
-lower_seq (Int m) (Int n) is are e = let o : int_cmp m n ≡ Less = sym (value_cmp-Int m n) ∙ e in grind (arith, ints)
-lower_seq (Int m) Null is are e = absurd (false≢true are)
-lower_seq (Int m) (Real x) is are e = absurd (false≢true are)
-lower_seq (Int m) (Text t) is are e = absurd (false≢true are)
-lower_seq (Int m) (Blob b) is are e = absurd (false≢true are)
-lower_seq Null other is are e = absurd (false≢true is)
-lower_seq (Real x) other is are e = absurd (false≢true is)
-lower_seq (Text t) other is are e = absurd (false≢true is)
-lower_seq (Blob b) other is are e = absurd (false≢true is)
+numbered_both : (xs ys : List Cells) → AreNumbered xs → AreNumbered ys → AreNumbered (xs ++ ys)
+numbered_both [] ys one other = other
+numbered_both (r ∷ xs) ys one other = (one.0, numbered_both xs ys one.1 other)
 
-above_first : (r : Cells) (rows : List Cells) → IsTrue (is_int (rowid r)) → AllByRecursion (λ later. IsTrue (is_int (rowid later))) rows
-    → AllByRecursion (λ later. value_cmp (rowid r) (rowid later) ≡ Less) rows → AllByRecursion (λ later. (row_in r).seq <ℤ later.seq) (map row_in rows)
-above_first r [] is numbered up = tt
-above_first r (later ∷ rows) is numbered up = (lower_seq (rowid r) (rowid later) is numbered.0 up.0, above_first r rows is numbered.1 up.1)
+rows_shown : (ordered : List Cells) → map row_of (map shown_row ordered) ≡ map row_in ordered
+rows_shown [] = refl
+rows_shown (r ∷ ordered) = ap (λ rows. row_in r ∷ rows) (rows_shown ordered)
 
--- rows whose integer rowids rise are rows in ascending number
-pub Ascends-table : (rows : List Cells) → IsTable rows → AllByRecursion (λ r. IsTrue (is_int (rowid r))) rows → Ascends (map row_in rows)
-Ascends-table [] up numbered = tt
-Ascends-table (r ∷ rows) up numbered = (above_first r rows numbered.0 numbered.1 up.0, Ascends-table rows up.1 numbered.1)
+shown_permutes : (table shown : List Cells) → ShowsTable table shown → IsPermutation (map row_in table) (map row_of shown)
+shown_permutes table shown shows =
+    subst (IsPermutation (map row_in table)) (sym (ap (map row_of) shows.is ∙ rows_shown shows.ordered))
+    (IsPermutation-map row_in table shows.ordered shows.permutes)
 
--- a table whose integer rowids rise holds its rows as they stand
-pub listed-table : (table : List Cells) → IsTable table → AllByRecursion (λ r. IsTrue (is_int (rowid r))) table
-    → IsListed table × (held_in table ≡ map row_in table)
-listed-table table up numbered =
-    let ascends = Ascends-table table up numbered in
-    (record { numbered = numbered; differ = Ascends-differ (map row_in table) ascends }, in_order-ascending (map row_in table) ascends)
+permutes_both : (xs others ys more : List Row) → IsPermutation xs others → IsPermutation ys more → IsPermutation (xs ++ ys) (others ++ more)
+permutes_both xs others ys more one two =
+    IsPermutation-trans (xs ++ ys) (others ++ ys) (others ++ more) (IsPermutation-append_left ys xs others one) (IsPermutation-append_right others ys more two)
+
+module _ (tables : Tables) (first second : List Cells) (shows : ShowsTables tables first second) where
+  -- the rows that are read are those of both tables, in whatever order
+  pub all_shown : (rows : List Row) → IsPermutation (map row_of first ++ map row_of second) rows → IsPermutation (map row_in (all_rows tables)) rows
+  all_shown rows same =
+      IsPermutation-trans (map row_in (all_rows tables)) (map row_of first ++ map row_of second) rows
+      (subst (λ all. IsPermutation all (map row_of first ++ map row_of second)) (sym (map-append row_in (map carried tables.0) tables.1))
+      (permutes_both (map row_in (map carried tables.0)) (map row_of first) (map row_in tables.1) (map row_of second)
+      (shown_permutes (map carried tables.0) first shows.first_shown) (shown_permutes tables.1 second shows.second_shown)))
+      same
+
+  -- and their numbers are integers
+  pub all_numbered : AllByRecursion (λ values. IsTrue (is_int (column values 1))) first
+      → AllByRecursion (λ values. IsTrue (is_int (column values 1))) second → AreNumbered (all_rows tables)
+  all_numbered one other =
+      numbered_both (map carried tables.0) tables.1 (numbered_shown (map carried tables.0) first shows.first_shown one)
+      (numbered_shown tables.1 second shows.second_shown other)
+
+-- rows that rise are those of the table whose rows they are, which has no two of one number
+pub held-shown : (all rows : List Row) → IsPermutation all rows → Ascends rows → Differ all × (in_order all ≡ rows)
+held-shown all rows same up =
+    let differ = Differ-same rows all (IsPermutation-sym all rows same) (Ascends-differ rows up) in
+    (differ, in_order-same all rows same differ ∙ in_order-ascending rows up)
 
 -- a table without rows holds none
 pub IsListed-none : IsListed []
-IsListed-none = record { numbered = tt; differ = tt }
+IsListed-none = record { numbered = tt; apart = tt }

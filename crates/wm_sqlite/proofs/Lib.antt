@@ -1,6 +1,4 @@
 mod ChangedRows
-mod ColumnBytes
-mod ColumnTexts
 mod Commits
 mod Counts
 mod HeldRows

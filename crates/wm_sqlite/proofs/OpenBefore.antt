@@ -6,7 +6,7 @@ use Rattle.sqlite_resolve.specs.declared.compiled.Compiled.{Compiled}
 use Rattle.sqlite_schema.specs.declared.command.Returning.{Returning}
 use Rattle.sqlite_trees.specs.declared.store.Store.{Ghosts}
 use Rattle.sqlite_value.specs.Order.{Row}
-use Rattle.std.proofs.Common.{◌≡◌, ◌⊎◌, ℕ, Bool, true, false, List, Option, Some, None, Result, Ok, Err, Vec, IsTrue, IfOk, IfErr, refl, subst}
+use Rattle.std.proofs.Common.{◌≡◌, ◌⊎◌, ℕ, Bool, true, false, List, Option, Some, None, Result, Ok, Err, Vec, IsTrue, IfOk, IfErr, OnOk, refl, subst}
 use Rattle.std.specs.declared.alloc.Global.{Global}
 use Rattle.wm_sqlite.proofs.TextTurns.{left-open, refused, unread}
 
@@ -39,3 +39,14 @@ ran-open g old new sql params r late ran up = go (state g old).in_transaction re
     go : (mode : Bool) → (state g old).in_transaction ≡ mode → IsTrue (state g old).is_open
     go true is = inside-open (state g old) (state g new) sql params r (ran (rw is refl)) up
     go false is = subst (λ h. IsTrue (state g h).is_open) (late is) up
+
+-- a statement that was run, and so didn't come too late
+pub ran-opened : {A : Type 0} (g : Ghosts A) (old new : Held A) (sql : List ℕ) (params : Row) (late : Error) (r : Result ℕ Error)
+    → ((state g old).in_transaction ≡ false → r ≡ Err late)
+    → (IsTrue (state g old).in_transaction → ExecutesInside 0 sql params (state g old) (state g new) r) → OnOk r (IsTrue (state g old).is_open)
+ran-opened g old new sql params late (Err e) outside ran = tt
+ran-opened g old new sql params late (Ok count) outside ran = go (state g old).in_transaction refl
+  where
+    go : (mode : Bool) → (state g old).in_transaction ≡ mode → IsTrue (state g old).is_open
+    go true is = (ran (rw is refl)).1.was_open
+    go false is = let fails = outside is in absurd cc

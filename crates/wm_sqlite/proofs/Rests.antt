@@ -6,11 +6,14 @@ use Rattle.sqlite.specs.Steps.{FailsToCommit}
 use Rattle.sqlite.specs.declared.error.Error.{Error}
 use Rattle.sqlite_trees.specs.View.{doubt}
 use Rattle.sqlite_trees.specs.declared.store.Store.{Ghosts}
-use Rattle.sqlite_value.specs.Order.{Row as Cells}
+use Rattle.sqlite_schema.specs.declared.schema.Schema.{Schema}
 use Rattle.std.proofs.Common.{◌≡◌, ◌≤◌, ℕ, Bool, true, false, List, Result, Ok, Err, IsTrue, IfOk, IfErr, OnOk, OnErr, refl, sym, ap, ◌∙◌, subst, inl, inr, true≢false, arith}
 use Rattle.wm_keeper.specs.declared.row.Row.{Row}
-use Rattle.wm_sqlite.specs.Resting.{Holds, Rests, RestsEmpty, RestsWith}
-use Rattle.wm_sqlite.specs.Standing.{Stands, StandsEmpty}
+use Rattle.wm_sqlite.specs.Resting.{AreHeld, Holds, Rests, RestsStill, RestsWith}
+use Rattle.wm_sqlite.specs.Standing.{Stands, StandsWith}
+use Rattle.wm_sqlite.specs.Held.{tables_in, Tables}
+use Rattle.wm_sqlite.specs.Table.{both_schema}
+use Rattle.wm_sqlite.specs.declared.standing.Spread.{Spread}
 
 -- ---- answers
 
@@ -73,53 +76,40 @@ was-clean below is = omega (arith, below, is)
 
 module _ {A : Type 0} (g : Ghosts A) where
   -- a transaction begins where the connection rests
-  pub begins-empty : (old : Held A) → RestsEmpty g old → StandsEmpty g (state g old).committed (record old { in_transaction = true })
-  begins-empty old rests = record { is_open = rests.is_open; mode = refl; schema = rests.schema; origin = refl }
+  pub begins : (schema : Schema) (old : Held A) → Rests g schema old → Stands g schema (state g old).committed (record old { in_transaction = true })
+  begins schema old rests = record { is_open = rests.is_open; begun = record { mode = refl; origin = refl }; schema_is = rests.schema_is }
 
-  pub begins : (old : Held A) → Rests g old → Stands g (state g old).committed ((state g old).now.trees 0) (record old { in_transaction = true })
-  begins old rests = record { is_open = rests.is_open; mode = refl; schema = rests.schema; table_is = refl; origin = refl }
+  pub begins-both : (old : Held A) → Rests g both_schema old
+      → StandsWith g (state g old).committed (tables_in (state g old).now.trees) (record old { in_transaction = true })
+  begins-both old rests = record { stands = begins both_schema old rests; tables_are = refl }
 
-  pub begins-with : (rows : List Row) (old : Held A) → RestsWith g rows old → Holds g (state g old).committed rows (record old { in_transaction = true })
-  begins-with rows old with = record {
-    table = (state g old).now.trees 0;
-    stands = begins old with.rests;
-    listed = with.listed;
-    held = with.held;
-  }
+  pub begins-with : (spread : Spread) (rows : List Row) (old : Held A) → RestsWith g spread rows old
+      → Holds g spread (state g old).committed rows (record old { in_transaction = true })
+  begins-with spread rows old with =
+      record { tables = tables_in (state g old).now.trees; stands = begins-both old with.rests; are_held = with.are_held }
 
   -- and where it is undone it rests there again
-  pub undoes-empty : (first old new : Held A) → RestsEmpty g first → (state g old).committed ≡ (state g first).committed → IsTrue (state g new).is_open
-      → IsRolledBack (state g old) (state g new) → RestsEmpty g new
-  undoes-empty first old new rests same up back =
-      let now : (state g new).now ≡ (state g first).committed = (back.undone up).0 ∙ same in
-      let committed : (state g new).committed ≡ (state g first).committed = (back.undone up).1 ∙ same in
-      record {
-        is_open = up;
-        mode = back.autocommit;
-        schema = ap (λ (d : Database). d.schema) (now ∙ sym rests.settled) ∙ rests.schema;
-        settled = now ∙ sym committed;
-      }
-
-  pub undoes : (first old new : Held A) → Rests g first → (state g old).committed ≡ (state g first).committed → IsTrue (state g new).is_open
-      → IsRolledBack (state g old) (state g new) → Rests g new × ((state g new).now.trees 0 ≡ (state g first).now.trees 0)
-  undoes first old new rests same up back =
+  pub undoes : (schema : Schema) (first old new : Held A) → (state g old).committed ≡ (state g first).committed → IsTrue (state g new).is_open
+      → IsRolledBack (state g old) (state g new) → RestsStill g schema first new
+  undoes schema first old new same up back rests =
       let now : (state g new).now ≡ (state g first).committed = (back.undone up).0 ∙ same in
       let committed : (state g new).committed ≡ (state g first).committed = (back.undone up).1 ∙ same in
       let again : (state g new).now ≡ (state g first).now = now ∙ sym rests.settled in (
         record {
           is_open = up;
           mode = back.autocommit;
-          schema = ap (λ (d : Database). d.schema) again ∙ rests.schema;
+          schema_is = ap (λ (d : Database). d.schema) again ∙ rests.schema_is;
           settled = now ∙ sym committed;
         },
-        ap (λ (d : Database). d.trees 0) again,
+        again,
       )
 
-  pub undoes-with : (rows : List Row) (first old new : Held A) → RestsWith g rows first → (state g old).committed ≡ (state g first).committed
-      → IsTrue (state g new).is_open → IsRolledBack (state g old) (state g new) → RestsWith g rows new
-  undoes-with rows first old new with same up back =
-      let again = undoes first old new with.rests same up back in
-      record { rests = again.0; listed = rw again.1 with.listed; held = rw again.1 with.held }
+  pub undoes-with : (spread : Spread) (rows : List Row) (first old new : Held A) → RestsWith g spread rows first
+      → (state g old).committed ≡ (state g first).committed → IsTrue (state g new).is_open → IsRolledBack (state g old) (state g new)
+      → RestsWith g spread rows new
+  undoes-with spread rows first old new with same up back =
+      let again = undoes both_schema first old new same up back with.rests in
+      record { rests = again.0; are_held = subst (λ (d : Database). AreHeld spread rows (tables_in d.trees)) (sym again.1) with.are_held }
 
   -- a commit that fails undoes its transaction
   pub fails-back : (old new : Held A) (e : Error) → (state g old).in_transaction ≡ true → FailsToCommit (state g old) (state g new) e
@@ -130,20 +120,21 @@ module _ {A : Type 0} (g : Ghosts A) where
   ]
 
   -- one that is made rests at what the transaction saw
-  pub commits : (base : Database) (table : List Cells) (old new : Held A) → Stands g base table old
-      → Shows (state g old) (state g new) (state g old).now (state g old).now false → Rests g new × ((state g new).now.trees 0 ≡ table)
-  commits base table old new stands shown = (
+  pub commits : (base : Database) (tables : Tables) (old new : Held A) → StandsWith g base tables old
+      → Shows (state g old) (state g new) (state g old).now (state g old).now false
+      → Rests g both_schema new × (tables_in (state g new).now.trees ≡ tables)
+  commits base tables old new stands shown = (
     record {
       is_open = shown.is_open;
       mode = shown.mode;
-      schema = ap (λ (d : Database). d.schema) shown.now_is ∙ stands.schema;
+      schema_is = ap (λ (d : Database). d.schema) shown.now_is ∙ stands.stands.schema_is;
       settled = shown.now_is ∙ sym shown.committed_is;
     },
-    ap (λ (d : Database). d.trees 0) shown.now_is ∙ stands.table_is,
+    ap (λ (d : Database). tables_in d.trees) shown.now_is ∙ stands.tables_are,
   )
 
-  pub commits-with : (base : Database) (rows : List Row) (old new : Held A) → Holds g base rows old
-      → Shows (state g old) (state g new) (state g old).now (state g old).now false → RestsWith g rows new
-  commits-with base rows old new holds shown =
-      let made = commits base holds.table old new holds.stands shown in
-      record { rests = made.0; listed = rw made.1 holds.listed; held = rw made.1 holds.held }
+  pub commits-with : (spread : Spread) (base : Database) (rows : List Row) (old new : Held A) → Holds g spread base rows old
+      → Shows (state g old) (state g new) (state g old).now (state g old).now false → RestsWith g spread rows new
+  commits-with spread base rows old new holds shown =
+      let made = commits base holds.tables old new holds.stands shown in
+      record { rests = made.0; are_held = subst (AreHeld spread rows) (sym made.1) holds.are_held }

@@ -1,5 +1,5 @@
--- What DELETE makes of the table, in whatever order its rows stand.
-use Rattle.std.proofs.Common.{◌≡◌, Ok, Some, ℕ, ℤ, List, [], ◌∷◌, ◌++◌, map, filter, length, Bool, true, false, not, cond, IsTrue, refl, sym, ap, subst, ◌∙◌, arith}
+-- What DELETE makes of a table, in whatever order its rows stand.
+use Rattle.std.proofs.Common.{◌≡◌, Some, ℤ, List, [], ◌∷◌, ◌++◌, map, filter, length, IsPermutation, Bool, true, false, not, cond, IsTrue, refl, sym, ap, subst, ◌∙◌, arith}
 use Rattle.std.specs.List.{AllByRecursion, list_all, flat_map}
 use Rattle.std.specs.Ordering.{is_eq, int_cmp}
 use Rattle.std.proofs.lemmas.Bool.Decides.{nat_tests}
@@ -11,7 +11,7 @@ use Rattle.sqlite_value.specs.declared.value.Value.{Value}
 use Rattle.sqlite_value.specs.declared.value.Value.TheVariants.{Null, Int, Real, Text, Blob}
 use Rattle.sqlite_value.specs.Order.{Row, column, value_cmp}
 use Rattle.sqlite_value.proofs.OrderLemmas.{value_cmp-Int}
-use Rattle.sqlite_trees.specs.Tree.{rowid, has_rowid, without_rowid}
+use Rattle.sqlite_trees.specs.Tree.{rowid, has_rowid, without_rowid, Trees}
 use Rattle.sqlite_trees.specs.View.{is_int}
 use Rattle.sqlite_sql.specs.Term.{Env, holds}
 use Rattle.sqlite_sql.specs.Ops.{binary, is_true, from_truth}
@@ -20,15 +20,9 @@ use Rattle.sqlite_sql.specs.Program.{overlay}
 use Rattle.sqlite_rules.specs.Edit.{without_all, id_in}
 use Rattle.sqlite_rules.specs.Calls.{ids_of}
 use Rattle.sqlite_keyed.proofs.ListLemmas.{map-map, filter_all, all_map}
-use Rattle.sqlite.specs.State.{State, Executes}
-use Rattle.wm_sqlite.specs.Table.{work_schema}
-use Rattle.wm_sqlite.specs.Texts.{delete_text}
+use Rattle.wm_sqlite.specs.Held.{AreNumbered}
 use Rattle.wm_sqlite.proofs.TextReadings.{chosen}
-use Rattle.wm_sqlite.proofs.TextSteps.{removes_answer}
-
--- the numbers of the rows are integers
-abbrev pub AreNumbered : List Row → Type 0
-AreNumbered = AllByRecursion (λ r. IsTrue (is_int (rowid r)))
+use Rattle.wm_sqlite.proofs.TextSteps.{RemovesAnswer}
 
 -- the rows of a number
 abbrev of_number : ℤ → List Row → List Row
@@ -43,7 +37,7 @@ abbrev slots : ℤ → Row → Env
 slots n r = (Int n ∷ []) ∷ r ∷ []
 
 abbrev found : ℤ → Row → List Env
-found n r = cond (list_all (holds (slots n r)) chosen.filter) (slots n r ∷ []) []
+found n r = cond (list_all (holds (slots n r)) (chosen 0).filter) (slots n r ∷ []) []
 
 abbrev pick : Row → Output
 pick r = ([], column r 0 ∷ [])
@@ -52,7 +46,7 @@ truth_back : (b : Bool) → list_all (λ v. is_true v) (from_truth (Some b) ∷ 
 truth_back true = refl
 truth_back false = refl
 
-test_holds : (n : ℤ) (r : Row) → IsTrue (is_int (rowid r)) → list_all (holds (slots n r)) chosen.filter ≡ has_rowid n r
+test_holds : (n : ℤ) (r : Row) → IsTrue (is_int (rowid r)) → list_all (holds (slots n r)) (chosen 0).filter ≡ has_rowid n r
 unfolding binary
 test_holds n [] is = absurd (let e = is in cc)
 test_holds n (Int m ∷ r) is = truth_back (is_eq (value_cmp (Int m) (Int n)))
@@ -119,29 +113,40 @@ gone n rows [] all same = sym (filter_all (λ r. not (has_rowid n r)) rows (none
 gone n rows (i ∷ ids) all same =
     ap (λ j. without_all (without_rowid j rows) ids) all.0 ∙ idle n ids (without_rowid n rows) all.1 (passes (λ r. not (has_rowid n r)) rows)
 
--- where the numbers of the rows are integers, those of the number are taken out, and the others stay
-pub removes : (old new : State) (n : ℤ) (count : ℕ) → old.now.schema ≡ work_schema → AreNumbered (old.now.trees 0)
-    → Executes delete_text (Int n ∷ []) old new (Ok count) → (new.now.schema ≡ work_schema) × (new.now.trees 0 ≡ without_rowid n (old.now.trees 0))
-removes old new n count has numbered h =
-    let all = old.now.trees 0 in
+-- the rows of the number are taken out, where an answer took out those that it found, and the others stay
+taken : (n : ℤ) (all rows : List Row) (kept ordered : List Output) → AreNumbered all → kept ≡ map pick (of_number n all) → IsPermutation kept ordered
+    → rows ≡ map (λ (o : Output). o.1) ordered → without_all all (ids_of rows) ≡ without_rowid n all
+taken n all rows kept ordered numbered are same shown =
     let named = of_number n all in
-    let did = removes_answer old new n count has h in
-    let rows = did.1.0 in
-    let a : IsAnswer chosen (overlay old.now.trees []) (Int n ∷ []) rows = did.1.1 in
-    let staged : a.staged ≡ map (slots n) named = a.grouped ∙ picked n all numbered in
-    let kept : a.kept ≡ map pick named = a.distinct ∙ ap (map (output chosen)) staged ∙ map-map (output chosen) (slots n) named in
-    let shown : rows ≡ map (λ (o : Output). o.1) a.ordered = a.shown in
     let P : Output → Type 0 = λ o. id_in (rowid o.1) ≡ n in
-    let first : AllByRecursion P a.kept = subst (AllByRecursion P) (sym kept) (all_map P pick named (same_ids n all numbered)) in
-    let each : AllByRecursion P a.ordered = recursion_from_All P a.ordered (All-permutation P a.kept a.ordered a.same (All-from_recursion P a.kept first)) in
+    let first : AllByRecursion P kept = subst (AllByRecursion P) (sym are) (all_map P pick named (same_ids n all numbered)) in
+    let each : AllByRecursion P ordered = recursion_from_All P ordered (All-permutation P kept ordered same (All-from_recursion P kept first)) in
     let seen : AllByRecursion (λ r. id_in (rowid r) ≡ n) rows =
-    subst (AllByRecursion (λ r. id_in (rowid r) ≡ n)) (sym shown) (all_map (λ r. id_in (rowid r) ≡ n) (λ (o : Output). o.1) a.ordered each) in
+    subst (AllByRecursion (λ r. id_in (rowid r) ≡ n)) (sym shown) (all_map (λ r. id_in (rowid r) ≡ n) (λ (o : Output). o.1) ordered each) in
     let ids : AllByRecursion (λ i. i ≡ n) (ids_of rows) = all_map (λ i. i ≡ n) (λ r. id_in (rowid r)) rows seen in
     let count_is : length (ids_of rows) ≡ length named =
     length-map rows (λ r. id_in (rowid r))
     ∙ ap length shown
-    ∙ length-map a.ordered (λ (o : Output). o.1)
-    ∙ length_permutation a.kept a.ordered a.same
-    ∙ ap length kept
+    ∙ length-map ordered (λ (o : Output). o.1)
+    ∙ length_permutation kept ordered same
+    ∙ ap length are
     ∙ length-map named pick in
-    (did.0, did.1.2 ∙ gone n all (ids_of rows) ids count_is)
+    gone n all (ids_of rows) ids count_is
+
+-- so it is in `work`
+pub removes : (n : ℤ) (old new : Trees) → AreNumbered (old 0) → RemovesAnswer 0 n old new → new 0 ≡ without_rowid n (old 0)
+removes n old new numbered did =
+    let a : IsAnswer (chosen 0) (overlay old []) (Int n ∷ []) did.0 = did.1 in
+    let staged : a.staged ≡ map (slots n) (of_number n (old 0)) = a.grouped ∙ picked n (old 0) numbered in
+    let kept : a.kept ≡ map pick (of_number n (old 0)) =
+    a.distinct ∙ ap (map (output (chosen 0))) staged ∙ map-map (output (chosen 0)) (slots n) (of_number n (old 0)) in
+    did.2 ∙ taken n (old 0) did.0 a.kept a.ordered numbered kept a.same a.shown
+
+-- and in `work2`
+pub removes2 : (n : ℤ) (old new : Trees) → AreNumbered (old 1) → RemovesAnswer 1 n old new → new 1 ≡ without_rowid n (old 1)
+removes2 n old new numbered did =
+    let a : IsAnswer (chosen 1) (overlay old []) (Int n ∷ []) did.0 = did.1 in
+    let staged : a.staged ≡ map (slots n) (of_number n (old 1)) = a.grouped ∙ picked n (old 1) numbered in
+    let kept : a.kept ≡ map pick (of_number n (old 1)) =
+    a.distinct ∙ ap (map (output (chosen 1))) staged ∙ map-map (output (chosen 1)) (slots n) (of_number n (old 1)) in
+    did.2 ∙ taken n (old 1) did.0 a.kept a.ordered numbered kept a.same a.shown

@@ -1,94 +1,20 @@
--- The rows that a keeper of this crate holds: those of its table, in ascending number, in whatever order they stand there.
-use Rattle.sqlite_trees.specs.Tree.{rowid}
+-- The rows that a keeper of this crate holds: those of its two tables, in ascending number, in whatever order they stand there.
+use Rattle.sqlite_trees.specs.Tree.{rowid, put_row as put_cells, without_rowid, Trees}
 use Rattle.sqlite_trees.specs.View.{is_int}
 use Rattle.sqlite_value.specs.Order.{Row as Cells}
-use Rattle.std.specs.List.{AllByRecursion}
-use Rattle.std.specs.Prelude.{◌≡◌, ◌≢◌, ℕ, ℤ, List, [], ◌∷◌, map, Option, None, Some, IsTrue}
+use Rattle.std.specs.List.{AllByRecursion, list_all}
+use Rattle.std.specs.Ordering.{int_eq}
+use Rattle.std.specs.Prelude.{◌≢◌, ◌&&◌, ℤ, Bool, true, not, List, [], ◌∷◌, ◌++◌, map, Option, None, Some, IsTrue, if◌then◌else◌}
 use Rattle.wm_keeper.specs.Keeper.{put_row, remove_row}
 use Rattle.wm_keeper.specs.declared.row.Change.{Change}
 use Rattle.wm_keeper.specs.declared.row.Change.TheVariants.{Put, Remove}
 use Rattle.wm_keeper.specs.declared.row.Row.{Row}
-use Rattle.wm_sqlite.specs.Columns.{prior_in, tags_in}
-use Rattle.wm_sqlite.specs.Table.{Stored, read_row, shown_row}
+use Rattle.wm_columns.specs.Values.{row_of}
+use Rattle.wm_sqlite.specs.Table.{carried, shown_row}
 
--- the lists of a stored row: its version, its prerequisites and its tags. Where one can't be read the version is 0, and both are empty
-abbrev pub lists_of : ℤ → Option (List ℤ) → Option (List (List ℕ)) → ℤ × List ℤ × List (List ℕ)
-lists_of version (Some prior) (Some tags) = (version, prior, tags)
-lists_of version (Some prior) None = (Rattle.std.specs.Prelude.pos 0, [], [])
-lists_of version None tags = (Rattle.std.specs.Prelude.pos 0, [], [])
-
--- a row with these lists
-abbrev pub row_with : Stored → ℤ × List ℤ × List (List ℕ) → Row
-row_with s lists = record {
-  version = lists.0;
-  seq = s.seq;
-  id = s.id;
-  name = s.name;
-  class = s.class;
-  kind = s.kind;
-  period = s.period;
-  flex = s.flex;
-  delay = s.delay;
-  policy = s.policy;
-  wait = s.wait;
-  merger = s.merger;
-  network = s.network;
-  flags = s.flags;
-  phase = s.phase;
-  attempt = s.attempt;
-  backoff_n = s.backoff_n;
-  runs = s.runs;
-  generation = s.generation;
-  enqueued_at = s.enqueued_at;
-  input = s.input;
-  output = s.output;
-  prior = lists.1;
-  tags = lists.2;
-}
-
--- the row that a stored row is
-abbrev pub row_of : Stored → Row
-row_of s = row_with s (lists_of s.version (prior_in s.prior) (tags_in s.tags))
-
--- the row that stands in the table
+-- the row that stands in `work2`
 abbrev pub row_in : Cells → Row
-row_in r = row_of (read_row (shown_row r))
-
--- a row as its columns hold it, where its lists are written as these bytes and this text
-abbrev pub stored : Row → List ℕ → List ℕ → Stored
-stored row prior tags = record {
-  version = row.version;
-  seq = row.seq;
-  id = row.id;
-  name = row.name;
-  class = row.class;
-  kind = row.kind;
-  period = row.period;
-  flex = row.flex;
-  delay = row.delay;
-  policy = row.policy;
-  wait = row.wait;
-  merger = row.merger;
-  network = row.network;
-  flags = row.flags;
-  phase = row.phase;
-  attempt = row.attempt;
-  backoff_n = row.backoff_n;
-  runs = row.runs;
-  generation = row.generation;
-  enqueued_at = row.enqueued_at;
-  input = row.input;
-  output = row.output;
-  prior = prior;
-  tags = tags;
-}
-
--- the stored row is one of this row: its lists are read as the row's
-pub record IsStored (row : Row) (s : Stored) : Type 0 where
-  pub same : row_with s (row.version, row.prior, row.tags) ≡ row
-  pub version : s.version ≡ row.version
-  pub prior : prior_in s.prior ≡ Some row.prior
-  pub tags : tags_in s.tags ≡ Some row.tags
+row_in r = row_of (shown_row r)
 
 -- rows in ascending number, of two under one number the first
 abbrev pub in_order : List Row → List Row
@@ -100,14 +26,45 @@ abbrev pub Differ : List Row → Type 0
 Differ [] = Unit {0}
 Differ (row ∷ rows) = AllByRecursion (λ later. row.seq ≢ later.seq) rows × Differ rows
 
--- the numbers of a table's rows are integers, and no two are the same
-pub record IsListed (table : List Cells) : Type 0 where
-  pub numbered : AllByRecursion (λ r. IsTrue (is_int (rowid r))) table
-  pub differ : Differ (map row_in table)
+-- whether no two of the rows have the same number
+abbrev pub differ : List Row → Bool
+differ [] = true
+differ (row ∷ rows) = list_all (λ later. not (int_eq row.seq later.seq)) rows && differ rows
 
--- the rows of a table
+-- the rows that are told: all in ascending number, and none where two have the same number
+abbrev pub told_rows : List Row → Option (List Row)
+told_rows rows = if differ rows then Some (in_order rows) else None
+
+-- the numbers of rows that stand in a table are integers
+abbrev pub AreNumbered : List Cells → Type 0
+AreNumbered = AllByRecursion (λ r. IsTrue (is_int (rowid r)))
+
+-- and no two of them are the same
+pub record IsListed (table : List Cells) : Type 0 where
+  pub numbered : AreNumbered table
+  pub apart : Differ (map row_in table)
+
+-- the rows of tables
 abbrev pub held_in : List Cells → List Row
 held_in table = in_order (map row_in table)
+
+-- what stands in `work`, and what stands in `work2`
+abbrev pub Tables : Type 0
+Tables = List Cells × List Cells
+
+abbrev pub tables_in : Trees → Tables
+tables_in trees = (trees 0, trees 1)
+
+-- the rows of both tables, as rows of `work2`
+abbrev pub all_rows : Tables → List Cells
+all_rows tables = map carried tables.0 ++ tables.1
+
+-- without the rows of a number, and with a row in `work2`
+abbrev pub without : ℤ → Tables → Tables
+without number tables = (without_rowid number tables.0, without_rowid number tables.1)
+
+abbrev pub with_cells : Cells → Tables → Tables
+with_cells r tables = (tables.0, put_cells r tables.1)
 
 -- the rows without those that are removed
 abbrev pub removed : List Change → List Row → List Row

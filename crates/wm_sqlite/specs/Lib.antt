@@ -1,4 +1,3 @@
-pub mod Columns
 pub mod Held
 pub mod Refusals
 pub mod Resting

@@ -1,17 +1,20 @@
-//! Changes of the table, all or none.
+//! Changes of the tables, all or none.
 ghost use Rattle.sqlite.specs.Held.{state};
 ghost use Rattle.sqlite.specs.State.{HasCleanDisk, Survives};
 ghost use Rattle.sqlite_trees.specs.Tree.{Trees};
 ghost use Rattle.std.specs.Prelude.{◌≡◌, ◌⊎◌, [], ◌∷◌, false, string_bytes, List, IsTrue, OnOk, OnErr};
 ghost use Rattle.wm_keeper.specs.Keeper.{put_row};
 ghost use Rattle.wm_keeper.specs.declared.row.Row.{Row};
-ghost use Rattle.wm_sqlite.specs.Held.{added, held_in, removed, stored, IsStored};
-ghost use Rattle.wm_sqlite.specs.Resting.{with_changes, Leaves, Makes, RestsWith, WasOpen};
+ghost use Rattle.wm_columns.specs.Values.{AreLists};
+ghost use Rattle.wm_sqlite.specs.Held.{added, all_rows, held_in, removed, tables_in, without, AreNumbered};
+ghost use Rattle.wm_sqlite.specs.Standing.{StandsWith};
+ghost use Rattle.wm_sqlite.specs.Resting.{with_changes, AreSpread, Leaves, Makes, RestsWith, WasOpen};
 
-use crate::columns::list_columns;
-use crate::statements::{check_open, delete_row, insert_row};
+use crate::standing::Spread;
+use crate::statements::{check_open, delete_first, delete_second, insert_row};
 use sqlite::{Alter, Connection, Error, Transaction};
 use std::alloc::Global;
+use wm_columns::list_columns;
 use wm_keeper::{Change, Row};
 
 /// Makes the changes in one transaction: the removed numbers are deleted, and then each row that is
@@ -19,6 +22,7 @@ use wm_keeper::{Change, Row};
 pub(crate) fn change_rows<A: Alter>(
     connection: &mut Connection<A>,
     alloc: Global,
+    spread: Spread,
     changes: &[Change],
 ) -> Result<(), Error>
     requires { connection.old.in_transaction ≡ false }
@@ -29,18 +33,18 @@ pub(crate) fn change_rows<A: Alter>(
     ensures opened { HasCleanDisk (state A.Store connection.new)
         → OnOk result (IsTrue (state A.Store connection.old).is_open) }
     ensures ok { HasCleanDisk (state A.Store connection.new) → OnOk result ((rows : List Row)
-        → RestsWith A.Store rows connection.old → RestsWith A.Store (with_changes changes.now rows) connection.new) }
+        → RestsWith A.Store spread rows connection.old → RestsWith A.Store spread (with_changes changes.now rows) connection.new) }
     ensures err { HasCleanDisk (state A.Store connection.new)
         → IsTrue (state A.Store connection.new).is_open
-        → OnErr result ((rows : List Row) → RestsWith A.Store rows connection.old → RestsWith A.Store rows connection.new) }
+        → OnErr result ((rows : List Row) → RestsWith A.Store spread rows connection.old → RestsWith A.Store spread rows connection.new) }
     ensures crash { HasCleanDisk (state A.Store connection.new) → (left : Trees)
         → (state A.Store connection.new).may_leave left
         → (state A.Store connection.old).may_leave left
         ⊎ (IsTrue (state A.Store connection.old).is_open × ((rows : List Row)
-        → RestsWith A.Store rows connection.old → held_in (left 0) ≡ with_changes changes.now rows)) }
+        → RestsWith A.Store spread rows connection.old → held_in (all_rows (tables_in left)) ≡ with_changes changes.now rows)) }
 {
     let mut transaction = connection.transaction();
-    make_changes(&mut transaction, alloc, changes)?;
+    make_changes(&mut transaction, alloc, spread, changes)?;
     transaction.commit()
 }
 
@@ -48,34 +52,36 @@ pub(crate) fn change_rows<A: Alter>(
 fn make_changes<A: Alter>(
     transaction: &mut Transaction<'_, A>,
     alloc: Global,
+    spread: Spread,
     changes: &[Change],
 ) -> Result<(), Error>
     ensures same_reference { transaction.new.conn.ghost_name ≡ transaction.old.conn.ghost_name }
-    ensures ok { OnOk result (Makes A.Store (with_changes changes.now) transaction.old.conn.now transaction.new.conn.now) }
-    ensures err { OnErr result (Leaves A.Store transaction.old.conn.now transaction.new.conn.now) }
+    ensures ok { OnOk result (Makes A.Store spread (with_changes changes.now) transaction.old.conn.now transaction.new.conn.now) }
+    ensures err { OnErr result (Leaves A.Store spread transaction.old.conn.now transaction.new.conn.now) }
     ensures survives { Survives (state A.Store transaction.old.conn.now) (state A.Store transaction.new.conn.now) (λ _. ⊥) }
     ensures was_open { WasOpen A.Store transaction.old.conn.now transaction.new.conn.now }
     ensures opened { OnOk result (HasCleanDisk (state A.Store transaction.new.conn.now)
         → IsTrue (state A.Store transaction.old.conn.now).is_open) }
 {
     check_open(transaction)?;
-    remove_rows(transaction, changes)?;
-    put_rows(transaction, alloc, changes)
+    remove_rows(transaction, spread, changes)?;
+    put_rows(transaction, alloc, spread, changes)
 }
 
 /// Deletes the rows whose numbers are removed.
 fn remove_rows<A: Alter>(
     transaction: &mut Transaction<'_, A>,
+    spread: Spread,
     changes: &[Change],
 ) -> Result<(), Error>
     ensures same_reference { transaction.new.conn.ghost_name ≡ transaction.old.conn.ghost_name }
-    ensures ok { OnOk result (Makes A.Store (removed changes.now) transaction.old.conn.now transaction.new.conn.now) }
-    ensures err { OnErr result (Leaves A.Store transaction.old.conn.now transaction.new.conn.now) }
+    ensures ok { OnOk result (Makes A.Store spread (removed changes.now) transaction.old.conn.now transaction.new.conn.now) }
+    ensures err { OnErr result (Leaves A.Store spread transaction.old.conn.now transaction.new.conn.now) }
     ensures survives { Survives (state A.Store transaction.old.conn.now) (state A.Store transaction.new.conn.now) (λ _. ⊥) }
     ensures was_open { WasOpen A.Store transaction.old.conn.now transaction.new.conn.now }
 {
     for change in changes {
-        remove_row(transaction, change)?;
+        remove_row(transaction, spread, change)?;
     }
     Ok(())
 }
@@ -83,16 +89,17 @@ fn remove_rows<A: Alter>(
 /// Deletes the row whose number is removed, if there is one, and answers how many it deleted.
 fn remove_row<A: Alter>(
     transaction: &mut Transaction<'_, A>,
+    spread: Spread,
     change: &Change,
 ) -> Result<usize, Error>
     ensures same_reference { transaction.new.conn.ghost_name ≡ transaction.old.conn.ghost_name }
-    ensures ok { OnOk result (Makes A.Store (removed (change.now ∷ [])) transaction.old.conn.now transaction.new.conn.now) }
-    ensures err { OnErr result (Leaves A.Store transaction.old.conn.now transaction.new.conn.now) }
+    ensures ok { OnOk result (Makes A.Store spread (removed (change.now ∷ [])) transaction.old.conn.now transaction.new.conn.now) }
+    ensures err { OnErr result (Leaves A.Store spread transaction.old.conn.now transaction.new.conn.now) }
     ensures survives { Survives (state A.Store transaction.old.conn.now) (state A.Store transaction.new.conn.now) (λ _. ⊥) }
     ensures was_open { WasOpen A.Store transaction.old.conn.now transaction.new.conn.now }
 {
     match change {
-        Change::Remove(seq) => delete_row(transaction, seq),
+        Change::Remove(seq) => delete_row(transaction, spread, seq),
         Change::Put(_) => Ok(0),
     }
 }
@@ -101,16 +108,17 @@ fn remove_row<A: Alter>(
 fn put_rows<A: Alter>(
     transaction: &mut Transaction<'_, A>,
     alloc: Global,
+    spread: Spread,
     changes: &[Change],
 ) -> Result<(), Error>
     ensures same_reference { transaction.new.conn.ghost_name ≡ transaction.old.conn.ghost_name }
-    ensures ok { OnOk result (Makes A.Store (added changes.now) transaction.old.conn.now transaction.new.conn.now) }
-    ensures err { OnErr result (Leaves A.Store transaction.old.conn.now transaction.new.conn.now) }
+    ensures ok { OnOk result (Makes A.Store spread (added changes.now) transaction.old.conn.now transaction.new.conn.now) }
+    ensures err { OnErr result (Leaves A.Store spread transaction.old.conn.now transaction.new.conn.now) }
     ensures survives { Survives (state A.Store transaction.old.conn.now) (state A.Store transaction.new.conn.now) (λ _. ⊥) }
     ensures was_open { WasOpen A.Store transaction.old.conn.now transaction.new.conn.now }
 {
     for change in changes {
-        put_row(transaction, alloc, change)?;
+        put_row(transaction, alloc, spread, change)?;
     }
     Ok(())
 }
@@ -119,16 +127,17 @@ fn put_rows<A: Alter>(
 fn put_row<A: Alter>(
     transaction: &mut Transaction<'_, A>,
     alloc: Global,
+    spread: Spread,
     change: &Change,
 ) -> Result<usize, Error>
     ensures same_reference { transaction.new.conn.ghost_name ≡ transaction.old.conn.ghost_name }
-    ensures ok { OnOk result (Makes A.Store (added (change.now ∷ [])) transaction.old.conn.now transaction.new.conn.now) }
-    ensures err { OnErr result (Leaves A.Store transaction.old.conn.now transaction.new.conn.now) }
+    ensures ok { OnOk result (Makes A.Store spread (added (change.now ∷ [])) transaction.old.conn.now transaction.new.conn.now) }
+    ensures err { OnErr result (Leaves A.Store spread transaction.old.conn.now transaction.new.conn.now) }
     ensures survives { Survives (state A.Store transaction.old.conn.now) (state A.Store transaction.new.conn.now) (λ _. ⊥) }
     ensures was_open { WasOpen A.Store transaction.old.conn.now transaction.new.conn.now }
 {
     match change {
-        Change::Put(row) => replace_row(transaction, alloc, row),
+        Change::Put(row) => replace_row(transaction, alloc, spread, row),
         Change::Remove(_) => Ok(0),
     }
 }
@@ -137,32 +146,78 @@ fn put_row<A: Alter>(
 fn replace_row<A: Alter>(
     transaction: &mut Transaction<'_, A>,
     alloc: Global,
+    spread: Spread,
     row: &Row,
 ) -> Result<usize, Error>
     ensures same_reference { transaction.new.conn.ghost_name ≡ transaction.old.conn.ghost_name }
-    ensures ok { OnOk result (Makes A.Store (put_row row.now) transaction.old.conn.now transaction.new.conn.now) }
-    ensures err { OnErr result (Leaves A.Store transaction.old.conn.now transaction.new.conn.now) }
+    ensures ok { OnOk result (Makes A.Store spread (put_row row.now) transaction.old.conn.now transaction.new.conn.now) }
+    ensures err { OnErr result (Leaves A.Store spread transaction.old.conn.now transaction.new.conn.now) }
     ensures survives { Survives (state A.Store transaction.old.conn.now) (state A.Store transaction.new.conn.now) (λ _. ⊥) }
     ensures was_open { WasOpen A.Store transaction.old.conn.now transaction.new.conn.now }
 {
     let lists = list_columns(alloc, row)?;
-    replace_stored(transaction, row, &lists.prior, &lists.tags)
+    replace_stored(transaction, spread, row, &lists.prior, &lists.tags)
 }
 
 /// Puts a row, whose lists are written as these, in place of any under its number.
 fn replace_stored<A: Alter>(
     transaction: &mut Transaction<'_, A>,
+    spread: Spread,
     row: &Row,
     prior: &Vec<u8>,
     tags: &String,
 ) -> Result<usize, Error>
-    requires { IsStored row.now (stored row.now prior.now.items (string_bytes tags.now)) }
+    requires { AreLists row.now prior.now.items (string_bytes tags.now) }
     ensures same_reference { transaction.new.conn.ghost_name ≡ transaction.old.conn.ghost_name }
-    ensures ok { OnOk result (Makes A.Store (put_row row.now) transaction.old.conn.now transaction.new.conn.now) }
-    ensures err { OnErr result (Leaves A.Store transaction.old.conn.now transaction.new.conn.now) }
+    ensures ok { OnOk result (Makes A.Store spread (put_row row.now) transaction.old.conn.now transaction.new.conn.now) }
+    ensures err { OnErr result (Leaves A.Store spread transaction.old.conn.now transaction.new.conn.now) }
     ensures survives { Survives (state A.Store transaction.old.conn.now) (state A.Store transaction.new.conn.now) (λ _. ⊥) }
     ensures was_open { WasOpen A.Store transaction.old.conn.now transaction.new.conn.now }
 {
-    delete_row(transaction, &row.seq)?;
+    delete_row(transaction, spread, &row.seq)?;
     insert_row(transaction, row, prior, tags)
+}
+
+/// Deletes the rows of this number, if there are some. `work` isn't asked where it is empty.
+fn delete_row<A: Alter>(
+    transaction: &mut Transaction<'_, A>,
+    spread: Spread,
+    seq: &i64,
+) -> Result<usize, Error>
+    ensures same_reference { transaction.new.conn.ghost_name ≡ transaction.old.conn.ghost_name }
+    ensures ok { HasCleanDisk (state A.Store transaction.new.conn.now)
+        → OnOk result ((base : _) (tables : _) → StandsWith A.Store base tables transaction.old.conn.now
+        → AreNumbered tables.0 → AreNumbered tables.1 → AreSpread spread tables
+        → StandsWith A.Store base (without seq.now tables) transaction.new.conn.now) }
+    ensures err { HasCleanDisk (state A.Store transaction.new.conn.now)
+        → IsTrue (state A.Store transaction.new.conn.now).is_open
+        → OnErr result ((base : _) (tables : _) → StandsWith A.Store base tables transaction.old.conn.now
+        → AreNumbered tables.0
+        → (state A.Store transaction.new.conn.now).committed ≡ base) }
+    ensures survives { Survives (state A.Store transaction.old.conn.now) (state A.Store transaction.new.conn.now) (λ _. ⊥) }
+    ensures was_open { WasOpen A.Store transaction.old.conn.now transaction.new.conn.now }
+{
+    match spread {
+        Spread::Both => delete_both(transaction, seq),
+        Spread::Second => delete_second(transaction, seq),
+    }
+}
+
+/// Deletes the rows of this number from both tables.
+fn delete_both<A: Alter>(transaction: &mut Transaction<'_, A>, seq: &i64) -> Result<usize, Error>
+    ensures same_reference { transaction.new.conn.ghost_name ≡ transaction.old.conn.ghost_name }
+    ensures ok { HasCleanDisk (state A.Store transaction.new.conn.now)
+        → OnOk result ((base : _) (tables : _) → StandsWith A.Store base tables transaction.old.conn.now
+        → AreNumbered tables.0 → AreNumbered tables.1
+        → StandsWith A.Store base (without seq.now tables) transaction.new.conn.now) }
+    ensures err { HasCleanDisk (state A.Store transaction.new.conn.now)
+        → IsTrue (state A.Store transaction.new.conn.now).is_open
+        → OnErr result ((base : _) (tables : _) → StandsWith A.Store base tables transaction.old.conn.now
+        → AreNumbered tables.0
+        → (state A.Store transaction.new.conn.now).committed ≡ base) }
+    ensures survives { Survives (state A.Store transaction.old.conn.now) (state A.Store transaction.new.conn.now) (λ _. ⊥) }
+    ensures was_open { WasOpen A.Store transaction.old.conn.now transaction.new.conn.now }
+{
+    delete_first(transaction, seq)?;
+    delete_second(transaction, seq)
 }

@@ -1,13 +1,14 @@
-//! The form that the table of the rows has to have.
-ghost use Rattle.std.specs.Prelude.{◌≡◌, ◌↔◌, [], ◌∷◌, IsTrue, string_bytes, map};
-ghost use Rattle.wm_sqlite.specs.Table.{column_of, forms, no_schema, work, work_schema, HasForm, IsPlain};
+//! The form that the tables of the rows have to have.
+ghost use Rattle.std.specs.Prelude.{◌≡◌, ◌↔◌, [], ◌∷◌, IsTrue, codes, map};
+ghost use Rattle.wm_sqlite.specs.Table.{both_schema, column_of, first_forms, forms, no_schema, work, work2, work_schema, HasForm, IsPlain};
 
 use sqlite_schema::schema::{Column, Kind, Schema, Table};
 use sqlite_value::keys::Collation;
 use sqlite_value::value::Value;
 
-/// The name, the type and whether NULL is refused, of each column in order.
-const COLUMNS: [(&str, Kind, bool); 24] = [
+/// The name, the type and whether NULL is refused, of each column of `work2` in order. `work` has
+/// the first 24 of them.
+const COLUMNS: [(&str, Kind, bool); 27] = [
     ("version", Kind::Integer, true),
     ("seq", Kind::Integer, false),
     ("id", Kind::Blob, true),
@@ -32,6 +33,9 @@ const COLUMNS: [(&str, Kind, bool); 24] = [
     ("output", Kind::Text, true),
     ("prior", Kind::Blob, true),
     ("tags", Kind::Text, true),
+    ("next_at", Kind::Integer, true),
+    ("keep_for", Kind::Integer, true),
+    ("finished_at", Kind::Integer, true),
 ];
 
 /// Whether a database has nothing.
@@ -41,9 +45,8 @@ pub(crate) fn is_blank(schema: &Schema) -> bool
     schema.tables.is_empty() && schema.indexes.is_empty() && schema.views.is_empty()
 }
 
-/// Whether a database has the table of the rows, in the form that this crate gives it, and nothing
-/// else.
-pub(crate) fn is_of_work_alone(schema: &Schema) -> bool
+/// Whether a database has `work`, in the form that this crate gives it, and nothing else.
+pub(crate) fn is_of_work(schema: &Schema) -> bool
     ensures { IsTrue result ↔ schema.now ≡ work_schema }
 {
     let tables = schema.tables.as_slice();
@@ -53,11 +56,30 @@ pub(crate) fn is_of_work_alone(schema: &Schema) -> bool
         && schema.views.is_empty()
 }
 
-/// Whether a table is that of the rows, made before any other.
+/// Whether a database has both tables, in the forms that this crate gives them, and nothing else.
+pub(crate) fn is_of_both(schema: &Schema) -> bool
+    ensures { IsTrue result ↔ schema.now ≡ both_schema }
+{
+    let tables = schema.tables.as_slice();
+    tables.len() == 2
+        && is_first_table(&tables[0])
+        && is_second_table(&tables[1])
+        && schema.indexes.is_empty()
+        && schema.views.is_empty()
+}
+
+/// Whether a table is `work`, made before any other.
 fn is_first_table(table: &Table) -> bool
     ensures { IsTrue result ↔ table.now ≡ work }
 {
     table.tree == 0 && is_work_table(table) && has_key_alone(table) && has_no_stamp(table)
+}
+
+/// Whether a table is `work2`, made next.
+fn is_second_table(table: &Table) -> bool
+    ensures { IsTrue result ↔ table.now ≡ work2 }
+{
+    table.tree == 1 && is_work2_table(table) && has_key_alone(table) && has_no_stamp(table)
 }
 
 /// Whether a table has no other key than the number of its rows, and no rule on one.
@@ -74,27 +96,48 @@ fn has_no_stamp(table: &Table) -> bool
     table.stamps.terms.roots.is_empty() && table.stamps.formats.is_empty()
 }
 
-/// Whether a database has the table of the rows, in the form that this crate gives it.
-pub(crate) fn has_work_table(schema: &Schema) -> bool {
-    schema
-        .tables
-        .as_slice()
-        .iter()
-        .any(|table| is_work_table(table))
+/// Whether a table or a view of one of the two names, in whatever case, has another form.
+pub(crate) fn has_others(schema: &Schema) -> bool {
+    schema.tables.as_slice().iter().any(|table| is_other(table))
+        || schema.view_named(b"work".as_slice()).is_some()
+        || schema.view_named(b"work2".as_slice()).is_some()
 }
 
-/// Whether a table is that of the rows.
+/// Whether a table has one of the two names, in whatever case, and another form.
+fn is_other(table: &Table) -> bool {
+    table.is_named(b"work".as_slice()) && !is_work_table(table)
+        || table.is_named(b"work2".as_slice()) && !is_work2_table(table)
+}
+
+/// Whether a table is of the form of `work`.
 fn is_work_table(table: &Table) -> bool
-    ensures { IsTrue result ↔ HasForm table.now }
+    ensures { IsTrue result ↔ HasForm (codes "work") first_forms table.now }
 {
     table.name.as_slice() == b"work".as_slice()
         && table.key == Some(1)
-        && has_work_columns(table)
+        && has_first_columns(table)
         && is_plain(table)
 }
 
-/// Whether a table has just the columns of a row.
-fn has_work_columns(table: &Table) -> bool
+/// Whether a table is of the form of `work2`.
+fn is_work2_table(table: &Table) -> bool
+    ensures { IsTrue result ↔ HasForm (codes "work2") forms table.now }
+{
+    table.name.as_slice() == b"work2".as_slice()
+        && table.key == Some(1)
+        && has_columns(table)
+        && is_plain(table)
+}
+
+/// Whether a table has just the columns of a row of `work`.
+fn has_first_columns(table: &Table) -> bool
+    ensures { IsTrue result ↔ table.now.columns ≡ map column_of first_forms }
+{
+    are_columns(table.columns.as_slice(), &COLUMNS[..24])
+}
+
+/// Whether a table has just the columns of a row of `work2`.
+fn has_columns(table: &Table) -> bool
     ensures { IsTrue result ↔ table.now.columns ≡ map column_of forms }
 {
     are_columns(table.columns.as_slice(), COLUMNS.as_slice())

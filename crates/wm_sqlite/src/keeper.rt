@@ -12,18 +12,18 @@ use std::marker::Model;
 use wm_faults::FaultCount;
 use wm_keeper::{Change, KeepFault, Keeper, Row};
 
-/// A keeper that holds its rows in the table `work` of a SQLite store, which is made where it is
-/// missing. A contract sees the connection, what the keeper knows of the table and its count of
-/// faults.
+/// A keeper that holds its rows in the tables `work` and `work2` of a SQLite store, which are made
+/// where they are missing. It writes into `work2` alone: `work` has the rows of stores that were
+/// written before there was `work2`. A contract sees the connection, what the keeper knows of the
+/// tables and its count of faults.
 ///
 /// It tells its rows while the connection is open, and what a crash now may leave as long as the disk
-/// returned what was written, if the database had nothing besides the table when it was adopted, and
-/// no transaction was open. Otherwise it works, and tells its count alone. It is lost once the
-/// connection is shut.
+/// returned what was written, if the database had nothing besides the tables when it was adopted, no
+/// number stood in both of them, and no transaction was open. Otherwise it works, and tells its count
+/// alone. It is lost once the connection is shut.
 ///
-/// A fault is a statement or a column that is refused for another cause than memory, a table `work`
-/// of another form, or one whose numbers don't rise when it is read by number. It is counted once a
-/// call, and answered as `Failed`.
+/// A fault is a statement or a column that is refused for another cause than memory, or a table of
+/// one of the two names of another form. It is counted once a call, and answered as `Failed`.
 #[derive(Drop)]
 pub struct SqliteKeeper<A: Alter> {
     connection: Connection<A>,
@@ -81,7 +81,7 @@ impl<A: Alter> SqliteKeeper<A> {
         self.connection
     }
 
-    /// The rows, which are read from the table. Whatever is answered, they stay.
+    /// The rows, which are read from the tables. Whatever is answered, they stay.
     fn load_rows(&mut self) -> Result<Vec<Row>, Refusal>
         ensures faults { self.new.faults ≡ self.old.faults }
         ensures kept { IsStoreKept (store_of A.Store self.old) (store_of A.Store self.new) }
@@ -111,7 +111,7 @@ impl<A: Alter> SqliteKeeper<A> {
         }
     }
 
-    /// Makes the changes of the table.
+    /// Makes the changes of the tables.
     fn change_table(&mut self, changes: &[Change]) -> Result<(), Refusal>
         requires { AreOfDifferentNumbers changes.now }
         ensures faults { self.new.faults ≡ self.old.faults }
@@ -123,7 +123,7 @@ impl<A: Alter> SqliteKeeper<A> {
         if !self.connection.is_autocommit() {
             return Err(Refusal::Store);
         }
-        change_rows(&mut self.connection, alloc, changes)?;
+        change_rows(&mut self.connection, alloc, self.standing.spread(), changes)?;
         Ok(())
     }
 }

@@ -1,16 +1,14 @@
 //! A keeper of rows in a SQLite store.
 //!
-//! [`SqliteKeeper`] keeps its rows in the table `work` of a connection that it was given, and
-//! [`FileKeeper`] in that of the file that it is told to load.
+//! [`SqliteKeeper`] keeps its rows in the tables `work` and `work2` of a connection that it was given,
+//! and [`FileKeeper`] in those of the file that it is told to load.
 #![tactic(auto)]
 
 mod changes;
-mod columns;
 mod file;
 mod form;
 mod keeper;
 mod look;
-mod reading;
 mod refusal;
 mod standing;
 mod statements;
@@ -18,4 +16,4 @@ mod table;
 
 pub use file::FileKeeper;
 pub use keeper::SqliteKeeper;
-pub use standing::Standing;
+pub use standing::{Spread, Standing};

@@ -1,21 +1,23 @@
-//! What a keeper knows of the table: it is looked at, made and read.
+//! What a keeper knows of the tables: they are looked at, made and read.
 ghost use Rattle.sqlite.specs.Held.{state};
 ghost use Rattle.sqlite.specs.State.{HasCleanDisk};
-ghost use Rattle.std.specs.Prelude.{◌≡◌, ◌≢◌, false, IfOk, IfSome, IsTrue, OnOk};
-ghost use Rattle.wm_keeper.specs.Store.{IsStoreKept};
+ghost use Rattle.std.specs.Prelude.{◌≡◌, ◌≢◌, false, IfOk, IfSome, IsPermutation, IsTrue, OnOk};
+ghost use Rattle.wm_keeper.specs.Keeper.{Ascends};
+ghost use Rattle.wm_sqlite.specs.Held.{tables_in, Differ};
 ghost use Rattle.wm_sqlite.specs.Resting.{WasOpen};
-ghost use Rattle.wm_sqlite.specs.Standing.{ShowsTable};
-ghost use Rattle.wm_sqlite.specs.Told.{rows_told, told_of, AreShown, AreThere, IsKnownStill, IsLookedAt, IsSeenAs, Knows};
+ghost use Rattle.wm_sqlite.specs.Standing.{ShowsTables};
+ghost use Rattle.wm_sqlite.specs.Told.{rows_told, told_of, AreRead, AreShown, AreThere, IsLookedAt, IsMade, IsSeenAs, IsUnmade, Knows, TellsAlike};
 
-use crate::form::{has_work_table, is_blank, is_of_work_alone};
-use crate::reading::rows_of;
+use crate::form::{has_others, is_blank, is_of_both, is_of_work};
 use crate::refusal::{Refusal, refused};
-use crate::standing::Standing;
-use crate::table::{make_work_table, read_work_table};
-use sqlite::{Alter, Connection, Row as ShownRow};
+use crate::standing::{Spread, Standing};
+use crate::table::{Shown, make_tables, read_tables};
+use sqlite::{Alter, Connection, Error};
+use std::alloc::AllocError;
+use wm_columns::rows_of;
 use wm_keeper::{Row, do_ascend};
 
-/// What is known of the table, from the schema alone.
+/// What is known of the tables, from the schema alone.
 pub(crate) fn standing_of<A: Alter>(connection: &Connection<A>) -> Standing
     ensures knows { Knows A.Store result connection.now }
     ensures seen { IsSeenAs result (state A.Store connection.now) }
@@ -26,65 +28,110 @@ pub(crate) fn standing_of<A: Alter>(connection: &Connection<A>) -> Standing
     let schema = connection.schema();
     if is_blank(schema) {
         Standing::Missing
-    } else if is_of_work_alone(schema) {
+    } else if is_of_work(schema) {
+        Standing::First
+    } else if is_of_both(schema) {
         Standing::Found
     } else {
         Standing::Unknown
     }
 }
 
-/// The rows of the table, which is made where it isn't known to be there. One whose numbers don't
-/// rise, where it is read by number, is refused.
+/// The rows of both tables by number, of two under one number that of `work` first. A table is made
+/// where it isn't known to be there. Where two rows have one number, nothing is known from then on.
 pub(crate) fn read_rows<A: Alter>(
     connection: &mut Connection<A>,
     standing: &mut Standing,
 ) -> Result<Vec<Row>, Refusal>
     requires knows { Knows A.Store standing.old connection.old }
     ensures knows { Knows A.Store standing.new connection.new }
-    ensures kept { IsStoreKept (told_of standing.old (state A.Store connection.old) 0)
+    ensures alike { TellsAlike (told_of standing.old (state A.Store connection.old) 0)
         (told_of standing.new (state A.Store connection.new) 0) }
-    ensures known { IsKnownStill standing.old standing.new }
     ensures was_open { WasOpen A.Store connection.old connection.new }
     ensures rows { HasCleanDisk (state A.Store connection.new) → IfOk result (λ rows.
         IfSome (rows_told standing.old (state A.Store connection.old)) (λ held. rows.items ≡ held)) }
     ensures looked { OnOk result (IsLookedAt standing.new) }
 {
     let shown = show_rows(connection, standing)?;
-    let rows = rows_of(*shown.allocator(), shown.as_slice())?;
-    if !do_ascend(rows.as_slice()) {
-        return Err(Refusal::Store);
-    }
-    *standing = standing.looked_at();
+    let rows = shown_rows(&shown)?;
+    *standing = standing.looked_at(do_ascend(rows.as_slice()), shown.spread());
     Ok(rows)
 }
 
-/// The rows as the table shows them by number. It is made where it isn't known to be there.
+impl Shown {
+    ghost use Rattle.std.specs.Prelude.{[]};
+    ghost use Rattle.wm_sqlite.specs.declared.standing.Spread.TheVariants.{Second};
+
+    /// Where the rows stand.
+    fn spread(&self) -> Spread
+        ensures { result ≡ Second → self.now.first.items ≡ [] }
+    {
+        if self.first.is_empty() {
+            Spread::Second
+        } else {
+            Spread::Both
+        }
+    }
+}
+
+/// The rows that are shown, by number, of two under one number that of `work` first.
+fn shown_rows(shown: &Shown) -> Result<Vec<Row>, Refusal>
+    ensures { IfOk result (λ rows. AreRead shown.now.first.items shown.now.second.items rows.items) }
+{
+    let rows = rows_of(
+        *shown.second.allocator(),
+        shown.first.as_slice(),
+        shown.second.as_slice(),
+    )?;
+    Ok(by_number(rows)?)
+}
+
+/// The rows by number, those of one number as they stood.
+fn by_number(mut rows: Vec<Row>) -> Result<Vec<Row>, Error>
+    ensures rows { IfOk result (λ sorted. IsPermutation rows.items sorted.items) }
+    ensures ascending { IfOk result (λ sorted. Differ rows.items → Ascends sorted.items) }
+{
+    if do_ascend(rows.as_slice()) {
+        return Ok(rows);
+    }
+    sort_by_number(&mut rows)?;
+    Ok(rows)
+}
+
+/// Sorts rows by number, and leaves those of one number as they stood.
+fn sort_by_number(rows: &mut Vec<Row>) -> Result<(), AllocError>
+    ensures rows { IsPermutation rows.old.items rows.new.items }
+    ensures ascending { OnOk result (Differ rows.old.items → Ascends rows.new.items) }
+{
+    rows.sort_by_key(|row| row.seq)
+}
+
+/// The rows as the tables show them. A table is made where it isn't known to be there.
 fn show_rows<A: Alter>(
     connection: &mut Connection<A>,
     standing: &mut Standing,
-) -> Result<Vec<ShownRow>, Refusal>
+) -> Result<Shown, Refusal>
     requires knows { Knows A.Store standing.old connection.old }
     ensures knows { Knows A.Store standing.new connection.new }
-    ensures kept { IsStoreKept (told_of standing.old (state A.Store connection.old) 0)
+    ensures alike { TellsAlike (told_of standing.old (state A.Store connection.old) 0)
         (told_of standing.new (state A.Store connection.new) 0) }
-    ensures known { IsKnownStill standing.old standing.new }
     ensures was_open { WasOpen A.Store connection.old connection.new }
-    ensures held { HasCleanDisk (state A.Store connection.new) → IfOk result (λ shown.
-        IfSome (rows_told standing.old (state A.Store connection.old)) (λ held. AreShown held shown.items)) }
+    ensures told { HasCleanDisk (state A.Store connection.new) → IfOk result (λ shown.
+        IfSome (rows_told standing.old (state A.Store connection.old)) (λ held. AreShown held shown.first.items shown.second.items)) }
     ensures shown { HasCleanDisk (state A.Store connection.new) → IfOk result (λ shown.
-        standing.new ≡ Standing.Found → IsTrue (state A.Store connection.new).is_open
-        → ShowsTable ((state A.Store connection.new).now.trees 0) shown.items) }
-    ensures there { OnOk result (standing.new ≢ Standing.Missing) }
+        standing.new ≢ Standing.Unknown → IsTrue (state A.Store connection.new).is_open
+        → ShowsTables (tables_in (state A.Store connection.new).now.trees) shown.first.items shown.second.items) }
+    ensures made { OnOk result (IsMade standing.new) }
 {
     if !connection.is_autocommit() {
         return Err(Refusal::Store);
     }
-    make_table(connection, standing)?;
-    refused(read_work_table(connection))
+    make_missing(connection, standing)?;
+    refused(read_tables(connection))
 }
 
-/// Makes the table where it isn't known to be there. No transaction is open.
-fn make_table<A: Alter>(
+/// Makes the tables that aren't known to be there. No transaction is open.
+fn make_missing<A: Alter>(
     connection: &mut Connection<A>,
     standing: &mut Standing,
 ) -> Result<(), Refusal>
@@ -92,35 +139,54 @@ fn make_table<A: Alter>(
     requires knows { Knows A.Store standing.old connection.old }
     ensures mode { connection.new.in_transaction ≡ false }
     ensures knows { Knows A.Store standing.new connection.new }
-    ensures kept { IsStoreKept (told_of standing.old (state A.Store connection.old) 0)
+    ensures alike { TellsAlike (told_of standing.old (state A.Store connection.old) 0)
         (told_of standing.new (state A.Store connection.new) 0) }
-    ensures known { IsKnownStill standing.old standing.new }
     ensures was_open { WasOpen A.Store connection.old connection.new }
-    ensures there { OnOk result (standing.new ≢ Standing.Missing) }
-    ensures held { HasCleanDisk (state A.Store connection.new) → OnOk result (
+    ensures made { OnOk result (IsMade standing.new) }
+    ensures there { HasCleanDisk (state A.Store connection.new) → OnOk result (
         IfSome (rows_told standing.old (state A.Store connection.old)) (AreThere A.Store connection.new)) }
 {
     match *standing {
-        Standing::Found | Standing::Read => Ok(()),
-        Standing::Missing => {
-            make_work_table(connection)?;
-            *standing = Standing::Found;
-            Ok(())
-        }
+        Standing::Found => Ok(()),
+        Standing::Read(_) => Ok(()),
+        Standing::Missing => complete(connection, standing),
+        Standing::First => complete(connection, standing),
         Standing::Unknown => make_beside(connection),
     }
 }
 
-/// Makes the table where there is none of its name. One of another form is refused.
+/// Makes both tables, where one or both are known to be missing. No transaction is open.
+fn complete<A: Alter>(
+    connection: &mut Connection<A>,
+    standing: &mut Standing,
+) -> Result<(), Refusal>
+    requires mode { connection.old.in_transaction ≡ false }
+    requires knows { Knows A.Store standing.old connection.old }
+    requires unmade { IsUnmade standing.old }
+    ensures mode { connection.new.in_transaction ≡ false }
+    ensures knows { Knows A.Store standing.new connection.new }
+    ensures alike { TellsAlike (told_of standing.old (state A.Store connection.old) 0)
+        (told_of standing.new (state A.Store connection.new) 0) }
+    ensures was_open { WasOpen A.Store connection.old connection.new }
+    ensures made { OnOk result (standing.new ≡ Standing.Found) }
+    ensures there { HasCleanDisk (state A.Store connection.new) → OnOk result (
+        IfSome (rows_told standing.old (state A.Store connection.old)) (AreThere A.Store connection.new)) }
+{
+    make_tables(connection)?;
+    *standing = Standing::Found;
+    Ok(())
+}
+
+/// Makes the tables where there are none of their names. One of another form is refused, and then
+/// none is made.
 fn make_beside<A: Alter>(connection: &mut Connection<A>) -> Result<(), Refusal>
     requires { connection.old.in_transaction ≡ false }
     ensures mode { connection.new.in_transaction ≡ false }
     ensures was_open { WasOpen A.Store connection.old connection.new }
 {
-    make_work_table(connection)?;
-    if has_work_table(connection.schema()) {
-        Ok(())
-    } else {
-        Err(Refusal::Store)
+    if has_others(connection.schema()) {
+        return Err(Refusal::Store);
     }
+    make_tables(connection)?;
+    Ok(())
 }

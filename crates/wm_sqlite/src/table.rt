@@ -1,15 +1,25 @@
-//! The table of the rows as a whole: it is made and read, each in a transaction of its own.
+//! The tables of the rows as a whole: they are made and read, each in a transaction of its own.
 ghost use Rattle.sqlite.specs.Held.{state};
 ghost use Rattle.sqlite.specs.State.{HasCleanDisk, Survives};
-ghost use Rattle.std.specs.Prelude.{◌≡◌, [], false, IsTrue, IfOk, OnOk, OnErr};
-ghost use Rattle.wm_sqlite.specs.Resting.{Rests, RestsEmpty, WasOpen};
-ghost use Rattle.wm_sqlite.specs.Standing.{ShowsTable};
+ghost use Rattle.sqlite_trees.specs.Tree.{Trees};
+ghost use Rattle.std.specs.Prelude.{◌≡◌, ◌⊎◌, [], false, IsTrue, IfOk, OnOk, OnErr};
+ghost use Rattle.wm_sqlite.specs.Held.{tables_in};
+ghost use Rattle.wm_sqlite.specs.Resting.{IsIncomplete, Rests, RestsStill, WasOpen};
+ghost use Rattle.wm_sqlite.specs.Standing.{ShowsTables, Stands, StandsWith};
+ghost use Rattle.wm_sqlite.specs.Table.{both_schema, no_schema, work_schema};
 
-use crate::statements::{make_table, select_rows};
-use sqlite::{Alter, Connection, Error, Row as ShownRow};
+use crate::statements::{make_first, make_second, select_first, select_second};
+use sqlite::{Alter, Connection, Error, Row as ShownRow, Transaction};
 
-/// Makes the table where there is none of its name. No transaction is open.
-pub(crate) fn make_work_table<A: Alter>(connection: &mut Connection<A>) -> Result<(), Error>
+/// The rows of the two tables as they are shown, those of `work` as rows of `work2`.
+#[derive(Drop)]
+pub(crate) struct Shown {
+    pub(crate) first: Vec<ShownRow>,
+    pub(crate) second: Vec<ShownRow>,
+}
+
+/// Makes the tables where there are none of their names, both or none. No transaction is open.
+pub(crate) fn make_tables<A: Alter>(connection: &mut Connection<A>) -> Result<(), Error>
     requires { connection.old.in_transaction ≡ false }
     ensures mode { connection.new.in_transaction ≡ false }
     ensures clean { HasCleanDisk (state A.Store connection.new)
@@ -17,33 +27,83 @@ pub(crate) fn make_work_table<A: Alter>(connection: &mut Connection<A>) -> Resul
     ensures was_open { WasOpen A.Store connection.old connection.new }
     ensures opened { HasCleanDisk (state A.Store connection.new)
         → OnOk result (IsTrue (state A.Store connection.old).is_open) }
-    ensures made { HasCleanDisk (state A.Store connection.new)
-        → OnOk result (RestsEmpty A.Store connection.old
-        → Rests A.Store connection.new × ((state A.Store connection.new).now.trees 0 ≡ [])) }
+    ensures made { HasCleanDisk (state A.Store connection.new) → OnOk result (Rests A.Store no_schema connection.old
+        → Rests A.Store both_schema connection.new
+        × (tables_in (state A.Store connection.new).now.trees ≡ ([], []))) }
+    ensures completed { HasCleanDisk (state A.Store connection.new) → OnOk result (Rests A.Store work_schema connection.old
+        → Rests A.Store both_schema connection.new
+        × (tables_in (state A.Store connection.new).now.trees ≡ ((state A.Store connection.old).now.trees 0, []))) }
     ensures unmade { HasCleanDisk (state A.Store connection.new)
         → IsTrue (state A.Store connection.new).is_open
-        → OnErr result (RestsEmpty A.Store connection.old → RestsEmpty A.Store connection.new) }
+        → OnErr result ((schema : _) → IsIncomplete schema → RestsStill A.Store schema connection.old connection.new) }
+    ensures crash { HasCleanDisk (state A.Store connection.new) → (left : Trees)
+        → (state A.Store connection.new).may_leave left
+        → (state A.Store connection.old).may_leave left
+        ⊎ (IsTrue (state A.Store connection.old).is_open × (Rests A.Store work_schema connection.old
+        → left 0 ≡ (state A.Store connection.old).now.trees 0)) }
 {
     let mut transaction = connection.transaction();
-    make_table(&mut transaction)?;
+    make_both(&mut transaction)?;
     transaction.commit()
 }
 
-/// The rows as the table shows them, in ascending number. No transaction is open.
-pub(crate) fn read_work_table<A: Alter>(
-    connection: &mut Connection<A>,
-) -> Result<Vec<ShownRow>, Error>
+/// Makes the tables where there are none of their names.
+fn make_both<A: Alter>(transaction: &mut Transaction<'_, A>) -> Result<usize, Error>
+    ensures same_reference { transaction.new.conn.ghost_name ≡ transaction.old.conn.ghost_name }
+    ensures opened { HasCleanDisk (state A.Store transaction.new.conn.now)
+        → OnOk result (IsTrue (state A.Store transaction.old.conn.now).is_open) }
+    ensures made { HasCleanDisk (state A.Store transaction.new.conn.now) → OnOk result ((base : _)
+        → Stands A.Store no_schema base transaction.old.conn.now
+        → StandsWith A.Store base ([], []) transaction.new.conn.now) }
+    ensures completed { HasCleanDisk (state A.Store transaction.new.conn.now) → OnOk result ((base : _)
+        → Stands A.Store work_schema base transaction.old.conn.now
+        → StandsWith A.Store base ((state A.Store transaction.old.conn.now).now.trees 0, []) transaction.new.conn.now) }
+    ensures err { HasCleanDisk (state A.Store transaction.new.conn.now)
+        → IsTrue (state A.Store transaction.new.conn.now).is_open
+        → OnErr result ((schema : _) (base : _) → IsIncomplete schema
+        → Stands A.Store schema base transaction.old.conn.now
+        → (state A.Store transaction.new.conn.now).committed ≡ base) }
+    ensures survives { Survives (state A.Store transaction.old.conn.now) (state A.Store transaction.new.conn.now) (λ _. ⊥) }
+    ensures was_open { WasOpen A.Store transaction.old.conn.now transaction.new.conn.now }
+{
+    make_first(transaction)?;
+    make_second(transaction)
+}
+
+/// The rows as the tables show them, each in ascending number. No transaction is open.
+pub(crate) fn read_tables<A: Alter>(connection: &mut Connection<A>) -> Result<Shown, Error>
     requires { connection.old.in_transaction ≡ false }
     ensures mode { connection.new.in_transaction ≡ false }
     ensures was_open { WasOpen A.Store connection.old connection.new }
-    ensures rows { HasCleanDisk (state A.Store connection.new) → IfOk result (λ rows.
-        Rests A.Store connection.old → ShowsTable ((state A.Store connection.old).now.trees 0) rows.items) }
+    ensures rows { HasCleanDisk (state A.Store connection.new) → IfOk result (λ shown.
+        Rests A.Store both_schema connection.old
+        → ShowsTables (tables_in (state A.Store connection.old).now.trees) shown.first.items shown.second.items) }
     ensures kept { HasCleanDisk (state A.Store connection.new)
         → IsTrue (state A.Store connection.new).is_open
-        → Rests A.Store connection.old → Rests A.Store connection.new
-        × ((state A.Store connection.new).now.trees 0 ≡ (state A.Store connection.old).now.trees 0) }
+        → RestsStill A.Store both_schema connection.old connection.new }
     ensures survives { Survives (state A.Store connection.old) (state A.Store connection.new) (λ _. ⊥) }
 {
     let mut transaction = connection.transaction();
-    select_rows(&mut transaction)
+    show_both(&mut transaction)
+}
+
+/// The rows as the tables show them, each in ascending number.
+fn show_both<A: Alter>(transaction: &mut Transaction<'_, A>) -> Result<Shown, Error>
+    ensures same_reference { transaction.new.conn.ghost_name ≡ transaction.old.conn.ghost_name }
+    ensures ok { HasCleanDisk (state A.Store transaction.new.conn.now)
+        → OnOk result ((base : _) (tables : _) → StandsWith A.Store base tables transaction.old.conn.now
+        → StandsWith A.Store base tables transaction.new.conn.now) }
+    ensures rows { HasCleanDisk (state A.Store transaction.new.conn.now)
+        → IfOk result (λ shown. (base : _) (tables : _) → StandsWith A.Store base tables transaction.old.conn.now
+        → ShowsTables tables shown.first.items shown.second.items) }
+    ensures err { HasCleanDisk (state A.Store transaction.new.conn.now)
+        → IsTrue (state A.Store transaction.new.conn.now).is_open
+        → OnErr result ((base : _) (tables : _) → StandsWith A.Store base tables transaction.old.conn.now
+        → (state A.Store transaction.new.conn.now).committed ≡ base) }
+    ensures survives { Survives (state A.Store transaction.old.conn.now) (state A.Store transaction.new.conn.now) (λ _. ⊥) }
+    ensures was_open { WasOpen A.Store transaction.old.conn.now transaction.new.conn.now }
+{
+    let first = select_first(transaction)?;
+    let second = select_second(transaction)?;
+    Ok(Shown { first, second })
 }

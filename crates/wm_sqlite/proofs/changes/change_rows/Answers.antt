@@ -5,7 +5,7 @@ use Rattle.sqlite_trees.specs.Tree.{Trees}
 use Rattle.std.proofs.Common.{◌≡◌, List, IsTrue, sym, ap, ◌∙◌, subst, rules, inl, inr}
 use Rattle.wm_keeper.specs.declared.row.Row.{Row}
 use Rattle.wm_sqlite.proofs.Rests.{begins-with, commits-with, fails-back, on_err, on_err_then, on_ok_then, undoes-with, was-clean}
-use Rattle.wm_sqlite.specs.Held.{held_in}
+use Rattle.wm_sqlite.specs.Held.{all_rows, held_in, tables_in, Tables}
 use Rattle.wm_sqlite.specs.Resting.{with_changes, Holds, RestsWith}
 use Rattle.wm_sqlite.proofs.changes.change_rows.Goals as goal
 
@@ -20,10 +20,10 @@ returns-in_err-make_changes-clause-err g c clean up =
     let high : IsTrue (state g.A.Store last).is_open = subst (λ h. IsTrue (state g.A.Store h).is_open) (sym same) up in
     let back = c.drop-transaction.ensures.undone late in
     let early : HasCleanDisk (state g.A.Store mid) = was-clean c.drop-transaction.ensures.survives.clean late in
-    let still : (rows : List Row) → RestsWith g.A.Store rows old → RestsWith g.A.Store rows c.connection-1.given.0 = λ rows rests.
-    let holds = subst (Holds g.A.Store base rows) (sym c.transaction-transaction.ensures.begun) (begins-with g.A.Store rows old rests) in
+    let still : (rows : List Row) → RestsWith g.A.Store c.args.spread rows old → RestsWith g.A.Store c.args.spread rows c.connection-1.given.0 = λ rows rests.
+    let holds = subst (Holds g.A.Store c.args.spread base rows) (sym c.transaction-transaction.ensures.begun) (begins-with g.A.Store c.args.spread rows old rests) in
     let origin = c.in_err-make_changes.ensures.err early (back.was_open high) base rows holds in
-    subst (RestsWith g.A.Store rows) same (undoes-with g.A.Store rows old mid last rests origin high back) in
+    subst (RestsWith g.A.Store c.args.spread rows) same (undoes-with g.A.Store c.args.spread rows old mid last rests origin high back) in
     on_err _ still
 
 pub returns-clause-ok : goal.returns-clause-ok
@@ -36,9 +36,9 @@ returns-clause-ok g c clean =
     let late : HasCleanDisk (state g.A.Store end) = subst (λ h. HasCleanDisk (state g.A.Store h)) (sym same) clean in
     let early : HasCleanDisk (state g.A.Store mid) = was-clean c.commit.ensures.survives.clean late in
     on_ok_then c.commit.result (c.commit.ensures.ok late) (λ done rows rests.
-    let holds = subst (Holds g.A.Store base rows) (sym c.transaction-transaction.ensures.begun) (begins-with g.A.Store rows old rests) in
+    let holds = subst (Holds g.A.Store c.args.spread base rows) (sym c.transaction-transaction.ensures.begun) (begins-with g.A.Store c.args.spread rows old rests) in
     let made = c.in_ok-make_changes.ensures.ok early base rows holds in
-    subst (RestsWith g.A.Store (with_changes c.args.changes.now rows)) same (commits-with g.A.Store base _ mid end made done.1))
+    subst (RestsWith g.A.Store c.args.spread (with_changes c.args.changes.now rows)) same (commits-with g.A.Store c.args.spread base _ mid end made done.1))
 
 pub returns-clause-err : goal.returns-clause-err
 returns-clause-err g c clean up =
@@ -51,10 +51,10 @@ returns-clause-err g c clean up =
     let high : IsTrue (state g.A.Store end).is_open = subst (λ h. IsTrue (state g.A.Store h).is_open) (sym same) up in
     let early : HasCleanDisk (state g.A.Store mid) = was-clean c.commit.ensures.survives.clean late in
     on_err_then (FailsToCommit (state g.A.Store mid) (state g.A.Store end)) c.commit.result (c.commit.ensures.err late) (λ e why rows rests.
-    let holds = subst (Holds g.A.Store base rows) (sym c.transaction-transaction.ensures.begun) (begins-with g.A.Store rows old rests) in
+    let holds = subst (Holds g.A.Store c.args.spread base rows) (sym c.transaction-transaction.ensures.begun) (begins-with g.A.Store c.args.spread rows old rests) in
     let made = c.in_ok-make_changes.ensures.ok early base rows holds in
-    subst (RestsWith g.A.Store rows) same
-    (undoes-with g.A.Store rows old mid end rests made.stands.origin high (fails-back g.A.Store mid end e made.stands.mode why)))
+    subst (RestsWith g.A.Store c.args.spread rows) same
+    (undoes-with g.A.Store c.args.spread rows old mid end rests made.stands.stands.begun.origin high (fails-back g.A.Store mid end e made.stands.stands.begun.mode why)))
 
 pub returns-clause-crash : goal.returns-clause-crash
 returns-clause-crash g c clean left may =
@@ -75,8 +75,8 @@ returns-clause-crash g c clean left may =
       | inr is ↦ inr (
         subst (λ h. IsTrue (state g.A.Store h).is_open) begun (c.in_ok-make_changes.ensures.opened early),
         λ rows rests.
-            let holds = subst (Holds g.A.Store base rows) (sym begun) (begins-with g.A.Store rows old rests) in
+            let holds = subst (Holds g.A.Store c.args.spread base rows) (sym begun) (begins-with g.A.Store c.args.spread rows old rests) in
             let made = c.in_ok-make_changes.ensures.ok early base rows holds in
-            ap (λ (t : Trees). held_in (t 0)) is ∙ ap held_in made.stands.table_is ∙ made.held,
+            ap (λ (t : Trees). held_in (all_rows (tables_in t))) is ∙ ap (λ (t : Tables). held_in (all_rows t)) made.stands.tables_are ∙ made.are_held.held,
       )
     ]

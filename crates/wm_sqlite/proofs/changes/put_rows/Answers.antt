@@ -10,7 +10,7 @@ use Rattle.wm_sqlite.proofs.changes.put_rows.Goals as goal
 
 pub returns-in_err-put_row-clause-err : goal.returns-in_err-put_row-clause-err
 returns-in_err-put_row-clause-err g c =
-    let leaves : Leaves g.A.Store c.args.transaction.now.conn.now c.put_row.new.transaction.conn.now =
+    let leaves : Leaves g.A.Store c.args.spread c.args.transaction.now.conn.now c.put_row.new.transaction.conn.now =
     λ clean up base rows holds.
     let early : HasCleanDisk (state g.A.Store c.loop-change.transaction.conn.now) = was-clean c.put_row.ensures.survives.clean clean in
     c.in_err-put_row.ensures.err clean up base _ (c.loop-change.invariant.3 early base rows holds) in
@@ -29,6 +29,6 @@ loop-change-preserved g c = (
       let more : added (c.change-item.result ∷ []) (added so_far rows) ≡ added (take (c.loop-change.change-index + 1) c.args.changes.now) rows =
       ap (λ change. added (change ∷ []) (added so_far rows)) c.change-item.is
       ∙ added-more c.args.changes.now c.loop-change.change-index _ rows c.loop-change-test.true in
-      subst (λ all. Holds g.A.Store base all c.put_row.new.transaction.conn.now) more
+      subst (λ all. Holds g.A.Store c.args.spread base all c.put_row.new.transaction.conn.now) more
       (c.in_ok-put_row.ensures.ok clean base _ (c.loop-change.invariant.3 early base rows holds)),
 )

@@ -10,7 +10,7 @@ use Rattle.wm_sqlite.proofs.changes.remove_rows.Goals as goal
 
 pub returns-in_err-remove_row-clause-err : goal.returns-in_err-remove_row-clause-err
 returns-in_err-remove_row-clause-err g c =
-    let leaves : Leaves g.A.Store c.args.transaction.now.conn.now c.remove_row.new.transaction.conn.now =
+    let leaves : Leaves g.A.Store c.args.spread c.args.transaction.now.conn.now c.remove_row.new.transaction.conn.now =
     λ clean up base rows holds.
     let early : HasCleanDisk (state g.A.Store c.loop-change.transaction.conn.now) = was-clean c.remove_row.ensures.survives.clean clean in
     c.in_err-remove_row.ensures.err clean up base _ (c.loop-change.invariant.3 early base rows holds) in
@@ -29,6 +29,6 @@ loop-change-preserved g c = (
       let more : removed (c.change-item.result ∷ []) (removed so_far rows) ≡ removed (take (c.loop-change.change-index + 1) c.args.changes.now) rows =
       ap (λ change. removed (change ∷ []) (removed so_far rows)) c.change-item.is
       ∙ removed-more c.args.changes.now c.loop-change.change-index _ rows c.loop-change-test.true in
-      subst (λ all. Holds g.A.Store base all c.remove_row.new.transaction.conn.now) more
+      subst (λ all. Holds g.A.Store c.args.spread base all c.remove_row.new.transaction.conn.now) more
       (c.in_ok-remove_row.ensures.ok clean base _ (c.loop-change.invariant.3 early base rows holds)),
 )

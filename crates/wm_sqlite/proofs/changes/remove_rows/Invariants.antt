@@ -11,4 +11,4 @@ invariant-loop-change g l =
     let old = l.initial.transaction.conn.now in
     let now = l.transaction.conn.now in
     (l.transaction.conn.ghost_name ≡ l.initial.transaction.conn.ghost_name) × Survives (state g.A.Store old) (state g.A.Store now) (λ _. ⊥)
-    × WasOpen g.A.Store old now × Makes g.A.Store (removed (take l.change-index l.changes)) old now
+    × WasOpen g.A.Store old now × Makes g.A.Store l.spread (removed (take l.change-index l.changes)) old now

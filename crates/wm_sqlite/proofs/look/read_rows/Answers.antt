@@ -1,33 +1,48 @@
 use Rattle.sqlite.specs.Held.{state}
-use Rattle.std.proofs.Common.{◌≡◌, map, rules}
-use Rattle.wm_keeper.specs.Keeper.{Ascends}
+use Rattle.std.proofs.Common.{sym, ◌∙◌, true≢false}
 use Rattle.wm_sqlite.proofs.Rests.{open-clean}
-use Rattle.wm_sqlite.proofs.Tellings.{looked-known, looked-still, read-held, read-told}
-use Rattle.wm_sqlite.specs.Held.{row_of}
-use Rattle.wm_sqlite.specs.Table.{read_row}
-use Rattle.wm_sqlite.specs.Told.{rows_told}
+use Rattle.wm_sqlite.proofs.Tellings.{alike-then, fallen-none, looked-alike, looked-known, looked-now, read-told, risen-held, spread-shown}
+use Rattle.wm_sqlite.specs.Told.{looked_at, rows_told, told_of}
 use Rattle.wm_sqlite.proofs.look.read_rows.Goals as goal
 
 pub returns-clause-knows : goal.returns-clause-knows
 returns-clause-knows g c =
     let new = c.show_rows.new.connection in
-    let shown = c.in_ok-shown.shown.items in
+    let standing = c.show_rows.new.standing in
+    let first = c.in_ok-shown.shown.first.items in
+    let second = c.in_ok-shown.shown.second.items in
     let rows = c.in_ok-rows.rows.items in
-    let ascend : Ascends rows = search rules in
-    let are : rows ≡ map (λ r. row_of (read_row r)) shown = rw c.as_slice.ensures.value at c.in_ok-rows.ensures.rows in
     rw c.looked_at.ensures
-    (looked-known g.A.Store c.show_rows.new.standing new c.show_rows.ensures.knows (λ found up.
+    (looked-known standing c.in_ok-shown.ensures.made c.do_ascend.result c.spread.result g.A.Store new c.show_rows.ensures.knows (λ up_rows known up.
     let clean = open-clean _ _ (g.met.A.Store.shut_if_dirty new.store) up in
-    (read-held ((state g.A.Store new).now.trees 0) shown rows (c.in_ok-shown.ensures.shown clean found up)
-    (rw c.as_slice.ensures.value at c.in_ok-rows.ensures.numbered) are ascend).0))
+    let shows = c.in_ok-shown.ensures.shown clean known up in
+    risen-held first second rows c.in_ok-rows.ensures _ shows c.spread.result (spread-shown c.spread.result _ first second shows c.spread.ensures)
+    ((rw c.as_slice.ensures.value at c.do_ascend.ensures).0 up_rows)))
+
+pub returns-clause-alike : goal.returns-clause-alike
+returns-clause-alike g c =
+    let old = c.args.connection.now in
+    let new = c.show_rows.new.connection in
+    let standing = c.show_rows.new.standing in
+    let first = c.in_ok-shown.shown.first.items in
+    let second = c.in_ok-shown.shown.second.items in
+    let rows = c.in_ok-rows.rows.items in
+    rw c.looked_at.ensures
+    (alike-then (told_of c.args.standing.now (state g.A.Store old) 0) (told_of standing (state g.A.Store new) 0)
+    (told_of (looked_at c.do_ascend.result c.spread.result standing) (state g.A.Store new) 0) c.show_rows.ensures.alike
+    (looked-alike standing c.in_ok-shown.ensures.made c.do_ascend.result c.spread.result (state g.A.Store new) (λ fallen known up.
+    let clean = open-clean _ _ (g.met.A.Store.shut_if_dirty new.store) up in
+    fallen-none first second rows c.in_ok-rows.ensures _ (c.in_ok-shown.ensures.shown clean known up)
+    (λ ascends. true≢false (sym ((rw c.as_slice.ensures.value at c.do_ascend.ensures).1 ascends) ∙ fallen)))))
 
 pub returns-clause-rows : goal.returns-clause-rows
 returns-clause-rows g c clean =
-    let shown = c.in_ok-shown.shown.items in
+    let first = c.in_ok-shown.shown.first.items in
+    let second = c.in_ok-shown.shown.second.items in
     let rows = c.in_ok-rows.rows.items in
-    let ascend : Ascends rows = search rules in
-    read-told (rows_told c.args.standing.now (state g.A.Store c.args.connection.now)) shown rows (c.in_ok-shown.ensures.held clean)
-    (rw c.as_slice.ensures.value at c.in_ok-rows.ensures.numbered) (rw c.as_slice.ensures.value at c.in_ok-rows.ensures.rows) ascend
+    read-told first second rows c.in_ok-rows.ensures (rows_told c.args.standing.now (state g.A.Store c.args.connection.now))
+    (c.in_ok-shown.ensures.told clean)
 
-pub returns-clause-known : goal.returns-clause-known
-returns-clause-known g c = rw c.looked_at.ensures (looked-still c.args.standing.now c.show_rows.new.standing c.show_rows.ensures.known)
+pub returns-clause-looked : goal.returns-clause-looked
+returns-clause-looked g c =
+    rw c.looked_at.ensures (looked-now c.show_rows.new.standing c.in_ok-shown.ensures.made c.do_ascend.result c.spread.result)

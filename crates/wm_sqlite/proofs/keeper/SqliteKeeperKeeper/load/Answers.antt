@@ -1,6 +1,6 @@
 use Rattle.sqlite.specs.Held.{state}
-use Rattle.wm_sqlite.proofs.Commits.{told-ascends}
+use Rattle.wm_sqlite.proofs.Commits.{rows-ascend}
 use Rattle.wm_sqlite.proofs.keeper.SqliteKeeperKeeper.load.Goals as goal
 
 pub returns-clause-ascending : goal.returns-clause-ascending
-returns-clause-ascending g c = told-ascends c.args.self.now.standing (state g.A.Store c.args.self.now.connection)
+returns-clause-ascending g c = rows-ascend c.args.self.now.standing (state g.A.Store c.args.self.now.connection)

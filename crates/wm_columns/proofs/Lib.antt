@@ -1,0 +1,3 @@
+mod ColumnBytes
+mod ColumnTexts
+pub mod Values
