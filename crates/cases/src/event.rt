@@ -62,7 +62,8 @@ fn command_words(alloc: Global, command: &Command) -> Result<String, AllocError>
         }
         Command::Moment(at) => format!(in alloc; "moment {at}"),
         Command::Conditions(conditions) => conditions_words(alloc, conditions),
-        Command::Prune => String::from_str(alloc, "prune"),
+        Command::Prune { force: false } => String::from_str(alloc, "prune"),
+        Command::Prune { force: true } => String::from_str(alloc, "prune by force"),
         Command::Query(query) => query_words(alloc, "query", query),
         Command::Observe(query) => query_words(alloc, "observe", query),
         Command::Retire(class) => {
@@ -220,6 +221,7 @@ fn work_words(alloc: Global, request: &Request) -> Result<String, AllocError> {
     add_constraints(&mut words, request.constraints())?;
     add_delays(alloc, &mut words, request)?;
     add_period(alloc, &mut words, request)?;
+    add_keeping(alloc, &mut words, request)?;
     Ok(words)
 }
 
@@ -264,6 +266,15 @@ fn add_delays(alloc: Global, words: &mut String, request: &Request) -> Result<()
 fn add_period(alloc: Global, words: &mut String, request: &Request) -> Result<(), AllocError> {
     if let Some(Period { period, flex }) = request.period() {
         words.push_str(format!(in alloc; " period {period} flex {flex}")?.as_str())?;
+    }
+    Ok(())
+}
+
+/// Adds the keeping time of a work where it has one.
+fn add_keeping(alloc: Global, words: &mut String, request: &Request) -> Result<(), AllocError> {
+    let keep = request.keep();
+    if keep > 0 {
+        words.push_str(format!(in alloc; " keep {keep}")?.as_str())?;
     }
     Ok(())
 }

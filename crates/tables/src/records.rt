@@ -137,7 +137,7 @@ fn changed(alloc: Global, row: &Value, work: &Record) -> Result<Record, RowFault
         "ended" => after_end(alloc, row, work),
         "timed out" => unless_refused(timed_out(alloc, work, number(row, "now")?)),
         "not started" => unless_refused(not_started(alloc, work, number(row, "now")?)),
-        "closed" => unless_refused(closed(alloc, work, how(row)?)),
+        "closed" => unless_refused(closed(alloc, work, how(row)?, number(row, "now")?)),
         "freed" => unless_refused(freed(alloc, work, number(row, "now")?)),
         _ => Err(RowFault::NoSuchCall),
     }
@@ -168,6 +168,9 @@ fn change_told(alloc: Global, work: &Record) -> Result<Value, AllocError> {
     told.number("enqueued_at", work.enqueued_at);
     if let Some(moment) = work.override_at {
         told.number("override_at", moment);
+    }
+    if !work.phase.is_open() {
+        told.number("finished_at", work.finished_at);
     }
     told.data("output", &work.output);
     told.data("progress", &work.progress);

@@ -1,5 +1,5 @@
 -- The rule of the desk: what holds of all seats at its table between any two steps, and what each step does to them.
-use Rattle.std.specs.Prelude.{◌≡◌, ℕ, List, [], ◌∷◌, ◌++◌, length}
+use Rattle.std.specs.Prelude.{◌≡◌, ℕ, List, [], ◌∷◌, ◌++◌, length, false}
 use Rattle.std.specs.List.{AllByRecursion}
 use mathlib.Core.List.{IsPrefix}
 use Rattle.atomic_table.specs.Table.{Me, Step}
@@ -166,4 +166,4 @@ fresh number = record { number = number; seen = []; mine = [] }
 
 -- no entry in particular
 abbrev pub no_signed : Signed
-no_signed = record { caller = 0; line = 0; command = Prune; reply = Moment }
+no_signed = record { caller = 0; line = 0; command = Prune false; reply = Moment }

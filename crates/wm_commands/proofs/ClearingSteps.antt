@@ -49,14 +49,14 @@ given-each : (P : Record → Type 0) (change : Record → Option Record) (i : �
 given-each P change i [] all = tt
 given-each P change i (work ∷ works) all = given-by P change (change work) i works all.0 (given-each P change (i + 1) works all.1)
 
-Fits-closed : (work : Record) → FitsRow work → FitsRow (closed how.Cancelled work)
-Fits-closed work is = record {
+Fits-closed : (at : ℕ) (work : Record) → at < 2 ^ 53 → FitsRow work → FitsRow (closed how.Cancelled at work)
+Fits-closed at work below is = record {
   seq = is.seq;
   prior = is.prior;
   generation = is.generation;
   enqueued_at = is.enqueued_at;
   override_at = is.override_at;
-  finished_at = is.finished_at;
+  finished_at = below;
 }
 
 Fits-unnamed : (work : Record) → FitsRow work → FitsRow (record work { name = None })
@@ -70,11 +70,11 @@ Fits-unnamed work is = record {
 }
 
 -- the row of a record still fits
-Fits-cleared : (clearing : Clearing) (work : Record) → FitsRow work → FitsRow (cleared clearing work)
-Fits-cleared clearing work is =
-    let then = cancelled_in clearing.cancelled work in
+Fits-cleared : (clearing : Clearing) (work : Record) → clearing.at < 2 ^ 53 → FitsRow work → FitsRow (cleared clearing work)
+Fits-cleared clearing work below is =
+    let then = cancelled_in clearing.at clearing.cancelled work in
     let fits : FitsRow then =
-    cond_both (becomes_cancelled clearing.cancelled work) (closed how.Cancelled work) work FitsRow (λ e. Fits-closed work is) (λ e. is) in
+    cond_both (becomes_cancelled clearing.cancelled work) (closed how.Cancelled clearing.at work) work FitsRow (λ e. Fits-closed clearing.at work below is) (λ e. is) in
     cond_both (is_among clearing.unnamed then.seq) (record then { name = None }) then FitsRow (λ e. Fits-unnamed then fits) (λ e. fits)
 
 -- a record that takes the place of another one fits, stays, and is as early
@@ -83,11 +83,12 @@ record IsGiven (clearing : Clearing) (next : ℕ) (work : Record) : Type 0 where
   stays : stays clearing.removed work ≡ true
   number : work.seq < next
 
-given-cleared : (clearing : Clearing) (next : ℕ) (work : Record) → FitsRow work → work.seq < next → IfSome (cleared_by clearing work) (IsGiven clearing next)
-given-cleared clearing next work is below =
+given-cleared : (clearing : Clearing) (next : ℕ) (work : Record) → clearing.at < 2 ^ 53 → FitsRow work → work.seq < next
+    → IfSome (cleared_by clearing work) (IsGiven clearing next)
+given-cleared clearing next work moment is below =
     cond_both (is_touched clearing work) (Some (cleared clearing work)) None (λ (o : Option Record). IfSome o (IsGiven clearing next))
     (λ e. let same = cleared-number clearing work in record {
-      fits = Fits-cleared clearing work is;
+      fits = Fits-cleared clearing work moment is;
       stays = ap (λ number. not (is_among clearing.removed number)) same ∙ (and_parts _ _ e).0;
       number = omega (arith, same, below);
     }) (λ e. tt)
@@ -100,9 +101,9 @@ unnamed-not numbers work =
 
 cleared-not : (clearing : Clearing) (work : Record) → Unsucceeding work (after_change (cleared_by clearing) work)
 cleared-not clearing work =
-    let then = cancelled_in clearing.cancelled work in
+    let then = cancelled_in clearing.at clearing.cancelled work in
     let cancelled : Unsucceeding work then =
-    cond_both (becomes_cancelled clearing.cancelled work) (closed how.Cancelled work) work (Unsucceeding work) (λ e is. absurd (false≢true is)) (λ e is. is) in
+    cond_both (becomes_cancelled clearing.cancelled work) (closed how.Cancelled clearing.at work) work (Unsucceeding work) (λ e is. absurd (false≢true is)) (λ e is. is) in
     cond_both (is_touched clearing work) (Some (cleared clearing work)) None (λ (o : Option Record). Unsucceeding work (or_same work o))
     (λ e is. cancelled (sym (unnamed-not clearing.unnamed then) ∙ is)) (λ e is. is)
 
@@ -166,20 +167,20 @@ StopsAlone-stopped clearing s valid =
     record { runs = stopped-among (is_run_among clearing.cancelled) s.runs valid.runs.apart; instances = refl; next_run = refl }
 
 -- and none, where nothing is cancelled
-pub StopsAlone-none : (removed : List ℕ) (s : State) → StopsAlone Unchanged (pruning removed) s
-StopsAlone-none removed s = record { runs = sym (with_stopped-none s.runs); instances = refl; next_run = refl }
+pub StopsAlone-none : (at : ℕ) (removed : List ℕ) (s : State) → StopsAlone Unchanged (pruning at removed) s
+StopsAlone-none at removed s = record { runs = sym (with_stopped-none s.runs); instances = refl; next_run = refl }
 
 -- ---- the step
 
-module _ (s : State) (clearing : Clearing) (new : List Record) (e : Event) (valid : Valid s) (removed : AreStored s.works clearing.removed)
-    (numbered : HaveNextNumbers s.next new) where
+module _ (s : State) (clearing : Clearing) (new : List Record) (e : Event) (valid : Valid s) (moment : clearing.at < 2 ^ 53)
+    (removed : AreStored s.works clearing.removed) (numbered : HaveNextNumbers s.next new) where
   abbrev replaced : List Replacement
   replaced = replaced_by_clearing clearing s.works
 
   given : AllByRecursion (λ r. IsGiven clearing s.next r.work) replaced
   given =
       given-each (IsGiven clearing s.next) (cleared_by clearing) 0 s.works
-      (All-with2 s.works (λ work fine below. given-cleared clearing s.next work fine.fits below) valid.works.records valid.works.numbers)
+      (All-with2 s.works (λ work fine below. given-cleared clearing s.next work moment fine.fits below) valid.works.records valid.works.numbers)
 
   removed-below : AllByRecursion (λ number. number < s.next) clearing.removed
   removed-below =
@@ -243,8 +244,8 @@ module _ (s : State) (clearing : Clearing) (new : List Record) (e : Event) (vali
           ∙ ap (λ next. record t { next_run = next }) stops.next_run
 
 -- and one that places none
-pub clearing_alone-step : (s : State) (clearing : Clearing) (run : RunChange) (e : Event) → Valid s → AreStored s.works clearing.removed
-    → StopsAlone run clearing s → Legal s e → after s e ≡ cleared_state clearing s
+pub clearing_alone-step : (s : State) (clearing : Clearing) (run : RunChange) (e : Event) → Valid s → clearing.at < 2 ^ 53
+    → AreStored s.works clearing.removed → StopsAlone run clearing s → Legal s e → after s e ≡ cleared_state clearing s
     → IsStepOf s (placing (replaced_by_clearing clearing s.works) clearing.removed [] run e)
-clearing_alone-step s clearing run e valid removed stops legal then =
-    clearing-step s clearing [] e valid removed tt run stops tt tt (omega (arith, valid.works.fits)) legal (then ∙ sym (with_none (cleared_state clearing s)))
+clearing_alone-step s clearing run e valid moment removed stops legal then =
+    clearing-step s clearing [] e valid moment removed tt run stops tt tt (omega (arith, valid.works.fits)) legal (then ∙ sym (with_none (cleared_state clearing s)))

@@ -44,11 +44,11 @@ pub any_reached : (seqs : List ℕ) (works : List Record) (work : Record)
 any_reached seqs works work = sym (reached_any-test seqs works work)
 
 -- so each is cancelled at once
-cancelled-each : (seqs : List ℕ) (works : List Record)
-    → map (closed_by how.Cancelled seqs works) works ≡ map (cancelled_in (reached_from seqs (nodes_of works))) works
-cancelled-each seqs works =
-    map-same (closed_by how.Cancelled seqs works) (cancelled_in (reached_from seqs (nodes_of works))) works
-    (All-any works (λ work. ap (λ b. cond b (closed how.Cancelled work) work) (any_reached seqs works work)))
+cancelled-each : (at : ℕ) (seqs : List ℕ) (works : List Record)
+    → map (closed_by how.Cancelled at seqs works) works ≡ map (cancelled_in at (reached_from seqs (nodes_of works))) works
+cancelled-each at seqs works =
+    map-same (closed_by how.Cancelled at seqs works) (cancelled_in at (reached_from seqs (nodes_of works))) works
+    (All-any works (λ work. ap (λ b. cond b (closed how.Cancelled at work) work) (any_reached seqs works work)))
 
 -- ---- the runs that are stopped
 
@@ -81,46 +81,48 @@ stopped-each seqs s valid =
 
 -- the state once works are cancelled one after another
 pub cancelled-state : (seqs : List ℕ) (s : State) → Valid s → let found = reached_from seqs (nodes_of s.works) in
-    with_works_closed how.Cancelled seqs s ≡ record s { works = map (cancelled_in found) s.works; runs = with_stopped (is_run_among found) s.runs }
+    with_works_closed how.Cancelled seqs s ≡ record s { works = map (cancelled_in s.now found) s.works; runs = with_stopped (is_run_among found) s.runs }
 cancelled-state seqs s valid =
     works_closed-is how.Cancelled seqs s
-    ∙ ap (λ (works : List Record). record s { works = works; runs = with_stopped (is_any_run_reached seqs s.works) s.runs }) (cancelled-each seqs s.works)
-    ∙ ap (λ (runs : List Run). record s { works = map (cancelled_in (reached_from seqs (nodes_of s.works))) s.works; runs = runs }) (stopped-each seqs s valid)
+    ∙ ap (λ (works : List Record). record s { works = works; runs = with_stopped (is_any_run_reached seqs s.works) s.runs }) (cancelled-each s.now seqs s.works)
+    ∙ ap (λ (runs : List Run). record s { works = map (cancelled_in s.now (reached_from seqs (nodes_of s.works))) s.works; runs = runs }) (stopped-each seqs s valid)
 
 -- ---- what a cancelling leaves of a record
 
-cancelled_both : (P : Record → Type 0) (cancelled : List ℕ) (work : Record) → P (closed how.Cancelled work) → P work → P (cancelled_in cancelled work)
-cancelled_both P cancelled work hit miss = cond_both (becomes_cancelled cancelled work) (closed how.Cancelled work) work P (λ e. hit) (λ e. miss)
+cancelled_both : (P : Record → Type 0) (at : ℕ) (cancelled : List ℕ) (work : Record) → P (closed how.Cancelled at work) → P work
+    → P (cancelled_in at cancelled work)
+cancelled_both P at cancelled work hit miss = cond_both (becomes_cancelled cancelled work) (closed how.Cancelled at work) work P (λ e. hit) (λ e. miss)
 
-cancelled-number : (cancelled : List ℕ) (work : Record) → (cancelled_in cancelled work).seq ≡ work.seq
-cancelled-number cancelled work = cancelled_both (λ w. w.seq ≡ work.seq) cancelled work refl refl
+cancelled-number : (at : ℕ) (cancelled : List ℕ) (work : Record) → (cancelled_in at cancelled work).seq ≡ work.seq
+cancelled-number at cancelled work = cancelled_both (λ w. w.seq ≡ work.seq) at cancelled work refl refl
 
-cancelled-prior : (cancelled : List ℕ) (work : Record) → (cancelled_in cancelled work).prior ≡ work.prior
-cancelled-prior cancelled work = cancelled_both (λ w. w.prior ≡ work.prior) cancelled work refl refl
+cancelled-prior : (at : ℕ) (cancelled : List ℕ) (work : Record) → (cancelled_in at cancelled work).prior ≡ work.prior
+cancelled-prior at cancelled work = cancelled_both (λ w. w.prior ≡ work.prior) at cancelled work refl refl
 
-cond-phase : (b : Bool) (work : Record) → (cond b (closed how.Cancelled work) work).phase ≡ cond b (phase.Done how.Cancelled) work.phase
-cond-phase true work = refl
-cond-phase false work = refl
+cond-phase : (b : Bool) (at : ℕ) (work : Record) → (cond b (closed how.Cancelled at work) work).phase ≡ cond b (phase.Done how.Cancelled) work.phase
+cond-phase true at work = refl
+cond-phase false at work = refl
 
-pub cancelled-phase : (cancelled : List ℕ) (work : Record) → (cancelled_in cancelled work).phase ≡ phase_then cancelled work
-cancelled-phase cancelled work = cond-phase (becomes_cancelled cancelled work) work
+pub cancelled-phase : (at : ℕ) (cancelled : List ℕ) (work : Record) → (cancelled_in at cancelled work).phase ≡ phase_then cancelled work
+cancelled-phase at cancelled work = cond-phase (becomes_cancelled cancelled work) at work
 
 -- ---- which are removed
 
-needed-then : (cancelled : List ℕ) (works : List Record) (number : ℕ)
-    → is_needed (map (cancelled_in cancelled) works) number ≡ is_needed_then cancelled works number
+needed-then : (at : ℕ) (cancelled : List ℕ) (works : List Record) (number : ℕ)
+    → is_needed (map (cancelled_in at cancelled) works) number ≡ is_needed_then cancelled works number
 unfolding is_needed
-needed-then cancelled works number =
-    list_any_after (λ work. is_open work.phase && is_among work.prior number) (cancelled_in cancelled) works
-    ∙ list_any-agree (λ work. is_open (cancelled_in cancelled work).phase && is_among (cancelled_in cancelled work).prior number)
+needed-then at cancelled works number =
+    list_any_after (λ work. is_open work.phase && is_among work.prior number) (cancelled_in at cancelled) works
+    ∙ list_any-agree (λ work. is_open (cancelled_in at cancelled work).phase && is_among (cancelled_in at cancelled work).prior number)
     (λ work. is_open (phase_then cancelled work) && is_among work.prior number) works
-    (All-any works (λ work. rw (cancelled-phase cancelled work, cancelled-prior cancelled work) refl))
+    (All-any works (λ work. rw (cancelled-phase at cancelled work, cancelled-prior at cancelled work) refl))
 
 -- once others are cancelled, a record is dropped where it is removed
-dropped-then : (cancelled let_go : List ℕ) (works : List Record) (work : Record)
-    → is_dropped let_go (map (cancelled_in cancelled) works) (cancelled_in cancelled work) ≡ is_removed cancelled let_go works work
+dropped-then : (at : ℕ) (cancelled let_go : List ℕ) (works : List Record) (work : Record)
+    → is_dropped let_go (map (cancelled_in at cancelled) works) (cancelled_in at cancelled work) ≡ is_removed cancelled let_go works work
 unfolding removable
-dropped-then cancelled let_go works work = rw (cancelled-number cancelled work, cancelled-phase cancelled work, needed-then cancelled works work.seq) refl
+dropped-then at cancelled let_go works work =
+    rw (cancelled-number at cancelled work, cancelled-phase at cancelled work, needed-then at cancelled works work.seq) refl
 
 -- ---- lists
 
@@ -161,55 +163,56 @@ pub reached-none : (works : List Record) → reached_from [] (nodes_of works) �
 reached-none works = ap reverse (descendants-none (reverse (nodes_of works)))
 
 -- then nothing becomes of the records
-pub clearing-none : (works : List Record) (cancel let_go : List ℕ) → length cancel ≡ 0 → length let_go ≡ 0 → clearing_of works cancel let_go ≡ cancelling []
-clearing-none works [] [] no_cancel no_let_go =
+pub clearing-none : (at : ℕ) (works : List Record) (cancel let_go : List ℕ) → length cancel ≡ 0 → length let_go ≡ 0
+    → clearing_of at works cancel let_go ≡ cancelling at []
+clearing-none at works [] [] no_cancel no_let_go =
     rw (reached-none works, filter-none (is_removed [] [] works) works (All-any works (λ work. refl))) refl
-clearing-none works (number ∷ cancel) let_go no_cancel no_let_go = absurd (omega (arith, no_cancel))
-clearing-none works [] (number ∷ let_go) no_cancel no_let_go = absurd (omega (arith, no_let_go))
+clearing-none at works (number ∷ cancel) let_go no_cancel no_let_go = absurd (omega (arith, no_cancel))
+clearing-none at works [] (number ∷ let_go) no_cancel no_let_go = absurd (omega (arith, no_let_go))
 
 -- and none takes the place of another, whichever are removed
-pub none-replaced : (removed : List ℕ) (i : ℕ) (works : List Record) → replacements (cleared_by (pruning removed)) i works ≡ []
-none-replaced removed i [] = refl
-none-replaced removed i (work ∷ works) =
-    let change = cleared_by (pruning removed) in
-    let untouched : is_touched (pruning removed) work ≡ false = and_right (stays removed work) _ (and_right (is_open work.phase) false refl) in
-    ap (λ b. at_index i (cond b (Some (cleared (pruning removed) work)) None) (replacements change (i + 1) works)) untouched
-    ∙ none-replaced removed (i + 1) works
+pub none-replaced : (at : ℕ) (removed : List ℕ) (i : ℕ) (works : List Record) → replacements (cleared_by (pruning at removed)) i works ≡ []
+none-replaced at removed i [] = refl
+none-replaced at removed i (work ∷ works) =
+    let change = cleared_by (pruning at removed) in
+    let untouched : is_touched (pruning at removed) work ≡ false = and_right (stays removed work) _ (and_right (is_open work.phase) false refl) in
+    ap (λ b. at_index i (cond b (Some (cleared (pruning at removed) work)) None) (replacements change (i + 1) works)) untouched
+    ∙ none-replaced at removed (i + 1) works
 
 -- as where none is cancelled and none loses its name
-none-cleared-of : (cancelled unnamed removed : List ℕ) (works : List Record) → length cancelled ≡ 0 → length unnamed ≡ 0
-    → replaced_by_clearing (record { cancelled = cancelled; unnamed = unnamed; removed = removed }) works ≡ []
-none-cleared-of [] [] removed works no_cancel no_unnamed = none-replaced removed 0 works
-none-cleared-of (number ∷ cancelled) unnamed removed works no_cancel no_unnamed = absurd (omega (arith, no_cancel))
-none-cleared-of [] (number ∷ unnamed) removed works no_cancel no_unnamed = absurd (omega (arith, no_unnamed))
+none-cleared-of : (at : ℕ) (cancelled unnamed removed : List ℕ) (works : List Record) → length cancelled ≡ 0 → length unnamed ≡ 0
+    → replaced_by_clearing (record { cancelled = cancelled; at = at; unnamed = unnamed; removed = removed }) works ≡ []
+none-cleared-of at [] [] removed works no_cancel no_unnamed = none-replaced at removed 0 works
+none-cleared-of at (number ∷ cancelled) unnamed removed works no_cancel no_unnamed = absurd (omega (arith, no_cancel))
+none-cleared-of at [] (number ∷ unnamed) removed works no_cancel no_unnamed = absurd (omega (arith, no_unnamed))
 
 pub none-cleared : (clearing : Clearing) (works : List Record) → length clearing.cancelled ≡ 0 → length clearing.unnamed ≡ 0
     → replaced_by_clearing clearing works ≡ []
 none-cleared clearing works no_cancel no_unnamed =
-    none-cleared-of clearing.cancelled clearing.unnamed clearing.removed works no_cancel no_unnamed
+    none-cleared-of clearing.at clearing.cancelled clearing.unnamed clearing.removed works no_cancel no_unnamed
 
 -- ---- the records made ready
 
 -- letting go others once these are cancelled is what becomes of each record by itself
-let_go-cleared : (works : List Record) (cancel let_go : List ℕ) → AllLater IsBefore works
-    → with_let_go let_go (map (cancelled_in (reached_from cancel (nodes_of works))) works) ≡ with_cleared (clearing_of works cancel let_go) works
-let_go-cleared works cancel let_go order =
+let_go-cleared : (at : ℕ) (works : List Record) (cancel let_go : List ℕ) → AllLater IsBefore works
+    → with_let_go let_go (map (cancelled_in at (reached_from cancel (nodes_of works))) works) ≡ with_cleared (clearing_of at works cancel let_go) works
+let_go-cleared at works cancel let_go order =
     let cancelled = reached_from cancel (nodes_of works) in
-    let change = cancelled_in cancelled in
+    let change = cancelled_in at cancelled in
     let gone = is_dropped let_go (map change works) in
     ap (map (unnamed let_go)) (filter-map (λ work. not (gone work)) change works)
     ∙ map-map (unnamed let_go) change (filter (λ work. not (gone (change work))) works) ∙ ap (map (λ work. unnamed let_go (change work)))
     (filter-same (λ work. not (gone (change work))) (λ work. not (is_removed cancelled let_go works work)) works (All-any works
-    (λ work. ap not (dropped-then cancelled let_go works work))) ∙ sym (stays-passing (is_removed cancelled let_go works) works order))
+    (λ work. ap not (dropped-then at cancelled let_go works work))) ∙ sym (stays-passing (is_removed cancelled let_go works) works order))
 
 -- and so is a state made ready
 pub made_ready-cleared : (s : State) (placing : Placing) → Valid s
-    → made_ready s placing ≡ cleared_state (clearing_of s.works placing.cancel placing.let_go) s
+    → made_ready s placing ≡ cleared_state (clearing_of s.now s.works placing.cancel placing.let_go) s
 made_ready-cleared s placing valid =
     let found = reached_from placing.cancel (nodes_of s.works) in
     ap (λ (t : State). record t { works = with_let_go placing.let_go t.works }) (cancelled-state placing.cancel s valid)
     ∙ ap (λ (works : List Record). record s { works = works; runs = with_stopped (is_run_among found) s.runs })
-    (let_go-cleared s.works placing.cancel placing.let_go valid.works.in_order)
+    (let_go-cleared s.now s.works placing.cancel placing.let_go valid.works.in_order)
 
 -- ---- the change
 
@@ -219,32 +222,32 @@ unnamed_each P numbers work hit miss = cond_both (is_among numbers work.seq) (re
 
 pub cleared-number : (clearing : Clearing) (work : Record) → (cleared clearing work).seq ≡ work.seq
 cleared-number clearing work =
-    unnamed_each (λ w. w.seq ≡ work.seq) clearing.unnamed (cancelled_in clearing.cancelled work) (cancelled-number clearing.cancelled work)
-    (cancelled-number clearing.cancelled work)
+    unnamed_each (λ w. w.seq ≡ work.seq) clearing.unnamed (cancelled_in clearing.at clearing.cancelled work)
+    (cancelled-number clearing.at clearing.cancelled work) (cancelled-number clearing.at clearing.cancelled work)
 
 pub cleared-id : (clearing : Clearing) (work : Record) → (cleared clearing work).request.id ≡ work.request.id
 cleared-id clearing work =
-    let kept = cancelled_both (λ w. w.request.id ≡ work.request.id) clearing.cancelled work refl refl in
-    unnamed_each (λ w. w.request.id ≡ work.request.id) clearing.unnamed (cancelled_in clearing.cancelled work) kept kept
+    let kept = cancelled_both (λ w. w.request.id ≡ work.request.id) clearing.at clearing.cancelled work refl refl in
+    unnamed_each (λ w. w.request.id ≡ work.request.id) clearing.unnamed (cancelled_in clearing.at clearing.cancelled work) kept kept
 
 pub cleared-phase : (clearing : Clearing) (work : Record) → (cleared clearing work).phase ≡ phase_then clearing.cancelled work
 cleared-phase clearing work =
-    let then = cancelled-phase clearing.cancelled work in
-    unnamed_each (λ w. w.phase ≡ phase_then clearing.cancelled work) clearing.unnamed (cancelled_in clearing.cancelled work) then then
+    let then = cancelled-phase clearing.at clearing.cancelled work in
+    unnamed_each (λ w. w.phase ≡ phase_then clearing.cancelled work) clearing.unnamed (cancelled_in clearing.at clearing.cancelled work) then then
 
 same-node : (work : Record) → MayReplace work work
 same-node work = record { seq = refl; id = refl; name = inl refl; prior = refl; succeeded = λ is. is }
 
 -- what is cancelled hadn't succeeded
-cancelled-node : (cancelled : List ℕ) (work : Record) → MayReplace work (cancelled_in cancelled work)
-cancelled-node cancelled work =
-    cond_both (becomes_cancelled cancelled work) (closed how.Cancelled work) work (MayReplace work)
+cancelled-node : (at : ℕ) (cancelled : List ℕ) (work : Record) → MayReplace work (cancelled_in at cancelled work)
+cancelled-node at cancelled work =
+    cond_both (becomes_cancelled cancelled work) (closed how.Cancelled at work) work (MayReplace work)
     (λ e. record { seq = refl; id = refl; name = inl refl; prior = refl; succeeded = λ is. absurd (open_not_succeeded work.phase (and_parts _ _ e).0 is) }) (λ e. same-node work)
 
 cleared-node : (clearing : Clearing) (work : Record) → MayReplace work (cleared clearing work)
 cleared-node clearing work =
-    let kept = cancelled-node clearing.cancelled work in
-    unnamed_each (MayReplace work) clearing.unnamed (cancelled_in clearing.cancelled work)
+    let kept = cancelled-node clearing.at clearing.cancelled work in
+    unnamed_each (MayReplace work) clearing.unnamed (cancelled_in clearing.at clearing.cancelled work)
     (record { seq = kept.seq; id = kept.id; name = inr refl; prior = kept.prior; succeeded = kept.succeeded }) kept
 
 -- a record keeps its node
@@ -261,7 +264,7 @@ untouched-same : (clearing : Clearing) (work : Record) → (is_among clearing.un
     → work ≡ cleared clearing work
 untouched-same clearing work none =
     let parts = or_parts (is_among clearing.unnamed work.seq) (becomes_cancelled clearing.cancelled work) none in
-    let open_same : cancelled_in clearing.cancelled work ≡ work = ap (λ b. cond b (closed how.Cancelled work) work) parts.1 in
+    let open_same : cancelled_in clearing.at clearing.cancelled work ≡ work = ap (λ b. cond b (closed how.Cancelled clearing.at work) work) parts.1 in
     sym (ap (unnamed clearing.unnamed) open_same ∙ ap (λ b. cond b (record work { name = None }) work) parts.0)
 
 -- what takes the place of a record that stays is what becomes of it

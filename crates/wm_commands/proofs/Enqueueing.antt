@@ -51,7 +51,7 @@ module _ (s : State) (line : ℕ) (named : Option UniqueName) (batch : Batch) (b
     (places : enqueued s named batch.works ≡ placing_in (made_ready s by) (name_in named) by.after batch.works)
     (after_there : AllByRecursion (λ number. is_there s.works number ≡ true) by.after) where
   abbrev clearing : Clearing
-  clearing = clearing_of s.works by.cancel by.let_go
+  clearing = clearing_of s.now s.works by.cancel by.let_go
 
   abbrev cleared_s : State
   cleared_s = cleared_state clearing s
@@ -111,7 +111,7 @@ module _ (s : State) (line : ℕ) (named : Option UniqueName) (batch : Batch) (b
     reply = reply.Enqueued (seqs_of new);
     event = refl;
     step =
-        clearing-step s clearing new enqueue_event valid
+        clearing-step s clearing new enqueue_event valid valid.now
         (passing-stored (is_removed clearing.cancelled by.let_go s.works) s.works valid.works.in_order) new-numbered
         (Stop (stopped_by clearing.cancelled s.runs)) (StopsAlone-stopped clearing s valid) new-named
         (All-weaker new (λ work is. is.fits) new-records) valid_after.works.fits legal after-is;

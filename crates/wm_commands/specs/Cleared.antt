@@ -47,29 +47,30 @@ removed_by cancelled let_go works = numbers_in (filter (is_removed cancelled let
 
 -- ---- the records then
 
--- what becomes of the records where these works are cancelled, and then others let go
-abbrev pub clearing_of : List Record → List ℕ → List ℕ → Clearing
-clearing_of works cancel let_go = record {
+-- what becomes of the records where these works are cancelled at this moment, and then others let go
+abbrev pub clearing_of : ℕ → List Record → List ℕ → List ℕ → Clearing
+clearing_of at works cancel let_go = record {
   cancelled = reached_from cancel (nodes_of works);
+  at = at;
   unnamed = let_go;
   removed = removed_by (reached_from cancel (nodes_of works)) let_go works;
 }
 
--- what becomes of them where these are cancelled
-abbrev pub cancelling : List ℕ → Clearing
-cancelling cancelled = record { cancelled = cancelled; unnamed = []; removed = [] }
+-- what becomes of them where these are cancelled at this moment
+abbrev pub cancelling : ℕ → List ℕ → Clearing
+cancelling at cancelled = record { cancelled = cancelled; at = at; unnamed = []; removed = [] }
 
--- and where these are removed
-abbrev pub pruning : List ℕ → Clearing
-pruning removed = record { cancelled = []; unnamed = []; removed = removed }
+-- and where these are removed then
+abbrev pub pruning : ℕ → List ℕ → Clearing
+pruning at removed = record { cancelled = []; at = at; unnamed = []; removed = removed }
 
--- a record, cancelled where it becomes so
-abbrev pub cancelled_in : List ℕ → Record → Record
-cancelled_in cancelled work = if becomes_cancelled cancelled work then closed how.Cancelled work else work
+-- a record, cancelled at this moment where it becomes so
+abbrev pub cancelled_in : ℕ → List ℕ → Record → Record
+cancelled_in at cancelled work = if becomes_cancelled cancelled work then closed how.Cancelled at work else work
 
 -- a record that isn't removed
 abbrev pub cleared : Clearing → Record → Record
-cleared clearing work = unnamed clearing.unnamed (cancelled_in clearing.cancelled work)
+cleared clearing work = unnamed clearing.unnamed (cancelled_in clearing.at clearing.cancelled work)
 
 -- whether a record isn't removed
 abbrev pub stays : List ℕ → Record → Bool

@@ -59,7 +59,7 @@ placement_in s name after clearing works = record {
 
 -- and where works are cancelled before and others let go
 abbrev pub placement_of : State → Option (List ℕ) → Placing → List Node → Placement
-placement_of s name placing works = placement_in s name placing.after (clearing_of s.works placing.cancel placing.let_go) works
+placement_of s name placing works = placement_in s name placing.after (clearing_of s.now s.works placing.cancel placing.let_go) works
 
 -- what comes of a batch that is placed so, where this check refuses it, or none does
 abbrev pub placed_by : Option Refusal → State → Option UniqueName → Placing → List Node → Outcome

@@ -59,7 +59,7 @@ fn cancel_each(
 {
     let runs = view.state.runs.as_slice();
     let seqs = targeted(alloc, view, &target)?;
-    let cleared = cancelling(alloc, view.descendants_of(seqs.as_slice())?);
+    let cleared = cancelling(alloc, view.state.now, view.descendants_of(seqs.as_slice())?);
     let replaced = replaced_by_clearing(alloc, view, &cleared)?;
     let stopped = stopped_by(alloc, runs, &cleared.cancelled)?;
     let count = replaced.len() as u64;

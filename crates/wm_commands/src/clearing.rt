@@ -23,26 +23,29 @@ use wm_steps::{Numbers, Replacement, View};
 pub struct Clearing {
     /// Those that are cancelled where they are unfinished.
     pub cancelled: Numbers,
+    /// The moment at which they are, in milliseconds.
+    pub at: u64,
     /// Those from which their names are taken.
     pub unnamed: Numbers,
     /// Those that are removed.
     pub removed: Numbers,
 }
 
-/// Those of these numbers are cancelled where they are unfinished.
-pub fn cancelling(alloc: Global, cancelled: Numbers) -> Clearing
-    ensures { result ≡ cancelling cancelled }
+/// Those of these numbers are cancelled at this moment where they are unfinished.
+pub fn cancelling(alloc: Global, at: u64, cancelled: Numbers) -> Clearing
+    ensures { result ≡ cancelling at cancelled }
 {
     Clearing {
         cancelled,
+        at,
         unnamed: Numbers::none(alloc),
         removed: Numbers::none(alloc),
     }
 }
 
-/// Which records change where the works of the first numbers are cancelled, and those of the second
-/// are let go then: who is finished and whom no unfinished work needs is removed, and the others
-/// lose their names. Where both are none, no record is looked at.
+/// Which records change where the works of the first numbers are cancelled now, and those of the
+/// second are let go then: who is finished and whom no unfinished work needs is removed, however long
+/// it was to be kept, and the others lose their names. Where both are none, no record is looked at.
 pub fn clearing_of(
     alloc: Global,
     view: &View,
@@ -50,17 +53,17 @@ pub fn clearing_of(
     let_go: Items<u64>,
 ) -> Result<Clearing, AllocError>
     requires { AreNumbersOf view.now.works let_go }
-    ensures { IfOk result (λ clearing. clearing ≡ clearing_of view.entry.now.works cancel.entry.now let_go) }
+    ensures { IfOk result (λ clearing. clearing ≡ clearing_of view.entry.now.now view.entry.now.works cancel.entry.now let_go) }
 {
-    // what the type of a view keeps is known where a field of it is read
-    let _reached = &view.state;
+    let at = view.state.now;
     if cancel.is_empty() && let_go.is_empty() {
-        return Ok(cancelling(alloc, Numbers::none(alloc)));
+        return Ok(cancelling(alloc, at, Numbers::none(alloc)));
     }
     let cancelled = view.descendants_of(cancel)?;
     let removed = removed_by(alloc, view, &cancelled, let_go.as_slice())?;
     Ok(Clearing {
         cancelled,
+        at,
         unnamed: Numbers::of(let_go),
         removed,
     })
@@ -266,10 +269,10 @@ fn cleared(alloc: Global, clearing: &Clearing, work: &Record) -> Result<Record, 
 /// A record, cancelled where it becomes so.
 fn cancelled_in(alloc: Global, clearing: &Clearing, work: &Record) -> Result<Record, AllocError>
     ensures { IfOk result (λ changed. changed
-        ≡ cancelled_in clearing.entry.now.cancelled work.entry.now) }
+        ≡ cancelled_in clearing.entry.now.at clearing.entry.now.cancelled work.entry.now) }
 {
     if becomes_cancelled(&clearing.cancelled, work) {
-        closed(alloc, work, How::Cancelled)
+        closed(alloc, work, How::Cancelled, clearing.at)
     } else {
         work.replica(alloc)
     }

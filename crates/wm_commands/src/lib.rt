@@ -42,7 +42,7 @@ pub fn execute(
         Command::Update(request) => update::execute(alloc, view, line, request),
         Command::Moment(at) => moment::execute(alloc, view, line, at),
         Command::Conditions(conditions) => conditions::execute(alloc, view, line, conditions),
-        Command::Prune => prune::execute(alloc, view, line),
+        Command::Prune { force } => prune::execute(alloc, view, line, force),
         Command::Query(query) => query::execute(alloc, view, line, query),
         Command::Observe(query) => observe::execute(alloc, view, line, query),
         Command::Retire(class) => retire::execute(alloc, view, line, class),

@@ -5,7 +5,7 @@ ghost use Rattle.std.specs.Str.{bytes_eq};
 ghost use Rattle.wm_collections.specs.Lists.{is_among};
 ghost use Rattle.wm_commands.specs.Cleared.{cleared_state, stays, with_cleared};
 ghost use Rattle.wm_commands.specs.Placed.{is_done, is_then, placed_record, placed_records, with_placed};
-ghost use Rattle.wm_machine.specs.Enqueued.{any_in, first_phase, numbers_of, prior_of};
+ghost use Rattle.wm_machine.specs.Enqueued.{any_in, first_finished_at, first_phase, numbers_of, prior_of};
 ghost use Rattle.wm_request.specs.Requests.{of_record};
 ghost use Rattle.wm_steps.specs.StepChanges.{seqs_of};
 
@@ -69,7 +69,7 @@ fn placed_record(
         generation: 0,
         enqueued_at: view.state.now,
         override_at: None,
-        finished_at: 0,
+        finished_at: first_finished_at(phase, view.state.now),
         output: Data::empty(),
         progress: Data::empty(),
     })
@@ -175,6 +175,16 @@ fn first_phase(view: &View, clearing: &Clearing, placed: &[Record], prior: &[u64
         Phase::Done(How::Cancelled)
     } else {
         Phase::Waiting
+    }
+}
+
+/// The moment at which new work in this phase has finished: now, where it is finished already.
+fn first_finished_at(phase: Phase, now: u64) -> u64
+    ensures { result ≡ first_finished_at phase now }
+{
+    match phase {
+        Phase::Done(_) => now,
+        _ => 0,
     }
 }
 

@@ -4,21 +4,19 @@ ghost use Rattle.wm_commands.specs.Builds.{IsReplacing, IsUpdating};
 ghost use Rattle.wm_settings.specs.Builds.{IsExecuted};
 ghost use Rattle.wm_machine.specs.Cancelled.{work_with_id};
 ghost use Rattle.wm_machine.specs.Limits.{FitsRow};
-ghost use Rattle.wm_machine.specs.Updated.{applied, is_same_kind, one_update_more, updated};
+ghost use Rattle.wm_machine.specs.Updated.{applied, is_same_kind};
 ghost use Rattle.wm_request.specs.Requests.{IsRequest};
 
 use std::alloc::{AllocError, Global};
 use uuid::Uuid;
-use wm_collections::{Replica, both, copied};
+use wm_collections::{both, copied};
+use wm_lifecycle::updated;
 use wm_machine::{Applied, Command, Event, Phase, Record, Refusal, Reply};
 use wm_request::Request;
 use wm_rows::have_one_row;
 use wm_schedule::Period;
 use wm_settings::{event_of, replying};
 use wm_steps::{RunChange, StepChange, View};
-
-/// Updates are counted up to this number, 2^53 - 1.
-const LAST_GENERATION: u64 = 9_007_199_254_740_991;
 
 /// What an update comes to.
 pub fn execute(
@@ -110,24 +108,6 @@ pub fn update_of(
     };
     let (changed, event) = both(changed, event_of(alloc, line, command, reply))?;
     replacing(alloc, index, work, changed, event)
-}
-
-/// The record of a work that is asked for anew: the request is replaced but for its id and its keeping
-/// time, and it is updated once more.
-pub fn updated(alloc: Global, work: &Record, request: Request) -> Result<Record, AllocError>
-    ensures { IfOk result (λ changed. changed ≡ updated request work.entry.now) }
-{
-    let (request, mut changed) = both(request, work.replica(alloc))?;
-    changed.request = request.of_record(work.request.id(), work.request.keep());
-    changed.generation = one_update_more(work.generation);
-    Ok(changed)
-}
-
-/// One more than a number of updates, where it may rise.
-fn one_update_more(generation: u64) -> u64
-    ensures { result ≡ one_update_more generation }
-{
-    generation.saturating_add(1).min(LAST_GENERATION)
 }
 
 /// When an update of work in this phase counts.

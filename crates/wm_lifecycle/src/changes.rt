@@ -1,17 +1,22 @@
-//! The changes of one record: by its own run, and by the end of another.
+//! The changes of one record: by its own run, by the end of another, and by an update.
 ghost use Rattle.std.specs.Prelude.{◌≡◌, IfOk};
 ghost use Rattle.wm_machine.specs.Closed.{closed};
 ghost use Rattle.wm_machine.specs.Ends.{ended, enqueued_again, not_started, retried, succeeded, with_output};
 ghost use Rattle.wm_machine.specs.Runs.{started};
 ghost use Rattle.wm_machine.specs.Settings.{put_back};
+ghost use Rattle.wm_machine.specs.Updated.{one_update_more, updated};
 
 use std::alloc::{AllocError, Global};
-use wm_collections::Replica;
+use wm_collections::{Replica, both};
 use wm_data::Data;
 use wm_machine::{End, How, Phase, Record};
+use wm_request::Request;
 
 /// Attempts and periods are counted up to this number.
 const MAX_COUNT: u32 = 1_000_000;
+
+/// Updates are counted up to this number, 2^53 - 1.
+const LAST_GENERATION: u64 = 9_007_199_254_740_991;
 
 /// The record of a work whose run begins: one attempt more, without progress.
 pub fn started(alloc: Global, work: &Record) -> Result<Record, AllocError>
@@ -26,7 +31,7 @@ pub fn started(alloc: Global, work: &Record) -> Result<Record, AllocError>
 
 /// The record of a work whose run ended so at this moment, in milliseconds. A retry puts it back,
 /// with a backoff that counts from its attempt. Else periodic work is enqueued again, and one-time
-/// work has succeeded or failed with its output. Work that waits again has no moment for its next run
+/// work has succeeded or failed with its output, and finished now. Work that waits again has no moment for its next run
 /// but the one by its delays.
 pub fn ended(alloc: Global, work: &Record, end: &End, now: u64) -> Result<Record, AllocError>
     ensures { IfOk result (λ changed. changed ≡ ended now end.now work.entry.now) }
@@ -36,8 +41,8 @@ pub fn ended(alloc: Global, work: &Record, end: &End, now: u64) -> Result<Record
         End::Success(_) | End::Failure(_) if work.request.period().is_some() => {
             enqueued_again(alloc, work, now)
         }
-        End::Success(output) => finished(alloc, work, How::Succeeded, output),
-        End::Failure(output) => finished(alloc, work, How::Failed, output),
+        End::Success(output) => finished(alloc, work, How::Succeeded, output, now),
+        End::Failure(output) => finished(alloc, work, How::Failed, output, now),
     }
 }
 
@@ -67,15 +72,17 @@ pub fn not_started(alloc: Global, work: &Record, now: u64) -> Result<Record, All
     if work.request.period().is_some() {
         return enqueued_again(alloc, work, now);
     }
-    closed(alloc, work, How::Failed)
+    closed(alloc, work, How::Failed, now)
 }
 
-/// The record of a work that is finished in this way without having given anything.
-pub fn closed(alloc: Global, work: &Record, how: How) -> Result<Record, AllocError>
-    ensures { IfOk result (λ changed. changed ≡ closed how work.entry.now) }
+/// The record of a work that is finished in this way at this moment, in milliseconds, without having
+/// given anything.
+pub fn closed(alloc: Global, work: &Record, how: How, now: u64) -> Result<Record, AllocError>
+    ensures { IfOk result (λ changed. changed ≡ closed how now work.entry.now) }
 {
     let mut changed = work.replica(alloc)?;
     changed.phase = Phase::Done(how);
+    changed.finished_at = now;
     changed.progress = Data::empty();
     Ok(changed)
 }
@@ -87,6 +94,24 @@ pub fn freed(alloc: Global, work: &Record, now: u64) -> Result<Record, AllocErro
     let mut free = work.replica(alloc)?;
     free.enqueued_at = now;
     Ok(free)
+}
+
+/// The record of a work that is asked for anew: the request is replaced but for its id and its keeping
+/// time, and it is updated once more.
+pub fn updated(alloc: Global, work: &Record, request: Request) -> Result<Record, AllocError>
+    ensures { IfOk result (λ changed. changed ≡ updated request work.entry.now) }
+{
+    let (request, mut changed) = both(request, work.replica(alloc))?;
+    changed.request = request.of_record(work.request.id(), work.request.keep());
+    changed.generation = one_update_more(work.generation);
+    Ok(changed)
+}
+
+/// One more than a number of updates, where it may rise.
+fn one_update_more(generation: u64) -> u64
+    ensures { result ≡ one_update_more generation }
+{
+    generation.saturating_add(1).min(LAST_GENERATION)
 }
 
 /// A work that waits again, for the attempt after this one.
@@ -118,11 +143,17 @@ fn enqueued_again(alloc: Global, work: &Record, now: u64) -> Result<Record, Allo
     Ok(changed)
 }
 
-/// A one-time work that has ended for good with this output.
-fn finished(alloc: Global, work: &Record, how: How, output: &Data) -> Result<Record, AllocError>
-    ensures { IfOk result (λ changed. changed ≡ with_output output.now (closed how work.entry.now)) }
+/// A one-time work that has ended for good with this output, at this moment.
+fn finished(
+    alloc: Global,
+    work: &Record,
+    how: How,
+    output: &Data,
+    now: u64,
+) -> Result<Record, AllocError>
+    ensures { IfOk result (λ changed. changed ≡ with_output output.now (closed how now work.entry.now)) }
 {
-    let mut changed = closed(alloc, work, how)?;
+    let mut changed = closed(alloc, work, how, now)?;
     changed.output = output.replica(alloc)?;
     Ok(changed)
 }

@@ -1,5 +1,6 @@
-//! How a record changes where a run of its work begins, ends, is stopped, or can't begin, where it is closed, and
-//! where nothing holds it back any more: one record each, for one-time and periodic work.
+//! How a record changes where a run of its work begins, ends, is stopped, or can't begin, where it is
+//! closed, where nothing holds it back any more, and where it is asked for anew: one record each, for
+//! one-time and periodic work.
 //!
 //! After the guide's pages "Work states", "Define work requests" (retry and backoff, periodic work)
 //! and "Chaining work". Which records a failure or a success reaches is no matter of one record.
@@ -7,4 +8,4 @@
 
 mod changes;
 
-pub use changes::{closed, ended, freed, not_started, started, stopped, timed_out};
+pub use changes::{closed, ended, freed, not_started, started, stopped, timed_out, updated};

@@ -31,22 +31,22 @@ keeps_all work = record { same = record { seq = refl; name = λ text is. is; req
 
 -- the closing of a work that hasn't succeeded stops the runs of what is closed
 IsStop-closing : (s : State) (seq : ℕ) → Valid s → AllByRecursion (OfNumber seq (λ other. Succeeded other.phase → ⊥)) s.works
-    → IsStop s (closed_in how.Cancelled seq s.works) (is_run_reached seq s.works)
+    → IsStop s (closed_in how.Cancelled s.now seq s.works) (is_run_reached seq s.works)
 IsStop-closing s seq valid not_yet =
-    let change = closed_in how.Cancelled seq s.works in
+    let change = closed_in how.Cancelled s.now seq s.works in
     let fits =
-    All-weaker s.works (λ other is. closed_both IsRecord how.Cancelled seq s.works other
-    (λ e. IsRecord-cancelled other (reached_parts seq s.works other e).0 is) (λ e. is)) valid.works.records in
+    All-weaker s.works (λ other is. closed_both IsRecord how.Cancelled s.now seq s.works other
+    (λ e. IsRecord-cancelled s.now other valid.now (reached_parts seq s.works other e).0 is) (λ e. is)) valid.works.records in
     record {
       is_change = IsChange-closing s seq how.Cancelled (λ (w : Record). w) keeps_all valid not_yet (λ change p prior. tt) fits;
       running = All-weaker s.works (λ work there. closed_both
           (λ w. w.phase ≡ phase.Running
           → (work.phase ≡ phase.Running) × AllByRecursion (λ run. IsCurrentOf work.seq run → is_run_reached seq s.works run ≡ false) s.runs)
-          how.Cancelled seq s.works work (λ e running. absurd (idle-done how.Cancelled running)) (λ e running. (
+          how.Cancelled s.now seq s.works work (λ e running. absurd (idle-done how.Cancelled running)) (λ e running. (
             running,
             All-any s.runs (λ run of. not_run_reached seq s.works work run (IsAlone-stored work s.works valid.works.in_order there) e of.of),
           ))) (All-stored s.works);
-      works = All-any s.runs (λ run current not. All-weaker s.works (λ work fails of. closed_both (KeepsRun work) how.Cancelled seq s.works work
+      works = All-any s.runs (λ run current not. All-weaker s.works (λ work fails of. closed_both (KeepsRun work) how.Cancelled s.now seq s.works work
           (λ e. absurd (true≢false (sym (and_from _ _ (eq-eqb work.seq run.seq of.seq) e) ∙ fails)))
           (λ e. KeepsRun-same work work refl refl)) (none_pass (λ other. eqb other.seq run.seq && is_reached seq s.works other) s.works not));
     }
@@ -54,7 +54,7 @@ IsStop-closing s seq valid not_yet =
 pub Valid-work_closed : (s : State) (seq : ℕ) → Valid s → AllByRecursion (OfNumber seq (λ other. Succeeded other.phase → ⊥)) s.works
     → Valid (with_work_closed how.Cancelled seq s)
 Valid-work_closed s seq valid not_yet =
-    Valid-stopped s (closed_in how.Cancelled seq s.works) (is_run_reached seq s.works) valid (IsStop-closing s seq valid not_yet)
+    Valid-stopped s (closed_in how.Cancelled s.now seq s.works) (is_run_reached seq s.works) valid (IsStop-closing s seq valid not_yet)
 
 -- a record that is unfinished hasn't succeeded, nor has any of its number
 not_yet_unfinished : (s : State) (work : Record) → Valid s → HasOne (λ other. other ≡ work) s.works → is_open work.phase ≡ true

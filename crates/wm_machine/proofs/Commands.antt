@@ -7,13 +7,13 @@ use Rattle.wm_collections.proofs.Lists.{All-any}
 use Rattle.wm_machine.proofs.Names.{enqueue-named-answered}
 use Rattle.wm_machine.proofs.Observings.{observe-answered}
 use Rattle.wm_machine.proofs.Owed.{IsAnswered, IsLinedIn-quiet, MayBeAsked}
-use Rattle.wm_machine.proofs.Removals.{reached-removed}
+use Rattle.wm_machine.proofs.Removals.{prunable_removable, reached-removed}
 use Rattle.wm_machine.proofs.Retirings.{retire-answered}
 use Rattle.wm_machine.proofs.Settings.{conditions-answered, hush-answered, moment-answered}
 use Rattle.wm_machine.proofs.Settles.{settle-answered}
 use Rattle.wm_machine.proofs.Updates.{update-answered}
 use Rattle.wm_machine.specs.Outcome.{outcome, IsAskable, IsLegalLine}
-use Rattle.wm_machine.specs.Pruned.{removable}
+use Rattle.wm_machine.specs.Pruned.{prunable}
 use Rattle.wm_machine.specs.Replied.{Outcome}
 use Rattle.wm_machine.specs.Step.{Legal}
 use Rattle.wm_machine.specs.Types.{Command, Reply, State}
@@ -33,10 +33,10 @@ answered s (command.Cancel target) askable = cancel-answered s target
 answered s (command.Update request) askable = update-answered s request askable
 answered s (command.Moment at) askable = moment-answered s at askable
 answered s (command.Conditions conditions) askable = conditions-answered s conditions
-answered s command.Prune askable = record {
+answered s (command.Prune force) askable = record {
   answered = λ may. refl;
-  reached = λ reached. reached-removed s (removable s.works) reached (All-any s.works (λ work is. is));
-  frame = IsLinedIn-quiet command.Prune s _ refl;
+  reached = λ reached. reached-removed s (prunable s force) reached (All-any s.works (λ work is. prunable_removable s force work is));
+  frame = IsLinedIn-quiet (command.Prune force) s _ refl;
 }
 answered s (command.Query query) askable =
     record { answered = λ may. refl; reached = λ reached. reached; frame = IsLinedIn-quiet (command.Query query) s _ refl }

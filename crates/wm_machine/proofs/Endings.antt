@@ -30,13 +30,13 @@ use Rattle.wm_worker.specs.Answers.{GivesData}
 -- ---- which records are reached
 
 -- a work, finished in this way where it is reached
-abbrev pub closed_in : How → ℕ → List Record → Record → Record
-closed_in how seq works work = cond (is_reached seq works work) (closed how work) work
+abbrev pub closed_in : How → ℕ → ℕ → List Record → Record → Record
+closed_in how now seq works work = cond (is_reached seq works work) (closed how now work) work
 
 -- what holds in both cases
-pub closed_both : (P : Record → Type 0) (how : How) (seq : ℕ) (works : List Record) (work : Record) → (is_reached seq works work ≡ true → P (closed how work))
-    → (is_reached seq works work ≡ false → P work) → P (closed_in how seq works work)
-closed_both P how seq works work hit miss = cond_both (is_reached seq works work) (closed how work) work P hit miss
+pub closed_both : (P : Record → Type 0) (how : How) (now seq : ℕ) (works : List Record) (work : Record)
+    → (is_reached seq works work ≡ true → P (closed how now work)) → (is_reached seq works work ≡ false → P work) → P (closed_in how now seq works work)
+closed_both P how now seq works work hit miss = cond_both (is_reached seq works work) (closed how now work) work P hit miss
 
 -- what is reached is unfinished, and a descendant
 pub reached_parts : (seq : ℕ) (works : List Record) (work : Record) → is_reached seq works work ≡ true
@@ -100,19 +100,19 @@ module _ (s : State) (seq : ℕ) (how : How) (then : Record → Record) (keeps :
     (not_yet : AllByRecursion (OfNumber seq (λ work. Succeeded work.phase → ⊥)) s.works)
     (bad : (change : Record → Record) (p : Phase) (prior : List ℕ) → MovesTo s.works change p prior (phase.Done how)) where
   abbrev pub after_closing : Record → Record
-  after_closing work = then (closed_in how seq s.works work)
+  after_closing work = then (closed_in how s.now seq s.works work)
 
   closing-same : (work : Record) → IsSameRequest work (after_closing work)
   closing-same work =
-      let is = (keeps (closed_in how seq s.works work)).same in
-      closed_both (λ w. IsSameRequest w (then w) → IsSameRequest work (then w)) how seq s.works work
+      let is = (keeps (closed_in how s.now seq s.works work)).same in
+      closed_both (λ w. IsSameRequest w (then w) → IsSameRequest work (then w)) how s.now seq s.works work
       (λ e is. record { seq = is.seq; name = is.name; request = is.request; prior = is.prior }) (λ e is. is) is
 
   -- prerequisites that aren't descendants stay open
   each_open : (prior : List ℕ) → (HasOne (λ number. is_descendant seq s.works number ≡ true) prior → ⊥) → AllByRecursion (StaysOpen s.works after_closing) prior
   each_open [] none = tt
   each_open (number ∷ prior) none = (
-    All-any s.works (λ other same opens. closed_both (λ w. MaySucceedOrHas (then w).phase) how seq s.works other
+    All-any s.works (λ other same opens. closed_both (λ w. MaySucceedOrHas (then w).phase) how s.now seq s.works other
         (λ e. absurd (none (inl (subst (λ n. is_descendant seq s.works n ≡ true) same (reached_parts seq s.works other e).1))))
         (λ e. subst MaySucceedOrHas (sym (keeps other).phase_is) opens)),
     each_open prior (λ one. none (inr one)),
@@ -122,15 +122,15 @@ module _ (s : State) (seq : ℕ) (how : How) (then : Record → Record) (keeps :
   closing-moves : (work : Record) → (HasOne (λ number. is_descendant seq s.works number ≡ true) work.prior → is_descendant seq s.works work.seq ≡ true)
       → ArePriorSound s.works work.phase work.prior → MovesTo s.works after_closing work.phase work.prior (after_closing work).phase
   closing-moves work joins sound =
-      closed_both (λ w. MovesTo s.works after_closing work.phase work.prior (then w).phase) how seq s.works work
-      (λ e. subst (MovesTo s.works after_closing work.phase work.prior) (sym (keeps (closed how work)).phase_is) (bad after_closing work.phase work.prior))
+      closed_both (λ w. MovesTo s.works after_closing work.phase work.prior (then w).phase) how s.now seq s.works work
+      (λ e. subst (MovesTo s.works after_closing work.phase work.prior) (sym (keeps (closed how s.now work)).phase_is) (bad after_closing work.phase work.prior))
       (λ e. subst (MovesTo s.works after_closing work.phase work.prior) (sym (keeps work).phase_is)
       (moves-kept s.works after_closing work.phase work.prior sound
       (λ waits. each_open work.prior (λ one. not_reached seq s.works work e (ap is_open waits) (joins one)))))
 
   closing-stays : (work : Record) → Succeeded work.phase → Succeeded (after_closing work).phase
   closing-stays work succeeded =
-      closed_both (λ w. Succeeded (then w).phase) how seq s.works work
+      closed_both (λ w. Succeeded (then w).phase) how s.now seq s.works work
       (λ e. absurd (succeeded-open work.phase succeeded (reached_parts seq s.works work e).0)) (λ e. (keeps work).phase_is ∙ succeeded)
 
   pub IsChange-closing : AllByRecursion (λ work. IsRecord (after_closing work)) s.works → IsChange s.works after_closing
@@ -145,8 +145,8 @@ module _ (s : State) (seq : ℕ) (how : How) (then : Record → Record) (keeps :
   -- of other works just those run that ran before
   pub closing-others : AllByRecursion (λ work. work.seq ≢ seq → KeepsRun work (after_closing work)) s.works
   closing-others =
-      All-weaker s.works (λ work alone differs. closed_both (λ w. KeepsRun work (then w)) how seq s.works work (λ e. record {
-        ran = λ running. absurd (idle-done how (sym (keeps (closed how work)).phase_is ∙ running));
+      All-weaker s.works (λ work alone differs. closed_both (λ w. KeepsRun work (then w)) how s.now seq s.works work (λ e. record {
+        ran = λ running. absurd (idle-done how (sym (keeps (closed how s.now work)).phase_is ∙ running));
         runs = λ running. absurd (differs (alone running (reached_parts seq s.works work e).1));
         attempt = λ running. absurd (differs (alone running (reached_parts seq s.works work e).1));
       }) (λ e. KeepsRun-same work (then work) (keeps work).phase_is (keeps work).attempt))
@@ -156,8 +156,8 @@ module _ (s : State) (seq : ℕ) (how : How) (then : Record → Record) (keeps :
   pub closing-idle : AllByRecursion (OfNumber seq (λ work. is_open work.phase ≡ true)) s.works
       → AllByRecursion (OfNumber seq (λ work. (after_closing work).phase ≡ phase.Done how)) s.works
   closing-idle unfinished =
-      All-with2 s.works (λ work unfinished reached same. closed_both (λ w. (then w).phase ≡ phase.Done how) how seq s.works work
-      (λ e. (keeps (closed how work)).phase_is)
+      All-with2 s.works (λ work unfinished reached same. closed_both (λ w. (then w).phase ≡ phase.Done how) how s.now seq s.works work
+      (λ e. (keeps (closed how s.now work)).phase_is)
       (λ e. absurd (not_reached seq s.works work e (unfinished same) (reached same)))) unfinished (descendant_self seq s.works)
 
   -- a work that is left was left before
@@ -166,11 +166,11 @@ module _ (s : State) (seq : ℕ) (how : How) (then : Record → Record) (keeps :
       All-any s.works (λ work.
       elim (cases_Bool (is_reached seq s.works work)) [
         | inl e ↦
-            let closed_is : after_closing work ≡ then (closed how work) = ap (λ b. then (cond b (closed how work) work)) e in
+            let closed_is : after_closing work ≡ then (closed how s.now work) = ap (λ b. then (cond b (closed how s.now work) work)) e in
             left-gone s.now s.works after_closing work (left-idle s.now (map after_closing s.works) (after_closing work)
-            (ap is_waiting (ap (λ (w : Record). w.phase) closed_is ∙ (keeps (closed how work)).phase_is)))
+            (ap is_waiting (ap (λ (w : Record). w.phase) closed_is ∙ (keeps (closed how s.now work)).phase_is)))
         | inr e ↦
-            let kept_is : after_closing work ≡ then work = ap (λ b. then (cond b (closed how work) work)) e in
+            let kept_is : after_closing work ≡ then work = ap (λ b. then (cond b (closed how s.now work) work)) e in
             left-kept s.now s.works after_closing is work (ap (λ (w : Record). w.phase) kept_is ∙ (keeps work).phase_is) (ap due_of kept_is ∙ (keeps work).due)
       ])
 
@@ -187,10 +187,10 @@ one_time_descendant seq works work own reason is reached =
 
 -- what fails with its outputs as they are, or as another change that keeps them Data makes them
 pub fits-failed : (s : State) (seq : ℕ) (then : Record → Record) → Valid s → AllByRecursion (OfNumber seq (λ work. work.request.period ≡ None)) s.works
-    → ((work : Record) → IsRecord work → work.request.period ≡ None → IsRecord (then (closed how.Failed work)))
+    → ((work : Record) → IsRecord work → work.request.period ≡ None → IsRecord (then (closed how.Failed s.now work)))
     → ((work : Record) → (work.seq ≡ seq → ⊥) → IsRecord work → IsRecord (then work))
     → AllByRecursion (OfNumber seq (λ work. is_open work.phase ≡ true)) s.works
-    → AllByRecursion (λ work. IsRecord (then (closed_in how.Failed seq s.works work))) s.works
+    → AllByRecursion (λ work. IsRecord (then (closed_in how.Failed s.now seq s.works work))) s.works
 fits-failed s seq then valid one_time failed others unfinished =
     let kind : AllByRecursion (λ work. IsRecord work → is_reached seq s.works work ≡ true → work.request.period ≡ None) s.works =
     All-with2 s.works (λ work own reason. one_time_descendant seq s.works work own reason) one_time
@@ -198,7 +198,7 @@ fits-failed s seq then valid one_time failed others unfinished =
     let not : AllByRecursion (λ work. is_reached seq s.works work ≡ false → work.seq ≡ seq → ⊥) s.works =
     All-with2 s.works (λ work unfinished reached e same. not_reached seq s.works work e (unfinished same) (reached same)) unfinished
     (descendant_self seq s.works) in
-    All-with3 s.works (λ work fine kind not. closed_both (λ w. IsRecord (then w)) how.Failed seq s.works work (λ e. failed work fine (kind fine e))
+    All-with3 s.works (λ work fine kind not. closed_both (λ w. IsRecord (then w)) how.Failed s.now seq s.works work (λ e. failed work fine (kind fine e))
     (λ e. others work (not e) fine)) valid.works.records kind not
 
 -- ---- a success
@@ -214,7 +214,7 @@ freed_both P now seq works work hit miss = cond_both (is_freed seq works work) (
 
 -- a work that succeeds with this output, and those that are freed by it
 abbrev pub success : ℕ → ℕ → List DataEntry → List Record → Record → Record
-success now seq output works work = freed_in now seq (changed_work (succeeded output) seq works) (changed (succeeded output) seq work)
+success now seq output works work = freed_in now seq (changed_work (succeeded now output) seq works) (changed (succeeded now output) seq work)
 
 -- ---- the changes
 
@@ -223,11 +223,11 @@ abbrev pub end_by : ℕ → ℕ → Option Period → End → List Record → Re
 end_by now seq period Retry works work = changed (retried now) seq work
 end_by now seq (Some period) _ works work = changed (enqueued_again now) seq work
 end_by now seq None (Success output) works work = success now seq output works work
-end_by now seq None (Failure output) works work = changed (with_output output) seq (closed_in how.Failed seq works work)
+end_by now seq None (Failure output) works work = changed (with_output output) seq (closed_in how.Failed now seq works work)
 
 -- the change that a failed start makes of each record
 abbrev pub not_started_by : ℕ → ℕ → Option Period → List Record → Record → Record
-not_started_by now seq None works work = closed_in how.Failed seq works work
+not_started_by now seq None works work = closed_in how.Failed now seq works work
 not_started_by now seq (Some period) works work = changed (enqueued_again now) seq work
 
 pub works_after_end-map : (now seq : ℕ) (period : Option Period) (end : End) (works : List Record)
@@ -236,8 +236,8 @@ works_after_end-map now seq period Retry works = refl
 works_after_end-map now seq (Some period) (Success output) works = refl
 works_after_end-map now seq (Some period) (Failure output) works = refl
 works_after_end-map now seq None (Success output) works =
-    map-twice (changed (succeeded output) seq) (freed_in now seq (changed_work (succeeded output) seq works)) works
-works_after_end-map now seq None (Failure output) works = map-twice (closed_in how.Failed seq works) (changed (with_output output) seq) works
+    map-twice (changed (succeeded now output) seq) (freed_in now seq (changed_work (succeeded now output) seq works)) works
+works_after_end-map now seq None (Failure output) works = map-twice (closed_in how.Failed now seq works) (changed (with_output output) seq) works
 
 pub works_not_started-map : (now seq : ℕ) (period : Option Period) (works : List Record)
     → works_not_started now seq period works ≡ map (not_started_by now seq period works) works
@@ -287,16 +287,16 @@ success_left : (now seq : ℕ) (output : List DataEntry) (works : List Record) �
     → AllByRecursion (OfNumber seq (λ work. Succeeded work.phase → ⊥)) works → (work : Record) → IsOldLeft now works (success now seq output works) work
 success_left now seq output works is not_yet work =
     let all = success now seq output works in
-    let then = changed_work (succeeded output) seq works in
+    let then = changed_work (succeeded now output) seq works in
     elim (cases_Bool (eqb work.seq seq)) [
       | inl e ↦
-          let here : changed (succeeded output) seq work ≡ succeeded output work = ap (λ b. cond b (succeeded output work) work) e in
+          let here : changed (succeeded now output) seq work ≡ succeeded now output work = ap (λ b. cond b (succeeded now output work) work) e in
           let done : is_waiting (all work).phase ≡ false =
-          freed_both (λ w. is_waiting w.phase ≡ false) now seq then (changed (succeeded output) seq work)
+          freed_both (λ w. is_waiting w.phase ≡ false) now seq then (changed (succeeded now output) seq work)
           (λ f. ap (λ (w : Record). is_waiting w.phase) here) (λ f. ap (λ (w : Record). is_waiting w.phase) here) in
           left-gone now works all work (left-idle now (map all works) (all work) done)
       | inr e ↦
-          let here : changed (succeeded output) seq work ≡ work = ap (λ b. cond b (succeeded output work) work) e in
+          let here : changed (succeeded now output) seq work ≡ work = ap (λ b. cond b (succeeded now output work) work) e in
           elim (cases_Bool (is_freed seq then work)) [
             | inl f ↦ λ left.
                 let parts = and_parts (is_waiting work.phase) (is_among work.prior seq && all_met then work) f in
@@ -364,13 +364,13 @@ module _ (s : State) (run : Run) (valid : Valid s)
 
   -- the running work is one-time, and fails
   has_failed : (output : List DataEntry) → IsData output → AllByRecursion (OfNumber run.seq (λ work. work.request.period ≡ None)) s.works
-      → HasEnded s run (λ work. changed (with_output output) run.seq (closed_in how.Failed run.seq s.works work))
+      → HasEnded s run (λ work. changed (with_output output) run.seq (closed_in how.Failed s.now run.seq s.works work))
   has_failed output gave one_time =
       let then = changed (with_output output) run.seq in
       let fits =
       fits-failed s run.seq then valid one_time
-      (λ work is kind. changed_both IsRecord (with_output output) run.seq (closed how.Failed work) (λ e. IsRecord-failed output work gave kind is)
-      (λ differs. IsRecord-failed work.output work (IsData-output work is) kind is))
+      (λ work is kind. changed_both IsRecord (with_output output) run.seq (closed how.Failed s.now work) (λ e. IsRecord-failed s.now output work valid.now gave kind is)
+      (λ differs. IsRecord-failed s.now work.output work valid.now (IsData-output work is) kind is))
       (λ work differs is. changed_both IsRecord (with_output output) run.seq work (λ e. absurd (differs e)) (λ no. is)) running_open in
       let is = IsChange-closing s run.seq how.Failed then (KeepsShape-output output run.seq) valid running_not_yet (λ change p prior. tt) fits in
       record {
@@ -388,15 +388,15 @@ module _ (s : State) (run : Run) (valid : Valid s)
       → HasEnded s run (success s.now run.seq output s.works)
   has_success output below gave one_time =
       let seq = run.seq in
-      let one = changed (succeeded output) seq in
-      let then = changed_work (succeeded output) seq s.works in
+      let one = changed (succeeded s.now output) seq in
+      let then = changed_work (succeeded s.now output) seq s.works in
       let all = success s.now seq output s.works in
       let phase_is : (work : Record) → (all work).phase ≡ (one work).phase =
       λ work. freed_both (λ w. w.phase ≡ (one work).phase) s.now seq then (one work) (λ e. refl) (λ e. refl) in
       let first =
-      IsChange-one s.works seq (succeeded output) (λ work. record { seq = refl; name = λ text is. is; request = refl; prior = refl }) valid.works.records
+      IsChange-one s.works seq (succeeded s.now output) (λ work. record { seq = refl; name = λ text is. is; request = refl; prior = refl }) valid.works.records
       valid.works.sound
-      (All-with3 s.works (λ work runs kind fine e. IsRecord-succeeded output work gave (runs e) (kind e) fine) running one_time valid.works.records)
+      (All-with3 s.works (λ work runs kind fine e. IsRecord-succeeded s.now output work below gave (runs e) (kind e) fine) running one_time valid.works.records)
       (All-with2 s.works (λ work runs sound e. succeeded_each s.works work.prior valid.works.in_order
       (running_prior s.works work.phase work.prior (runs e) sound)) running valid.works.sound) running_not_yet (All-any s.works (λ work e. tt)) in
       let is =
@@ -409,12 +409,12 @@ module _ (s : State) (run : Run) (valid : Valid s)
       record {
         ending = record {
           is_change = is;
-          idle = All-any s.works (λ work same runs. changed_both (λ c. c.phase ≡ phase.Running → ⊥) (succeeded output) seq work
+          idle = All-any s.works (λ work same runs. changed_both (λ c. c.phase ≡ phase.Running → ⊥) (succeeded s.now output) seq work
               (λ e ran. idle-done how.Succeeded ran) (λ differs. absurd (differs same)) (sym (phase_is work) ∙ runs));
           others = All-weaker s.works (λ work keeps differs.
               let kept = keeps differs in
               freed_both (KeepsRun work) s.now seq then (one work) (λ e. record { ran = kept.ran; runs = kept.runs; attempt = kept.attempt }) (λ e. kept))
-              (others_same seq (succeeded output) s.works);
+              (others_same seq (succeeded s.now output) s.works);
         };
         old = All-any s.works (success_left s.now seq output s.works is running_not_yet);
       }

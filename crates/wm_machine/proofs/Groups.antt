@@ -31,42 +31,42 @@ descendants-map seq change [] numbers priors = refl
 descendants-map seq change (work ∷ earlier) numbers priors = rw (numbers work, priors work, descendants-map seq change earlier numbers priors) refl
 
 -- after a closing a work reaches no other records than before, but those that are finished then
-reached-same : (how : How) (seq other : ℕ) (works : List Record) (work : Record)
-    → is_reached other (with_closed how seq works) work ≡ is_reached other works work
+reached-same : (how : How) (now seq other : ℕ) (works : List Record) (work : Record)
+    → is_reached other (with_closed how now seq works) work ≡ is_reached other works work
 unfolding is_reached
-reached-same how seq other works work =
-    let change = closed_in how seq works in
-    let numbers = λ (w : Record). closed_both (λ c. c.seq ≡ w.seq) how seq works w (λ e. refl) (λ e. refl) in
-    let priors = λ (w : Record). closed_both (λ c. c.prior ≡ w.prior) how seq works w (λ e. refl) (λ e. refl) in
+reached-same how now seq other works work =
+    let change = closed_in how now seq works in
+    let numbers = λ (w : Record). closed_both (λ c. c.seq ≡ w.seq) how now seq works w (λ e. refl) (λ e. refl) in
+    let priors = λ (w : Record). closed_both (λ c. c.prior ≡ w.prior) how now seq works w (λ e. refl) (λ e. refl) in
     ap (λ found. is_open work.phase && is_among found work.seq)
     (ap (descendants other) (sym (map-reverse change works)) ∙ descendants-map other change (reverse works) numbers priors)
 
 -- what is finished isn't reached
-reached-closed_one : (how : How) (other : ℕ) (works : List Record) (work : Record) → is_reached other works (closed how work) ≡ false
+reached-closed_one : (how : How) (now other : ℕ) (works : List Record) (work : Record) → is_reached other works (closed how now work) ≡ false
 unfolding is_reached
-reached-closed_one how other works work = refl
+reached-closed_one how now other works work = refl
 
 -- what is reached after a closing was reached before it
-reached_before : (how : How) (seq other : ℕ) (works : List Record) (work : Record)
-    → is_reached other (with_closed how seq works) (closed_in how seq works work) ≡ true → is_reached other works work ≡ true
-reached_before how seq other works work =
-    closed_both (λ c. is_reached other (with_closed how seq works) c ≡ true → is_reached other works work ≡ true) how seq works work
-    (λ e is. absurd (true≢false (sym is ∙ reached-closed_one how other (with_closed how seq works) work)))
-    (λ e is. sym (reached-same how seq other works work) ∙ is)
+reached_before : (how : How) (now seq other : ℕ) (works : List Record) (work : Record)
+    → is_reached other (with_closed how now seq works) (closed_in how now seq works work) ≡ true → is_reached other works work ≡ true
+reached_before how now seq other works work =
+    closed_both (λ c. is_reached other (with_closed how now seq works) c ≡ true → is_reached other works work ≡ true) how now seq works work
+    (λ e is. absurd (true≢false (sym is ∙ reached-closed_one how now other (with_closed how now seq works) work)))
+    (λ e is. sym (reached-same how now seq other works work) ∙ is)
 
 -- nor does it reach other runs than before, but those of what is finished then
-run_reached_after : (how : How) (seq other : ℕ) (works : List Record) (run : Run) → is_run_reached seq works run ≡ false
-    → is_run_reached other (with_closed how seq works) run ≡ is_run_reached other works run
-run_reached_after how seq other works run none =
-    let then = with_closed how seq works in
-    list_any_after (λ work. eqb work.seq run.seq && is_reached other then work) (closed_in how seq works) works
-    ∙ list_any-agree (λ work. eqb (closed_in how seq works work).seq run.seq && is_reached other then (closed_in how seq works work))
+run_reached_after : (how : How) (now seq other : ℕ) (works : List Record) (run : Run) → is_run_reached seq works run ≡ false
+    → is_run_reached other (with_closed how now seq works) run ≡ is_run_reached other works run
+run_reached_after how now seq other works run none =
+    let then = with_closed how now seq works in
+    list_any_after (λ work. eqb work.seq run.seq && is_reached other then work) (closed_in how now seq works) works
+    ∙ list_any-agree (λ work. eqb (closed_in how now seq works work).seq run.seq && is_reached other then (closed_in how now seq works work))
     (λ work. eqb work.seq run.seq && is_reached other works work) works (All-weaker works (λ work fails.
     elim (cases_Bool (is_reached seq works work)) [
       | inl e ↦
           let apart : eqb work.seq run.seq ≡ false = left_fails (eqb work.seq run.seq) (is_reached seq works work) e fails in
           rw (e, apart) refl
-      | inr e ↦ rw e (ap (λ b. eqb work.seq run.seq && b) (reached-same how seq other works work))
+      | inr e ↦ rw e (ap (λ b. eqb work.seq run.seq && b) (reached-same how now seq other works work))
     ]) (none_pass (λ work. eqb work.seq run.seq && is_reached seq works work) works none))
   where
     left_fails : (one other : Bool) → other ≡ true → (one && other) ≡ false → one ≡ false
@@ -76,10 +76,10 @@ run_reached_after how seq other works run none =
 -- ---- cancelling one after another
 
 -- what hasn't succeeded hasn't after a cancelling
-not_yet_later : (seq : ℕ) (works : List Record) (other : ℕ) → HasNotSucceeded works other → HasNotSucceeded (with_closed how.Cancelled seq works) other
-not_yet_later seq works other not_yet =
-    All-map _ (closed_in how.Cancelled seq works) works (λ work not.
-    closed_both (OfNumber other (λ w. Succeeded w.phase → ⊥)) how.Cancelled seq works work (λ e same succeeded. absurd (cc)) (λ e. not)) not_yet
+not_yet_later : (now seq : ℕ) (works : List Record) (other : ℕ) → HasNotSucceeded works other → HasNotSucceeded (with_closed how.Cancelled now seq works) other
+not_yet_later now seq works other not_yet =
+    All-map _ (closed_in how.Cancelled now seq works) works (λ work not.
+    closed_both (OfNumber other (λ w. Succeeded w.phase → ⊥)) how.Cancelled now seq works work (λ e same succeeded. absurd (cc)) (λ e. not)) not_yet
 
 -- a state in which none of these has succeeded, once they are cancelled
 pub Valid-works_closed : (seqs : List ℕ) (s : State) → Valid s → AllByRecursion (HasNotSucceeded s.works) seqs
@@ -87,40 +87,41 @@ pub Valid-works_closed : (seqs : List ℕ) (s : State) → Valid s → AllByRecu
 Valid-works_closed [] s valid not_yet = valid
 Valid-works_closed (seq ∷ seqs) s valid not_yet =
     Valid-works_closed seqs (with_work_closed how.Cancelled seq s) (Valid-work_closed s seq valid not_yet.0)
-    (All-weaker seqs (λ other not. not_yet_later seq s.works other not) not_yet.1)
+    (All-weaker seqs (λ other not. not_yet_later s.now seq s.works other not) not_yet.1)
 
 -- a record, closed where one of these works reaches it
-abbrev pub closed_by : How → List ℕ → List Record → Record → Record
-closed_by how seqs works work = cond (list_any (λ seq. is_reached seq works work) seqs) (closed how work) work
+abbrev pub closed_by : How → ℕ → List ℕ → List Record → Record → Record
+closed_by how now seqs works work = cond (list_any (λ seq. is_reached seq works work) seqs) (closed how now work) work
 
-closed_then : (how : How) (seq : ℕ) (seqs : List ℕ) (works : List Record) (work : Record)
-    → closed_by how seqs (with_closed how seq works) (closed_in how seq works work) ≡ closed_by how (seq ∷ seqs) works work
-closed_then how seq seqs works work =
-    let then = with_closed how seq works in
+closed_then : (how : How) (now seq : ℕ) (seqs : List ℕ) (works : List Record) (work : Record)
+    → closed_by how now seqs (with_closed how now seq works) (closed_in how now seq works work) ≡ closed_by how now (seq ∷ seqs) works work
+closed_then how now seq seqs works work =
+    let then = with_closed how now seq works in
     elim (cases_Bool (is_reached seq works work)) [
       | inl e ↦
-          let none = list_any-false (λ other. is_reached other then (closed how work)) seqs (All-any seqs (λ other. reached-closed_one how other then work)) in
-          let left : closed_by how seqs then (closed_in how seq works work) ≡ closed_by how seqs then (closed how work) =
-          ap (λ b. closed_by how seqs then (cond b (closed how work) work)) e in
-          left ∙ ap (λ b. cond b (closed how (closed how work)) (closed how work)) none
-          ∙ sym (ap (λ b. cond (b || list_any (λ other. is_reached other works work) seqs) (closed how work) work) e)
+          let none = list_any-false (λ other. is_reached other then (closed how now work)) seqs (All-any seqs (λ other. reached-closed_one how now other then work)) in
+          let left : closed_by how now seqs then (closed_in how now seq works work) ≡ closed_by how now seqs then (closed how now work) =
+          ap (λ b. closed_by how now seqs then (cond b (closed how now work) work)) e in
+          left ∙ ap (λ b. cond b (closed how now (closed how now work)) (closed how now work)) none
+          ∙ sym (ap (λ b. cond (b || list_any (λ other. is_reached other works work) seqs) (closed how now work) work) e)
       | inr e ↦
-          let left : closed_by how seqs then (closed_in how seq works work) ≡ closed_by how seqs then work =
-          ap (λ b. closed_by how seqs then (cond b (closed how work) work)) e in
-          left ∙ ap (λ b. cond b (closed how work) work) (list_any-agree (λ other. is_reached other then work) (λ other. is_reached other works work) seqs
-          (All-any seqs (λ other. reached-same how seq other works work)))
-          ∙ sym (ap (λ b. cond (b || list_any (λ other. is_reached other works work) seqs) (closed how work) work) e)
+          let left : closed_by how now seqs then (closed_in how now seq works work) ≡ closed_by how now seqs then work =
+          ap (λ b. closed_by how now seqs then (cond b (closed how now work) work)) e in
+          left ∙ ap (λ b. cond b (closed how now work) work) (list_any-agree (λ other. is_reached other then work) (λ other. is_reached other works work) seqs
+          (All-any seqs (λ other. reached-same how now seq other works work)))
+          ∙ sym (ap (λ b. cond (b || list_any (λ other. is_reached other works work) seqs) (closed how now work) work) e)
     ]
 
 -- works that are closed one after another are closed at once: each record that one of them reaches
-pub works_closed-at_once : (how : How) (seqs : List ℕ) (s : State) → (with_works_closed how seqs s).works ≡ map (closed_by how seqs s.works) s.works
+pub works_closed-at_once : (how : How) (seqs : List ℕ) (s : State) → (with_works_closed how seqs s).works ≡ map (closed_by how s.now seqs s.works) s.works
 works_closed-at_once how [] s = sym (map-id s.works)
 works_closed-at_once how (seq ∷ seqs) s =
     let works = s.works in
-    let then = with_closed how seq works in
-    works_closed-at_once how seqs (with_work_closed how seq s) ∙ map-twice (closed_in how seq works) (closed_by how seqs then) works
-    ∙ map-same (λ work. closed_by how seqs then (closed_in how seq works work)) (closed_by how (seq ∷ seqs) works) works (All-any works
-    (λ work. closed_then how seq seqs works work))
+    let now = s.now in
+    let then = with_closed how now seq works in
+    works_closed-at_once how seqs (with_work_closed how seq s) ∙ map-twice (closed_in how now seq works) (closed_by how now seqs then) works
+    ∙ map-same (λ work. closed_by how now seqs then (closed_in how now seq works work)) (closed_by how now (seq ∷ seqs) works) works (All-any works
+    (λ work. closed_then how now seq seqs works work))
 
 -- ---- the runs that are stopped then
 
@@ -134,7 +135,8 @@ pub runs_closed-at_once : (how : How) (seqs : List ℕ) (s : State)
 runs_closed-at_once how [] s = sym (with_stopped-none s.runs)
 runs_closed-at_once how (seq ∷ seqs) s =
     let works = s.works in
-    let then = with_closed how seq works in
+    let now = s.now in
+    let then = with_closed how now seq works in
     let first = is_run_reached seq works in
     let after = λ (run : Run). first run || is_any_run_reached seqs then run in
     let both = λ (run : Run). first run || is_any_run_reached seqs works run in
@@ -146,16 +148,16 @@ runs_closed-at_once how (seq ∷ seqs) s =
           ∙ sym (ap (λ b. cond (b || is_any_run_reached seqs works run) (stopped run) run) e)
       | inr e ↦
           ap (λ b. cond (first run || b) (stopped run) run) (list_any-agree (λ other. is_run_reached other then run) (λ other. is_run_reached other works run) seqs
-          (All-any seqs (λ other. run_reached_after how seq other works run e)))
+          (All-any seqs (λ other. run_reached_after how now seq other works run e)))
     ]))
 
 -- and all else stays
 pub works_closed-is : (how : How) (seqs : List ℕ) (s : State) → with_works_closed how seqs s
-    ≡ record s { works = map (closed_by how seqs s.works) s.works; runs = with_stopped (is_any_run_reached seqs s.works) s.runs }
+    ≡ record s { works = map (closed_by how s.now seqs s.works) s.works; runs = with_stopped (is_any_run_reached seqs s.works) s.runs }
 works_closed-is how seqs s =
     but_two how seqs s
     ∙ ap (λ (works : List Record). record s { works = works; runs = (with_works_closed how seqs s).runs }) (works_closed-at_once how seqs s)
-    ∙ ap (λ (runs : List Run). record s { works = map (closed_by how seqs s.works) s.works; runs = runs }) (runs_closed-at_once how seqs s)
+    ∙ ap (λ (runs : List Run). record s { works = map (closed_by how s.now seqs s.works) s.works; runs = runs }) (runs_closed-at_once how seqs s)
   where
     but_two : (how : How) (seqs : List ℕ) (s : State)
         → with_works_closed how seqs s ≡ record s { works = (with_works_closed how seqs s).works; runs = (with_works_closed how seqs s).runs }
@@ -227,12 +229,12 @@ next-made_ready s placing = ap (λ (t : State). t.next) (works_closed-is how.Can
 
 -- ---- what holds of the records then
 
-All-works_closed : (P : Record → Type 0) (how : How) (seqs : List ℕ) (s : State) → ((work : Record) → P work → P (closed how work))
+All-works_closed : (P : Record → Type 0) (how : How) (seqs : List ℕ) (s : State) → ((work : Record) → P work → P (closed how s.now work))
     → AllByRecursion P s.works → AllByRecursion P (with_works_closed how seqs s).works
 All-works_closed P how [] s keeps all = all
 All-works_closed P how (seq ∷ seqs) s keeps all =
     All-works_closed P how seqs (with_work_closed how seq s) keeps
-    (All-map _ (closed_in how seq s.works) s.works (λ work p. closed_both P how seq s.works work (λ e. keeps work p) (λ e. p)) all)
+    (All-map _ (closed_in how s.now seq s.works) s.works (λ work p. closed_both P how s.now seq s.works work (λ e. keeps work p) (λ e. p)) all)
 
 All-let_go : (P Q : Record → Type 0) (numbers : List ℕ) (works : List Record)
     → ((work : Record) → is_among numbers work.seq ≡ true → P work → Q (record work { name = None }))
@@ -243,7 +245,7 @@ All-let_go P Q numbers works taken left all =
     (All-filter (λ work. not (is_dropped numbers works work)) works (λ work e p. p) all)
 
 -- what holds of each record of a state, and lasts where one is closed, holds of each that is made ready, or what follows from it
-pub All-made_ready : (P Q : Record → Type 0) (s : State) (placing : Placing) → ((work : Record) → P work → P (closed how.Cancelled work))
+pub All-made_ready : (P Q : Record → Type 0) (s : State) (placing : Placing) → ((work : Record) → P work → P (closed how.Cancelled s.now work))
     → ((work : Record) → is_among placing.let_go work.seq ≡ true → P work → Q (record work { name = None }))
     → ((work : Record) → is_among placing.let_go work.seq ≡ false → P work → Q work) → AllByRecursion P s.works → AllByRecursion Q (made_ready s placing).works
 All-made_ready P Q s placing keeps taken left all =
@@ -253,7 +255,7 @@ All-made_ready P Q s placing keeps taken left all =
 length-works_closed : (how : How) (seqs : List ℕ) (s : State) → length (with_works_closed how seqs s).works ≡ length s.works
 length-works_closed how [] s = refl
 length-works_closed how (seq ∷ seqs) s =
-    length-works_closed how seqs (with_work_closed how seq s) ∙ length-map s.works (closed_in how seq s.works)
+    length-works_closed how seqs (with_work_closed how seq s) ∙ length-map s.works (closed_in how s.now seq s.works)
 
 -- there are no more records than before
 pub length-made_ready : (s : State) (placing : Placing) → length (made_ready s placing).works ≤ length s.works

@@ -9,6 +9,7 @@ pub mod EndedRuns
 pub mod Endings
 pub mod Enqueues
 pub mod Finishes
+pub mod FinishMoments
 pub mod Firsts
 pub mod Groups
 pub mod Inputs

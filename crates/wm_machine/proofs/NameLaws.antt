@@ -84,7 +84,7 @@ stays_closed : (seqs : List ℕ) (s : State) (work : Record) → list_any (λ se
     → IsStored (with_works_closed how.Cancelled seqs s).works work
 stays_closed seqs s work none stored =
     subst (λ (then : List Record). IsStored then work) (sym (works_closed-at_once how.Cancelled seqs s))
-    (stays_changed (closed_by how.Cancelled seqs s.works) s.works work (ap (λ b. cond b (closed how.Cancelled work) work) none) stored)
+    (stays_changed (closed_by how.Cancelled s.now seqs s.works) s.works work (ap (λ b. cond b (closed how.Cancelled s.now work) work) none) stored)
 
 stays_let_go : (numbers : List ℕ) (works : List Record) (work : Record) → is_among numbers work.seq ≡ false → IsStored works work
     → IsStored (with_let_go numbers works) work

@@ -9,7 +9,7 @@ use Rattle.wm_collections.specs.Lists.{AllLater, HasOne}
 use Rattle.wm_collections.proofs.Lists.{All-append, All-filter, All-map, All-stored, All-weaker, All-with2, All-with3, AllLater-append, AllLater-few, HasOne-weaker, HasOne-with, none_pass, one_gives}
 use Rattle.wm_machine.proofs.Records.{IsData-empty, IsRequest-of_record, no_override}
 use Rattle.wm_machine.proofs.Runnings.{all_of_number}
-use Rattle.wm_machine.specs.Enqueued.{any_in, count_prior, first_phase, is_cancelled, is_failed, new_record, numbers_of, prior_of}
+use Rattle.wm_machine.specs.Enqueued.{any_in, count_prior, first_finished_at, first_phase, is_cancelled, is_failed, new_record, numbers_of, prior_of}
 use Rattle.wm_machine.specs.Valid.{ArePrior, ArePriorSound, IsAttemptIn, IsBefore, IsFinishedIn, IsOfKind, MaySucceedOrHas, IsOutputIn, IsPeriodicPhase, IsProgressIn, IsRecord, Valid}
 use Rattle.wm_machine.specs.declared.record.How.TheVariants as how
 use Rattle.wm_machine.specs.Types.{Node, Period, Phase, Record, State}
@@ -223,6 +223,18 @@ kind-placed (Some period) s name prior node kind is =
       no_prerequisite = none;
     }
 
+-- what is finished as soon as it is placed has finished at this moment
+finished-placed : (p : Phase) (now : ℕ) → IsFinishedIn p (first_finished_at p now)
+finished-placed phase.Waiting now = refl
+finished-placed phase.Running now = refl
+finished-placed (phase.Done how) now = tt
+
+-- which is within its limit
+finished-fits : (p : Phase) (now : ℕ) → now < 2 ^ 53 → first_finished_at p now < 2 ^ 53
+finished-fits phase.Waiting now below = omega arith
+finished-fits phase.Running now below = omega arith
+finished-fits (phase.Done how) now below = below
+
 pub IsRecord-placed : (s : State) (name : Option (List ℕ)) (prior : List ℕ) (node : Node) → Valid s → s.next + 1 ≤ 2 ^ 53 → IfSome name IsShortText
     → IsPlaceable s prior node → IsRecord (new_record s name prior node)
 IsRecord-placed s name prior node valid room short is =
@@ -236,7 +248,7 @@ IsRecord-placed s name prior node valid room short is =
         generation = omega arith;
         enqueued_at = valid.now;
         override_at = tt;
-        finished_at = omega arith;
+        finished_at = finished-fits (first_phase s.works prior) s.now valid.now;
       };
       name = short;
       request = IsRequest-of_record node.request.id node.request.keep node.request is.request.id is.request.within.keep_is is.request;
@@ -248,7 +260,7 @@ IsRecord-placed s name prior node valid room short is =
       kind = kind-placed node.request.period s name prior node refl is;
       leaves = refl;
       override_at = no_override node.request.period;
-      finished_at = first_phase-both (λ p. IsFinishedIn p 0) s.works prior tt tt (λ e f. refl);
+      finished_at = finished-placed (first_phase s.works prior) s.now;
       output = first_phase-both (λ p. IsOutputIn p []) s.works prior IsData-empty refl (λ e f. refl);
       progress = first_phase-both (λ p. IsProgressIn p []) s.works prior refl refl (λ e f. refl);
     }

@@ -131,6 +131,17 @@ moments-now at work now below enqueued override finished unfinished phase_is is 
   finished_fits = rw finished is.fits.finished_at;
 }
 
+-- a change that has it finished at this moment
+moments-done : (at : ℕ) (work now : Record) → at < 2 ^ 53 → now.enqueued_at ≡ work.enqueued_at → now.override_at ≡ work.override_at → now.finished_at ≡ at
+    → IsFinishedIn now.phase at → IsRecord work → AreMomentsWithin work now
+moments-done at work now below enqueued override finished phase_is is = record {
+  enqueued_at = rw enqueued is.fits.enqueued_at;
+  override_at = rw override is.override_at;
+  override_fits = rw override is.fits.override_at;
+  finished_at = rw finished phase_is;
+  finished_fits = rw finished below;
+}
+
 -- what is of a kind stays so, where it is put into a phase of that kind
 IsOfKind-kept : (period : Option Period) (work changed : Record) → IsPeriodicPhase changed.phase → changed.runs ≡ work.runs → changed.output ≡ work.output
     → changed.prior ≡ work.prior → IsOfKind period work → IsOfKind period changed
@@ -219,17 +230,17 @@ IsRecord-freed now work below is =
     })
 
 -- a one-time work that fails, with what it gave
-pub IsRecord-failed : (output : List DataEntry) (work : Record) → IsData output → work.request.period ≡ None → IsRecord work
-    → IsRecord (with_output output (closed how.Failed work))
-IsRecord-failed output work gave one_time is =
-    IsRecord-kept work (with_output output (closed how.Failed work)) refl is (record {
+pub IsRecord-failed : (now : ℕ) (output : List DataEntry) (work : Record) → now < 2 ^ 53 → IsData output → work.request.period ≡ None → IsRecord work
+    → IsRecord (with_output output (closed how.Failed now work))
+IsRecord-failed now output work below gave one_time is =
+    IsRecord-kept work (with_output output (closed how.Failed now work)) refl is (record {
       name = is.name;
-      moments = moments-kept work (with_output output (closed how.Failed work)) refl refl refl tt is;
+      moments = moments-done now work (with_output output (closed how.Failed now work)) below refl refl refl tt is;
       attempt = is.attempt;
       started = tt;
       backoff_n = is.backoff_n;
       runs = is.runs;
-      kind = IsOfKind-one_time work (with_output output (closed how.Failed work)) one_time refl is.kind;
+      kind = IsOfKind-one_time work (with_output output (closed how.Failed now work)) one_time refl is.kind;
       output = gave;
       progress = refl;
     })
@@ -241,32 +252,32 @@ output-open phase.Running output unfinished is = is
 output-open (phase.Done how) output unfinished is = absurd (false≢true unfinished)
 
 -- an unfinished work that is cancelled
-pub IsRecord-cancelled : (work : Record) → is_open work.phase ≡ true → IsRecord work → IsRecord (closed how.Cancelled work)
-IsRecord-cancelled work unfinished is =
-    IsRecord-kept work (closed how.Cancelled work) refl is (record {
+pub IsRecord-cancelled : (now : ℕ) (work : Record) → now < 2 ^ 53 → is_open work.phase ≡ true → IsRecord work → IsRecord (closed how.Cancelled now work)
+IsRecord-cancelled now work below unfinished is =
+    IsRecord-kept work (closed how.Cancelled now work) refl is (record {
       name = is.name;
-      moments = moments-kept work (closed how.Cancelled work) refl refl refl tt is;
+      moments = moments-done now work (closed how.Cancelled now work) below refl refl refl tt is;
       attempt = is.attempt;
       started = tt;
       backoff_n = is.backoff_n;
       runs = is.runs;
-      kind = IsOfKind-kept work.request.period work (closed how.Cancelled work) tt refl refl refl is.kind;
+      kind = IsOfKind-kept work.request.period work (closed how.Cancelled now work) tt refl refl refl is.kind;
       output = output-open work.phase work.output unfinished is.output;
       progress = refl;
     })
 
 -- a one-time work that succeeds
-pub IsRecord-succeeded : (output : List DataEntry) (work : Record) → IsData output → work.phase ≡ phase.Running → work.request.period ≡ None → IsRecord work
-    → IsRecord (succeeded output work)
-IsRecord-succeeded output work gave running one_time is =
-    IsRecord-kept work (succeeded output work) refl is (record {
+pub IsRecord-succeeded : (now : ℕ) (output : List DataEntry) (work : Record) → now < 2 ^ 53 → IsData output → work.phase ≡ phase.Running → work.request.period ≡ None → IsRecord work
+    → IsRecord (succeeded now output work)
+IsRecord-succeeded now output work below gave running one_time is =
+    IsRecord-kept work (succeeded now output work) refl is (record {
       name = is.name;
-      moments = moments-kept work (succeeded output work) refl refl refl tt is;
+      moments = moments-done now work (succeeded now output work) below refl refl refl tt is;
       attempt = is.attempt;
       started = subst (λ phase. IsAttemptIn phase work.attempt) running is.started;
       backoff_n = is.backoff_n;
       runs = is.runs;
-      kind = IsOfKind-one_time work (succeeded output work) one_time refl is.kind;
+      kind = IsOfKind-one_time work (succeeded now output work) one_time refl is.kind;
       output = gave;
       progress = refl;
     })

@@ -1,11 +1,11 @@
 -- What holds of a state from which finished records that no unfinished one needs are removed.
-use Rattle.std.proofs.Common.{◌≡◌, ◌&&◌, ℕ, Bool, true, false, not, eqb, List, filter, refl, sym, ◌∙◌, ap, arith}
+use Rattle.std.proofs.Common.{◌≡◌, ◌&&◌, ◌||◌, ℕ, Bool, true, false, not, eqb, List, filter, refl, sym, ◌∙◌, ap, arith}
 use Rattle.std.specs.List.{AllByRecursion}
 use Rattle.std.proofs.lemmas.Bool.{and_from, and_parts, eq-eqb, false≢true, false_from_ne_true, not-true, not_from_false}
 use Rattle.wm_collections.proofs.Lists.{All-filter, All-stored, All-weaker, All-with2, AllLater-filter, HasOne-filter, filter-few, list_any-stored}
 use Rattle.wm_machine.proofs.Runnings.{AreRuns-beside}
 use Rattle.wm_machine.specs.Closed.{is_open}
-use Rattle.wm_machine.specs.Pruned.{is_needed, removable}
+use Rattle.wm_machine.specs.Pruned.{is_kept_enough, is_needed, prunable, removable}
 use Rattle.wm_collections.specs.Lists.{HasOne, is_among}
 use Rattle.wm_machine.specs.Valid.{Valid, ArePriorSound, HasSucceeded, IsPrerequisite, IsWorkOf}
 use Rattle.wm_machine.specs.declared.record.How.TheVariants as how
@@ -40,6 +40,11 @@ unfolding removable
 removable_parts works work is =
     let parts = and_parts (not (is_open work.phase)) (not (is_needed works work.seq)) is in
     (not-true (is_open work.phase) parts.0, not-true (is_needed works work.seq) parts.1)
+
+-- what a prune removes is removable
+pub prunable_removable : (s : State) (force : Bool) (work : Record) → prunable s force work ≡ true → removable s.works work ≡ true
+unfolding prunable
+prunable_removable s force work is = (and_parts (removable s.works work) (force || is_kept_enough s.now work) is).0
 
 -- ---- what stays
 

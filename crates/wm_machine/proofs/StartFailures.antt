@@ -90,14 +90,14 @@ module _ (s : State) (work : Record) (valid : Valid s) (first : first_of s ≡ S
       }
 
   -- a one-time work fails, and with it its unfinished descendants
-  fails : AllByRecursion (OfNumber work.seq (λ other. other.request.period ≡ None)) s.works → HasNotStarted s work (closed_in how.Failed work.seq s.works)
+  fails : AllByRecursion (OfNumber work.seq (λ other. other.request.period ≡ None)) s.works → HasNotStarted s work (closed_in how.Failed s.now work.seq s.works)
   fails one_time =
       let then = λ (w : Record). w in
       let keeps : (w : Record) → KeepsShape w w =
       λ w. record { same = record { seq = refl; name = λ text is. is; request = refl; prior = refl }; phase_is = refl; attempt = refl; due = refl } in
-      let change = closed_in how.Failed work.seq s.works in
+      let change = closed_in how.Failed s.now work.seq s.works in
       let fits =
-      fits-failed s work.seq then valid one_time (λ w is kind. IsRecord-failed w.output w (IsData-output w is) kind is) (λ w differs is. is) unfinished in
+      fits-failed s work.seq then valid one_time (λ w is kind. IsRecord-failed s.now w.output w valid.now (IsData-output w is) kind is) (λ w differs is. is) unfinished in
       let is = IsChange-closing s work.seq how.Failed then keeps valid not_yet (λ change p prior. tt) fits in
       let done = closing-idle s work.seq how.Failed then keeps valid not_yet (λ change p prior. tt) unfinished in
       record {

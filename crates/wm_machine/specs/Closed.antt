@@ -35,13 +35,13 @@ is_open _ = true
 unfoldable pub is_reached : ℕ → List Record → Record → Bool
 is_reached seq works work = is_open work.phase && is_among (descendants seq (reverse works)) work.seq
 
--- a work that is finished without having given anything
-abbrev pub closed : How → Record → Record
-closed how work = record work { phase = phase.Done how; progress = [] }
+-- a work that is finished at this moment without having given anything
+abbrev pub closed : How → ℕ → Record → Record
+closed how now work = record work { phase = phase.Done how; finished_at = now; progress = [] }
 
--- the records, with each unfinished descendant of a work finished in this way
-abbrev pub with_closed : How → ℕ → List Record → List Record
-with_closed how seq works = map (λ work. if is_reached seq works work then closed how work else work) works
+-- the records, with each unfinished descendant of a work finished in this way at this moment
+abbrev pub with_closed : How → ℕ → ℕ → List Record → List Record
+with_closed how now seq works = map (λ work. if is_reached seq works work then closed how now work else work) works
 
 -- ---- a state
 
@@ -49,9 +49,9 @@ with_closed how seq works = map (λ work. if is_reached seq works work then clos
 abbrev pub is_run_reached : ℕ → List Record → Run → Bool
 is_run_reached seq works run = list_any (λ work. work.seq == run.seq && is_reached seq works work) works
 
--- The state, with each unfinished descendant of a work finished in this way: no run of such a record is current any more.
+-- The state, with each unfinished descendant of a work finished in this way now: no run of such a record is current any more.
 abbrev pub with_work_closed : How → ℕ → State → State
-with_work_closed how seq s = record s { works = with_closed how seq s.works; runs = with_stopped (is_run_reached seq s.works) s.runs }
+with_work_closed how seq s = record s { works = with_closed how s.now seq s.works; runs = with_stopped (is_run_reached seq s.works) s.runs }
 
 -- the state, with these works closed one after another
 abbrev pub with_works_closed : How → List ℕ → State → State

@@ -27,9 +27,10 @@ given_by Retry = given.Retry
 
 -- ---- records
 
--- a work that gave this in the end
-abbrev pub succeeded : List DataEntry → Record → Record
-succeeded output work = record work { phase = phase.Done how.Succeeded; output = output; progress = [] }
+-- a work that gave this in the end, at this moment
+abbrev pub succeeded : ℕ → List DataEntry → Record → Record
+succeeded now output work =
+    record work { phase = phase.Done how.Succeeded; finished_at = now; output = output; progress = [] }
 
 abbrev pub with_output : List DataEntry → Record → Record
 with_output output work = record work { output = output }
@@ -57,15 +58,15 @@ enqueued_again now work = record work {
 abbrev pub ended_as : Option Period → ℕ → End → Record → Record
 ended_as _ now Retry work = retried now work
 ended_as (Some period) now _ work = enqueued_again now work
-ended_as None now (Success output) work = succeeded output work
-ended_as None now (Failure output) work = with_output output (closed how.Failed work)
+ended_as None now (Success output) work = succeeded now output work
+ended_as None now (Failure output) work = with_output output (closed how.Failed now work)
 
 abbrev pub ended : ℕ → End → Record → Record
 ended now end work = ended_as work.request.period now end work
 
 -- what a start that fails makes of its work: one-time work has failed without having given anything, and periodic work is enqueued again
 abbrev pub not_started_as : Option Period → ℕ → Record → Record
-not_started_as None now work = closed how.Failed work
+not_started_as None now work = closed how.Failed now work
 not_started_as (Some period) now work = enqueued_again now work
 
 abbrev pub not_started : ℕ → Record → Record
@@ -88,12 +89,12 @@ period_of seq works = option_and_then (λ work. work.request.period) (work_numbe
 abbrev pub works_after_end : ℕ → ℕ → Option Period → End → List Record → List Record
 works_after_end now seq period Retry works = changed_work (retried now) seq works
 works_after_end now seq (Some period) _ works = changed_work (enqueued_again now) seq works
-works_after_end now seq None (Success output) works = with_freed now seq (changed_work (succeeded output) seq works)
-works_after_end now seq None (Failure output) works = changed_work (with_output output) seq (with_closed how.Failed seq works)
+works_after_end now seq None (Success output) works = with_freed now seq (changed_work (succeeded now output) seq works)
+works_after_end now seq None (Failure output) works = changed_work (with_output output) seq (with_closed how.Failed now seq works)
 
 -- the records after a work couldn't start
 abbrev pub works_not_started : ℕ → ℕ → Option Period → List Record → List Record
-works_not_started now seq None works = with_closed how.Failed seq works
+works_not_started now seq None works = with_closed how.Failed now seq works
 works_not_started now seq (Some period) works = changed_work (enqueued_again now) seq works
 
 -- ---- states

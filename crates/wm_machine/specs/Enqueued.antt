@@ -146,6 +146,11 @@ first_phase works prior =
     else if any_in is_cancelled works prior then phase.Done how.Cancelled
     else phase.Waiting
 
+-- the moment at which new work in this phase has finished: it is now, where it shares what one of them came to, and else 0
+abbrev pub first_finished_at : Phase → ℕ → ℕ
+first_finished_at (phase.Done how) now = now
+first_finished_at _ now = 0
+
 -- the numbers of the prerequisites of a work that names these, and that comes after works of these numbers where it names none
 abbrev pub prior_of : List Record → List ℕ → List (List ℕ) → List ℕ
 prior_of works [] ids = numbers_of works ids
@@ -167,7 +172,7 @@ new_record s name prior node = record {
   generation = 0;
   enqueued_at = s.now;
   override_at = None;
-  finished_at = 0;
+  finished_at = first_finished_at (first_phase s.works prior) s.now;
   output = [];
   progress = [];
 }

@@ -5,6 +5,7 @@ pub mod Diaries
 pub mod Due
 pub mod Ends
 pub mod Enqueued
+pub mod Finished
 pub mod First
 pub mod Frame
 pub mod Group

@@ -78,7 +78,11 @@ pub enum Command {
     Update(Request),
     Moment(u64),
     Conditions(Conditions),
-    Prune,
+    /// Finished works are removed that nothing needs, and whose keeping time has passed; with `force`
+    /// that time isn't looked at.
+    Prune {
+        force: bool,
+    },
     Query(WorkQuery),
     Observe(WorkQuery),
     Retire(Text),

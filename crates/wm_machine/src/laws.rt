@@ -4,6 +4,7 @@ ghost use Rattle.std.specs.Prelude.{◌≡◌, ◌≤◌, ◌+◌, ℕ, true, Li
 ghost use Rattle.std.specs.List.{AllByRecursion};
 ghost use Rattle.wm_machine.specs.Closed.{IsDescendantWhere};
 ghost use Rattle.wm_machine.specs.Enqueued.{enqueued, plan_in, refusal_of};
+ghost use Rattle.wm_machine.specs.Finished.{FinishNow};
 ghost use Rattle.wm_machine.specs.Group.{is_name, members_of, AreAloneOrOneTime, IsApartFrom};
 ghost use Rattle.wm_machine.specs.Outcome.{IsAskable};
 ghost use Rattle.wm_machine.specs.Log.{commands_of};
@@ -13,7 +14,7 @@ ghost use Rattle.wm_machine.specs.Replay.{Replay};
 ghost use Rattle.wm_machine.specs.Reports.{IsReportedOnce};
 ghost use Rattle.wm_machine.specs.Serial.{AreInOrder, BeginsSerial};
 ghost use Rattle.wm_machine.specs.Started.{HadItsPrerequisites};
-ghost use Rattle.wm_machine.specs.Step.{Legal, after};
+ghost use Rattle.wm_machine.specs.Step.{Legal, Step, after};
 ghost use Rattle.wm_collections.specs.Lists.{HasOne};
 ghost use Rattle.wm_machine.specs.Valid.{Valid};
 ghost use Rattle.wm_machine.specs.declared.command.Command.{Command};
@@ -38,6 +39,12 @@ pub fn an_opened_state_is_valid()
 /// Every step keeps what holds of every state that the machine reaches.
 pub fn every_step_keeps_valid()
     ensures { (s : State) (e : Event) → Valid s → Legal s e → Valid (after s e) }
+{}
+
+/// Each record that is finished after a step, and before it was unfinished or wasn't there, has the
+/// moment of that step as the one at which it finished.
+pub fn what_a_step_finishes_has_its_moment()
+    ensures { (s t : State) (e : Event) → Step s e t → FinishNow s.now s.works t.works }
 {}
 
 /// A report that comes too late changes no record.

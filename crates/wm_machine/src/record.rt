@@ -3,6 +3,7 @@ ghost use Rattle.std.specs.Prelude.{◌≡◌};
 ghost use Rattle.wm_machine.specs.Closed.{is_open};
 ghost use Rattle.wm_machine.specs.Due.{due_of, times_of};
 ghost use Rattle.wm_machine.specs.First.{is_succeeded, is_waiting};
+ghost use Rattle.wm_machine.specs.Pruned.{is_kept_enough};
 ghost use Rattle.wm_machine.specs.Shown.{shown_in};
 ghost use Rattle.wm_machine.specs.Valid.{IsRecord};
 
@@ -100,7 +101,7 @@ pub struct Record {
     pub enqueued_at: u64,
     /// The moment from which its next run may start whatever its period says, where there is one.
     pub override_at: Option<u64>,
-    /// The moment at which it finished, 0 before that.
+    /// The moment at which it finished, in milliseconds; 0 before that.
     pub finished_at: u64,
     /// What it gave in the end.
     pub output: Data,
@@ -116,6 +117,14 @@ impl Record {
         ensures { result ≡ due_of self.now }
     {
         wm_schedule::due(&self.times())
+    }
+
+    /// Whether the keeping time of the finished work has passed at this moment, in milliseconds.
+    #[tactic(auto, unfolding(crate::specs::Pruned::is_kept_enough))]
+    pub fn is_kept_enough(&self, now: u64) -> bool
+        ensures { result ≡ is_kept_enough now self.now }
+    {
+        now.saturating_sub(self.finished_at) >= self.request.keep()
     }
 
     /// What that moment depends on.

@@ -40,13 +40,13 @@ use Rattle.wm_steps.specs.declared.change.StepChange.{StepChange}
 
 -- what is reached doesn't succeed
 abbrev FailsAlone : Reach → Type 0
-FailsAlone (reach.Closes way numbers) = is_succeeded (phase.Done way) ≡ false
+FailsAlone (reach.Closes way numbers now) = is_succeeded (phase.Done way) ≡ false
 FailsAlone _ = Unit {0}
 
 reached-not : (to : Reach) (work : Record) → FailsAlone to → Unsucceeding work (or_same work (reached_by to work))
 reached-not reach.Stays work fails = λ is. is
-reached-not (reach.Closes way numbers) work fails =
-    cond_both (is_open work.phase && is_among numbers work.seq) (Some (closed way work)) None (λ (o : Option Record). Unsucceeding work (or_same work o))
+reached-not (reach.Closes way numbers now) work fails =
+    cond_both (is_open work.phase && is_among numbers work.seq) (Some (closed way now work)) None (λ (o : Option Record). Unsucceeding work (or_same work o))
     (λ e is. absurd (false≢true (sym fails ∙ is))) (λ e is. is)
 reached-not (reach.Frees numbers now) work fails =
     cond_both (is_waiting work.phase && is_among numbers work.seq) (Some (record work { enqueued_at = now })) None
@@ -65,17 +65,17 @@ not_started-fails : (period : Option Period) (now : ℕ) (work : Record) → is_
 not_started-fails None now work = refl
 not_started-fails (Some period) now work = refl
 
-not_started-alone : (s : State) (period : Option Period) (seq : ℕ) → FailsAlone (not_started_reach period seq (nodes_of s.works))
+not_started-alone : (s : State) (period : Option Period) (seq : ℕ) → FailsAlone (not_started_reach period s.now seq (nodes_of s.works))
 not_started-alone s None seq = refl
 not_started-alone s (Some period) seq = tt
 
 -- a work that can't start frees none
 pub no_start-freeing : (s : State) (work : Record) (run : RunChange) (e : Event)
-    → KeepNodes (change_by (not_started_as work.request.period s.now work) (not_started_reach work.request.period work.seq (nodes_of s.works))) s.works
+    → KeepNodes (change_by (not_started_as work.request.period s.now work) (not_started_reach work.request.period s.now work.seq (nodes_of s.works))) s.works
     → FreesTouched s (replacing_all (replaced_by (not_started_as work.request.period s.now work)
-    (not_started_reach work.request.period work.seq (nodes_of s.works)) s.works) run e)
+    (not_started_reach work.request.period s.now work.seq (nodes_of s.works)) s.works) run e)
 no_start-freeing s work run e keeps =
-    unsucceeding-end s (not_started_as work.request.period s.now work) (not_started_reach work.request.period work.seq (nodes_of s.works)) run e
+    unsucceeding-end s (not_started_as work.request.period s.now work) (not_started_reach work.request.period s.now work.seq (nodes_of s.works)) run e
     (not_started-alone s work.request.period work.seq) (not_started-fails work.request.period s.now work) keeps
 
 -- and one that is to be retried
@@ -94,13 +94,13 @@ freed-test now seq number works work =
     cond_both (is_freed seq works work) (record work { enqueued_at = now }) work (λ (w : Record). test number w ≡ test number work) (λ e. refl) (λ e. refl)
 
 success-met : (now seq : ℕ) (output : List DataEntry) (works : List Record) (number : ℕ)
-    → has_succeeded (map (success now seq output works) works) number ≡ has_succeeded (changed_work (succeeded output) seq works) number
+    → has_succeeded (map (success now seq output works) works) number ≡ has_succeeded (changed_work (succeeded now output) seq works) number
 success-met now seq output works number =
-    let then = changed_work (succeeded output) seq works in
+    let then = changed_work (succeeded now output) seq works in
     list_any_after (test number) (success now seq output works) works
-    ∙ list_any-agree (λ work. test number (success now seq output works work)) (λ work. test number (changed (succeeded output) seq work)) works
-    (All-any works (λ work. freed-test now seq number then (changed (succeeded output) seq work)))
-    ∙ sym (list_any_after (test number) (changed (succeeded output) seq) works)
+    ∙ list_any-agree (λ work. test number (success now seq output works work)) (λ work. test number (changed (succeeded now output) seq work)) works
+    (All-any works (λ work. freed-test now seq number then (changed (succeeded now output) seq work)))
+    ∙ sym (list_any_after (test number) (changed (succeeded now output) seq) works)
 
 and-then : (a b c d : Bool) → (a && (b && c)) ≡ true → c ≡ d → (a && (b && d)) ≡ true
 and-then a b c d is same = subst (λ e. (a && (b && e)) ≡ true) same is
@@ -111,7 +111,7 @@ module _ (s : State) (work : Record) (output : List DataEntry) (run : RunChange)
   seq = work.seq
 
   abbrev itself : Record
-  itself = succeeded output work
+  itself = succeeded s.now output work
 
   abbrev to : Reach
   to = reach.Frees (freed_by (nodes_of s.works) seq) s.now
@@ -131,10 +131,10 @@ module _ (s : State) (work : Record) (output : List DataEntry) (run : RunChange)
       ∙ map-same (after_change touch) (success s.now seq output s.works) s.works
       (frees-agree s.now output work s.works valid.works.in_order valid.works.sound stored)
 
-  after-met : (other : Record) → all_met after other ≡ all_met (changed_work (succeeded output) seq s.works) other
+  after-met : (other : Record) → all_met after other ≡ all_met (changed_work (succeeded s.now output) seq s.works) other
   unfolding all_met
   after-met other =
-      list_all-agree (has_succeeded after) (has_succeeded (changed_work (succeeded output) seq s.works)) other.prior (All-any other.prior (λ number.
+      list_all-agree (has_succeeded after) (has_succeeded (changed_work (succeeded s.now output) seq s.works)) other.prior (All-any other.prior (λ number.
       ap (λ (works : List Record). has_succeeded works number) after-is ∙ success-met s.now seq output s.works number))
 
   -- what the graph frees is changed
@@ -151,7 +151,7 @@ module _ (s : State) (work : Record) (output : List DataEntry) (run : RunChange)
   freed-touched =
       All-with2 s.works (λ other there same freed.
       freed-changes other (same ∙ and-then _ _ _ _ freed (after-met other)) there) (All-stored s.works)
-      (freed-nodes seq output s.works valid.works.in_order valid.works.sound)
+      (freed-nodes s.now seq output s.works valid.works.in_order valid.works.sound)
 
   pub success-freeing : KeepNodes touch s.works → FreesTouched s made
   success-freeing keeps =

@@ -45,8 +45,8 @@ or_same-cond false work new = refl
 -- each keeps its node, and what has succeeded stays so
 reached-keeps : (to : Reach) (work : Record) → MayReplace work (or_same work (reached_by to work))
 reached-keeps reach.Stays work = record { seq = refl; id = refl; name = inl refl; prior = refl; succeeded = λ is. is }
-reached-keeps (reach.Closes way numbers) work =
-    cond_both (is_open work.phase && is_among numbers work.seq) (Some (closed way work)) None (λ (o : Option Record). MayReplace work (or_same work o))
+reached-keeps (reach.Closes way numbers now) work =
+    cond_both (is_open work.phase && is_among numbers work.seq) (Some (closed way now work)) None (λ (o : Option Record). MayReplace work (or_same work o))
     (λ e. record { seq = refl; id = refl; name = inl refl; prior = refl; succeeded = λ is. absurd (open_not_succeeded work.phase (and_parts _ _ e).0 is) })
     (λ e. record { seq = refl; id = refl; name = inl refl; prior = refl; succeeded = λ is. is })
 reached-keeps (reach.Frees numbers now) work =
@@ -89,46 +89,46 @@ stays-agree change itself work works order stored same is =
 
 -- ---- the descendants
 
-closes-other : (way : How) (seq : ℕ) (works : List Record) (work : Record)
-    → or_same work (reached_by (reach.Closes way (reached_from (seq ∷ []) (nodes_of works))) work) ≡ closed_in way seq works work
-closes-other way seq works work =
-    or_same-cond (is_open work.phase && is_among (reached_from (seq ∷ []) (nodes_of works)) work.seq) work (closed way work)
-    ∙ ap (λ b. cond b (closed way work) work) (reached-test seq works work)
+closes-other : (way : How) (now seq : ℕ) (works : List Record) (work : Record)
+    → or_same work (reached_by (reach.Closes way (reached_from (seq ∷ []) (nodes_of works)) now) work) ≡ closed_in way now seq works work
+closes-other way now seq works work =
+    or_same-cond (is_open work.phase && is_among (reached_from (seq ∷ []) (nodes_of works)) work.seq) work (closed way now work)
+    ∙ ap (λ b. cond b (closed way now work) work) (reached-test seq works work)
 
 -- a work is closed with its unfinished descendants, and then it may get an output
-pub closes-agree : (way : How) (then : Record → Record) (itself work : Record) (works : List Record) → AllLater IsBefore works
-    → HasOne (λ other. other ≡ work) works → is_open work.phase ≡ true → itself.seq ≡ work.seq → itself ≡ then (closed way work)
+pub closes-agree : (way : How) (now : ℕ) (then : Record → Record) (itself work : Record) (works : List Record) → AllLater IsBefore works
+    → HasOne (λ other. other ≡ work) works → is_open work.phase ≡ true → itself.seq ≡ work.seq → itself ≡ then (closed way now work)
     → ((other : Record) → (other.seq ≡ work.seq → ⊥) → then other ≡ other)
-    → AllByRecursion (λ w. after_change (change_by itself (reach.Closes way (reached_from (work.seq ∷ []) (nodes_of works)))) w
-    ≡ then (closed_in way work.seq works w)) works
-closes-agree way then itself work works order stored unfinished same is others =
-    let to = reach.Closes way (reached_from (work.seq ∷ []) (nodes_of works)) in
-    itself-or-other (λ w o. or_same w o ≡ then (closed_in way work.seq works w)) itself work to works order stored same
-    (is ∙ ap (λ b. then (cond b (closed way work) work)) (sym (itself_reached work works stored unfinished))) (All-any works (λ w differs.
-    closes-other way work.seq works w ∙ sym (others (closed_in way work.seq works w)
-    (λ e. differs (cond_both (is_reached work.seq works w) (closed way w) w (λ c. c.seq ≡ work.seq → w.seq ≡ work.seq) (λ r s. s) (λ r s. s) e)))))
+    → AllByRecursion (λ w. after_change (change_by itself (reach.Closes way (reached_from (work.seq ∷ []) (nodes_of works)) now)) w
+    ≡ then (closed_in way now work.seq works w)) works
+closes-agree way now then itself work works order stored unfinished same is others =
+    let to = reach.Closes way (reached_from (work.seq ∷ []) (nodes_of works)) now in
+    itself-or-other (λ w o. or_same w o ≡ then (closed_in way now work.seq works w)) itself work to works order stored same
+    (is ∙ ap (λ b. then (cond b (closed way now work) work)) (sym (itself_reached work works stored unfinished))) (All-any works (λ w differs.
+    closes-other way now work.seq works w ∙ sym (others (closed_in way now work.seq works w)
+    (λ e. differs (cond_both (is_reached work.seq works w) (closed way now w) w (λ c. c.seq ≡ work.seq → w.seq ≡ work.seq) (λ r s. s) (λ r s. s) e)))))
 
 -- ---- a success
 
 frees-other : (now seq : ℕ) (output : List DataEntry) (works : List Record) (work : Record)
-    → (is_waiting work.phase && is_among (freed_by (nodes_of works) seq) work.seq) ≡ is_freed seq (changed_work (succeeded output) seq works) work
+    → (is_waiting work.phase && is_among (freed_by (nodes_of works) seq) work.seq) ≡ is_freed seq (changed_work (succeeded now output) seq works) work
     → (work.seq ≡ seq → ⊥) → or_same work (reached_by (reach.Frees (freed_by (nodes_of works) seq) now) work) ≡ success now seq output works work
 frees-other now seq output works work test differs =
-    let then = changed_work (succeeded output) seq works in
+    let then = changed_work (succeeded now output) seq works in
     let free : Record = record work { enqueued_at = now } in
     or_same-cond (is_waiting work.phase && is_among (freed_by (nodes_of works) seq) work.seq) work free ∙ ap (λ b. cond b free work) test
-    ∙ ap (freed_in now seq then) (sym (changed-miss (succeeded output) seq work differs))
+    ∙ ap (freed_in now seq then) (sym (changed-miss (succeeded now output) seq work differs))
 
 pub frees-agree : (now : ℕ) (output : List DataEntry) (work : Record) (works : List Record) → AllLater IsBefore works
     → AllByRecursion (λ w. ArePriorSound works w.phase w.prior) works → HasOne (λ other. other ≡ work) works
-    → AllByRecursion (λ w. after_change (change_by (succeeded output work) (reach.Frees (freed_by (nodes_of works) work.seq) now)) w
+    → AllByRecursion (λ w. after_change (change_by (succeeded now output work) (reach.Frees (freed_by (nodes_of works) work.seq) now)) w
     ≡ success now work.seq output works w) works
 frees-agree now output work works order sound stored =
     let to = reach.Frees (freed_by (nodes_of works) work.seq) now in
-    let then = changed_work (succeeded output) work.seq works in
-    itself-or-other (λ w o. or_same w o ≡ success now work.seq output works w) (succeeded output work) work to works order stored refl
-    (ap (freed_in now work.seq then) (sym (changed-hit (succeeded output) work.seq work refl)))
-    (All-weaker works (λ w test differs. frees-other now work.seq output works w test differs) (freed-nodes work.seq output works order sound))
+    let then = changed_work (succeeded now output) work.seq works in
+    itself-or-other (λ w o. or_same w o ≡ success now work.seq output works w) (succeeded now output work) work to works order stored refl
+    (ap (freed_in now work.seq then) (sym (changed-hit (succeeded now output) work.seq work refl)))
+    (All-weaker works (λ w test differs. frees-other now work.seq output works w test differs) (freed-nodes now work.seq output works order sound))
 
 -- ---- the ends
 
@@ -159,15 +159,15 @@ end-agree (Some period) now (Failure output) work works order sound stored unfin
     stays-agree (enqueued_again now) (enqueued_again now work) work works order stored refl refl
 end-agree None now (Success output) work works order sound stored unfinished = frees-agree now output work works order sound stored
 end-agree None now (Failure output) work works order sound stored unfinished =
-    closes-agree how.Failed (changed (with_output output) work.seq) (with_output output (closed how.Failed work)) work works order stored unfinished refl
-    (sym (changed-hit (with_output output) work.seq (closed how.Failed work) refl)) (λ other differs. changed-miss (with_output output) work.seq other differs)
+    closes-agree how.Failed now (changed (with_output output) work.seq) (with_output output (closed how.Failed now work)) work works order stored unfinished refl
+    (sym (changed-hit (with_output output) work.seq (closed how.Failed now work) refl)) (λ other differs. changed-miss (with_output output) work.seq other differs)
 
 -- and so does a failed start
 pub no_start-agree : (period : Option Period) (now : ℕ) (work : Record) (works : List Record) → AllLater IsBefore works
     → HasOne (λ other. other ≡ work) works → is_open work.phase ≡ true
-    → AllByRecursion (λ w. after_change (change_by (not_started_as period now work) (not_started_reach period work.seq (nodes_of works))) w
+    → AllByRecursion (λ w. after_change (change_by (not_started_as period now work) (not_started_reach period now work.seq (nodes_of works))) w
     ≡ not_started_by now work.seq period works w) works
 no_start-agree None now work works order stored unfinished =
-    closes-agree how.Failed (λ w. w) (closed how.Failed work) work works order stored unfinished refl refl (λ other differs. refl)
+    closes-agree how.Failed now (λ w. w) (closed how.Failed now work) work works order stored unfinished refl refl (λ other differs. refl)
 no_start-agree (Some period) now work works order stored unfinished =
     stays-agree (enqueued_again now) (enqueued_again now work) work works order stored refl refl

@@ -76,8 +76,8 @@ among-others seq number numbers differs =
 
 unreached : (to : Reach) (work : Record) → is_among (numbers_of to) work.seq ≡ false → reached_by to work ≡ None
 unreached reach.Stays work none = refl
-unreached (reach.Closes how numbers) work none =
-    ap (λ b. cond b (Some (closed how work)) None) (and_right (is_open work.phase) (is_among numbers work.seq) none)
+unreached (reach.Closes how numbers now) work none =
+    ap (λ b. cond b (Some (closed how now work)) None) (and_right (is_open work.phase) (is_among numbers work.seq) none)
 unreached (reach.Frees numbers now) work none =
     ap (λ b. cond b (Some (record work { enqueued_at = now })) None) (and_right (is_waiting work.phase) (is_among numbers work.seq) none)
 

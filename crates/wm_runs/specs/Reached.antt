@@ -23,7 +23,8 @@ use Rattle.wm_steps.specs.declared.change.Replacement.{Replacement}
 -- what becomes of another record; nothing where it stays
 abbrev pub reached_by : Reach → Record → Option Record
 reached_by reach.Stays work = None
-reached_by (reach.Closes how numbers) work = if is_open work.phase && is_among numbers work.seq then Some (closed how work) else None
+reached_by (reach.Closes how numbers now) work =
+    if is_open work.phase && is_among numbers work.seq then Some (closed how now work) else None
 reached_by (reach.Frees numbers now) work =
     if is_waiting work.phase && is_among numbers work.seq then Some (record work { enqueued_at = now }) else None
 
@@ -37,7 +38,7 @@ replaced_by itself reach works = replacements (change_by itself reach) 0 works
 -- the numbers of those that may be reached
 abbrev pub numbers_of : Reach → List ℕ
 numbers_of reach.Stays = []
-numbers_of (reach.Closes how numbers) = numbers
+numbers_of (reach.Closes how numbers now) = numbers
 numbers_of (reach.Frees numbers now) = numbers
 
 -- numbers but for this one
@@ -51,15 +52,16 @@ abbrev pub end_reach : Option Period → ℕ → ℕ → End → List NodeFields
 end_reach period now seq Retry nodes = reach.Stays
 end_reach (Some period) now seq _ nodes = reach.Stays
 end_reach None now seq (Success output) nodes = reach.Frees (freed_by nodes seq) now
-end_reach None now seq (Failure output) nodes = reach.Closes how.Failed (reached_from (seq ∷ []) nodes)
+end_reach None now seq (Failure output) nodes = reach.Closes how.Failed (reached_from (seq ∷ []) nodes) now
 
 abbrev pub replaced_by_end : State → Record → End → List Replacement
 replaced_by_end s work end = replaced_by (ended s.now end work) (end_reach work.request.period s.now work.seq end (nodes_of s.works)) s.works
 
 -- what a failed start reaches: that of one-time work closes its descendants
-abbrev pub not_started_reach : Option Period → ℕ → List NodeFields → Reach
-not_started_reach None seq nodes = reach.Closes how.Failed (reached_from (seq ∷ []) nodes)
-not_started_reach (Some period) seq nodes = reach.Stays
+abbrev pub not_started_reach : Option Period → ℕ → ℕ → List NodeFields → Reach
+not_started_reach None now seq nodes = reach.Closes how.Failed (reached_from (seq ∷ []) nodes) now
+not_started_reach (Some period) now seq nodes = reach.Stays
 
 abbrev pub replaced_by_no_start : State → Record → List Replacement
-replaced_by_no_start s work = replaced_by (not_started s.now work) (not_started_reach work.request.period work.seq (nodes_of s.works)) s.works
+replaced_by_no_start s work =
+    replaced_by (not_started s.now work) (not_started_reach work.request.period s.now work.seq (nodes_of s.works)) s.works

@@ -20,10 +20,17 @@ use wm_steps::{Numbers, Replacement, View};
 pub enum Reach {
     /// They stay as they are.
     Stays,
-    /// Those of these numbers that are unfinished are finished in this way.
-    Closes { how: How, numbers: Numbers },
+    /// Those of these numbers that are unfinished are finished in this way at this moment.
+    Closes {
+        how: How,
+        numbers: Numbers,
+        now: u64,
+    },
     /// Those of these numbers that wait are free from this moment on.
-    Frees { numbers: Numbers, now: u64 },
+    Frees {
+        numbers: Numbers,
+        now: u64,
+    },
 }
 
 /// What the end of a run of a work reaches.
@@ -46,7 +53,8 @@ pub fn end_reach(view: &View, work: &Record, end: &End) -> Result<Reach, AllocEr
 pub fn not_started_reach(view: &View, work: &Record) -> Result<Reach, AllocError>
     requires { HasNode (nodes_of view.now.works) work.now.seq }
     ensures reach { IfOk result (λ reach. reach
-        ≡ not_started_reach work.entry.now.request.period work.entry.now.seq (nodes_of view.entry.now.works)) }
+        ≡ not_started_reach work.entry.now.request.period view.entry.now.now work.entry.now.seq
+        (nodes_of view.entry.now.works)) }
     ensures rises { IfOk result (λ reach. RiseFrom work.entry.now.seq (numbers_of reach)) }
 {
     if work.request.period().is_some() {
@@ -56,15 +64,16 @@ pub fn not_started_reach(view: &View, work: &Record) -> Result<Reach, AllocError
     }
 }
 
-/// The closing of the descendants of a work.
+/// The closing of the descendants of a work, now.
 fn closing(view: &View, seq: u64, how: How) -> Result<Reach, AllocError>
     requires { HasNode (nodes_of view.now.works) seq }
     ensures reach { IfOk result (λ reach. reach
-        ≡ Reach.Closes how (reached_from (seq ∷ []) (nodes_of view.entry.now.works))) }
+        ≡ Reach.Closes how (reached_from (seq ∷ []) (nodes_of view.entry.now.works)) view.entry.now.now) }
     ensures rises { IfOk result (λ reach. RiseFrom seq (numbers_of reach)) }
 {
     let numbers = view.descendants(seq)?;
-    Ok(Reach::Closes { how, numbers })
+    let now = view.state.now;
+    Ok(Reach::Closes { how, numbers, now })
 }
 
 /// The freeing of those that have a work, which hasn't succeeded, as their last missing
@@ -191,7 +200,7 @@ fn changed(
     }
     match reach {
         Reach::Stays => unreachable!(),
-        Reach::Closes { how, .. } => closed(alloc, work, *how),
+        Reach::Closes { how, now, .. } => closed(alloc, work, *how, *now),
         Reach::Frees { now, .. } => freed(alloc, work, *now),
     }
 }

@@ -18,7 +18,7 @@ use Rattle.wm_script.proofs.BuiltRequests.{IsAsked, IsAsked-batch_in, IsRequest-
 use Rattle.wm_script.proofs.PartsLemmas.{bind_any, bind_holds, formed_holds}
 use Rattle.wm_script.proofs.PartsLemmas.{tested as tested_ok}
 use Rattle.wm_script.specs.Batches.{batch_in}
-use Rattle.wm_script.specs.Lines.{asked_by, asked_in, command_of, commands_in, cut, enqueue_keys, enqueue_of, moment_of, one_key, or_faulty, readers, update_of, value_of, whole_under}
+use Rattle.wm_script.specs.Lines.{asked_by, asked_in, command_of, commands_in, cut, enqueue_keys, enqueue_of, force_at, moment_of, one_key, or_faulty, prune_of, readers, update_of, value_of, whole_under}
 use Rattle.wm_script.specs.Names.{named_by, policy_in}
 use Rattle.wm_script.specs.Objects.{has_only}
 use Rattle.wm_script.specs.Parts.{formed, ◌>>=◌}
@@ -62,6 +62,13 @@ IsAskable-update_of d =
     bind_any IsAskable _ (formed (one_key (codes "work") d)) (λ work.
     bind_holds IsRequest IsAskable _ (request_in work) (IsRequest-request_in work) (λ request is. is))
 
+-- ---- a prune
+
+IsAskable-prune_of : (d : json.Data) → IfOk (prune_of d) IsAskable
+unfolding prune_of
+IsAskable-prune_of d =
+    tested_ok IsAskable (has_only (codes "cmd" ∷ codes "force" ∷ []) d) _ (λ e. bind_any IsAskable _ (formed (force_at (get (codes "force") d))) (λ force. tt))
+
 -- ---- a moment
 
 IsMoment : ℕ → Type 0
@@ -90,7 +97,7 @@ AreBuilt table = AllByRecursion (λ reader. (d : json.Data) → IfOk (reader.1 d
 
 AreBuilt-readers : AreBuilt readers
 unfolding AreBuilt
-AreBuilt-readers = search (rules, tested_ok, bind_any, IsAskable-moment_of, IsAskable-enqueue_of, IsAskable-update_of)
+AreBuilt-readers = search (rules, tested_ok, bind_any, IsAskable-moment_of, IsAskable-enqueue_of, IsAskable-prune_of, IsAskable-update_of)
 
 found : (b : Bool) (reader : json.Data → Result Command Unread) (rest : Option (json.Data → Result Command Unread)) (d : json.Data)
     → IfOk (reader d) IsAskable → IfOk (formed rest >>= λ reader. reader d) IsAskable

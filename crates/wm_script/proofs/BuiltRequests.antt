@@ -66,7 +66,8 @@ HasId-work_of d =
     then_any HasId _ (constraints_at (get (codes "constraints") d)) (λ constraints.
     then_any HasId _ (backoff_at (get (codes "backoff") d)) (λ backoff.
     then_any HasId _ (whole_at 0 (get (codes "delay") d)) (λ delay.
-    then_any HasId _ (period_at (get (codes "period") d) (get (codes "flex") d)) (λ period. sixteen)))))))) tt
+    then_any HasId _ (period_at (get (codes "period") d) (get (codes "flex") d)) (λ period.
+    then_any HasId _ (whole_at 0 (get (codes "keep") d)) (λ keep. sixteen))))))))) tt
 
 -- ---- a request
 

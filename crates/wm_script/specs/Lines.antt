@@ -1,6 +1,6 @@
 -- The commands that the lines of a script are. The grammar is this project's own choice; which value
 -- the bytes of a line have is `serde_json`'s reading.
-use Rattle.std.specs.Prelude.{ℕ, ◌==◌, Bool, false, List, [], ◌∷◌, map, codes, if◌then◌else◌, Option, Some, None, Result, Ok, Err, option_and_then, option_map, unwrap_or}
+use Rattle.std.specs.Prelude.{ℕ, ◌==◌, Bool, true, false, List, [], ◌∷◌, map, codes, if◌then◌else◌, Option, Some, None, Result, Ok, Err, option_and_then, option_map, unwrap_or}
 use Rattle.std.specs.Map.{lookup}
 use Rattle.std.specs.Option.{option_or}
 use Rattle.std.specs.Str.{bytes_eq, is_utf8}
@@ -104,6 +104,18 @@ cancel_of d = do
   target ← formed (target_of d)
   Ok (Cancel target)
 
+-- ---- a prune
+
+-- whether a prune is by force: its one further key is `force`, which may be absent, and else is true
+unfoldable pub force_at : Option json.Data → Option Bool
+force_at None = Some false
+force_at (Some d) = if unwrap_or (as_bool d) false then Some true else None
+
+unfoldable pub prune_of : json.Data → Result Command Unread
+prune_of d = if has_only (codes "cmd" ∷ codes "force" ∷ []) d then (do
+  force ← formed (force_at (get (codes "force") d))
+  Ok (Prune force)) else Err Form
+
 -- ---- the moment, the conditions, a query, a retire and an observe
 
 abbrev pub moment_of : json.Data → Result Command Unread
@@ -145,7 +157,7 @@ readers =
     (codes "update", update_of) ∷
     (codes "moment", moment_of) ∷
     (codes "conditions", conditions_of) ∷
-    (codes "prune", alone Prune) ∷
+    (codes "prune", prune_of) ∷
     (codes "settle", alone Settle) ∷
     (codes "hush", alone Hush) ∷
     (codes "summary", alone Summary) ∷

@@ -33,7 +33,7 @@ asked_for work tags input = record {
   backoff = backoff_of work.backoff.policy work.backoff.delay;
   initial_delay = work.delay;
   period = option_map (λ p. clamped_period p.period p.flex) work.period;
-  keep = 0;
+  keep = work.keep;
   next = Leave;
 }
 

@@ -111,7 +111,7 @@ period_at (Some d) flex = do
 abbrev pub work_keys : List (List ℕ)
 work_keys =
     codes "after" ∷ codes "backoff" ∷ codes "class" ∷ codes "constraints" ∷ codes "delay" ∷ codes "flex" ∷ codes "id" ∷ codes "input"
-    ∷ codes "merger" ∷ codes "period" ∷ codes "tags" ∷ []
+    ∷ codes "keep" ∷ codes "merger" ∷ codes "period" ∷ codes "tags" ∷ []
 
 -- a work as it stands in a line, where its input may be anything; its tags and the works that it is after stand in lists beside it
 pub record WorkForm : Type 0 where
@@ -123,6 +123,7 @@ pub record WorkForm : Type 0 where
   pub backoff : Backoff
   pub delay : ℕ
   pub period : Option PeriodForm
+  pub keep : ℕ
 
 abbrev pub period_of : Option ReadPeriod → Option PeriodForm
 period_of period = option_map (λ p. record { period = p.period; flex = p.flex }) period
@@ -138,6 +139,7 @@ form_of work = record {
   backoff = work.backoff;
   delay = work.delay;
   period = period_of work.period;
+  keep = work.keep;
 }
 
 -- the work that an object is, which has no other key than these, without its lists
@@ -150,6 +152,7 @@ work_of d = if has_only work_keys d then (do
   backoff ← backoff_at (get (codes "backoff") d)
   delay ← whole_at 0 (get (codes "delay") d)
   period ← period_at (get (codes "period") d) (get (codes "flex") d)
+  keep ← whole_at 0 (get (codes "keep") d)
   Some (record {
     id = id;
     class = class;
@@ -159,4 +162,5 @@ work_of d = if has_only work_keys d then (do
     backoff = backoff;
     delay = delay;
     period = period;
+    keep = keep;
   })) else None

@@ -4,7 +4,7 @@ ghost use Rattle.std.specs.List.{AllByRecursion};
 ghost use Rattle.serde_json.specs.View.{view};
 ghost use Rattle.wm_machine.specs.Outcome.{IsAskable};
 ghost use Rattle.wm_script.specs.Limits.{first_limit, IsFaultOf as IsScriptFaultOf};
-ghost use Rattle.wm_script.specs.Lines.{alone, asked_by, asked_in, cancel_of, command_of, commands_in, conditions_of, cut, enqueue_of, id_under, is_of_all, moment_of, named_command, observe_of, one_key, query_of, retire_of, target_of, text_under, update_of, value_of, whole_under};
+ghost use Rattle.wm_script.specs.Lines.{alone, asked_by, asked_in, cancel_of, command_of, commands_in, conditions_of, cut, enqueue_of, force_at, id_under, is_of_all, moment_of, named_command, observe_of, one_key, prune_of, query_of, retire_of, target_of, text_under, update_of, value_of, whole_under};
 ghost use Rattle.wm_script.specs.Parts.{IsFaultOf};
 
 use crate::batches::batch_in;
@@ -152,7 +152,7 @@ fn named_command(alloc: Global, name: &str, value: &Value) -> Result<Command, Un
         "update" => update_of(alloc, value),
         "moment" => moment_of(value),
         "conditions" => conditions_of(value),
-        "prune" => alone(Command::Prune, value),
+        "prune" => prune_of(value),
         "settle" => alone(Command::Settle, value),
         "hush" => alone(Command::Hush, value),
         "summary" => alone(Command::Summary, value),
@@ -272,6 +272,31 @@ fn update_of(alloc: Global, value: &Value) -> Result<Command, Unread>
     match one_key(value, "work") {
         Some(work) => Ok(Command::Update(request_in(alloc, work)?)),
         None => Err(Unread::Form),
+    }
+}
+
+/// The command that prunes. It may have the further key `force`.
+#[tactic(auto, unfolding(crate::specs::Lines::prune_of))]
+fn prune_of(value: &Value) -> Result<Command, Unread>
+    ensures { result ≡ prune_of (view value.now) }
+{
+    if !has_only(value, &["cmd", "force"]) {
+        return Err(Unread::Form);
+    }
+    match force_at(value.get("force")) {
+        Some(force) => Ok(Command::Prune { force }),
+        None => Err(Unread::Form),
+    }
+}
+
+/// Whether a prune is by force, where it says so at all: then it is true.
+#[tactic(auto, unfolding(crate::specs::Lines::force_at))]
+fn force_at(value: Option<&Value>) -> Option<bool>
+    ensures { result ≡ force_at (option_map (λ found. view found.now) value.entry) }
+{
+    match value {
+        Some(value) => value.as_bool().unwrap_or(false).then_some(true),
+        None => Some(false),
     }
 }
 

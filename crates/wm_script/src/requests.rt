@@ -99,6 +99,7 @@ fn request_of(
     builder.constraints(work.constraints);
     builder.backoff(work.backoff.policy, work.backoff.delay);
     builder.initial_delay(work.delay);
+    builder.keep(work.keep);
     add_tags(&mut builder, tags)?;
     builder.build()
 }

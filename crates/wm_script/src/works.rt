@@ -28,6 +28,8 @@ pub struct WorkForm<'v> {
     pub delay: u64,
     /// How often it repeats, and its flex interval, as they are asked for, in milliseconds.
     pub period: Option<PeriodForm>,
+    /// How long its record is kept once it has finished, in milliseconds.
+    pub keep: u64,
 }
 
 /// A period, in milliseconds, and a flex interval where there is one.
@@ -55,6 +57,7 @@ pub fn work_of(value: &Value) -> Option<WorkForm<'_>>
         backoff: backoff_at(value.get("backoff"))?,
         delay: whole_at(0, value.get("delay"))?,
         period: period_at(value.get("period"), value.get("flex"))?,
+        keep: whole_at(0, value.get("keep"))?,
     })
 }
 
@@ -195,6 +198,7 @@ fn has_work_keys(value: &Value) -> bool
             "flex",
             "id",
             "input",
+            "keep",
             "merger",
             "period",
             "tags",

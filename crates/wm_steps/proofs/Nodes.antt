@@ -39,19 +39,19 @@ itself_reached work works stored unfinished = and_from _ _ unfinished (All-of_on
 -- ---- those that are freed
 
 -- what is marked once a node is has succeeded once its work has
-head-marked : (b : Bool) (all : List Record) (work : Record) (output : List DataEntry) (number : ℕ)
+head-marked : (b : Bool) (all : List Record) (work : Record) (at : ℕ) (output : List DataEntry) (number : ℕ)
     → (let node = node_of all work in let now = cond b (record node { done = true }) node in eqb now.seq number && now.done)
-    ≡ (let now = cond b (succeeded output work) work in eqb now.seq number && is_succeeded now.phase)
-head-marked true all work output number = refl
-head-marked false all work output number = refl
+    ≡ (let now = cond b (succeeded at output work) work in eqb now.seq number && is_succeeded now.phase)
+head-marked true all work at output number = refl
+head-marked false all work at output number = refl
 
-met-marked : (all works : List Record) (output : List DataEntry) (seq number : ℕ)
-    → is_met (with_marked seq (map (node_of all) works)) number ≡ has_succeeded (changed_work (succeeded output) seq works) number
-met-marked all [] output seq number = refl
-met-marked all (work ∷ works) output seq number =
-    let rest = met-marked all works output seq number in
-    let now = cond (eqb work.seq seq) (succeeded output work) work in
-    ap (λ b. b || is_met (with_marked seq (map (node_of all) works)) number) (head-marked (eqb work.seq seq) all work output number)
+met-marked : (all works : List Record) (at : ℕ) (output : List DataEntry) (seq number : ℕ)
+    → is_met (with_marked seq (map (node_of all) works)) number ≡ has_succeeded (changed_work (succeeded at output) seq works) number
+met-marked all [] at output seq number = refl
+met-marked all (work ∷ works) at output seq number =
+    let rest = met-marked all works at output seq number in
+    let now = cond (eqb work.seq seq) (succeeded at output work) work in
+    ap (λ b. b || is_met (with_marked seq (map (node_of all) works)) number) (head-marked (eqb work.seq seq) all work at output number)
     ∙ ap (λ b. (eqb now.seq number && is_succeeded now.phase) || b) rest
 
 -- the numbers of the nodes that pass a test
@@ -108,20 +108,20 @@ and-when true x y same = same refl
 and-when false x y same = refl
 
 -- the waiting works that a node frees are those that its work frees
-pub freed-nodes : (seq : ℕ) (output : List DataEntry) (works : List Record) → AllLater IsBefore works
+pub freed-nodes : (at seq : ℕ) (output : List DataEntry) (works : List Record) → AllLater IsBefore works
     → AllByRecursion (λ work. ArePriorSound works work.phase work.prior) works
     → AllByRecursion (λ work. (is_waiting work.phase && is_among (freed_by (nodes_of works) seq) work.seq)
-    ≡ is_freed seq (changed_work (succeeded output) seq works) work) works
+    ≡ is_freed seq (changed_work (succeeded at output) seq works) work) works
 unfolding all_met
-freed-nodes seq output works order sound =
-    let then = changed_work (succeeded output) seq works in
+freed-nodes at seq output works order sound =
+    let then = changed_work (succeeded at output) seq works in
     let marked = with_marked seq (nodes_of works) in
     let test : NodeFields → Bool = λ node. is_among node.before seq && list_all (is_met marked) node.before in
     All-with2 works (λ work sound among. and-when (is_waiting work.phase) (is_among (picked test works works) work.seq)
     (is_among work.prior seq && all_met then work) (λ waits. among
     ∙ ap (λ prior. is_among prior seq && list_all (is_met marked) prior) (waiting-there works work.phase work.prior waits sound)
     ∙ ap (λ b. is_among work.prior seq && b)
-    (list_all-same (is_met marked) (has_succeeded then) work.prior (λ number. met-marked works works output seq number)))) sound
+    (list_all-same (is_met marked) (has_succeeded then) work.prior (λ number. met-marked works works at output seq number)))) sound
     (picked-each test works works (WorksAscend-in_order works order))
 
 -- ---- a work that is unfinished

@@ -63,12 +63,12 @@ touched-count test change i (work ∷ works) same =
 -- ---- what is reached
 
 -- works are cancelled with their descendants
-abbrev cancelling_from : List ℕ → List Record → Clearing
-cancelling_from seqs works = cancelling (reached_from seqs (nodes_of works))
+abbrev cancelling_from : ℕ → List ℕ → List Record → Clearing
+cancelling_from at seqs works = cancelling at (reached_from seqs (nodes_of works))
 
 -- the records that take the place of others then
-abbrev replaced_by_cancel : List ℕ → List Record → List Replacement
-replaced_by_cancel seqs works = replaced_by_clearing (cancelling_from seqs works) works
+abbrev replaced_by_cancel : ℕ → List ℕ → List Record → List Replacement
+replaced_by_cancel at seqs works = replaced_by_clearing (cancelling_from at seqs works) works
 
 -- whether one of the works reaches a record
 abbrev any_reaches : List ℕ → List Record → Record → Bool
@@ -79,23 +79,24 @@ is_some-cond true new = refl
 is_some-cond false new = refl
 
 -- those that a cancelling touches are those that one of the works reaches
-touched-cancelling : (seqs : List ℕ) (works : List Record)
-    → AllByRecursion (λ w. is_some (cleared_by (cancelling_from seqs works) w) ≡ any_reaches seqs works w) works
-touched-cancelling seqs works =
-    let clearing = cancelling_from seqs works in
+touched-cancelling : (at : ℕ) (seqs : List ℕ) (works : List Record)
+    → AllByRecursion (λ w. is_some (cleared_by (cancelling_from at seqs works) w) ≡ any_reaches seqs works w) works
+touched-cancelling at seqs works =
+    let clearing = cancelling_from at seqs works in
     All-any works (λ w. is_some-cond (becomes_cancelled clearing.cancelled w) (cleared clearing w) ∙ sym (any_reached seqs works w))
 
 -- as many are replaced as are reached
-count-replaced : (seqs : List ℕ) (works : List Record) → length (replaced_by_cancel seqs works) ≡ count_reached seqs works
-count-replaced seqs works = touched-count (any_reaches seqs works) (cleared_by (cancelling_from seqs works)) 0 works (touched-cancelling seqs works)
+count-replaced : (at : ℕ) (seqs : List ℕ) (works : List Record) → length (replaced_by_cancel at seqs works) ≡ count_reached seqs works
+count-replaced at seqs works =
+    touched-count (any_reaches seqs works) (cleared_by (cancelling_from at seqs works)) 0 works (touched-cancelling at seqs works)
 
 -- and it closes just those
-cancelling-closes : (seqs : List ℕ) (s : State) → Valid s → with_works_closed how.Cancelled seqs s ≡ cleared_state (cancelling_from seqs s.works) s
+cancelling-closes : (seqs : List ℕ) (s : State) → Valid s → with_works_closed how.Cancelled seqs s ≡ cleared_state (cancelling_from s.now seqs s.works) s
 cancelling-closes seqs s valid =
-    let clearing = cancelling_from seqs s.works in
+    let clearing = cancelling_from s.now seqs s.works in
     cancelled-state seqs s valid
     ∙ ap (λ (works : List Record). record s { works = works; runs = with_stopped (is_run_among clearing.cancelled) s.runs })
-    (map-same (cancelled_in clearing.cancelled) (cleared clearing) s.works (All-any s.works (λ w. refl))
+    (map-same (cancelled_in s.now clearing.cancelled) (cleared clearing) s.works (All-any s.works (λ w. refl))
     ∙ ap (map (cleared clearing)) (sym (filter-all (stays []) s.works (λ w. refl))))
 
 -- ---- the rows
@@ -107,15 +108,15 @@ open_code phase.Running unfinished same = absurd (cc)
 open_code (phase.Done how) unfinished same = absurd (false≢true unfinished)
 
 -- the row of an unfinished record that is reached changes
-reached_row-changes : (seqs : List ℕ) (work : Record) (works : List Record) → HasOne (λ other. other ≡ work) works → is_open work.phase ≡ true
-    → any_reaches seqs works work ≡ true → map row_of (map (closed_by how.Cancelled seqs works) works) ≢ map row_of works
-reached_row-changes seqs work works stored unfinished reached same =
-    rows-change (closed_by how.Cancelled seqs works) work works stored (λ row. open_code work.phase unfinished
-    (ap (λ b. phase_code (cond b (closed how.Cancelled work) work).phase) (sym reached) ∙ ap (λ (r : Row). r.phase) row)) same
+reached_row-changes : (at : ℕ) (seqs : List ℕ) (work : Record) (works : List Record) → HasOne (λ other. other ≡ work) works → is_open work.phase ≡ true
+    → any_reaches seqs works work ≡ true → map row_of (map (closed_by how.Cancelled at seqs works) works) ≢ map row_of works
+reached_row-changes at seqs work works stored unfinished reached same =
+    rows-change (closed_by how.Cancelled at seqs works) work works stored (λ row. open_code work.phase unfinished
+    (ap (λ b. phase_code (cond b (closed how.Cancelled at work) work).phase) (sym reached) ∙ ap (λ (r : Row). r.phase) row)) same
 
 -- where none is meant, none takes the place of another
-none_replaced : (works : List Record) → replaced_by_cancel [] works ≡ []
-none_replaced works = ap (λ found. replaced_by_clearing (cancelling found) works) (reached-none works) ∙ none-replaced [] 0 works
+none_replaced : (at : ℕ) (works : List Record) → replaced_by_cancel at [] works ≡ []
+none_replaced at works = ap (λ found. replaced_by_clearing (cancelling at found) works) (reached-none works) ∙ none-replaced at [] 0 works
 
 -- a work that a target is for is there, and unfinished
 record IsMeant (works : List Record) (work : Record) : Type 0 where
@@ -128,10 +129,10 @@ all_meant target works =
     { stored = stored; unfinished = (and_parts (is_open work.phase) (is_for target work) is).0 }) (All-stored works)
 
 -- where there is a work that is meant, its row changes
-meant_row-changes : (works found : List Record) (work : Record) → IsMeant works work
-    → map row_of (map (closed_by how.Cancelled (numbers_in (work ∷ found)) works) works) ≢ map row_of works
-meant_row-changes works found work is =
-    reached_row-changes (numbers_in (work ∷ found)) work works is.stored is.unfinished
+meant_row-changes : (at : ℕ) (works found : List Record) (work : Record) → IsMeant works work
+    → map row_of (map (closed_by how.Cancelled at (numbers_in (work ∷ found)) works) works) ≢ map row_of works
+meant_row-changes at works found work is =
+    reached_row-changes at (numbers_in (work ∷ found)) work works is.stored is.unfinished
     (ap (λ b. b || any_reaches (numbers_in found) works work) (itself_reached work works is.stored is.unfinished))
 
 -- ---- the step
@@ -141,25 +142,25 @@ cancel_event line target count = event.Command line (command.Cancel target) (rep
 
 -- the change of the runs
 abbrev stops_by_cancel : List ℕ → State → RunChange
-stops_by_cancel seqs s = Stop (stopped_by (cancelling_from seqs s.works).cancelled s.runs)
+stops_by_cancel seqs s = Stop (stopped_by (cancelling_from s.now seqs s.works).cancelled s.runs)
 
 -- rows change, or there is none to change
 rows-cancelled : (s : State) (target : Target) (run : RunChange) (e : Event) (found : List Record) → filter (is_cancellable target) s.works ≡ found
     → AllByRecursion (IsMeant s.works) found → after s e ≡ with_works_closed how.Cancelled (numbers_in found) s
-    → (rows_of (after s e) ≢ rows_of s) ⊎ (row_changes (replacing_all (replaced_by_cancel (numbers_in found) s.works) run e) ≡ [])
-rows-cancelled s target run e [] is meant after-is = inr (ap (λ replaced. row_changes (replacing_all replaced run e)) (none_replaced s.works))
+    → (rows_of (after s e) ≢ rows_of s) ⊎ (row_changes (replacing_all (replaced_by_cancel s.now (numbers_in found) s.works) run e) ≡ [])
+rows-cancelled s target run e [] is meant after-is = inr (ap (λ replaced. row_changes (replacing_all replaced run e)) (none_replaced s.now s.works))
 rows-cancelled s target run e (work ∷ found) is meant after-is =
-    inl (λ same. meant_row-changes s.works found work meant.0
+    inl (λ same. meant_row-changes s.now s.works found work meant.0
     (ap (map row_of) (sym (works_closed-at_once how.Cancelled (numbers_in (work ∷ found)) s)) ∙ ap rows_of (sym after-is) ∙ same))
 
 cancelling-executed : (s : State) (line : ℕ) (target : Target) → Valid s
     → outcome s (command.Cancel target) ≡ Some (cancelled_each s (targeted target s.works)) → IsExecuted s line (command.Cancel target)
-    (replacing_all (replaced_by_cancel (targeted target s.works) s.works) (stops_by_cancel (targeted target s.works) s)
-    (cancel_event line target (length (replaced_by_cancel (targeted target s.works) s.works))))
+    (replacing_all (replaced_by_cancel s.now (targeted target s.works) s.works) (stops_by_cancel (targeted target s.works) s)
+    (cancel_event line target (length (replaced_by_cancel s.now (targeted target s.works) s.works))))
 cancelling-executed s line target valid is =
     let seqs = targeted target s.works in
-    let clearing = cancelling_from seqs s.works in
-    let count = length (replaced_by_cancel seqs s.works) in
+    let clearing = cancelling_from s.now seqs s.works in
+    let count = length (replaced_by_cancel s.now seqs s.works) in
     let run = stops_by_cancel seqs s in
     let e = cancel_event line target count in
     let after-is : after s e ≡ with_works_closed how.Cancelled seqs s = ap (state_by s) is in
@@ -167,8 +168,8 @@ cancelling-executed s line target valid is =
       reply = reply.Cancelled count;
       event = refl;
       step =
-          clearing_alone-step s clearing run e valid (record { there = tt; ascend = tt }) (StopsAlone-stopped clearing s valid)
-          (tt, Answers-outcome s (command.Cancel target) (reply.Cancelled count) (cancelled_each s seqs) is (ap reply.Cancelled (count-replaced seqs s.works)))
+          clearing_alone-step s clearing run e valid valid.now (record { there = tt; ascend = tt }) (StopsAlone-stopped clearing s valid)
+          (tt, Answers-outcome s (command.Cancel target) (reply.Cancelled count) (cancelled_each s seqs) is (ap reply.Cancelled (count-replaced s.now seqs s.works)))
           (after-is ∙ cancelling-closes seqs s valid);
       rows = rows-cancelled s target run e (filter (is_cancellable target) s.works) refl (all_meant target s.works) after-is;
     }
@@ -179,7 +180,7 @@ returns c =
     let line = c.args.line in
     let target = c.args.target in
     let seqs = targeted target s.works in
-    let replaced = replaced_by_cancel seqs s.works in
+    let replaced = replaced_by_cancel s.now seqs s.works in
     let reached = reached-view _ s _ c.view.view_is c.view.invariant in
     let change : c.replacing_all.result ≡ replacing_all replaced (stops_by_cancel seqs s) (cancel_event line target (length replaced)) = search rules in
     rw change (cancelling-executed s line target reached c.requires.accepted)

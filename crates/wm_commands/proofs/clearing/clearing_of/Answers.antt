@@ -9,8 +9,8 @@ pub returns-then-is_empty-2 : goal.returns-then-is_empty-2
 returns-then-is_empty-2 c =
     let no_cancel : length c.args.cancel.now ≡ 0 = search rules in
     let no_let_go : length c.args.let_go ≡ 0 = search rules in
-    let made : c.cancelling.result ≡ cancelling [] = search rules in
-    made ∙ sym (clearing-none c.args.view.now.works c.args.cancel.now c.args.let_go no_cancel no_let_go)
+    let made : c.cancelling.result ≡ cancelling c.args.view.now.now [] = search rules in
+    made ∙ sym (clearing-none c.args.view.now.now c.args.view.now.works c.args.cancel.now c.args.let_go no_cancel no_let_go)
 
 pub of-requires : goal.of-requires
 of-requires c =

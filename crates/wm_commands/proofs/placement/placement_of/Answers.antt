@@ -7,7 +7,7 @@ pub returns : goal.returns
 returns c =
     let s = c.args.view.now in
     let plan = c.args.plan in
-    let clearing : c.in_ok-clearing.clearing ≡ clearing_of s.works plan.cancel plan.let_go = search rules in
+    let clearing : c.in_ok-clearing.clearing ≡ clearing_of s.now s.works plan.cancel plan.let_go = search rules in
     let name : c.in_ok-name.name ≡ name_in c.args.named.now = search rules in
     let placed : c.in_ok-placed.placed
     ≡ placed_records (cleared_state c.in_ok-clearing.clearing s) c.in_ok-name.name plan.after c.args.works.now = search rules in

@@ -1,4 +1,4 @@
--- The step of a prune: the removable records are removed.
+-- The step of a prune: the prunable records are removed.
 use Rattle.std.proofs.Common.{◌≡◌, ◌≢◌, ℕ, Bool, not, List, [], ◌∷◌, filter, length, map, rules, refl, sym, ◌∙◌, ap, subst, arith, inl, inr}
 use Rattle.std.specs.Prelude.{◌⊎◌, count_by}
 use Rattle.std.proofs.lemmas.List.{length-map}
@@ -11,7 +11,7 @@ use Rattle.wm_settings.specs.Builds.{ChangesRows, IsExecuted}
 use Rattle.wm_commands.specs.Cleared.{pruning, with_cleared}
 use Rattle.wm_machine.proofs.Stops.{with_stopped-none}
 use Rattle.wm_machine.specs.Group.{numbers_in}
-use Rattle.wm_machine.specs.Pruned.{removable}
+use Rattle.wm_machine.specs.Pruned.{prunable}
 use Rattle.wm_machine.specs.Rows.{row_of}
 use Rattle.wm_machine.specs.Valid.{IsBefore, Valid}
 use Rattle.wm_machine.specs.declared.command.Command.TheVariants as command
@@ -30,12 +30,12 @@ use Rattle.wm_commands.proofs.prune.execute.Goals as goal
 -- ---- the records that stay
 
 -- those stay that don't pass the test by which others are removed
-staying : (test : Record → Bool) (works : List Record) → AllLater IsBefore works
-    → with_cleared (pruning (numbers_in (filter test works))) works ≡ filter (λ work. not (test work)) works
-staying test works order =
+staying : (at : ℕ) (test : Record → Bool) (works : List Record) → AllLater IsBefore works
+    → with_cleared (pruning at (numbers_in (filter test works))) works ≡ filter (λ work. not (test work)) works
+staying at test works order =
     let removed = numbers_in (filter test works) in
-    sym (cleared-in_place (pruning removed) works)
-    ∙ ap (λ (replaced : List Replacement). without removed (with_replaced replaced works)) (none-replaced removed 0 works)
+    sym (cleared-in_place (pruning at removed) works)
+    ∙ ap (λ (replaced : List Replacement). without removed (with_replaced replaced works)) (none-replaced at removed 0 works)
     ∙ without-stays removed works
     ∙ stays-passing test works order
 
@@ -52,10 +52,10 @@ fewer_rows test works found first is same =
     absurd (omega (arith, both, passing, lengths))
 
 -- rows are removed, or there is none to remove
-rows-removed : (s : State) (e : Event) (found : List Record) → filter (removable s.works) s.works ≡ found
-    → ChangesRows s command.Prune ⊎ (row_changes (removing (numbers_in found) e) ≡ [])
-rows-removed s e [] is = inr refl
-rows-removed s e (first ∷ found) is = inl (fewer_rows (removable s.works) s.works found first is)
+rows-removed : (s : State) (force : Bool) (e : Event) (found : List Record) → filter (prunable s force) s.works ≡ found
+    → ChangesRows s (command.Prune force) ⊎ (row_changes (removing (numbers_in found) e) ≡ [])
+rows-removed s force e [] is = inr refl
+rows-removed s force e (first ∷ found) is = inl (fewer_rows (prunable s force) s.works found first is)
 
 -- ---- the step
 
@@ -63,36 +63,38 @@ rows-removed s e (first ∷ found) is = inl (fewer_rows (removable s.works) s.wo
 count-removed : (test : Record → Bool) (works : List Record) → length (numbers_in (filter test works)) ≡ count_by test works
 count-removed test works = length-map (filter test works) (λ (work : Record). work.seq) ∙ length-filter test works
 
--- the numbers of the records that may be removed
-abbrev removable_numbers : List Record → List ℕ
-removable_numbers works = numbers_in (filter (removable works) works)
+-- the numbers of the records that are removed
+abbrev prunable_numbers : State → Bool → List ℕ
+prunable_numbers s force = numbers_in (filter (prunable s force) s.works)
 
-abbrev prune_event : ℕ → List Record → Event
-prune_event line works = event.Command line command.Prune (reply.Pruned (length (removable_numbers works)))
+abbrev prune_event : ℕ → State → Bool → Event
+prune_event line s force = event.Command line (command.Prune force) (reply.Pruned (length (prunable_numbers s force)))
 
-pruning-executed : (s : State) (line : ℕ) → Valid s → IsExecuted s line command.Prune
-    (removing (removable_numbers s.works) (prune_event line s.works))
-pruning-executed s line valid =
-    let test = removable s.works in
-    let removed = removable_numbers s.works in
-    let e = prune_event line s.works in
+pruning-executed : (s : State) (line : ℕ) (force : Bool) → Valid s → IsExecuted s line (command.Prune force)
+    (removing (prunable_numbers s force) (prune_event line s force))
+pruning-executed s line force valid =
+    let test = prunable s force in
+    let removed = prunable_numbers s force in
+    let e = prune_event line s force in
     record {
       reply = reply.Pruned (length removed);
       event = refl;
       step =
-          subst (λ (replaced : List Replacement). IsStepOf s (placing replaced removed [] Unchanged e)) (none-replaced removed 0 s.works)
-          (clearing_alone-step s (pruning removed) Unchanged e valid (passing-stored test s.works valid.works.in_order) (StopsAlone-none removed s)
+          subst (λ (replaced : List Replacement). IsStepOf s (placing replaced removed [] Unchanged e)) (none-replaced s.now removed 0 s.works)
+          (clearing_alone-step s (pruning s.now removed) Unchanged e valid valid.now (passing-stored test s.works valid.works.in_order)
+          (StopsAlone-none s.now removed s)
           (tt, ap reply.Pruned (count-removed test s.works))
-          (ap (λ (works : List Record). record s { works = works }) (sym (staying test s.works valid.works.in_order))
-          ∙ ap (λ (runs : List Run). record s { works = with_cleared (pruning removed) s.works; runs = runs }) (sym (with_stopped-none s.runs))));
-      rows = rows-removed s e (filter test s.works) refl;
+          (ap (λ (works : List Record). record s { works = works }) (sym (staying s.now test s.works valid.works.in_order))
+          ∙ ap (λ (runs : List Run). record s { works = with_cleared (pruning s.now removed) s.works; runs = runs }) (sym (with_stopped-none s.runs))));
+      rows = rows-removed s force e (filter test s.works) refl;
     }
 
 pub returns : goal.returns
 returns c =
     let s = c.args.view.now in
     let line = c.args.line in
-    let numbers = removable_numbers s.works in
+    let force = c.args.force in
+    let numbers = prunable_numbers s force in
     let reached = reached-view _ s _ c.view.view_is c.view.invariant in
-    let change : c.removing.result ≡ removing numbers (prune_event line s.works) = search rules in
-    rw change (pruning-executed s line reached)
+    let change : c.removing.result ≡ removing numbers (prune_event line s force) = search rules in
+    rw change (pruning-executed s line force reached)

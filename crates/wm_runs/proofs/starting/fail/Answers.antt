@@ -36,7 +36,7 @@ failure-claims s work cause valid first refused =
     let legal : IsStartFailure s work.seq cause = record { work = work; is_first = first; refused = refused; seq_is = refl } in
     let stored = first_of-stored s work first in
     let itself = not_started s.now work in
-    let to = not_started_reach work.request.period work.seq (nodes_of s.works) in
+    let to = not_started_reach work.request.period s.now work.seq (nodes_of s.works) in
     let touch = change_by itself to in
     let period : work.request.period ≡ period_of work.seq s.works = All-of_one _ s.works work (same_period work.seq s.works valid.works.in_order) stored refl in
     let unfinished = open-waiting work.phase (first_of-waiting s work first) in
