@@ -11,7 +11,7 @@ use wm_machine::{
     Applied, Cause, Command, Counts, End, Event, LineFault, Policy, Refusal, Reply, Shown, Target,
     UniqueName, WorkInfo, WorkQuery,
 };
-use wm_request::{Batch, Request};
+use wm_request::{Batch, NextRun, Request};
 use wm_schedule::{Backoff, Period};
 
 /// Data of more bytes is told by its size alone.
@@ -221,6 +221,7 @@ fn work_words(alloc: Global, request: &Request) -> Result<String, AllocError> {
     add_constraints(&mut words, request.constraints())?;
     add_delays(alloc, &mut words, request)?;
     add_period(alloc, &mut words, request)?;
+    add_next(alloc, &mut words, request)?;
     add_keeping(alloc, &mut words, request)?;
     Ok(words)
 }
@@ -266,6 +267,16 @@ fn add_delays(alloc: Global, words: &mut String, request: &Request) -> Result<()
 fn add_period(alloc: Global, words: &mut String, request: &Request) -> Result<(), AllocError> {
     if let Some(Period { period, flex }) = request.period() {
         words.push_str(format!(in alloc; " period {period} flex {flex}")?.as_str())?;
+    }
+    Ok(())
+}
+
+/// Adds what a work asks of its next run, where it asks anything.
+fn add_next(alloc: Global, words: &mut String, request: &Request) -> Result<(), AllocError> {
+    match request.next() {
+        NextRun::Leave => {}
+        NextRun::At(moment) => words.push_str(format!(in alloc; " next {moment}")?.as_str())?,
+        NextRun::Clear => words.push_str(" next cleared")?,
     }
     Ok(())
 }

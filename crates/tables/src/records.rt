@@ -5,7 +5,7 @@ ghost use Rattle.wm_machine.specs.Limits.{FitsRow};
 
 use crate::names::{how_named, phase_name, phase_named};
 use part_calls::fields::{
-    RowFault, both, count, data, field, has_only, list, name, number, number_if, text,
+    RowFault, both, count, data, field, flag, has_only, list, name, number, number_if, text,
     unless_refused,
 };
 use part_calls::requests::request;
@@ -123,10 +123,18 @@ fn how(row: &Value) -> Result<How, RowFault> {
 /// The record of a work whose run ended.
 fn after_end(alloc: Global, row: &Value, work: &Record) -> Result<Record, RowFault> {
     let now = number(row, "now")?;
+    let renewed = flag(row, "renewed")?;
     let end = end(alloc, row)?;
-    let changed = ended(alloc, work, &end, now);
+    let changed = ended(alloc, work, &end, now, renewed);
     drop(end);
     unless_refused(changed)
+}
+
+/// The record of a work whose run had no turn left.
+fn after_time_out(alloc: Global, row: &Value, work: &Record) -> Result<Record, RowFault> {
+    let now = number(row, "now")?;
+    let renewed = flag(row, "renewed")?;
+    unless_refused(timed_out(alloc, work, now, renewed))
 }
 
 /// What becomes of a record.
@@ -135,7 +143,7 @@ fn changed(alloc: Global, row: &Value, work: &Record) -> Result<Record, RowFault
         "started" => unless_refused(started(alloc, work)),
         "stopped" => unless_refused(stopped(alloc, work)),
         "ended" => after_end(alloc, row, work),
-        "timed out" => unless_refused(timed_out(alloc, work, number(row, "now")?)),
+        "timed out" => after_time_out(alloc, row, work),
         "not started" => unless_refused(not_started(alloc, work, number(row, "now")?)),
         "closed" => unless_refused(closed(alloc, work, how(row)?, number(row, "now")?)),
         "freed" => unless_refused(freed(alloc, work, number(row, "now")?)),
@@ -145,7 +153,7 @@ fn changed(alloc: Global, row: &Value, work: &Record) -> Result<Record, RowFault
 
 /// What becomes of a record: what a change of it can tell.
 pub fn change(alloc: Global, row: &Value) -> Result<Value, RowFault> {
-    has_only(row, &["record", "end", "output", "how", "now"])?;
+    has_only(row, &["record", "end", "output", "how", "now", "renewed"])?;
     let work = record(alloc, row)?;
     let changed = changed(alloc, row, &work);
     drop(work);

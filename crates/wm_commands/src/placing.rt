@@ -14,6 +14,7 @@ use std::alloc::{AllocError, Global};
 use uuid::Uuid;
 use wm_collections::{Items, Replica, Text};
 use wm_data::Data;
+use wm_lifecycle::next_moment;
 use wm_machine::{How, Phase, Record};
 use wm_request::{Node, Request};
 use wm_steps::{Numbers, View};
@@ -68,7 +69,7 @@ fn placed_record(
         runs: 0,
         generation: 0,
         enqueued_at: view.state.now,
-        override_at: None,
+        override_at: next_moment(work.request.next(), None),
         finished_at: first_finished_at(phase, view.state.now),
         output: Data::empty(),
         progress: Data::empty(),

@@ -1,6 +1,6 @@
 //! A work that was enqueued is asked for anew.
 ghost use Rattle.std.specs.Prelude.{◌≡◌, ◌<◌, length, slice_get, None, IfOk, MatchOption};
-ghost use Rattle.wm_commands.specs.Builds.{IsReplacing, IsUpdating};
+ghost use Rattle.wm_commands.specs.Builds.{renewal, IsReplacing, IsUpdating};
 ghost use Rattle.wm_settings.specs.Builds.{IsExecuted};
 ghost use Rattle.wm_machine.specs.Cancelled.{work_with_id};
 ghost use Rattle.wm_machine.specs.Limits.{FitsRow};
@@ -12,7 +12,7 @@ use uuid::Uuid;
 use wm_collections::{both, copied};
 use wm_lifecycle::updated;
 use wm_machine::{Applied, Command, Event, Phase, Record, Refusal, Reply};
-use wm_request::Request;
+use wm_request::{NextRun, Request};
 use wm_rows::have_one_row;
 use wm_schedule::Period;
 use wm_settings::{event_of, replying};
@@ -89,7 +89,8 @@ fn is_same_kind(one: Option<Period>, other: Option<Period>) -> bool
 }
 
 /// What an update of the work at an index comes to, for the command of a line: its record is
-/// replaced, and the reply tells when the update counts and how often the work was updated.
+/// replaced, its current run is renewed where the moment of the next one is set or cleared, and the
+/// reply tells when the update counts and how often the work was updated.
 pub fn update_of(
     alloc: Global,
     line: u32,
@@ -101,13 +102,14 @@ pub fn update_of(
     requires { FitsRow work.now }
     ensures { IfOk result (IsUpdating line command index work.entry.now request) }
 {
+    let next = request.next();
     let (command, changed) = both(command, updated(alloc, work, request))?;
     let reply = Reply::Updated {
         result: applied(work.phase),
         generation: changed.generation,
     };
     let (changed, event) = both(changed, event_of(alloc, line, command, reply))?;
-    replacing(alloc, index, work, changed, event)
+    replacing(alloc, index, work, changed, next, event)
 }
 
 /// When an update of work in this phase counts.
@@ -120,24 +122,36 @@ fn applied(phase: Phase) -> Applied
     }
 }
 
-/// The change of the record at an index to another one of its number. Where its row stays the same,
-/// which an update leaves where it asks for the same and the generation can't rise, it is kept.
+/// What becomes of the runs where this is asked of the next one of the work of this number.
+fn renewal(next: NextRun, seq: u64) -> RunChange
+    ensures { result ≡ renewal next seq }
+{
+    match next {
+        NextRun::Leave => RunChange::Unchanged,
+        _ => RunChange::Renew(seq),
+    }
+}
+
+/// The change of the record at an index to another one of its number, where this is asked of its next
+/// run. Where its row stays the same, which an update leaves where it asks for the same and the
+/// generation can't rise, it is kept.
 fn replacing(
     alloc: Global,
     index: usize,
     work: &Record,
     changed: Record,
+    next: NextRun,
     event: Event,
 ) -> Result<StepChange, AllocError>
     requires work { FitsRow work.now }
     requires changed { FitsRow changed }
-    ensures { IfOk result (IsReplacing index work.entry.now changed event) }
+    ensures { IfOk result (IsReplacing index work.entry.now changed (renewal next work.entry.now.seq) event) }
 {
     let same = have_one_row(alloc, &changed, work);
     let ((changed, event), same) = both((changed, event), same)?;
     if same {
-        StepChange::keeping_row(alloc, index, changed, RunChange::Unchanged, event)
+        StepChange::keeping_row(alloc, index, changed, renewal(next, work.seq), event)
     } else {
-        StepChange::replacing(alloc, index, changed, RunChange::Unchanged, event)
+        StepChange::replacing(alloc, index, changed, renewal(next, work.seq), event)
     }
 }

@@ -8,4 +8,6 @@
 
 mod changes;
 
-pub use changes::{closed, ended, freed, not_started, started, stopped, timed_out, updated};
+pub use changes::{
+    closed, ended, freed, next_moment, not_started, started, stopped, timed_out, updated,
+};

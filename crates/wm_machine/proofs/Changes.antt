@@ -221,7 +221,12 @@ pub record KeepsRun (one other : Record) : Type 0 where
 
 -- the work of a run is so after the change
 pub IsWorkOf-kept : (run : Run) (one other : Record) → IsSameRequest one other → KeepsRun one other → IsWorkOf run one → IsWorkOf run other
-IsWorkOf-kept run one other same keeps of = record { seq = same.seq ∙ of.seq; running = keeps.runs of.running; attempt = keeps.attempt of.running ∙ of.attempt }
+IsWorkOf-kept run one other same keeps of = record {
+  seq = same.seq ∙ of.seq;
+  running = keeps.runs of.running;
+  attempt = keeps.attempt of.running ∙ of.attempt;
+  renewed = λ is. ap (λ (l : List ℕ × Bool). l.1) same.request ∙ of.renewed is;
+}
 
 -- the records with each of them changed
 abbrev pub with_changed : State → (Record → Record) → State

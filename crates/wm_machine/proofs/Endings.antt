@@ -1,5 +1,5 @@
 -- What the end of a run, and a start that fails, make of the records of a state.
-use Rattle.std.proofs.Common.{◌≡◌, ◌≢◌, ◌&&◌, ℕ, ◌^◌, ◌<◌, true, false, cond, eqb, List, [], ◌∷◌, map, Option, Some, None, refl, sym, ◌∙◌, ap, subst, inl, inr, arith}
+use Rattle.std.proofs.Common.{◌≡◌, ◌≢◌, ◌&&◌, ℕ, ◌^◌, ◌<◌, Bool, true, false, cond, eqb, List, [], ◌∷◌, map, Option, Some, None, refl, sym, ◌∙◌, ap, subst, inl, inr, arith}
 use mathlib.Core.List.{reverse}
 use Rattle.std.specs.List.{AllByRecursion}
 use Rattle.std.specs.Option.{option_and_then}
@@ -13,7 +13,7 @@ use Rattle.wm_machine.proofs.EndedRuns.{IsEnding}
 use Rattle.wm_collections.proofs.Lists.{All-any, All-weaker, All-with2, All-with3, map-twice}
 use Rattle.wm_machine.proofs.Records.{IsData-output, IsRecord-again, IsRecord-failed, IsRecord-retried, IsRecord-freed, IsRecord-succeeded}
 use Rattle.wm_machine.proofs.Runnings.{changed, changed_both}
-use Rattle.wm_machine.proofs.Waitings.{blocked-left, IsOldLeft, left-again, left-gone, left-idle, left-kept, left-one, left-retried, met-then}
+use Rattle.wm_machine.proofs.Waitings.{blocked-left, IsOldLeft, left-again, left-gone, left-idle, left-kept, left-one, left-others, left-retried, met-then}
 use Rattle.wm_machine.specs.Closed.{closed, is_open, is_reached}
 use Rattle.wm_machine.specs.Due.{due_of}
 use Rattle.wm_machine.specs.Ends.{enqueued_again, given_by, is_freed, period_of, retried, succeeded, with_output, works_after_end, works_not_started}
@@ -219,25 +219,25 @@ success now seq output works work = freed_in now seq (changed_work (succeeded no
 -- ---- the changes
 
 -- the change that the end of a run makes of each record
-abbrev pub end_by : ℕ → ℕ → Option Period → End → List Record → Record → Record
-end_by now seq period Retry works work = changed (retried now) seq work
-end_by now seq (Some period) _ works work = changed (enqueued_again now) seq work
-end_by now seq None (Success output) works work = success now seq output works work
-end_by now seq None (Failure output) works work = changed (with_output output) seq (closed_in how.Failed now seq works work)
+abbrev pub end_by : Bool → ℕ → ℕ → Option Period → End → List Record → Record → Record
+end_by renewed now seq period Retry works work = changed (retried renewed now) seq work
+end_by renewed now seq (Some period) _ works work = changed (enqueued_again renewed now) seq work
+end_by renewed now seq None (Success output) works work = success now seq output works work
+end_by renewed now seq None (Failure output) works work = changed (with_output output) seq (closed_in how.Failed now seq works work)
 
 -- the change that a failed start makes of each record
 abbrev pub not_started_by : ℕ → ℕ → Option Period → List Record → Record → Record
 not_started_by now seq None works work = closed_in how.Failed now seq works work
-not_started_by now seq (Some period) works work = changed (enqueued_again now) seq work
+not_started_by now seq (Some period) works work = changed (enqueued_again false now) seq work
 
-pub works_after_end-map : (now seq : ℕ) (period : Option Period) (end : End) (works : List Record)
-    → works_after_end now seq period end works ≡ map (end_by now seq period end works) works
-works_after_end-map now seq period Retry works = refl
-works_after_end-map now seq (Some period) (Success output) works = refl
-works_after_end-map now seq (Some period) (Failure output) works = refl
-works_after_end-map now seq None (Success output) works =
+pub works_after_end-map : (renewed : Bool) (now seq : ℕ) (period : Option Period) (end : End) (works : List Record)
+    → works_after_end renewed now seq period end works ≡ map (end_by renewed now seq period end works) works
+works_after_end-map renewed now seq period Retry works = refl
+works_after_end-map renewed now seq (Some period) (Success output) works = refl
+works_after_end-map renewed now seq (Some period) (Failure output) works = refl
+works_after_end-map renewed now seq None (Success output) works =
     map-twice (changed (succeeded now output) seq) (freed_in now seq (changed_work (succeeded now output) seq works)) works
-works_after_end-map now seq None (Failure output) works = map-twice (closed_in how.Failed now seq works) (changed (with_output output) seq) works
+works_after_end-map renewed now seq None (Failure output) works = map-twice (closed_in how.Failed now seq works) (changed (with_output output) seq) works
 
 pub works_not_started-map : (now seq : ℕ) (period : Option Period) (works : List Record)
     → works_not_started now seq period works ≡ map (not_started_by now seq period works) works
@@ -259,10 +259,11 @@ same_period seq (work ∷ works) order =
 
 -- ---- what the end of a run makes of the records
 
--- the change ends the run, and no more works are left to a drain
+-- the change ends the run, and no more works are left to a drain, but that its own may be where it was renewed
 pub record HasEnded (s : State) (run : Run) (change : Record → Record) : Type 0 where
   pub ending : IsEnding s run change
-  pub old : AllByRecursion (IsOldLeft s.now s.works change) s.works
+  pub others : AllByRecursion (λ work. work.seq ≢ run.seq → IsOldLeft s.now s.works change work) s.works
+  pub old : run.renewed ≡ false → AllByRecursion (IsOldLeft s.now s.works change) s.works
 
 -- a record that is changed by its number alone
 others_same : (seq : ℕ) (change : Record → Record) (works : List Record)
@@ -318,9 +319,9 @@ module _ (s : State) (run : Run) (valid : Valid s)
   running_open : AllByRecursion (OfNumber run.seq (λ work. is_open work.phase ≡ true)) s.works
   running_open = All-weaker s.works (λ work is same. ap is_open (is same)) running
 
-  -- the running work is put back, so that it isn't left
+  -- the running work is put back, so that it isn't left where the run wasn't renewed
   put_back : (back : Record → Record) → ((work : Record) → IsSameRequest work (back work)) → ((work : Record) → (back work).phase ≡ phase.Waiting)
-      → AllByRecursion (OfNumber run.seq (λ work. IsRecord (back work))) s.works → (IsChange s.works (changed back run.seq)
+      → AllByRecursion (OfNumber run.seq (λ work. IsRecord (back work))) s.works → (run.renewed ≡ false → IsChange s.works (changed back run.seq)
       → AllByRecursion (OfNumber run.seq (λ work. is_left s.now (map (changed back run.seq) s.works) (back work) ≡ false)) s.works)
       → HasEnded s run (changed back run.seq)
   put_back back same waits fits gone =
@@ -340,27 +341,33 @@ module _ (s : State) (run : Run) (valid : Valid s)
               (λ e runs. let clash : phase.Waiting ≡ phase.Running = sym (waits work) ∙ runs in absurd (cc)) (λ differs. absurd (differs same)));
           others = others_same seq back s.works;
         };
-        old = left-one s.now seq back s.works is (gone is);
+        others = left-others s.now seq back s.works is;
+        old = λ e. left-one s.now seq back s.works is (gone e is);
       }
 
   -- the running work is to be retried
-  has_retried : s.now < 2 ^ 53 → HasEnded s run (changed (retried s.now) run.seq)
+  has_retried : s.now < 2 ^ 53 → HasEnded s run (changed (retried run.renewed s.now) run.seq)
   has_retried below =
-      put_back (retried s.now) (λ work. record { seq = refl; name = λ text is. is; request = refl; prior = refl }) (λ work. refl)
-      (All-with2 s.works (λ work runs fine e. IsRecord-retried s.now work below (runs e) fine) running valid.works.records)
-      (λ change. All-with3 s.works (λ work runs fine sound e. left-retried s.now (map (changed (retried s.now) run.seq) s.works) work (runs e) fine
-      (met-then s.now s.works (changed (retried s.now) run.seq) change work (running_prior s.works work.phase work.prior (runs e) sound)))
+      let back = retried run.renewed s.now in
+      let then = map (changed back run.seq) s.works in
+      put_back back (λ work. record { seq = refl; name = λ text is. is; request = refl; prior = refl }) (λ work. refl)
+      (All-with2 s.works (λ work runs fine e. IsRecord-retried run.renewed s.now work below (runs e) fine) running valid.works.records)
+      (λ not change. All-with3 s.works (λ work runs fine sound e. subst (λ b. is_left s.now then (retried b s.now work) ≡ false) (sym not)
+      (left-retried s.now then work (runs e) fine
+      (met-then s.now s.works (changed back run.seq) change work (running_prior s.works work.phase work.prior (runs e) sound))))
       running valid.works.records valid.works.sound)
 
   -- the running work is periodic, and is enqueued again
   has_again : (period : Period) → s.now < 2 ^ 53 → AllByRecursion (OfNumber run.seq (λ work. work.request.period ≡ Some period)) s.works
-      → HasEnded s run (changed (enqueued_again s.now) run.seq)
+      → HasEnded s run (changed (enqueued_again run.renewed s.now) run.seq)
   has_again period below repeats =
-      put_back (enqueued_again s.now) (λ work. record { seq = refl; name = λ text is. is; request = refl; prior = refl }) (λ work. refl)
-      (All-with3 s.works (λ work unfinished kind fine e. IsRecord-again period s.now work below (unfinished e) (kind e) fine) running_open repeats
-      valid.works.records)
-      (λ change. All-with2 s.works (λ work kind fine e. left-again period s.now (map (changed (enqueued_again s.now) run.seq) s.works) work (kind e)
-      (no_prior period work (kind e) fine) fine) repeats valid.works.records)
+      let back = enqueued_again run.renewed s.now in
+      let then = map (changed back run.seq) s.works in
+      put_back back (λ work. record { seq = refl; name = λ text is. is; request = refl; prior = refl }) (λ work. refl)
+      (All-with3 s.works (λ work unfinished kind fine e. IsRecord-again period run.renewed s.now work below (unfinished e) (kind e) fine) running_open
+      repeats valid.works.records)
+      (λ not change. All-with2 s.works (λ work kind fine e. subst (λ b. is_left s.now then (enqueued_again b s.now work) ≡ false) (sym not)
+      (left-again period s.now then work (kind e) (no_prior period work (kind e) fine) fine)) repeats valid.works.records)
 
   -- the running work is one-time, and fails
   has_failed : (output : List DataEntry) → IsData output → AllByRecursion (OfNumber run.seq (λ work. work.request.period ≡ None)) s.works
@@ -373,6 +380,7 @@ module _ (s : State) (run : Run) (valid : Valid s)
       (λ differs. IsRecord-failed s.now work.output work valid.now (IsData-output work is) kind is))
       (λ work differs is. changed_both IsRecord (with_output output) run.seq work (λ e. absurd (differs e)) (λ no. is)) running_open in
       let is = IsChange-closing s run.seq how.Failed then (KeepsShape-output output run.seq) valid running_not_yet (λ change p prior. tt) fits in
+      let old = closing-left s run.seq how.Failed then (KeepsShape-output output run.seq) valid running_not_yet (λ change p prior. tt) is in
       record {
         ending = record {
           is_change = is;
@@ -380,7 +388,8 @@ module _ (s : State) (run : Run) (valid : Valid s)
               (closing-idle s run.seq how.Failed then (KeepsShape-output output run.seq) valid running_not_yet (λ change p prior. tt) running_open);
           others = closing-others s run.seq how.Failed then (KeepsShape-output output run.seq) valid running_not_yet (λ change p prior. tt);
         };
-        old = closing-left s run.seq how.Failed then (KeepsShape-output output run.seq) valid running_not_yet (λ change p prior. tt) is;
+        others = All-weaker s.works (λ work is differs. is) old;
+        old = λ e. old;
       }
 
   -- the running work is one-time, and succeeds
@@ -416,14 +425,15 @@ module _ (s : State) (run : Run) (valid : Valid s)
               freed_both (KeepsRun work) s.now seq then (one work) (λ e. record { ran = kept.ran; runs = kept.runs; attempt = kept.attempt }) (λ e. kept))
               (others_same seq (succeeded s.now output) s.works);
         };
-        old = All-any s.works (success_left s.now seq output s.works is running_not_yet);
+        others = All-any s.works (λ work differs. success_left s.now seq output s.works is running_not_yet work);
+        old = λ e. All-any s.works (success_left s.now seq output s.works is running_not_yet);
       }
 
 -- the change that an end makes of each record, by the kind of its work
 has_ended : (s : State) (run : Run) (period : Option Period) (end : End) → Valid s
     → AllByRecursion (OfNumber run.seq (λ work. work.phase ≡ phase.Running)) s.works
     → AllByRecursion (OfNumber run.seq (λ work. work.request.period ≡ period)) s.works → GivesData (given_by end)
-    → HasEnded s run (end_by s.now run.seq period end s.works)
+    → HasEnded s run (end_by run.renewed s.now run.seq period end s.works)
 has_ended s run period Retry valid running kind gave = has_retried s run valid running valid.now
 has_ended s run (Some period) (Success output) valid running kind gave = has_again s run valid running period valid.now kind
 has_ended s run (Some period) (Failure output) valid running kind gave = has_again s run valid running period valid.now kind
@@ -432,7 +442,7 @@ has_ended s run None (Failure output) valid running kind gave = has_failed s run
 
 -- the change that the end of a run makes of each record
 abbrev pub end_in : State → Run → End → Record → Record
-end_in s run end = end_by s.now run.seq (period_of run.seq s.works) end s.works
+end_in s run end = end_by run.renewed s.now run.seq (period_of run.seq s.works) end s.works
 
 pub HasEnded-end : (s : State) (run : Run) (end : End) → Valid s → AllByRecursion (OfNumber run.seq (λ work. work.phase ≡ phase.Running)) s.works
     → GivesData (given_by end) → HasEnded s run (end_in s run end)

@@ -93,27 +93,30 @@ finish-closed now before works how seq all =
 -- ---- the end of a run, and a start that fails
 
 -- a work that waits again
-finish-again : (now : ℕ) (works : List Record) (seq : ℕ) → FinishNow now works (changed_work (enqueued_again now) seq works)
-finish-again now works seq =
-    finish-one now works works (enqueued_again now) seq (λ work. Dates-open now work (enqueued_again now work) refl refl) (none_finish now works)
+finish-again : (renewed : Bool) (now : ℕ) (works : List Record) (seq : ℕ) → FinishNow now works (changed_work (enqueued_again renewed now) seq works)
+finish-again renewed now works seq =
+    let back = enqueued_again renewed now in
+    finish-one now works works back seq (λ work. Dates-open now work (back work) refl refl) (none_finish now works)
 
-finish-end : (now seq : ℕ) (period : Option Period) (end : End) (works : List Record) → FinishNow now works (works_after_end now seq period end works)
-finish-end now seq period Retry works =
-    finish-one now works works (retried now) seq (λ work. Dates-open now work (retried now work) refl refl) (none_finish now works)
-finish-end now seq (Some period) (Success output) works = finish-again now works seq
-finish-end now seq (Some period) (Failure output) works = finish-again now works seq
-finish-end now seq None (Success output) works =
+finish-end : (renewed : Bool) (now seq : ℕ) (period : Option Period) (end : End) (works : List Record)
+    → FinishNow now works (works_after_end renewed now seq period end works)
+finish-end renewed now seq period Retry works =
+    let back = retried renewed now in
+    finish-one now works works back seq (λ work. Dates-open now work (back work) refl refl) (none_finish now works)
+finish-end renewed now seq (Some period) (Success output) works = finish-again renewed now works seq
+finish-end renewed now seq (Some period) (Failure output) works = finish-again renewed now works seq
+finish-end renewed now seq None (Success output) works =
     let then = changed_work (succeeded now output) seq works in
     finish-some now works then (is_freed seq then) (λ work. record work { enqueued_at = now })
     (λ work. Dates-kept now work (record work { enqueued_at = now }) refl refl refl)
     (finish-one now works works (succeeded now output) seq (λ work. Dates-now now work (succeeded now output work) refl refl) (none_finish now works))
-finish-end now seq None (Failure output) works =
+finish-end renewed now seq None (Failure output) works =
     finish-one now works (with_closed how.Failed now seq works) (with_output output) seq
     (λ work. Dates-kept now work (with_output output work) refl refl refl) (finish-closed now works works how.Failed seq (none_finish now works))
 
 finish-not_started : (now seq : ℕ) (period : Option Period) (works : List Record) → FinishNow now works (works_not_started now seq period works)
 finish-not_started now seq None works = finish-closed now works works how.Failed seq (none_finish now works)
-finish-not_started now seq (Some period) works = finish-again now works seq
+finish-not_started now seq (Some period) works = finish-again false now works seq
 
 -- ---- what a step makes of a state
 
@@ -143,7 +146,7 @@ finish-turn s (Some run) progress = finish-one s.now s.works s.works (telling pr
 
 finish-run : (s : State) (run : Option Run) (end : End) → FinishesNow s (end_of s run end)
 finish-run s None end = stays s
-finish-run s (Some run) end = finish-end s.now run.seq (period_of run.seq s.works) end s.works
+finish-run s (Some run) end = finish-end run.renewed s.now run.seq (period_of run.seq s.works) end s.works
 
 finish-returned : (s : State) (run : Option Run) → FinishesNow s (returned_of s run)
 finish-returned s None = stays s

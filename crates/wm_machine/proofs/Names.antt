@@ -9,7 +9,7 @@ use Rattle.wm_machine.proofs.Groups.{All-made_ready, frame-made_ready, is_any_ru
 use Rattle.wm_collections.proofs.Lists.{All-any, All-from_filter, All-kept, All-map, All-of_one, All-stored, All-weaker, All-with2, AllLater-each, AllLater-few, AllLater-filter, AllLater-map, HasOne-weaker, find-none, find-stored, list_any-stored, list_any_after}
 use Rattle.wm_machine.proofs.Owed.{IsAnswered, IsLinedIn-quiet, IsLinedIn-stops}
 use Rattle.wm_machine.proofs.Placings.{bytes_eq-refl}
-use Rattle.wm_machine.proofs.Updates.{update-reached}
+use Rattle.wm_machine.proofs.Updates.{update-framed, update-reached}
 use Rattle.wm_machine.specs.Built.{AreAsked, AreAskedUnder}
 use Rattle.wm_machine.specs.Enqueued.{carried_out, made_ready, outcome_by, placed_after, plan_in, refusal_by, refusal_of, refusal_of_placing, updated_by}
 use Rattle.wm_machine.specs.Frame.{untouched, IsLinedIn}
@@ -262,17 +262,17 @@ reached-named : (s : State) (unique : UniqueName) (works : List Node) (found : O
 reached-named s unique works (Some found) asked reached is = reached
 reached-named s unique works None asked reached is = each_policy s unique.name works asked reached unique.policy is
 
-frame-updated : (s : State) (commands : List Command) (member : Record) (works : List Node)
-    → untouched (updated_by s member works).state commands ≡ untouched s commands
-frame-updated s commands member [] = refl
-frame-updated s commands member (work ∷ works) = refl
+-- a member that is updated may have its run renewed
+frame-updated : (s : State) (unique : UniqueName) (batch : BatchFields) (member : Record) (works : List Node)
+    → let asked = command.Enqueue (Some unique) batch in IsLinedIn asked s (untouched (updated_by s member works).state (asked ∷ []))
+frame-updated s unique batch member [] = IsLinedIn-quiet (command.Enqueue (Some unique) batch) s _ refl
+frame-updated s unique batch member (work ∷ works) = update-framed s (command.Enqueue (Some unique) batch) work.request member refl
 
 -- a batch that is placed stops the runs of what it cancels
 frame-carried_out : (s : State) (unique : UniqueName) (batch : BatchFields) (name : List ℕ) (works : List Node) (plan : Plan)
     → let asked = command.Enqueue (Some unique) batch in IsLinedIn asked s (untouched (carried_out plan s name works).state (asked ∷ []))
 frame-carried_out s unique batch name works plan.Keeps = IsLinedIn-quiet (command.Enqueue (Some unique) batch) s _ refl
-frame-carried_out s unique batch name works (plan.Updates member) =
-    let asked = command.Enqueue (Some unique) batch in IsLinedIn-quiet asked s _ (frame-updated s (asked ∷ []) member works)
+frame-carried_out s unique batch name works (plan.Updates member) = frame-updated s unique batch member works
 frame-carried_out s unique batch name works (plan.Places placing) =
     let asked = command.Enqueue (Some unique) batch in
     IsLinedIn-stops asked s _ (is_any_run_reached placing.cancel s.works)

@@ -7,7 +7,7 @@ use Rattle.std.proofs.lemmas.List.Concat.{flat_map-cons}
 use Rattle.std.proofs.lemmas.List.Elements.{All-from_recursion}
 use Rattle.wm_collections.specs.Lists.{AllLater, HasOne}
 use Rattle.wm_collections.proofs.Lists.{All-append, All-filter, All-map, All-stored, All-weaker, All-with2, All-with3, AllLater-append, AllLater-few, HasOne-weaker, HasOne-with, none_pass, one_gives}
-use Rattle.wm_machine.proofs.Records.{IsData-empty, IsRequest-of_record, no_override}
+use Rattle.wm_machine.proofs.Records.{IsData-empty, IsRequest-of_record, next-fits, next-override}
 use Rattle.wm_machine.proofs.Runnings.{all_of_number}
 use Rattle.wm_machine.specs.Enqueued.{any_in, count_prior, first_finished_at, first_phase, is_cancelled, is_failed, new_record, numbers_of, prior_of}
 use Rattle.wm_machine.specs.Valid.{ArePrior, ArePriorSound, IsAttemptIn, IsBefore, IsFinishedIn, IsOfKind, MaySucceedOrHas, IsOutputIn, IsPeriodicPhase, IsProgressIn, IsRecord, Valid}
@@ -247,7 +247,7 @@ IsRecord-placed s name prior node valid room short is =
             (All-weaker prior (λ number both. let below = both.1 in omega (arith, below, room)) sound.earlier);
         generation = omega arith;
         enqueued_at = valid.now;
-        override_at = tt;
+        override_at = next-fits node.request.period node.request.next None is.request.within.next_is tt;
         finished_at = finished-fits (first_phase s.works prior) s.now valid.now;
       };
       name = short;
@@ -259,7 +259,7 @@ IsRecord-placed s name prior node valid room short is =
       runs = omega arith;
       kind = kind-placed node.request.period s name prior node refl is;
       leaves = refl;
-      override_at = no_override node.request.period;
+      override_at = next-override node.request.period node.request.next is.request.within.next_is;
       finished_at = finished-placed (first_phase s.works prior) s.now;
       output = first_phase-both (λ p. IsOutputIn p []) s.works prior IsData-empty refl (λ e f. refl);
       progress = first_phase-both (λ p. IsProgressIn p []) s.works prior refl refl (λ e f. refl);

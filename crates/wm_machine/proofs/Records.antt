@@ -1,19 +1,21 @@
 -- What a change keeps of a record.
-use Rattle.std.proofs.Common.{◌≡◌, ℕ, ◌^◌, ◌<◌, ◌≤◌, ap, true, List, [], length, Option, Some, None, IfSome, refl, sym, ◌∙◌, subst, arith}
+use Rattle.std.proofs.Common.{◌≡◌, ℕ, ◌^◌, ◌<◌, ◌≤◌, ap, Bool, true, false, List, [], length, Option, Some, None, IfSome, refl, sym, ◌∙◌, subst, arith}
 use Rattle.std.proofs.lemmas.Bool.{false≢true}
 use Rattle.wm_data.specs.Size.{IsData}
 use Rattle.wm_machine.specs.Types.{DataEntry, Period, Phase, Record}
 use Rattle.wm_machine.specs.Closed.{closed, is_open}
-use Rattle.wm_machine.specs.Ends.{enqueued_again, retried, succeeded, with_output}
+use Rattle.wm_machine.specs.Ends.{enqueued_again, left_of, retried, succeeded, with_output}
 use Rattle.wm_machine.specs.First.{is_waiting}
 use Rattle.wm_machine.specs.Runs.{started}
 use Rattle.wm_machine.specs.Turns.{telling}
-use Rattle.wm_machine.specs.Updated.{is_same_kind, updated}
+use Rattle.wm_machine.specs.Updated.{is_same_kind, next_moment, updated}
 use Rattle.wm_machine.specs.Valid.{IsAttemptIn, IsFinishedIn, IsOfKind, IsOutputIn, IsOverrideOf, IsPeriodic, IsPeriodicPhase, IsProgressIn, IsRecord}
 use Rattle.wm_machine.specs.declared.record.How.TheVariants as how
 use Rattle.wm_machine.specs.declared.record.Phase.TheVariants as phase
 use Rattle.wm_request.proofs.Limits.{IsWithin-of_record}
-use Rattle.wm_request.specs.Requests.{of_record, IsRequest, IsShortText, RequestFields}
+use Rattle.wm_request.specs.Requests.{of_record, IsNextRun, IsRequest, IsShortText, RequestFields}
+use Rattle.wm_request.specs.declared.request.NextRun.{NextRun}
+use Rattle.wm_request.specs.declared.request.NextRun.TheVariants.{Leave, At, Clear}
 use Rattle.wm_schedule.specs.Moments.{IsDelay}
 
 -- no entry is Data
@@ -52,6 +54,26 @@ waiting-open (phase.Done how) waits = absurd (false≢true waits)
 pub no_override : (period : Option Period) → IsOverrideOf period None
 no_override None = refl
 no_override (Some period) = tt
+
+-- what holds of an override and of none holds of what a run leaves of it
+left-override : (P : Option ℕ → Type 0) (renewed : Bool) (override_at : Option ℕ) → P override_at → P None → P (left_of renewed override_at)
+left-override P true override_at has none = has
+left-override P false override_at has none = none
+
+-- the moment of the next run that is asked for is within its limit, where the one before was
+pub next-fits : (period : Option Period) (next : NextRun) (override_at : Option ℕ) → IsNextRun period next
+    → IfSome override_at (λ moment. moment < 2 ^ 53) → IfSome (next_moment next override_at) (λ moment. moment < 2 ^ 53)
+next-fits period Leave override_at asked fits = fits
+next-fits None (At moment) override_at asked fits = absurd asked
+next-fits (Some period) (At moment) override_at asked fits = asked
+next-fits period Clear override_at asked fits = tt
+
+-- and only periodic work has one, where it hadn't any before
+pub next-override : (period : Option Period) (next : NextRun) → IsNextRun period next → IsOverrideOf period (next_moment next None)
+next-override None Leave asked = refl
+next-override None (At moment) asked = absurd asked
+next-override None Clear asked = refl
+next-override (Some period) next asked = tt
 
 -- what a run, an end or a cancel leaves of a record, its name aside
 abbrev asked_of : Record → ℕ × (RequestFields × (List ℕ × ℕ))
@@ -120,13 +142,13 @@ moments-kept work now enqueued override finished phase_is is = record {
   finished_fits = rw finished is.fits.finished_at;
 }
 
--- a change that has its delay count from this moment on, which uses its override up, in a phase where it hasn't finished
-moments-now : (at : ℕ) (work now : Record) → at < 2 ^ 53 → now.enqueued_at ≡ at → now.override_at ≡ None → now.finished_at ≡ work.finished_at
-    → is_open work.phase ≡ true → IsFinishedIn now.phase 0 → IsRecord work → AreMomentsWithin work now
-moments-now at work now below enqueued override finished unfinished phase_is is = record {
+-- a change that has its delay count from this moment on, after a run that uses its override up or doesn't, in a phase where it hasn't finished
+moments-now : (at : ℕ) (renewed : Bool) (work now : Record) → at < 2 ^ 53 → now.enqueued_at ≡ at → now.override_at ≡ left_of renewed work.override_at
+    → now.finished_at ≡ work.finished_at → is_open work.phase ≡ true → IsFinishedIn now.phase 0 → IsRecord work → AreMomentsWithin work now
+moments-now at renewed work now below enqueued override finished unfinished phase_is is = record {
   enqueued_at = rw enqueued below;
-  override_at = rw override (no_override work.request.period);
-  override_fits = rw override tt;
+  override_at = rw override (left-override (IsOverrideOf work.request.period) renewed work.override_at is.override_at (no_override work.request.period));
+  override_fits = rw override (left-override (λ moment. IfSome moment (λ m. m < 2 ^ 53)) renewed work.override_at is.fits.override_at tt);
   finished_at = rw (finished, finished-open work.phase work.finished_at unfinished is.finished_at) phase_is;
   finished_fits = rw finished is.fits.finished_at;
 }
@@ -190,16 +212,17 @@ IsRecord-telling (Some progress) work told running is =
     })
 
 -- a work whose attempt is to be retried
-pub IsRecord-retried : (now : ℕ) (work : Record) → now < 2 ^ 53 → work.phase ≡ phase.Running → IsRecord work → IsRecord (retried now work)
-IsRecord-retried now work below running is =
-    IsRecord-kept work (retried now work) refl is (record {
+pub IsRecord-retried : (renewed : Bool) (now : ℕ) (work : Record) → now < 2 ^ 53 → work.phase ≡ phase.Running → IsRecord work
+    → IsRecord (retried renewed now work)
+IsRecord-retried renewed now work below running is =
+    IsRecord-kept work (retried renewed now work) refl is (record {
       name = is.name;
-      moments = moments-now now work (retried now work) below refl refl refl (ap is_open running) refl is;
+      moments = moments-now now renewed work (retried renewed now work) below refl refl refl (ap is_open running) refl is;
       attempt = is.attempt;
       started = tt;
       backoff_n = omega arith;
       runs = is.runs;
-      kind = IsOfKind-kept work.request.period work (retried now work) tt refl refl refl is.kind;
+      kind = IsOfKind-kept work.request.period work (retried renewed now work) tt refl refl refl is.kind;
       output = subst (λ phase. IsOutputIn phase work.output) running is.output;
       progress = refl;
     })
@@ -282,18 +305,18 @@ IsRecord-succeeded now output work below gave running one_time is =
       progress = refl;
     })
 
-pub IsRecord-again : (period : Period) (now : ℕ) (work : Record) → now < 2 ^ 53 → is_open work.phase ≡ true → work.request.period ≡ Some period
-    → IsRecord work → IsRecord (enqueued_again now work)
-IsRecord-again period now work below unfinished repeats is =
+pub IsRecord-again : (period : Period) (renewed : Bool) (now : ℕ) (work : Record) → now < 2 ^ 53 → is_open work.phase ≡ true
+    → work.request.period ≡ Some period → IsRecord work → IsRecord (enqueued_again renewed now work)
+IsRecord-again period renewed now work below unfinished repeats is =
     let kind : IsPeriodic work = subst (λ kind. IsOfKind kind work) repeats is.kind in
-    IsRecord-kept work (enqueued_again now work) refl is (record {
+    IsRecord-kept work (enqueued_again renewed now work) refl is (record {
       name = is.name;
-      moments = moments-now now work (enqueued_again now work) below refl refl refl unfinished refl is;
+      moments = moments-now now renewed work (enqueued_again renewed now work) below refl refl refl unfinished refl is;
       attempt = omega arith;
       started = tt;
       backoff_n = omega arith;
       runs = omega arith;
-      kind = subst (λ kind. IsOfKind kind (enqueued_again now work)) (sym repeats)
+      kind = subst (λ kind. IsOfKind kind (enqueued_again renewed now work)) (sym repeats)
           (record { phase_is = tt; no_output = refl; no_prerequisite = kind.no_prerequisite });
       output = refl;
       progress = refl;
@@ -307,12 +330,14 @@ updated-kind (Some before) None request work same kind = absurd (false≢true sa
 updated-kind (Some before) (Some period) request work same kind =
     record { phase_is = kind.phase_is; no_output = kind.no_output; no_prerequisite = kind.no_prerequisite }
 
-updated-override : (before now : Option Period) (override_at : Option ℕ) → is_same_kind now before ≡ true → IsOverrideOf before override_at
-    → IsOverrideOf now override_at
-updated-override None None override_at same is = is
-updated-override None (Some period) override_at same is = absurd (false≢true same)
-updated-override (Some before) None override_at same is = absurd (false≢true same)
-updated-override (Some before) (Some period) override_at same is = tt
+updated-override : (before now : Option Period) (next : NextRun) (override_at : Option ℕ) → is_same_kind now before ≡ true → IsNextRun now next
+    → IsOverrideOf before override_at → IsOverrideOf now (next_moment next override_at)
+updated-override None None Leave override_at same asked is = is
+updated-override None None (At moment) override_at same asked is = absurd asked
+updated-override None None Clear override_at same asked is = refl
+updated-override None (Some period) next override_at same asked is = absurd (false≢true same)
+updated-override (Some before) None next override_at same asked is = absurd (false≢true same)
+updated-override (Some before) (Some period) next override_at same asked is = tt
 
 -- a request as the record of a work has it
 pub IsRequest-of_record : (id : List ℕ) (keep : ℕ) (request : RequestFields) → length id ≡ 16 → IsDelay keep → IsRequest request
@@ -330,7 +355,7 @@ IsRecord-updated request work asked same is = record {
     prior = is.fits.prior;
     generation = omega arith;
     enqueued_at = is.fits.enqueued_at;
-    override_at = is.fits.override_at;
+    override_at = next-fits request.period request.next work.override_at asked.within.next_is is.fits.override_at;
     finished_at = is.fits.finished_at;
   };
   name = is.name;
@@ -342,7 +367,7 @@ IsRecord-updated request work asked same is = record {
   runs = is.runs;
   kind = updated-kind work.request.period request.period request work same is.kind;
   leaves = refl;
-  override_at = updated-override work.request.period request.period work.override_at same is.override_at;
+  override_at = updated-override work.request.period request.period request.next work.override_at same asked.within.next_is is.override_at;
   finished_at = is.finished_at;
   output = is.output;
   progress = is.progress;

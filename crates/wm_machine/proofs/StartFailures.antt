@@ -1,5 +1,5 @@
 -- A start that fails.
-use Rattle.std.proofs.Common.{◌≡◌, ℕ, true, false, cond, eqb, List, map, Option, Some, None, refl, sym, ◌∙◌, ap, inl, inr}
+use Rattle.std.proofs.Common.{◌≡◌, ℕ, ◌<◌, true, false, cond, eqb, List, map, Option, Some, None, refl, sym, ◌∙◌, ap, arith, inl, inr}
 use Rattle.std.specs.List.{AllByRecursion}
 use Rattle.std.proofs.lemmas.Bool.{cases_Bool, eq-eqb, eqb-false, eqb-true}
 use Rattle.wm_machine.proofs.Changes.{all_open, IsChange, IsChange-one, KeepsRun, OfNumber, reached-changed, Succeeded, with_changed}
@@ -9,14 +9,14 @@ use Rattle.wm_collections.proofs.Lists.{All-any, All-of_one, All-weaker, All-wit
 use Rattle.wm_machine.proofs.Owed.{IsKept}
 use Rattle.wm_machine.proofs.Records.{IsData-output, IsRecord-again, IsRecord-failed}
 use Rattle.wm_machine.proofs.Runnings.{changed, changed_both, IsAlone-stored, not_running}
-use Rattle.wm_machine.proofs.Waitings.{IsOldLeft, left-again, left-idle, left-one, left_to_drain-started}
+use Rattle.wm_machine.proofs.Waitings.{IsOldLeft, left-again, left-idle, left-one, left_among-started}
 use Rattle.wm_machine.specs.Closed.{is_open}
 use Rattle.wm_machine.specs.Ends.{enqueued_again, period_of, with_start_failed}
 use Rattle.wm_machine.specs.First.{first_of, is_waiting}
 use Rattle.wm_machine.specs.Role as role
 use Rattle.wm_machine.specs.Step.{after, IsStartFailure}
 use Rattle.wm_machine.specs.Valid.{Valid, MaySucceedOrHas}
-use Rattle.wm_machine.specs.Waiting.{is_left}
+use Rattle.wm_machine.specs.Waiting.{is_left, left_among, left_to_drain}
 use Rattle.wm_machine.specs.Types.{Cause, Period, Record, State}
 use Rattle.wm_machine.specs.declared.event.Event.TheVariants as event
 use Rattle.wm_machine.specs.declared.record.How.TheVariants as how
@@ -63,9 +63,9 @@ module _ (s : State) (work : Record) (valid : Valid s) (first : first_of s ≡ S
 
   -- a periodic work is enqueued again
   again : (period : Period) → AllByRecursion (OfNumber work.seq (λ other. other.request.period ≡ Some period)) s.works
-      → HasNotStarted s work (changed (enqueued_again s.now) work.seq)
+      → HasNotStarted s work (changed (enqueued_again false s.now) work.seq)
   again period repeats =
-      let back = enqueued_again s.now in
+      let back = enqueued_again false s.now in
       let change = changed back work.seq in
       let then = map change s.works in
       let open_then = All-any s.works (λ other before. changed_both (λ c. MaySucceedOrHas c.phase) back work.seq other (λ e. tt) (λ differs. before)) in
@@ -75,7 +75,7 @@ module _ (s : State) (work : Record) (valid : Valid s) (first : first_of s ≡ S
       let is =
       IsChange-one s.works work.seq back (λ other. record { seq = refl; name = λ text is. is; request = refl; prior = refl })
       valid.works.records valid.works.sound
-      (All-with3 s.works (λ other waiting kind fine e. IsRecord-again period s.now other valid.now (waiting e) (kind e) fine) unfinished repeats
+      (All-with3 s.works (λ other waiting kind fine e. IsRecord-again period false s.now other valid.now (waiting e) (kind e) fine) unfinished repeats
       valid.works.records)
       (All-weaker s.works (λ other is e. (is e, all_open s.works change other.prior open_then)) unfinished) not_yet (All-any s.works (λ other e. tt)) in
       let here : change work ≡ back work = ap (λ b. cond b (back work) work) (eq-eqb work.seq work.seq refl) in
@@ -124,7 +124,7 @@ start_failed-kept s seq cause reached legal =
     let work = legal.work in
     let change = not_started_in s work in
     let has = has_not_started s work reached legal.is_first (period_of work.seq s.works) (same_period work.seq s.works reached.works.in_order) in
-    rw (after_start_failed s seq cause legal) record {
-      reached = reached-changed s change reached has.is_change has.keep;
-      left = left_to_drain-started s work change legal.is_first has.is_change has.old has.gone;
-    }
+    let works : left_among s.now (map change s.works) < left_among s.now s.works =
+    left_among-started s work change legal.is_first has.is_change has.old has.gone in
+    let left : left_to_drain (with_changed s change) < left_to_drain s = omega (arith, works) in
+    rw (after_start_failed s seq cause legal) record { reached = reached-changed s change reached has.is_change has.keep; left = left }

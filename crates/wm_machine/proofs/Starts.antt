@@ -1,7 +1,7 @@
 -- The start of a run.
-use Rattle.std.proofs.Common.{◌≡◌, ℕ, ◌+◌, Bool, true, false, eqb, cond, ◌||◌, List, [], ◌∷◌, ◌++◌, map, Some, refl, sym, ◌∙◌, ap, subst, arith, ◌≤◌}
+use Rattle.std.proofs.Common.{◌≡◌, ℕ, ◌+◌, Bool, true, false, eqb, cond, ◌||◌, List, [], ◌∷◌, ◌++◌, map, Some, refl, sym, ◌∙◌, ap, subst, arith, ◌<◌, ◌≤◌}
 use Rattle.std.specs.List.{AllByRecursion}
-use Rattle.std.proofs.lemmas.Bool.{eq-eqb, ne_eqb, eqb-false, or_left, or_right}
+use Rattle.std.proofs.lemmas.Bool.{eq-eqb, ne_eqb, eqb-false, false≢true, or_left, or_right}
 use Rattle.std.proofs.lemmas.List.Folds.{list_any-append}
 use Rattle.std.proofs.lemmas.List.{length-map}
 use Rattle.wm_data.specs.Size.{IsData}
@@ -10,11 +10,11 @@ use Rattle.wm_machine.proofs.Changes.{AreWorks-changed, IsChange, IsChange-one, 
 use Rattle.wm_machine.proofs.Endings.{open-waiting, waiting-succeeded}
 use Rattle.wm_machine.proofs.Firsts.{first_of-startable, first_of-stored, first_of-waiting, idle_instance-idle, idle_instance-stored, IsStartable-from}
 use Rattle.wm_machine.proofs.Inputs.{input_of-data}
-use Rattle.wm_collections.proofs.Lists.{All-any, All-map, All-push, All-weaker, All-with2, AllLater-push, HasOne-front, HasOne-last, none_pass, one_gives}
+use Rattle.wm_collections.proofs.Lists.{All-any, All-map, All-push, All-weaker, All-with2, AllLater-push, HasOne-front, HasOne-last, count-push, none_pass, one_gives}
 use Rattle.wm_machine.proofs.Owed.{IsKept}
 use Rattle.wm_machine.proofs.Records.{IsRecord-started}
 use Rattle.wm_machine.proofs.Runnings.{AreNumberedInOrder-made, changed, changed_both, changed_there, IsAlone-stored, made, made_both, made_there, old_work, other_number, same_instance}
-use Rattle.wm_machine.proofs.Waitings.{left-idle, left-one, left_to_drain-started, met-succeeded}
+use Rattle.wm_machine.proofs.Waitings.{left-idle, left-one, left_among-started, met-succeeded}
 use Rattle.wm_machine.specs.First.{first_of, idle_instance, is_waiting}
 use Rattle.wm_machine.specs.Diaries.{Began}
 use Rattle.wm_machine.specs.Frame.{begun_frame, Frame, frame_of, frame_to, IsBegunIn}
@@ -23,7 +23,7 @@ use Rattle.wm_machine.specs.Runs.{run_on, start_on, started, with_out, with_star
 use Rattle.wm_machine.specs.Step.{after, IsStart, start_of}
 use Rattle.wm_collections.specs.Lists.{HasOne}
 use Rattle.wm_machine.specs.Valid.{Valid, IsCurrentOf, IsInstanceOf, IsOutForRun, IsWorkOf}
-use Rattle.wm_machine.specs.Waiting.{is_left}
+use Rattle.wm_machine.specs.Waiting.{is_left, left_among, left_by_runs, left_to_drain, may_leave_one}
 use Rattle.wm_machine.specs.declared.event.Event.TheVariants as event
 use Rattle.wm_machine.specs.declared.record.Phase.TheVariants as phase
 
@@ -120,7 +120,8 @@ reached-start s work idle input valid first found data_is =
           number = omega arith;
           turn = omega arith;
           input = data_is;
-          work = λ current. changed_there (IsWorkOf run) started work s.works (record { seq = refl; running = refl; attempt = refl }) stored;
+          work = λ current. changed_there (IsWorkOf run) started work s.works (record { seq = refl; running = refl; attempt = refl; renewed = λ is. absurd (false≢true is) })
+              stored;
           instance = made_there (IsInstanceOf run) true idle s.instances (record { number = refl; kind = refl }) there;
         });
         apart = AllLater-push _ s.runs run valid.runs.apart (All-with2 s.runs (λ r is differs. let below = is.number in record {
@@ -147,8 +148,13 @@ start-kept s run seq instance input reached legal =
     let is = IsChange-started s legal.work reached legal.is_first in
     let idle = λ (w : Record). left-idle s.now (map change s.works) (started w) refl in
     let here : change legal.work ≡ started legal.work = ap (λ b. cond b (started legal.work) legal.work) (eq-eqb legal.work.seq legal.work.seq refl) in
+    let works : left_among s.now (map change s.works) < left_among s.now s.works =
+    left_among-started s legal.work change legal.is_first is (left-one s.now legal.work.seq started s.works is (All-any s.works (λ w e. idle w)))
+    (ap (is_left s.now (map change s.works)) here ∙ idle legal.work) in
+    let new = run_on s legal.work legal.idle input in
+    let runs : left_by_runs (s.runs ++ new ∷ []) ≡ left_by_runs s.runs + 0 = count-push may_leave_one s.runs new in
+    let left : left_to_drain (with_start s legal.work legal.idle input) < left_to_drain s = omega (arith, works, runs) in
     rw (after_start s run seq instance input legal) record {
       reached = reached-start s legal.work legal.idle input reached legal.is_first legal.is_idle taken;
-      left = left_to_drain-started s legal.work change legal.is_first is (left-one s.now legal.work.seq started s.works is (All-any s.works (λ w e. idle w)))
-          (ap (is_left s.now (map change s.works)) here ∙ idle legal.work);
+      left = left;
     }

@@ -1,12 +1,12 @@
 -- A turn after which its run goes on.
-use Rattle.std.proofs.Common.{◌≡◌, ℕ, ◌+◌, ◌<◌, ◌≤◌, true, eqb, cond, List, [], Option, Some, None, IfSome, refl, sym, ◌∙◌, ap, subst, arith, inl, inr, map}
+use Rattle.std.proofs.Common.{◌≡◌, ℕ, ◌+◌, ◌<◌, ◌≤◌, Bool, true, eqb, cond, List, [], Option, Some, None, IfSome, refl, sym, ◌∙◌, ap, subst, arith, inl, inr, map}
 use Rattle.std.specs.List.{AllByRecursion}
 use Rattle.std.proofs.lemmas.Bool.{cond_both, eq-eqb, eqb-false, eqb-true, true≢false}
 use Rattle.wm_data.specs.Size.{IsData}
 use Rattle.wm_machine.specs.Types.{DataEntry, Instance, Record, Run, State}
 use Rattle.wm_machine.proofs.Changes.{all_open, AreWorks-changed, IsChange, IsChange-one, IsSameRequest, moves-kept, MovesTo, OfNumber}
 use Rattle.wm_machine.proofs.EndedRuns.{running_of}
-use Rattle.wm_collections.proofs.Lists.{All-any, All-map, All-map2, All-weaker, All-with2, AllLater-map, HasOne-map, HasOne-weaker, find-passes, list_any-same}
+use Rattle.wm_collections.proofs.Lists.{All-any, All-map, All-map2, All-weaker, All-with2, AllLater-map, HasOne-map, HasOne-weaker, count-same, find-passes, list_any-same}
 use Rattle.wm_machine.proofs.Owed.{IsKept}
 use Rattle.wm_machine.proofs.Records.{IsRecord-telling}
 use Rattle.wm_machine.proofs.Runnings.{changed, changed_both, found_or_apart, found_valid, IsFoundOrApart}
@@ -20,6 +20,7 @@ use Rattle.wm_machine.specs.Step.{after, IsTurn}
 use Rattle.wm_machine.specs.Turns.{telling, turn_of, turned, with_turn, with_turned}
 use Rattle.wm_machine.specs.First.{is_waiting}
 use Rattle.wm_collections.specs.Lists.{HasOne}
+use Rattle.wm_machine.specs.Waiting.{left_among, left_by_runs, left_to_drain, may_leave_one}
 use Rattle.wm_machine.specs.Valid.{Valid, AreApart, IsCurrentOf, IsInstanceOf, MaySucceedOrHas, IsOutForRun, IsValidRun, IsWorkOf}
 use Rattle.wm_machine.specs.declared.event.Event.TheVariants as event
 use Rattle.wm_machine.specs.declared.record.How.TheVariants as how
@@ -70,7 +71,12 @@ IsChange-telling s run progress told valid running =
     (All-weaker s.works (λ work is e. subst MaySucceedOrHas (sym ((telling-only progress work).phase_is ∙ is e)) tt) running)
 
 IsWorkOf-told : (run : Run) (one other : Record) → IsToldOnly one other → IsWorkOf run one → IsWorkOf run other
-IsWorkOf-told run one other told of = record { seq = told.same.seq ∙ of.seq; running = told.phase_is ∙ of.running; attempt = told.attempt ∙ of.attempt }
+IsWorkOf-told run one other told of = record {
+  seq = told.same.seq ∙ of.seq;
+  running = told.phase_is ∙ of.running;
+  attempt = told.attempt ∙ of.attempt;
+  renewed = λ is. ap (λ (l : List ℕ × Bool). l.1) told.same.request ∙ of.renewed is;
+}
 
 -- ---- runs
 
@@ -105,7 +111,8 @@ work_stays progress seq works run one =
 
 -- and at its next turn it has the same work and the same instance
 work_of-turned : (run : Run) (works : List Record) → HasOne (IsWorkOf run) works → HasOne (IsWorkOf (turned run)) works
-work_of-turned run works one = HasOne-weaker works (λ w of. record { seq = of.seq; running = of.running; attempt = of.attempt }) one
+work_of-turned run works one =
+    HasOne-weaker works (λ w of. record { seq = of.seq; running = of.running; attempt = of.attempt; renewed = of.renewed }) one
 
 instance_of-turned : (run : Run) (instances : List Instance) → HasOne (IsInstanceOf run) instances → HasOne (IsInstanceOf (turned run)) instances
 instance_of-turned run instances one = HasOne-weaker instances (λ i of. record { number = of.number; kind = of.kind }) one
@@ -169,6 +176,12 @@ reached-turned s number run progress told early valid found current =
 
 -- ---- what it keeps
 
+-- a turn renews no run
+left_by_runs-turned : (number : ℕ) (runs : List Run) → left_by_runs (with_turned number runs) ≡ left_by_runs runs
+left_by_runs-turned number runs =
+    count-same may_leave_one (turned_at number) runs
+    (λ run. turned_both (λ r. may_leave_one r ≡ may_leave_one run) number run (λ e. refl) (λ e. refl))
+
 pub turn-kept : (s : State) (number : ℕ) (progress : Option (List DataEntry)) → Valid s → IsTurn s number progress
     → IsKept (role.GoesOn number (More progress)) s (after s (event.Turn number progress))
 turn-kept s number progress reached legal =
@@ -179,9 +192,13 @@ turn-kept s number progress reached legal =
     let running = running_of s number run reached report.is_running report.is_current in
     let is = IsChange-telling s run progress told reached running in
     let then = map (changed (telling progress) run.seq) s.works in
+    let works : left_among s.now then ≤ left_among s.now s.works =
+    left_among-changed s.now s.works (changed (telling progress) run.seq) is (left-one s.now run.seq (telling progress) s.works is
+    (All-weaker s.works (λ work runs e. left-idle s.now then (telling progress work) (ap is_waiting ((telling-only progress work).phase_is ∙ runs e)))
+    running)) in
+    let runs : left_by_runs (with_turned run.run s.runs) ≡ left_by_runs s.runs = left_by_runs-turned run.run s.runs in
+    let left : left_to_drain (with_turn s run progress) ≤ left_to_drain s = omega (arith, works, runs) in
     rw (after_turn s number progress legal) record {
       reached = reached-turned s number run progress told legal.turns_left reached report.is_running report.is_current;
-      left = left_among-changed s.now s.works (changed (telling progress) run.seq) is (left-one s.now run.seq (telling progress) s.works is
-          (All-weaker s.works (λ work runs e. left-idle s.now then (telling progress work) (ap is_waiting ((telling-only progress work).phase_is ∙ runs e)))
-          running));
+      left = left;
     }

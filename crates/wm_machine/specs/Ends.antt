@@ -35,39 +35,49 @@ succeeded now output work =
 abbrev pub with_output : List DataEntry → Record → Record
 with_output output work = record work { output = output }
 
--- a work whose attempt is to be retried; the moment that its next run was given is used up
-abbrev pub retried : ℕ → Record → Record
-retried now work =
-    record work { phase = phase.Waiting; backoff_n = work.attempt; enqueued_at = now; override_at = None; progress = [] }
+-- the moment that the next run was given, after one run: it is used up, but where it was set anew since that run began
+abbrev pub left_of : Bool → Option ℕ → Option ℕ
+left_of renewed override_at = if renewed then override_at else None
 
--- a periodic work that is enqueued again, for its next period; the moment that this run was given is used up
-abbrev pub enqueued_again : ℕ → Record → Record
-enqueued_again now work = record work {
+-- a work whose attempt is to be retried, after a run that was renewed or wasn't
+abbrev pub retried : Bool → ℕ → Record → Record
+retried renewed now work = record work {
+  phase = phase.Waiting;
+  backoff_n = work.attempt;
+  enqueued_at = now;
+  override_at = left_of renewed work.override_at;
+  progress = [];
+}
+
+-- a periodic work that is enqueued again, for its next period, after a run that was renewed or wasn't
+abbrev pub enqueued_again : Bool → ℕ → Record → Record
+enqueued_again renewed now work = record work {
   phase = phase.Waiting;
   attempt = 0;
   backoff_n = 0;
   runs = min (work.runs + 1) 1000000;
   enqueued_at = now;
-  override_at = None;
+  override_at = left_of renewed work.override_at;
   output = [];
   progress = [];
 }
 
--- What a run that ended so at this moment makes of its work: a retry puts it back; else periodic work is enqueued again, and one-time work is
--- finished with what it gave.
-abbrev pub ended_as : Option Period → ℕ → End → Record → Record
-ended_as _ now Retry work = retried now work
-ended_as (Some period) now _ work = enqueued_again now work
-ended_as None now (Success output) work = succeeded now output work
-ended_as None now (Failure output) work = with_output output (closed how.Failed now work)
+-- What a run that ended so at this moment, and was renewed or wasn't, makes of its work: a retry puts it back; else periodic work is enqueued
+-- again, and one-time work is finished with what it gave.
+abbrev pub ended_as : Option Period → Bool → ℕ → End → Record → Record
+ended_as _ renewed now Retry work = retried renewed now work
+ended_as (Some period) renewed now _ work = enqueued_again renewed now work
+ended_as None renewed now (Success output) work = succeeded now output work
+ended_as None renewed now (Failure output) work = with_output output (closed how.Failed now work)
 
-abbrev pub ended : ℕ → End → Record → Record
-ended now end work = ended_as work.request.period now end work
+abbrev pub ended : Bool → ℕ → End → Record → Record
+ended renewed now end work = ended_as work.request.period renewed now end work
 
--- what a start that fails makes of its work: one-time work has failed without having given anything, and periodic work is enqueued again
+-- what a start that fails makes of its work: one-time work has failed without having given anything, and periodic work is enqueued again, with
+-- the moment used up that its next run was given
 abbrev pub not_started_as : Option Period → ℕ → Record → Record
 not_started_as None now work = closed how.Failed now work
-not_started_as (Some period) now work = enqueued_again now work
+not_started_as (Some period) now work = enqueued_again false now work
 
 abbrev pub not_started : ℕ → Record → Record
 not_started now work = not_started_as work.request.period now work
@@ -85,24 +95,24 @@ with_freed now seq works = map (λ work. if is_freed seq works work then record 
 abbrev pub period_of : ℕ → List Record → Option Period
 period_of seq works = option_and_then (λ work. work.request.period) (work_numbered seq works)
 
--- the records after the end of a run: of one-time work and of periodic work
-abbrev pub works_after_end : ℕ → ℕ → Option Period → End → List Record → List Record
-works_after_end now seq period Retry works = changed_work (retried now) seq works
-works_after_end now seq (Some period) _ works = changed_work (enqueued_again now) seq works
-works_after_end now seq None (Success output) works = with_freed now seq (changed_work (succeeded now output) seq works)
-works_after_end now seq None (Failure output) works = changed_work (with_output output) seq (with_closed how.Failed now seq works)
+-- the records after the end of a run that was renewed or wasn't: of one-time work and of periodic work
+abbrev pub works_after_end : Bool → ℕ → ℕ → Option Period → End → List Record → List Record
+works_after_end renewed now seq period Retry works = changed_work (retried renewed now) seq works
+works_after_end renewed now seq (Some period) _ works = changed_work (enqueued_again renewed now) seq works
+works_after_end renewed now seq None (Success output) works = with_freed now seq (changed_work (succeeded now output) seq works)
+works_after_end renewed now seq None (Failure output) works = changed_work (with_output output) seq (with_closed how.Failed now seq works)
 
 -- the records after a work couldn't start
 abbrev pub works_not_started : ℕ → ℕ → Option Period → List Record → List Record
 works_not_started now seq None works = with_closed how.Failed now seq works
-works_not_started now seq (Some period) works = changed_work (enqueued_again now) seq works
+works_not_started now seq (Some period) works = changed_work (enqueued_again false now) seq works
 
 -- ---- states
 
 -- a run is over, and its worker is at its place again
 abbrev pub with_end : State → Run → End → State
 with_end s run end = record s {
-  works = works_after_end s.now run.seq (period_of run.seq s.works) end s.works;
+  works = works_after_end run.renewed s.now run.seq (period_of run.seq s.works) end s.works;
   runs = other_runs run.run s.runs;
   instances = with_out false run.instance s.instances;
 }

@@ -12,7 +12,7 @@ use Rattle.wm_machine.specs.Group.{members_of, with_let_go}
 use Rattle.wm_machine.specs.Plan as plan
 use Rattle.wm_machine.specs.Plan.{mismatch, placed_freely, Placing, Plan, plan_of}
 use Rattle.wm_machine.specs.Replied.{Outcome, unchanged}
-use Rattle.wm_machine.specs.Updated.{update_of}
+use Rattle.wm_machine.specs.Updated.{next_moment, update_of}
 use Rattle.wm_machine.specs.declared.command.UniqueName.{UniqueName}
 use Rattle.wm_machine.specs.declared.record.How.TheVariants as how
 use Rattle.wm_machine.specs.declared.record.Phase.{Phase}
@@ -171,7 +171,7 @@ new_record s name prior node = record {
   runs = 0;
   generation = 0;
   enqueued_at = s.now;
-  override_at = None;
+  override_at = next_moment node.request.next None;
   finished_at = first_finished_at (first_phase s.works prior) s.now;
   output = [];
   progress = [];

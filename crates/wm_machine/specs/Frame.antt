@@ -86,7 +86,7 @@ returned_frame s run = record {
   lines = λ worker. [];
 }
 
--- one run is the other later, with all that it took and at the same turn: if it is current then, it was before
+-- one run is the other later, with all that it took and at the same turn: if it is current then, it was before, and if it was renewed, it is
 pub record IsSameRun (one other : Run) : Type 0 where
   pub run : other.run ≡ one.run
   pub seq : other.seq ≡ one.seq
@@ -97,8 +97,9 @@ pub record IsSameRun (one other : Run) : Type 0 where
   pub constraints : other.constraints ≡ one.constraints
   pub turn : other.turn ≡ one.turn
   pub current : other.current ≡ true → one.current ≡ true
+  pub renewed : one.renewed ≡ true → other.renewed ≡ true
 
--- a line leaves each run, but that it may not be current any more
+-- a line leaves each run, but that it may not be current any more, or may be renewed
 pub record IsLinedIn (asked : Command) (s : State) (frame : Frame) : Type 0 where
   pub change : Run → Run
   pub keeps : (run : Run) → IsSameRun run (change run)

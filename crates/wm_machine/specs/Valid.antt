@@ -1,5 +1,5 @@
 -- What holds of every state that the machine reaches.
-use Rattle.std.specs.Prelude.{◌≡◌, ◌≢◌, ℕ, ◌+◌, ◌^◌, ◌==◌, ◌<◌, ◌≤◌, true, List, [], ◌∷◌, length, Option, Some, None, IfSome}
+use Rattle.std.specs.Prelude.{◌≡◌, ◌≢◌, ℕ, ◌+◌, ◌^◌, ◌==◌, ◌<◌, ◌≤◌, true, List, [], ◌∷◌, length, Option, Some, None, is_some, IfSome}
 use Rattle.std.specs.List.{AllByRecursion, list_any}
 use Rattle.wm_collections.specs.Lists.{AllLater, HasOne}
 use Rattle.wm_data.specs.Size.{IsData}
@@ -137,11 +137,12 @@ pub record AreApart (one other : Run) : Type 0 where
   pub works : one.current ≡ true → other.current ≡ true → one.seq ≢ other.seq
   pub instances : one.instance ≢ other.instance
 
--- a record is the one that a run is of: it is running, in the run's attempt
+-- a record is the one that a run is of: it is running, in the run's attempt, and periodic where the run is renewed
 pub record IsWorkOf (run : Run) (work : Record) : Type 0 where
   pub seq : work.seq ≡ run.seq
   pub running : work.phase ≡ phase.Running
   pub attempt : work.attempt ≡ run.attempt
+  pub renewed : run.renewed ≡ true → is_some work.request.period ≡ true
 
 -- a run is a current one of the work of this number
 pub record IsCurrentOf (seq : ℕ) (run : Run) : Type 0 where

@@ -5,9 +5,10 @@ use Rattle.std.specs.Cmp.Lexicographic.{slice_cmp}
 use Rattle.std.specs.Ordering.{match_ordering, nat_cmp}
 use Rattle.wm_conditions.specs.Defaults.{unconstrained}
 use Rattle.wm_data.specs.declared.merger.Merger.TheVariants.{Overwriting}
-use Rattle.wm_request.specs.Requests.{AreSortedTags, RequestFields}
+use Rattle.wm_request.specs.Requests.{AreSortedTags, IsNextRun, RequestFields}
 use Rattle.wm_request.specs.declared.fault.RequestFault.{RequestFault}
 use Rattle.wm_request.specs.declared.fault.RequestFault.TheVariants as fault
+use Rattle.wm_request.specs.declared.request.NextRun.{NextRun}
 use Rattle.wm_request.specs.declared.request.NextRun.TheVariants.{Leave}
 use Rattle.wm_schedule.specs.Clamped.{clamped_delay, clamped_period, IsBackoffDelay, IsPeriod}
 use Rattle.wm_schedule.specs.Defaults.{default_backoff}
@@ -48,10 +49,11 @@ with_tag tag (other ∷ tags) =
     match_ordering (slice_cmp nat_cmp tag other) (tag ∷ other ∷ tags) (other ∷ tags) (other ∷ with_tag tag tags)
 
 -- what a builder keeps of what it is given
-pub record IsBuilding (tags : List (List ℕ)) (backoff : Backoff) (period : Option Period) : Type 0 where
+pub record IsBuilding (tags : List (List ℕ)) (backoff : Backoff) (period : Option Period) (next : NextRun) : Type 0 where
   pub tags_are : AreSortedTags tags
   pub backoff_is : IsBackoffDelay backoff.delay
   pub period_is : IfSome period IsPeriod
+  pub next_is : IsNextRun period next
 
 -- ---- what a build answers
 

@@ -1,7 +1,8 @@
 //! A request that is put together, and the limits of its parts.
-ghost use Rattle.std.specs.Prelude.{◌≡◌, ◌≤◌, insert, length, Ok, IfOk, IfErr, MatchOption, OnOk, OnErr, string_bytes};
+ghost use Rattle.std.specs.Prelude.{◌≡◌, ◌^◌, ◌<◌, ◌≤◌, true, insert, is_some, length, Ok, IfOk, IfErr, MatchOption, OnOk, OnErr, string_bytes};
 ghost use Rattle.wm_request.specs.Building.{backoff_of, built_of, has_long_delay, has_long_period, is_long, is_short, one_time_of, periodic_of, with_tag, IsFaultOf};
 ghost use Rattle.wm_request.specs.Requests.{IsShortText, RequestFields};
+ghost use Rattle.wm_request.specs.declared.request.NextRun.TheVariants.{At, Clear};
 
 use crate::fault::RequestFault;
 use crate::request::{NextRun, Request, Terms};
@@ -37,12 +38,12 @@ pub struct Builder {
     initial_delay: u64,
     period: Option<Period>,
     keep: u64,
+    next: NextRun,
 }
 
 impl Model for Builder {
     ghost use Rattle.wm_request.specs.Building.{IsBuilding};
     ghost use Rattle.wm_request.specs.Requests.{RequestFields};
-    ghost use Rattle.wm_request.specs.declared.request.NextRun.TheVariants.{Leave};
 
     ghost Value = { RequestFields };
 
@@ -57,10 +58,10 @@ impl Model for Builder {
       initial_delay = b.initial_delay;
       period = b.period;
       keep = b.keep;
-      next = Leave;
+      next = b.next;
     } };
 
-    ghost invariant = { λ b. IsBuilding b.tags.items b.backoff b.period };
+    ghost invariant = { λ b. IsBuilding b.tags.items b.backoff b.period b.next };
 }
 
 impl Builder {
@@ -80,6 +81,7 @@ impl Builder {
             initial_delay: 0,
             period: None,
             keep: 0,
+            next: NextRun::Leave,
         }
     }
 
@@ -146,6 +148,24 @@ impl Builder {
         self.keep = keep;
     }
 
+    /// Asks that the next run may start from this moment on, in milliseconds, whatever the period says.
+    /// It takes no memory.
+    pub fn next_at(&mut self, at: u64)
+        requires periodic { is_some self.old.period ≡ true }
+        requires moment { at < 2 ^ 53 }
+        ensures { self.new ≡ record self.old { next = At at } }
+    {
+        self.next = NextRun::At(at);
+    }
+
+    /// Asks that the next run may start as the period says. It takes no memory.
+    pub fn clear_next(&mut self)
+        requires { is_some self.old.period ≡ true }
+        ensures { self.new ≡ record self.old { next = Clear } }
+    {
+        self.next = NextRun::Clear;
+    }
+
     /// Adds a tag of 1 to 200 bytes. One that is there changes nothing. Where memory is refused, the
     /// builder is as it was.
     pub fn tag(&mut self, tag: String) -> Result<(), AllocError>
@@ -187,7 +207,7 @@ impl Builder {
         Ok(Request {
             id: self.id,
             keep: self.keep,
-            next: NextRun::Leave,
+            next: self.next,
             terms: Shared::new(alloc, terms).map_err(AllocError::from)?,
         })
     }

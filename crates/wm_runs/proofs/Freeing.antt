@@ -79,9 +79,10 @@ no_start-freeing s work run e keeps =
     (not_started-alone s work.request.period work.seq) (not_started-fails work.request.period s.now work) keeps
 
 -- and one that is to be retried
-pub retry-freeing : (s : State) (work : Record) (run : RunChange) (e : Event) → KeepNodes (change_by (retried s.now work) reach.Stays) s.works
-    → FreesTouched s (replacing_all (replaced_by (retried s.now work) reach.Stays s.works) run e)
-retry-freeing s work run e keeps = unsucceeding-end s (retried s.now work) reach.Stays run e tt refl keeps
+pub retry-freeing : (s : State) (renewed : Bool) (work : Record) (run : RunChange) (e : Event)
+    → KeepNodes (change_by (retried renewed s.now work) reach.Stays) s.works
+    → FreesTouched s (replacing_all (replaced_by (retried renewed s.now work) reach.Stays s.works) run e)
+retry-freeing s renewed work run e keeps = unsucceeding-end s (retried renewed s.now work) reach.Stays run e tt refl keeps
 
 -- ---- a success
 
@@ -163,14 +164,14 @@ module _ (s : State) (work : Record) (output : List DataEntry) (run : RunChange)
       (All-stored s.works) keeps)
 
 -- the end of a run touches what it frees
-pub end-freeing : (s : State) (work : Record) (period : Option Period) (end : End) (run : RunChange) (e : Event) → Valid s
+pub end-freeing : (s : State) (renewed : Bool) (work : Record) (period : Option Period) (end : End) (run : RunChange) (e : Event) → Valid s
     → HasOne (λ other. other ≡ work) s.works
-    → KeepNodes (change_by (ended_as period s.now end work) (end_reach period s.now work.seq end (nodes_of s.works))) s.works
-    → FreesTouched s (replacing_all (replaced_by (ended_as period s.now end work) (end_reach period s.now work.seq end (nodes_of s.works)) s.works) run e)
-end-freeing s work None Retry run e valid stored keeps = unsucceeding-end s _ reach.Stays run e tt refl keeps
-end-freeing s work (Some period) Retry run e valid stored keeps = unsucceeding-end s _ reach.Stays run e tt refl keeps
-end-freeing s work (Some period) (Success output) run e valid stored keeps = unsucceeding-end s _ reach.Stays run e tt refl keeps
-end-freeing s work (Some period) (Failure output) run e valid stored keeps = unsucceeding-end s _ reach.Stays run e tt refl keeps
-end-freeing s work None (Success output) run e valid stored keeps = success-freeing s work output run e valid stored keeps
-end-freeing s work None (Failure output) run e valid stored keeps =
+    → KeepNodes (change_by (ended_as period renewed s.now end work) (end_reach period s.now work.seq end (nodes_of s.works))) s.works
+    → FreesTouched s (replacing_all (replaced_by (ended_as period renewed s.now end work) (end_reach period s.now work.seq end (nodes_of s.works)) s.works) run e)
+end-freeing s renewed work None Retry run e valid stored keeps = unsucceeding-end s _ reach.Stays run e tt refl keeps
+end-freeing s renewed work (Some period) Retry run e valid stored keeps = unsucceeding-end s _ reach.Stays run e tt refl keeps
+end-freeing s renewed work (Some period) (Success output) run e valid stored keeps = unsucceeding-end s _ reach.Stays run e tt refl keeps
+end-freeing s renewed work (Some period) (Failure output) run e valid stored keeps = unsucceeding-end s _ reach.Stays run e tt refl keeps
+end-freeing s renewed work None (Success output) run e valid stored keeps = success-freeing s work output run e valid stored keeps
+end-freeing s renewed work None (Failure output) run e valid stored keeps =
     unsucceeding-end s _ (end_reach None s.now work.seq (Failure output) (nodes_of s.works)) run e refl refl keeps

@@ -133,13 +133,13 @@ frees-agree now output work works order sound stored =
 -- ---- the ends
 
 -- the work of a run that ends keeps its number and its prerequisites
-pub ended-same : (period : Option Period) (now : ℕ) (end : End) (work : Record) → IsSameWork work (ended_as period now end work)
-ended-same None now Retry work = record { seq = refl; id = refl; name = refl; prior = refl }
-ended-same None now (Success output) work = record { seq = refl; id = refl; name = refl; prior = refl }
-ended-same None now (Failure output) work = record { seq = refl; id = refl; name = refl; prior = refl }
-ended-same (Some period) now Retry work = record { seq = refl; id = refl; name = refl; prior = refl }
-ended-same (Some period) now (Success output) work = record { seq = refl; id = refl; name = refl; prior = refl }
-ended-same (Some period) now (Failure output) work = record { seq = refl; id = refl; name = refl; prior = refl }
+pub ended-same : (period : Option Period) (renewed : Bool) (now : ℕ) (end : End) (work : Record) → IsSameWork work (ended_as period renewed now end work)
+ended-same None renewed now Retry work = record { seq = refl; id = refl; name = refl; prior = refl }
+ended-same None renewed now (Success output) work = record { seq = refl; id = refl; name = refl; prior = refl }
+ended-same None renewed now (Failure output) work = record { seq = refl; id = refl; name = refl; prior = refl }
+ended-same (Some period) renewed now Retry work = record { seq = refl; id = refl; name = refl; prior = refl }
+ended-same (Some period) renewed now (Success output) work = record { seq = refl; id = refl; name = refl; prior = refl }
+ended-same (Some period) renewed now (Failure output) work = record { seq = refl; id = refl; name = refl; prior = refl }
 
 -- and so does one that can't start
 pub not_started-same : (period : Option Period) (now : ℕ) (work : Record) → IsSameWork work (not_started_as period now work)
@@ -147,18 +147,20 @@ not_started-same None now work = record { seq = refl; id = refl; name = refl; pr
 not_started-same (Some period) now work = record { seq = refl; id = refl; name = refl; prior = refl }
 
 -- the end of a run changes just what is touched
-pub end-agree : (period : Option Period) (now : ℕ) (end : End) (work : Record) (works : List Record) → AllLater IsBefore works
+pub end-agree : (period : Option Period) (renewed : Bool) (now : ℕ) (end : End) (work : Record) (works : List Record) → AllLater IsBefore works
     → AllByRecursion (λ w. ArePriorSound works w.phase w.prior) works → HasOne (λ other. other ≡ work) works → is_open work.phase ≡ true
-    → AllByRecursion (λ w. after_change (change_by (ended_as period now end work) (end_reach period now work.seq end (nodes_of works))) w
-    ≡ end_by now work.seq period end works w) works
-end-agree None now Retry work works order sound stored unfinished = stays-agree (retried now) (retried now work) work works order stored refl refl
-end-agree (Some period) now Retry work works order sound stored unfinished = stays-agree (retried now) (retried now work) work works order stored refl refl
-end-agree (Some period) now (Success output) work works order sound stored unfinished =
-    stays-agree (enqueued_again now) (enqueued_again now work) work works order stored refl refl
-end-agree (Some period) now (Failure output) work works order sound stored unfinished =
-    stays-agree (enqueued_again now) (enqueued_again now work) work works order stored refl refl
-end-agree None now (Success output) work works order sound stored unfinished = frees-agree now output work works order sound stored
-end-agree None now (Failure output) work works order sound stored unfinished =
+    → AllByRecursion (λ w. after_change (change_by (ended_as period renewed now end work) (end_reach period now work.seq end (nodes_of works))) w
+    ≡ end_by renewed now work.seq period end works w) works
+end-agree None renewed now Retry work works order sound stored unfinished =
+    stays-agree (retried renewed now) (retried renewed now work) work works order stored refl refl
+end-agree (Some period) renewed now Retry work works order sound stored unfinished =
+    stays-agree (retried renewed now) (retried renewed now work) work works order stored refl refl
+end-agree (Some period) renewed now (Success output) work works order sound stored unfinished =
+    stays-agree (enqueued_again renewed now) (enqueued_again renewed now work) work works order stored refl refl
+end-agree (Some period) renewed now (Failure output) work works order sound stored unfinished =
+    stays-agree (enqueued_again renewed now) (enqueued_again renewed now work) work works order stored refl refl
+end-agree None renewed now (Success output) work works order sound stored unfinished = frees-agree now output work works order sound stored
+end-agree None renewed now (Failure output) work works order sound stored unfinished =
     closes-agree how.Failed now (changed (with_output output) work.seq) (with_output output (closed how.Failed now work)) work works order stored unfinished refl
     (sym (changed-hit (with_output output) work.seq (closed how.Failed now work) refl)) (λ other differs. changed-miss (with_output output) work.seq other differs)
 
@@ -170,4 +172,4 @@ pub no_start-agree : (period : Option Period) (now : ℕ) (work : Record) (works
 no_start-agree None now work works order stored unfinished =
     closes-agree how.Failed now (λ w. w) (closed how.Failed now work) work works order stored unfinished refl refl (λ other differs. refl)
 no_start-agree (Some period) now work works order stored unfinished =
-    stays-agree (enqueued_again now) (enqueued_again now work) work works order stored refl refl
+    stays-agree (enqueued_again false now) (enqueued_again false now work) work works order stored refl refl

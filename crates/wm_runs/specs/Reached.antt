@@ -1,5 +1,5 @@
 -- What the end of a work makes of the records: of the work itself, and of those that it reaches.
-use Rattle.std.specs.Prelude.{ℕ, ◌==◌, ◌&&◌, not, List, [], filter, ◌∷◌, if◌then◌else◌, Option, Some, None}
+use Rattle.std.specs.Prelude.{ℕ, ◌==◌, ◌&&◌, Bool, not, List, [], filter, ◌∷◌, if◌then◌else◌, Option, Some, None}
 use Rattle.wm_collections.specs.Lists.{is_among}
 use Rattle.wm_graph.specs.Marks.{freed_by}
 use Rattle.wm_graph.specs.Nodes.{NodeFields}
@@ -54,8 +54,10 @@ end_reach (Some period) now seq _ nodes = reach.Stays
 end_reach None now seq (Success output) nodes = reach.Frees (freed_by nodes seq) now
 end_reach None now seq (Failure output) nodes = reach.Closes how.Failed (reached_from (seq ∷ []) nodes) now
 
-abbrev pub replaced_by_end : State → Record → End → List Replacement
-replaced_by_end s work end = replaced_by (ended s.now end work) (end_reach work.request.period s.now work.seq end (nodes_of s.works)) s.works
+-- the records that the end of a run replaces, which was renewed or wasn't
+abbrev pub replaced_by_end : State → Bool → Record → End → List Replacement
+replaced_by_end s renewed work end =
+    replaced_by (ended renewed s.now end work) (end_reach work.request.period s.now work.seq end (nodes_of s.works)) s.works
 
 -- what a failed start reaches: that of one-time work closes its descendants
 abbrev pub not_started_reach : Option Period → ℕ → ℕ → List NodeFields → Reach

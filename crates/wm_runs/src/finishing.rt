@@ -63,11 +63,11 @@ fn finish_by(
 ) -> Result<Ending, AllocError>
     requires { IsUnmarked (nodes_of view.now.works) work.now.seq }
     ensures { IfOk result (λ ending. ending ≡ record {
-      change = replacing_all (replaced_by_end view.entry.now work.entry.now end) (over run.entry.now) (Event.Finish run.entry.now.run end);
+      change = replacing_all (replaced_by_end view.entry.now run.entry.now.renewed work.entry.now end) (over run.entry.now) (Event.Finish run.entry.now.run end);
       timed_out = false;
     }) }
 {
-    let replaced = replaced_by_end(alloc, view, work, &end);
+    let replaced = replaced_by_end(alloc, view, work, &end, run.renewed);
     let (end, replaced) = both(end, replaced)?;
     let event = Event::Finish { run: run.run, end };
     Ok(Ending {
@@ -76,18 +76,20 @@ fn finish_by(
     })
 }
 
-/// The records that take the place of others where a run of a work ended so.
+/// The records that take the place of others where a run of a work ended so, which was renewed or
+/// wasn't.
 fn replaced_by_end(
     alloc: Global,
     view: &View,
     work: &Record,
     end: &End,
+    renewed: bool,
 ) -> Result<Items<Replacement>, AllocError>
     requires { IsUnmarked (nodes_of view.now.works) work.now.seq }
     ensures { IfOk result (λ replaced. replaced
-        ≡ replaced_by_end view.entry.now work.entry.now end.now) }
+        ≡ replaced_by_end view.entry.now renewed work.entry.now end.now) }
 {
-    let itself = ended(alloc, work, end, view.state.now)?;
+    let itself = ended(alloc, work, end, view.state.now, renewed)?;
     let (itself, reach) = both(itself, end_reach(view, work, end))?;
     replaced_by(alloc, view, &itself, &reach)
 }
@@ -95,12 +97,12 @@ fn replaced_by_end(
 /// The end of a run of a work that has no turn left.
 fn time_out(alloc: Global, view: &View, work: &Record, run: &Run) -> Result<Ending, AllocError>
     ensures { IfOk result (λ ending. ending ≡ record {
-      change = replacing_all (replaced_by (retried view.entry.now.now work.entry.now) Reach.Stays view.entry.now.works)
+      change = replacing_all (replaced_by (retried run.entry.now.renewed view.entry.now.now work.entry.now) Reach.Stays view.entry.now.works)
           (over run.entry.now) (Event.TimedOut run.entry.now.run);
       timed_out = true;
     }) }
 {
-    let itself = timed_out(alloc, work, view.state.now)?;
+    let itself = timed_out(alloc, work, view.state.now, run.renewed)?;
     let replaced = replaced_by(alloc, view, &itself, &Reach::Stays)?;
     let event = Event::TimedOut { run: run.run };
     Ok(Ending {

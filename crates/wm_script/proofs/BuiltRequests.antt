@@ -1,10 +1,11 @@
 -- The works of lines are of requests within their limits.
-use Rattle.std.proofs.Common.{◌≡◌, ℕ, ◌+◌, ◌≤◌, zero, suc, List, [], ◌∷◌, ◌++◌, length, map, Option, Some, None, IfSome, is_none, option_map, Ok, IfOk, refl, ap, ◌∙◌, add-one, rules, arith}
-use Rattle.std.specs.Prelude.{codes}
+use Rattle.std.proofs.Common.{◌≡◌, ℕ, ◌+◌, ◌^◌, ◌<◌, ◌≤◌, subst, zero, suc, List, [], ◌∷◌, ◌++◌, length, map, Option, Some, None, IfSome, is_none, option_map, Ok, IfOk, refl, ap, ◌∙◌, add-one, rules, arith}
+use Rattle.std.specs.Prelude.{codes, nat_lt}
 use Rattle.std.specs.List.{AllByRecursion}
+use Rattle.std.proofs.lemmas.Bool.{ltb-true}
 use Rattle.std.proofs.lemmas.List.{length-append, length-map}
 use Rattle.serde_json.specs.Data as json
-use Rattle.serde_json.specs.Find.{as_str, get}
+use Rattle.serde_json.specs.Find.{as_number, as_str, as_u64, get}
 use Rattle.uuid.specs.Text.{by_index, parsed}
 use Rattle.wm_chain.proofs.Sound.{IsBatch-sound}
 use Rattle.wm_chain.specs.Layers.{chained, layered, no_layer, node_after, ContinuationFields}
@@ -19,17 +20,20 @@ use Rattle.wm_request.proofs.Limits.{built_of-cases, IsShortText-is_short}
 use Rattle.wm_request.proofs.Tags.{AreSortedTags-with_tag}
 use Rattle.wm_request.specs.Batches.{BatchFields}
 use Rattle.wm_request.specs.Building.{built_of, is_short, with_tag, IsBuilding}
-use Rattle.wm_request.specs.Requests.{AreSortedTags, IsRequest, IsShortText, RequestFields}
+use Rattle.wm_request.specs.declared.request.NextRun.{NextRun}
+use Rattle.wm_request.specs.declared.request.NextRun.TheVariants.{Leave, At, Clear}
+use Rattle.wm_request.specs.Requests.{AreSortedTags, IsNextRun, IsRequest, IsShortText, RequestFields}
 use Rattle.wm_request.specs.declared.request.Node.{Node}
 use Rattle.wm_schedule.proofs.Clamps.{IsBackoffDelay-clamped, IsPeriod-clamped}
 use Rattle.wm_schedule.specs.Clamped.{clamped_period, IsPeriod}
+use Rattle.wm_schedule.specs.declared.schedule.Period.{Period}
 use Rattle.wm_script.proofs.PartsLemmas.{bind_any, bind_holds, formed_holds, list_holds, or_holds, some_holds, AreSome}
 use Rattle.wm_script.proofs.PartsLemmas.{tested as tested_ok}
 use Rattle.wm_script.specs.Batches.{are_few, batch_in, layer_in, layers_in, works_in}
 use Rattle.wm_script.specs.Parts.{formed, list_at, of_chain, of_data, of_request, or_fault, some_in}
-use Rattle.wm_script.specs.Requests.{asked_for, input_in, node_in, request_in, with_tags}
-use Rattle.wm_script.specs.Values.{id_in, id_part, short_in, text_part, whole_at}
-use Rattle.wm_script.specs.Works.{backoff_at, class_at, constraints_at, id_at, merger_at, period_at, work_of, PeriodForm, WorkForm}
+use Rattle.wm_script.specs.Requests.{asked_for, input_in, next_of, node_in, request_in, with_tags}
+use Rattle.wm_script.specs.Values.{id_in, id_part, short_in, text_part, whole_at, whole_in}
+use Rattle.wm_script.specs.Works.{backoff_at, class_at, constraints_at, flex_at, id_at, merger_at, next_at, next_in, period_at, work_of, IsMoment, PeriodForm, WorkForm}
 
 -- ---- an id
 
@@ -66,8 +70,83 @@ HasId-work_of d =
     then_any HasId _ (constraints_at (get (codes "constraints") d)) (λ constraints.
     then_any HasId _ (backoff_at (get (codes "backoff") d)) (λ backoff.
     then_any HasId _ (whole_at 0 (get (codes "delay") d)) (λ delay.
-    then_any HasId _ (period_at (get (codes "period") d) (get (codes "flex") d)) (λ period.
+    then_any HasId _ (period_at (get (codes "period") d) (get (codes "flex") d) (get (codes "next") d)) (λ period.
     then_any HasId _ (whole_at 0 (get (codes "keep") d)) (λ keep. sixteen))))))))) tt
+
+-- ---- what is asked of the next run
+
+IsBelow : ℕ → Type 0
+IsBelow n = n < 2 ^ 53
+
+IsBelow-whole_in : (d : json.Data) → IfSome (whole_in d) IsBelow
+unfolding whole_in IsBelow
+IsBelow-whole_in d =
+    then_any IsBelow _ (as_number d) (λ number.
+    then_any IsBelow _ (as_u64 number) (λ n. tested IsBelow (nat_lt n (2 ^ 53)) n (ltb-true n (2 ^ 53))))
+
+IsMoment-next_in : (d : json.Data) → IfSome (next_in d) IsMoment
+unfolding next_in IsBelow
+IsMoment-next_in json.null = tt
+IsMoment-next_in d = then_of IsBelow IsMoment _ (whole_in d) (IsBelow-whole_in d) (λ n below. below)
+
+IsMoment-next_at : (value : Option json.Data) → IfSome (next_at value) IsMoment
+unfolding next_at
+IsMoment-next_at None = tt
+IsMoment-next_at (Some d) = IsMoment-next_in d
+
+HasMomentOf : Option PeriodForm → Type 0
+HasMomentOf period = IsMoment (next_of period)
+
+HasMomentOf-period_at : (period flex next : Option json.Data) → IfSome (period_at period flex next) HasMomentOf
+unfolding period_at HasMomentOf
+HasMomentOf-period_at None None None = tt
+HasMomentOf-period_at None (Some flex) next = tt
+HasMomentOf-period_at None None (Some next) = tt
+HasMomentOf-period_at (Some d) flex next =
+    then_any HasMomentOf _ (whole_in d) (λ period.
+    then_any HasMomentOf _ (flex_at flex) (λ flex.
+    then_of IsMoment HasMomentOf _ (next_at next) (IsMoment-next_at next) (λ next is. is)))
+
+HasMoment : WorkForm → Type 0
+HasMoment work = HasMomentOf work.period
+
+HasMoment-work_of : (d : json.Data) → IfSome (work_of d) HasMoment
+unfolding work_of HasMoment
+HasMoment-work_of d =
+    let period = period_at (get (codes "period") d) (get (codes "flex") d) (get (codes "next") d) in
+    either HasMoment _ _ None
+    (then_any HasMoment _ (id_at (get (codes "id") d)) (λ id.
+    then_any HasMoment _ (class_at (get (codes "class") d)) (λ class.
+    then_any HasMoment _ (merger_at (get (codes "merger") d)) (λ merger.
+    then_any HasMoment _ (constraints_at (get (codes "constraints") d)) (λ constraints.
+    then_any HasMoment _ (backoff_at (get (codes "backoff") d)) (λ backoff.
+    then_any HasMoment _ (whole_at 0 (get (codes "delay") d)) (λ delay.
+    then_of HasMomentOf HasMoment _ period (HasMomentOf-period_at (get (codes "period") d) (get (codes "flex") d) (get (codes "next") d)) (λ period moment.
+    then_any HasMoment _ (whole_at 0 (get (codes "keep") d)) (λ keep. moment))))))))) tt
+
+-- a work that is read asks for a moment within its limit
+pub IsMoment-read : (d : json.Data) (work : WorkForm) → work_of d ≡ Some work → IsMoment (next_of work.period)
+unfolding HasMoment HasMomentOf
+IsMoment-read d work is = subst (λ (found : Option WorkForm). IfSome found (λ w. IsMoment (next_of w.period))) is (HasMoment-work_of d)
+
+-- what a work that is read is known to have
+abbrev IsRead : WorkForm → Type 0
+IsRead work = HasId work × HasMoment work
+
+both_read : (found : Option WorkForm) → IfSome found HasId → IfSome found HasMoment → IfSome found IsRead
+both_read None id moment = tt
+both_read (Some work) id moment = (id, moment)
+
+-- what periodic work asks of its next run
+IsNextRun-asked_of : (period : Period) (next : NextRun) → IsMoment next → IsNextRun (Some period) next
+IsNextRun-asked_of period Leave is = tt
+IsNextRun-asked_of period (At moment) is = is
+IsNextRun-asked_of period Clear is = tt
+
+IsNextRun-asked : (period : Option PeriodForm) → IsMoment (next_of period)
+    → IsNextRun (option_map (λ p. clamped_period p.period p.flex) period) (next_of period)
+IsNextRun-asked None is = tt
+IsNextRun-asked (Some p) is = IsNextRun-asked_of (clamped_period p.period p.flex) p.next is
 
 -- ---- a request
 
@@ -91,18 +170,19 @@ IsPeriod-asked None = tt
 IsPeriod-asked (Some p) = IsPeriod-clamped p.period p.flex
 
 -- the request of a work with these tags and this input
-IsRequest-asked : (work : WorkForm) (tags : List (List ℕ)) (input : List DataEntry) → HasId work → AllByRecursion IsShortText tags → IsData input
+IsRequest-asked : (work : WorkForm) (tags : List (List ℕ)) (input : List DataEntry) → IsRead work → AllByRecursion IsShortText tags → IsData input
     → IfOk (or_fault of_request (built_of (asked_for work tags input))) IsRequest
-unfolding HasId HasSixteen
-IsRequest-asked work tags input sixteen short is_data =
+unfolding HasId HasSixteen HasMoment HasMomentOf
+IsRequest-asked work tags input read short is_data =
     let asked = asked_for work tags input in
-    let building : IsBuilding asked.tags asked.backoff asked.period = record {
+    let building : IsBuilding asked.tags asked.backoff asked.period asked.next = record {
       tags_are = sorted_tags tags [] short (record { short = tt; ascending = tt });
       backoff_is = IsBackoffDelay-clamped work.backoff.delay;
       period_is = IsPeriod-asked work.period;
+      next_is = IsNextRun-asked work.period read.1;
     } in
-    built_of-cases (λ built. IfOk (or_fault of_request built) IsRequest) asked building refl tt tt tt
-    (λ limits. record { id = sixteen; input = is_data; within = limits })
+    built_of-cases (λ built. IfOk (or_fault of_request built) IsRequest) asked building tt tt tt
+    (λ limits. record { id = read.0; input = is_data; within = limits })
 
 IsData-input_in : (input : Option json.Data) → IfOk (input_in input) IsData
 IsData-input_in None = record { ascending = tt; named = tt; in_type = tt; size = omega arith }
@@ -114,13 +194,14 @@ HasRequest node = IsRequest node.request
 HasRequest-node_in : (d : json.Data) → IfOk (node_in d) HasRequest
 unfolding node_in HasRequest
 HasRequest-node_in d =
-    bind_holds HasId HasRequest _ (formed (work_of d)) (formed_holds HasId (work_of d) (HasId-work_of d)) (λ work sixteen.
+    bind_holds IsRead HasRequest _ (formed (work_of d))
+    (formed_holds IsRead (work_of d) (both_read (work_of d) (HasId-work_of d) (HasMoment-work_of d))) (λ work read.
     bind_holds (AllByRecursion IsShortText) HasRequest _ (list_at text_part (get (codes "tags") d)) (AreShort-list_at (get (codes "tags") d)) (λ tags short.
     bind_any HasRequest _ (list_at id_part (get (codes "after") d)) (λ after.
     bind_holds IsData HasRequest _ (or_fault of_data (input_in work.input)) (or_holds IsData of_data (input_in work.input) (IsData-input_in work.input))
     (λ input is_data.
     bind_holds IsRequest HasRequest _ (or_fault of_request (built_of (asked_for work tags input)))
-    (IsRequest-asked work tags input sixteen short is_data) (λ request is. is)))))
+    (IsRequest-asked work tags input read short is_data) (λ request is. is)))))
 
 pub IsRequest-request_in : (d : json.Data) → IfOk (request_in d) IsRequest
 unfolding request_in HasRequest

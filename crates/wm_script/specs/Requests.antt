@@ -7,12 +7,13 @@ use Rattle.wm_data.specs.declared.data.DataEntry.{DataEntry}
 use Rattle.wm_data.specs.declared.fault.DataFault.{DataFault}
 use Rattle.wm_request.specs.Building.{backoff_of, built_of, with_tag}
 use Rattle.wm_request.specs.Requests.{RequestFields}
+use Rattle.wm_request.specs.declared.request.NextRun.{NextRun}
 use Rattle.wm_request.specs.declared.request.NextRun.TheVariants.{Leave}
 use Rattle.wm_request.specs.declared.request.Node.{Node}
 use Rattle.wm_schedule.specs.Clamped.{clamped_period}
 use Rattle.wm_script.specs.Parts.{◌>>=◌, formed, list_at, of_data, of_request, or_fault}
 use Rattle.wm_script.specs.Values.{id_part, text_part}
-use Rattle.wm_script.specs.Works.{work_of, WorkForm}
+use Rattle.wm_script.specs.Works.{work_of, PeriodForm, WorkForm}
 use Rattle.wm_script.specs.declared.parts.Unread.{Unread}
 use Rattle.wm_script.specs.declared.parts.Unread.TheVariants.{Form}
 
@@ -20,6 +21,11 @@ use Rattle.wm_script.specs.declared.parts.Unread.TheVariants.{Form}
 abbrev pub with_tags : List (List ℕ) → List (List ℕ) → List (List ℕ)
 with_tags [] tags = tags
 with_tags (tag ∷ more) tags = with_tags more (with_tag tag tags)
+
+-- what is asked of the next run, where work is periodic
+abbrev pub next_of : Option PeriodForm → NextRun
+next_of None = Leave
+next_of (Some period) = period.next
 
 -- what is asked for by a work with these tags and this input
 abbrev pub asked_for : WorkForm → List (List ℕ) → List DataEntry → RequestFields
@@ -34,7 +40,7 @@ asked_for work tags input = record {
   initial_delay = work.delay;
   period = option_map (λ p. clamped_period p.period p.flex) work.period;
   keep = work.keep;
-  next = Leave;
+  next = next_of work.period;
 }
 
 -- the Data of an input, which is empty where there is none

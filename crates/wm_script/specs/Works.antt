@@ -1,5 +1,5 @@
 -- What a line says of a work. The grammar is this project's own choice.
-use Rattle.std.specs.Prelude.{ℕ, List, [], ◌∷◌, codes, if◌then◌else◌, Option, Some, None, option_map}
+use Rattle.std.specs.Prelude.{ℕ, ◌^◌, ◌<◌, List, [], ◌∷◌, codes, if◌then◌else◌, Option, Some, None, option_map}
 use Rattle.serde_json.specs.Data as json
 use Rattle.serde_json.specs.Find.{as_str, get}
 use Rattle.serde_json.specs.View.{view}
@@ -9,6 +9,8 @@ use Rattle.wm_conditions.specs.declared.conditions.Network.{Network}
 use Rattle.wm_conditions.specs.declared.conditions.Network.TheVariants as network
 use Rattle.wm_data.specs.declared.merger.Merger.{Merger}
 use Rattle.wm_data.specs.declared.merger.Merger.TheVariants.{Overwriting, ArrayCreating}
+use Rattle.wm_request.specs.declared.request.NextRun.{NextRun}
+use Rattle.wm_request.specs.declared.request.NextRun.TheVariants.{Leave, At, Clear}
 use Rattle.wm_schedule.specs.Defaults.{default_backoff}
 use Rattle.wm_schedule.specs.declared.schedule.Backoff.{Backoff}
 use Rattle.wm_schedule.specs.declared.schedule.BackoffPolicy.{BackoffPolicy}
@@ -86,32 +88,53 @@ backoff_at (Some d) = if has_only (codes "delay" ∷ codes "policy" ∷ []) d th
   delay ← whole_at 30000 (get (codes "delay") d)
   Some (record { policy = policy; delay = delay })) else None
 
--- a period with its flex interval, as they are asked for
+-- a period with its flex interval and what is asked of the next run, as they are asked for
 pub record PeriodForm : Type 0 where
   pub period : ℕ
   pub flex : Option ℕ
+  pub next : NextRun
 
--- a flex interval of a period, where there is one
-abbrev pub with_flex : ℕ → Option json.Data → Option (Option PeriodForm)
-with_flex period None = Some (Some (record { period = period; flex = None }))
-with_flex period (Some d) = do
+-- a flex interval, where there is one
+unfoldable pub flex_at : Option json.Data → Option (Option ℕ)
+flex_at None = Some None
+flex_at (Some d) = do
   flex ← whole_in d
-  Some (Some (record { period = period; flex = Some flex }))
+  Some (Some flex)
 
--- work is periodic where it has a period; a flex interval doesn't stand without one
-unfoldable pub period_at : Option json.Data → Option json.Data → Option (Option PeriodForm)
-period_at None None = Some None
-period_at None (Some flex) = None
-period_at (Some d) flex = do
+-- what is asked of the next run: its moment, or null to clear it
+unfoldable pub next_in : json.Data → Option NextRun
+next_in json.null = Some Clear
+next_in d = do
+  moment ← whole_in d
+  Some (At moment)
+
+-- nothing is asked where there is none
+unfoldable pub next_at : Option json.Data → Option NextRun
+next_at None = Some Leave
+next_at (Some d) = next_in d
+
+-- work is periodic where it has a period; without one neither a flex interval stands nor what is asked of the next run
+unfoldable pub period_at : Option json.Data → Option json.Data → Option json.Data → Option (Option PeriodForm)
+period_at None None None = Some None
+period_at None (Some flex) next = None
+period_at None None (Some next) = None
+period_at (Some d) flex next = do
   period ← whole_in d
-  with_flex period flex
+  flex ← flex_at flex
+  next ← next_at next
+  Some (Some (record { period = period; flex = flex; next = next }))
+
+-- a moment that is asked for is at most 2^53 - 1
+abbrev pub IsMoment : NextRun → Type 0
+IsMoment (At moment) = moment < 2 ^ 53
+IsMoment _ = Unit {0}
 
 -- ---- a work
 
 abbrev pub work_keys : List (List ℕ)
 work_keys =
     codes "after" ∷ codes "backoff" ∷ codes "class" ∷ codes "constraints" ∷ codes "delay" ∷ codes "flex" ∷ codes "id" ∷ codes "input"
-    ∷ codes "keep" ∷ codes "merger" ∷ codes "period" ∷ codes "tags" ∷ []
+    ∷ codes "keep" ∷ codes "merger" ∷ codes "next" ∷ codes "period" ∷ codes "tags" ∷ []
 
 -- a work as it stands in a line, where its input may be anything; its tags and the works that it is after stand in lists beside it
 pub record WorkForm : Type 0 where
@@ -126,7 +149,7 @@ pub record WorkForm : Type 0 where
   pub keep : ℕ
 
 abbrev pub period_of : Option ReadPeriod → Option PeriodForm
-period_of period = option_map (λ p. record { period = p.period; flex = p.flex }) period
+period_of period = option_map (λ p. record { period = p.period; flex = p.flex; next = p.next }) period
 
 -- the same, of a work that points to the value of its line
 abbrev pub form_of : ReadWork → WorkForm
@@ -151,7 +174,7 @@ work_of d = if has_only work_keys d then (do
   constraints ← constraints_at (get (codes "constraints") d)
   backoff ← backoff_at (get (codes "backoff") d)
   delay ← whole_at 0 (get (codes "delay") d)
-  period ← period_at (get (codes "period") d) (get (codes "flex") d)
+  period ← period_at (get (codes "period") d) (get (codes "flex") d) (get (codes "next") d)
   keep ← whole_at 0 (get (codes "keep") d)
   Some (record {
     id = id;

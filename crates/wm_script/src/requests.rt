@@ -1,21 +1,22 @@
 //! The request that a work of a line asks for, and the work after those that it names.
-ghost use Rattle.std.specs.Prelude.{◌≡◌, Ok, option_map, IfErr, IfOk, OnOk};
+ghost use Rattle.std.specs.Prelude.{◌≡◌, Ok, option_map, string_bytes, IfErr, IfOk, OnOk};
 ghost use Rattle.std.specs.List.{AllByRecursion};
 ghost use Rattle.serde_json.specs.View.{view};
 ghost use Rattle.wm_data.specs.Entries.{IsFaultOf as IsDataFaultOf};
-ghost use Rattle.wm_request.specs.Building.{built_of, IsFaultOf as IsRequestFaultOf};
+ghost use Rattle.wm_request.specs.Building.{built_of, periodic_of, IsFaultOf as IsRequestFaultOf};
 ghost use Rattle.wm_request.specs.Requests.{IsShortText};
 ghost use Rattle.wm_script.specs.Parts.{IsFaultOf};
-ghost use Rattle.wm_script.specs.Requests.{asked_for, input_in, node_in, request_in, with_tags};
-ghost use Rattle.wm_script.specs.Works.{form_of};
+ghost use Rattle.wm_script.specs.Requests.{asked_for, input_in, next_of, node_in, request_in, with_tags};
+ghost use Rattle.wm_script.specs.Works.{form_of, IsMoment};
 
 use crate::parts::{Part, Unread, formed, list_at};
-use crate::works::{WorkForm, work_of};
+use crate::works::{PeriodForm, WorkForm, work_of};
 use serde_json::Value;
 use std::alloc::{AllocError, Global};
+use uuid::Uuid;
 use wm_collections::{Items, Text};
 use wm_data::{Data, DataFault};
-use wm_request::{Builder, Node, Request, RequestFault};
+use wm_request::{Builder, NextRun, Node, Request, RequestFault};
 
 impl Part for Node {
     ghost use Rattle.wm_script.specs.Requests.{node_in};
@@ -85,13 +86,14 @@ fn request_of(
     tags: Items<Text>,
     input: Data,
 ) -> Result<Request, RequestFault>
-    requires { AllByRecursion IsShortText tags }
+    requires tags { AllByRecursion IsShortText tags }
+    requires next { IsMoment (next_of (form_of work.now).period) }
     ensures ok { IfOk result (λ request. built_of (asked_for (form_of work.entry.now) tags input) ≡ Ok request) }
     ensures err { IfErr result (IsRequestFaultOf (built_of (asked_for (form_of work.entry.now) tags input))) }
 {
     let class = String::from_str(alloc, work.class)?;
     let mut builder = match work.period {
-        Some(form) => Builder::periodic(alloc, work.id, class, form.period, form.flex),
+        Some(form) => periodic(alloc, work.id, class, form),
         None => Builder::one_time(alloc, work.id, class),
     };
     builder.input(input);
@@ -102,6 +104,21 @@ fn request_of(
     builder.keep(work.keep);
     add_tags(&mut builder, tags)?;
     builder.build()
+}
+
+/// The builder of a periodic work with this period, its flex interval and what is asked of its next
+/// run.
+fn periodic(alloc: Global, id: Uuid, class: String, form: PeriodForm) -> Builder
+    requires { IsMoment form.next }
+    ensures { result ≡ record (periodic_of id (string_bytes class) form.period form.flex) { next = form.next } }
+{
+    let mut builder = Builder::periodic(alloc, id, class, form.period, form.flex);
+    match form.next {
+        NextRun::Leave => {}
+        NextRun::At(at) => builder.next_at(at),
+        NextRun::Clear => builder.clear_next(),
+    }
+    builder
 }
 
 /// Adds tags, one after another.

@@ -2,7 +2,7 @@
 ghost use Rattle.std.specs.Prelude.{◌≡◌, option_map};
 ghost use Rattle.serde_json.specs.View.{view};
 ghost use Rattle.wm_script.specs.Objects.{has_only};
-ghost use Rattle.wm_script.specs.Works.{backoff_at, backoff_policy_at, class_at, constraint_keys, constraints_at, form_of, id_at, merger_at, network_at, period_at, period_of, work_keys, work_of};
+ghost use Rattle.wm_script.specs.Works.{backoff_at, backoff_policy_at, class_at, constraint_keys, constraints_at, flex_at, form_of, id_at, merger_at, network_at, next_at, next_in, period_at, period_of, work_keys, work_of};
 
 use crate::objects::has_only;
 use crate::values::{flag_at, id_in, whole_at, whole_in};
@@ -10,6 +10,7 @@ use serde_json::Value;
 use uuid::Uuid;
 use wm_conditions::{Constraints, Network};
 use wm_data::Merger;
+use wm_request::NextRun;
 use wm_schedule::{Backoff, BackoffPolicy};
 
 /// A work as it stands in a line, where its input may be anything. Its tags and the works that it is
@@ -32,11 +33,13 @@ pub struct WorkForm<'v> {
     pub keep: u64,
 }
 
-/// A period, in milliseconds, and a flex interval where there is one.
+/// A period, in milliseconds, with a flex interval where there is one, and what is asked of the next
+/// run.
 #[derive(Clone, Copy)]
 pub struct PeriodForm {
     pub period: u64,
     pub flex: Option<u64>,
+    pub next: NextRun,
 }
 
 /// The work that an object is, which has no other key than these, without its lists. A key that is
@@ -56,26 +59,67 @@ pub fn work_of(value: &Value) -> Option<WorkForm<'_>>
         constraints: constraints_at(value.get("constraints"))?,
         backoff: backoff_at(value.get("backoff"))?,
         delay: whole_at(0, value.get("delay"))?,
-        period: period_at(value.get("period"), value.get("flex"))?,
+        period: period_at(value.get("period"), value.get("flex"), value.get("next"))?,
         keep: whole_at(0, value.get("keep"))?,
     })
 }
 
-/// A period with its flex interval; no flex interval stands without a period.
+/// A period with its flex interval and what is asked of the next run; neither stands without a
+/// period.
 #[tactic(auto, unfolding(crate::specs::Works::period_at))]
-fn period_at(period: Option<&Value>, flex: Option<&Value>) -> Option<Option<PeriodForm>>
+fn period_at(
+    period: Option<&Value>,
+    flex: Option<&Value>,
+    next: Option<&Value>,
+) -> Option<Option<PeriodForm>>
     ensures { option_map period_of result ≡ period_at (option_map (λ found. view found.now) period.entry)
-        (option_map (λ found. view found.now) flex.entry) }
+        (option_map (λ found. view found.now) flex.entry) (option_map (λ found. view found.now) next.entry) }
 {
     let Some(period) = period else {
-        return if flex.is_some() { None } else { Some(None) };
+        return if flex.is_some() || next.is_some() {
+            None
+        } else {
+            Some(None)
+        };
     };
-    let period = whole_in(period)?;
-    let flex = match flex {
-        Some(flex) => Some(whole_in(flex)?),
-        None => None,
-    };
-    Some(Some(PeriodForm { period, flex }))
+    Some(Some(PeriodForm {
+        period: whole_in(period)?,
+        flex: flex_at(flex)?,
+        next: next_at(next)?,
+    }))
+}
+
+/// A flex interval, where there is one.
+#[tactic(auto, unfolding(crate::specs::Works::flex_at))]
+fn flex_at(value: Option<&Value>) -> Option<Option<u64>>
+    ensures { result ≡ flex_at (option_map (λ found. view found.now) value.entry) }
+{
+    match value {
+        Some(value) => Some(Some(whole_in(value)?)),
+        None => Some(None),
+    }
+}
+
+/// What is asked of the next run; nothing where there is none.
+#[tactic(auto, unfolding(crate::specs::Works::next_at))]
+fn next_at(value: Option<&Value>) -> Option<NextRun>
+    ensures { result ≡ next_at (option_map (λ found. view found.now) value.entry) }
+{
+    match value {
+        Some(value) => next_in(value),
+        None => Some(NextRun::Leave),
+    }
+}
+
+/// What is asked of the next run: its moment, or null to clear it.
+#[tactic(auto, unfolding(crate::specs::Works::next_in))]
+fn next_in(value: &Value) -> Option<NextRun>
+    ensures { result ≡ next_in (view value.now) }
+{
+    match value {
+        Value::Null => Some(NextRun::Clear),
+        _ => Some(NextRun::At(whole_in(value)?)),
+    }
 }
 
 /// An id. There has to be one.
@@ -200,6 +244,7 @@ fn has_work_keys(value: &Value) -> bool
             "input",
             "keep",
             "merger",
+            "next",
             "period",
             "tags",
         ],

@@ -15,7 +15,7 @@ use Rattle.wm_machine.specs.declared.state.Instance.{Instance}
 use Rattle.wm_machine.specs.declared.state.State.{State}
 use Rattle.wm_steps.specs.StepChanges.{changed_state, instances_by, retired_by}
 use Rattle.wm_steps.specs.declared.change.RunChange.{RunChange}
-use Rattle.wm_steps.specs.declared.change.RunChange.TheVariants.{Unchanged, Begin, Turn, End, Stop}
+use Rattle.wm_steps.specs.declared.change.RunChange.TheVariants.{Unchanged, Begin, Turn, End, Stop, Renew}
 use Rattle.wm_steps.specs.declared.change.SettingChange.{SettingChange}
 use Rattle.wm_steps.specs.declared.change.SettingChange.TheVariants as set
 use Rattle.wm_steps.specs.declared.change.StepChange.{StepChange}
@@ -151,6 +151,7 @@ named-runs names (Begin run) instances named = named-kept names _ instances (out
 named-runs names (Turn run) instances named = named
 named-runs names (End run instance) instances named = named-kept names _ instances (out-class false instance) named
 named-runs names (Stop numbers) instances named = named
+named-runs names (Renew seq) instances named = named
 
 named-set : (names : List (List ℕ)) (to : SettingChange) (instances : List Instance) → AreNamed names instances → AreNamed names (retired_by to instances)
 named-set names set.Unchanged instances named = named

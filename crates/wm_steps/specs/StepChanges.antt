@@ -11,6 +11,7 @@ use Rattle.wm_machine.specs.Rows.{row_of}
 use Rattle.wm_machine.specs.Runs.{other_runs, with_out, with_stopped}
 use Rattle.wm_machine.specs.Step.{Legal, after}
 use Rattle.wm_machine.specs.Turns.{with_turned}
+use Rattle.wm_machine.specs.Updated.{is_run_of, with_renewed}
 use Rattle.wm_collections.specs.Lists.{HasOne, is_among}
 use Rattle.wm_machine.specs.declared.event.Event.{Event}
 use Rattle.wm_machine.specs.declared.record.Record.{Record}
@@ -23,7 +24,7 @@ use Rattle.wm_steps.specs.Readiness.{TouchesAllFreed}
 use Rattle.wm_steps.specs.Replacements.{MayReplace}
 use Rattle.wm_steps.specs.declared.change.Replacement.{Replacement}
 use Rattle.wm_steps.specs.declared.change.RunChange.{RunChange}
-use Rattle.wm_steps.specs.declared.change.RunChange.TheVariants.{Unchanged, Begin, Turn, End, Stop}
+use Rattle.wm_steps.specs.declared.change.RunChange.TheVariants.{Unchanged, Begin, Turn, End, Stop, Renew}
 use Rattle.wm_steps.specs.declared.change.SettingChange.{SettingChange}
 use Rattle.wm_steps.specs.declared.change.SettingChange.TheVariants as set
 use Rattle.wm_steps.specs.declared.change.StepChange.{StepChange}
@@ -44,13 +45,14 @@ abbrev pub without : List ℕ → List Record → List Record
 without [] works = works
 without (number ∷ numbers) works = without numbers (other_works number works)
 
--- a run begins, goes on or is over, or some are stopped
+-- a run begins, goes on, is over or is renewed, or some are stopped
 abbrev pub runs_by : RunChange → List Run → List Run
 runs_by Unchanged runs = runs
 runs_by (Begin run) runs = runs ++ run ∷ []
 runs_by (Turn run) runs = with_turned run runs
 runs_by (End run instance) runs = other_runs run runs
 runs_by (Stop numbers) runs = with_stopped (λ run. is_among numbers run.run) runs
+runs_by (Renew seq) runs = with_renewed (is_run_of seq) runs
 
 -- the instance of a run that begins is out, and that of a run that is over is idle
 abbrev pub instances_by : RunChange → List Instance → List Instance
@@ -59,6 +61,7 @@ instances_by (Begin run) instances = with_out true run.instance instances
 instances_by (Turn run) instances = instances
 instances_by (End run instance) instances = with_out false instance instances
 instances_by (Stop numbers) instances = instances
+instances_by (Renew seq) instances = instances
 
 -- the number after those of the runs
 abbrev pub next_run_by : RunChange → ℕ → ℕ
@@ -67,6 +70,7 @@ next_run_by (Begin run) next = next + 1
 next_run_by (Turn run) next = next
 next_run_by (End run instance) next = next
 next_run_by (Stop numbers) next = next
+next_run_by (Renew seq) next = next
 
 -- the moment and the conditions, where they are set
 abbrev pub now_by : SettingChange → ℕ → ℕ

@@ -27,6 +27,9 @@ pub enum RunChange {
     End { run: u64, instance: u32 },
     /// The runs of these numbers are stopped: they aren't current any more.
     Stop(Items<u64>),
+    /// The current run of the work of this number is renewed: what its work has for the next run was
+    /// set anew.
+    Renew(u64),
 }
 
 /// What is set in a step: the moment, the conditions, which instances are retired, an observer, or

@@ -19,7 +19,9 @@ use Rattle.wm_collections.specs.Lists.{is_among}
 use Rattle.wm_collections.proofs.Lists.{All-kept, All-push, All-weaker, AllLater-filter, filter-few, one_gives}
 use Rattle.wm_machine.proofs.Runnings.{WorksAscend, WorksAscend-in_order}
 use Rattle.wm_machine.proofs.Rows.{rows_below}
+use Rattle.wm_machine.proofs.Owed.{renewed_in}
 use Rattle.wm_machine.proofs.Stops.{stopped_in}
+use Rattle.wm_machine.specs.Updated.{is_run_of}
 use Rattle.wm_machine.proofs.Turns.{turned_at}
 use Rattle.wm_machine.specs.Rows.{row_of, rows_of}
 use Rattle.wm_machine.specs.Valid.{Valid}
@@ -29,7 +31,7 @@ use Rattle.wm_table.specs.Returns.{new_runs}
 use Rattle.wm_table.specs.Table.{HoldsRowsOf}
 use Rattle.wm_steps.specs.declared.change.Replacement.{Replacement}
 use Rattle.wm_steps.specs.declared.change.RunChange.{RunChange}
-use Rattle.wm_steps.specs.declared.change.RunChange.TheVariants.{Unchanged, Begin, Turn, End, Stop}
+use Rattle.wm_steps.specs.declared.change.RunChange.TheVariants.{Unchanged, Begin, Turn, End, Stop, Renew}
 use Rattle.wm_steps.specs.declared.change.StepChange.{StepChange}
 
 -- ---- a record that takes the place of one of its number
@@ -169,6 +171,7 @@ next_run-changed s change = elim change.run as (λ run. next_run_by run s.next_r
   | Turn run ↦ omega arith
   | End run instance ↦ omega arith
   | Stop numbers ↦ omega arith
+  | Renew seq ↦ omega arith
 ]
 
 -- and adds none otherwise: the runs after it are so many more at most
@@ -179,6 +182,7 @@ runs-changed s change = elim change.run as (λ run. length (runs_by run s.runs) 
   | Turn run ↦ omega (arith, length-map s.runs (turned_at run))
   | End run instance ↦ omega (arith, filter-few (λ (r : Run). not (eqb r.run run)) s.runs)
   | Stop numbers ↦ omega (arith, length-map s.runs (stopped_in (λ run. is_among numbers run.run)))
+  | Renew seq ↦ omega (arith, length-map s.runs (renewed_in (is_run_of seq)))
 ]
 
 -- one at most
@@ -188,6 +192,7 @@ new_runs-few (Begin run) = omega arith
 new_runs-few (Turn run) = omega arith
 new_runs-few (End run instance) = omega arith
 new_runs-few (Stop numbers) = omega arith
+new_runs-few (Renew seq) = omega arith
 
 -- ---- what is within
 

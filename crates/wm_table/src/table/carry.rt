@@ -10,6 +10,7 @@ ghost use Rattle.wm_machine.specs.Retired.{with_retired};
 ghost use Rattle.wm_machine.specs.Rows.{rows_of};
 ghost use Rattle.wm_machine.specs.Runs.{other_runs, with_out, with_stopped};
 ghost use Rattle.wm_machine.specs.Turns.{with_turned};
+ghost use Rattle.wm_machine.specs.Updated.{is_run_of, with_renewed};
 ghost use Rattle.wm_machine.specs.Valid.{AreNumberedInOrder, IsRecord};
 ghost use Rattle.wm_steps.specs.Entries.{prepared_entries, AreEntriesOf, IsFollowable};
 ghost use Rattle.wm_steps.specs.Numbers.{Ascend};
@@ -231,6 +232,7 @@ fn change_runs(
             set_out(alloc, &mut state.instances, instance, false);
         }
         RunChange::Stop(numbers) => stop_runs(runs.as_mut_slice(), numbers.as_slice()),
+        RunChange::Renew(seq) => renew_run(runs.as_mut_slice(), seq),
     }
 }
 
@@ -306,6 +308,24 @@ fn stop_runs(runs: &mut [Run], numbers: &[u64])
             run.current = false;
         }
     }
+}
+
+/// Has the current run of the work of this number renewed. It takes no memory.
+fn renew_run(runs: &mut [Run], seq: u64)
+    ensures { runs.new ≡ with_renewed (is_run_of seq) runs.old }
+{
+    for run in runs.iter_mut() {
+        if is_run_of(run, seq) {
+            run.renewed = true;
+        }
+    }
+}
+
+/// Whether a run is the current one of the work of this number.
+fn is_run_of(run: &Run, seq: u64) -> bool
+    ensures { result ≡ is_run_of seq run.now }
+{
+    run.current && run.seq == seq
 }
 
 /// Takes the run of this number out.

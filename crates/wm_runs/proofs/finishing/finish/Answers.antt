@@ -57,16 +57,16 @@ may-report s number i told run work gave is told_is =
 
 -- the end of a run changes just what is touched: its work and those that it reaches
 ends-agree : (s : State) (i : ℕ) (run : Run) (work : Record) (end : End) → Valid s → slice_get s.works i ≡ Some work → IsWorkOf run work
-    → AllByRecursion (λ w. after_change (change_by (ended_as work.request.period s.now end work)
+    → AllByRecursion (λ w. after_change (change_by (ended_as work.request.period run.renewed s.now end work)
     (end_reach work.request.period s.now work.seq end (nodes_of s.works))) w ≡ end_in s run end w) s.works
 ends-agree s i run work end valid at of =
     let period : work.request.period ≡ period_of run.seq s.works =
     All-at (OfNumber run.seq (λ w. w.request.period ≡ period_of run.seq s.works)) s.works i work (same_period run.seq s.works valid.works.in_order) at of.seq in
     let agree =
-    end-agree work.request.period s.now end work s.works valid.works.in_order valid.works.sound (stored-at s.works i work at) (ap is_open of.running) in
-    let touch = change_by (ended_as work.request.period s.now end work) (end_reach work.request.period s.now work.seq end (nodes_of s.works)) in
-    subst (λ number. AllByRecursion (λ w. after_change touch w ≡ end_by s.now number (period_of run.seq s.works) end s.works w) s.works) of.seq
-    (subst (λ kind. AllByRecursion (λ w. after_change touch w ≡ end_by s.now work.seq kind end s.works w) s.works) period agree)
+    end-agree work.request.period run.renewed s.now end work s.works valid.works.in_order valid.works.sound (stored-at s.works i work at) (ap is_open of.running) in
+    let touch = change_by (ended_as work.request.period run.renewed s.now end work) (end_reach work.request.period s.now work.seq end (nodes_of s.works)) in
+    subst (λ number. AllByRecursion (λ w. after_change touch w ≡ end_by run.renewed s.now number (period_of run.seq s.works) end s.works w) s.works) of.seq
+    (subst (λ kind. AllByRecursion (λ w. after_change touch w ≡ end_by run.renewed s.now work.seq kind end s.works w) s.works) period agree)
 
 -- each record keeps its node where a run of a work ends
 run-keeps : (s : State) (i : ℕ) (run : Run) (work itself : Record) (to : Reach) → Valid s → slice_get s.works i ≡ Some work → IsWorkOf run work
@@ -77,7 +77,7 @@ run-keeps s i run work itself to reached at of same =
 -- the run is over by this end
 finish-step : (s : State) (number i : ℕ) (told : Report) (run : Run) (work : Record) (end : End) → IsReported s number i told run work
     → given_of told.answer ≡ Some (given_by end)
-    → IsFinish s number told false (replacing_all (replaced_by_end s work end) (over run) (event.Finish run.run end))
+    → IsFinish s number told false (replacing_all (replaced_by_end s run.renewed work end) (over run) (event.Finish run.run end))
 finish-step s number i told run work end is told_is =
     let valid = is.is_found.valid in
     let named = found-numbered number s.runs run is.is_found.found in
@@ -89,12 +89,12 @@ finish-step s number i told run work end is told_is =
       may_give = may;
     } in
     let gone : State = record s { runs = other_runs run.run s.runs; instances = with_out false run.instance s.instances } in
-    let itself = ended_as work.request.period s.now end work in
+    let itself = ended_as work.request.period run.renewed s.now end work in
     let to = end_reach work.request.period s.now work.seq end (nodes_of s.works) in
-    let same = ended-same work.request.period s.now end work in
+    let same = ended-same work.request.period run.renewed s.now end work in
     let keeps = run-keeps s i run work itself to is.is_found.valid is.is_found.at is.is_found.of same in
     let freeing =
-    end-freeing s work work.request.period end (over run) (event.Finish run.run end) is.is_found.valid (stored-at s.works i work is.is_found.at) keeps in
+    end-freeing s run.renewed work work.request.period end (over run) (event.Finish run.run end) is.is_found.valid (stored-at s.works i work is.is_found.at) keeps in
     record {
       reported = This (given_by end);
       gave = given_by end;
@@ -118,7 +118,7 @@ last-turn told progress stays told_is = elim (cases_Bool (ltb told.k 999)) [
 -- the run is over for want of a turn
 timeout-step : (s : State) (number i : ℕ) (told : Report) (run : Run) (work : Record) (progress : Option (List DataEntry))
     → IsReported s number i told run work → goes_on told ≡ false → given_of told.answer ≡ Some (More progress)
-    → IsFinish s number told true (replacing_all (replaced_by (retried s.now work) reach.Stays s.works) (over run) (event.TimedOut run.run))
+    → IsFinish s number told true (replacing_all (replaced_by (retried run.renewed s.now work) reach.Stays s.works) (over run) (event.TimedOut run.run))
 timeout-step s number i told run work progress is stays told_is =
     let valid = is.is_found.valid in
     let named = found-numbered number s.runs run is.is_found.found in
@@ -133,8 +133,8 @@ timeout-step s number i told run work progress is stays told_is =
     } in
     let legal : IsTimeout s run.run = record { progress = progress; report = report; none_left = omega arith } in
     let gone : State = record s { runs = other_runs run.run s.runs; instances = with_out false run.instance s.instances } in
-    let touch = change_by (retried s.now work) reach.Stays in
-    let keeps = run-keeps s i run work (retried s.now work) reach.Stays is.is_found.valid is.is_found.at is.is_found.of
+    let touch = change_by (retried run.renewed s.now work) reach.Stays in
+    let keeps = run-keeps s i run work (retried run.renewed s.now work) reach.Stays is.is_found.valid is.is_found.at is.is_found.of
     (record { seq = refl; id = refl; name = refl; prior = refl }) in
     record {
       reported = SomeMore;
@@ -146,7 +146,7 @@ timeout-step s number i told run work progress is stays told_is =
       step =
           replacing_all-step s gone touch (end_in s run Retry) (over run) (event.TimedOut run.run) valid legal keeps
           (ends-agree s i run work Retry is.is_found.valid is.is_found.at is.is_found.of) refl
-          (after_timed_out s run.run legal) (retry-freeing s work (over run) (event.TimedOut run.run) keeps);
+          (after_timed_out s run.run legal) (retry-freeing s run.renewed work (over run) (event.TimedOut run.run) keeps);
     }
 
 -- the wish for one more turn comes with what is told of the progress
@@ -180,7 +180,7 @@ returns-in-Some c =
     } in
     let said = rw c.in-Some.is at c.in_ok-end.ensures in
     let told_is : given_of told.answer ≡ Some (given_by end) = ap given_of (sym c.answer.ensures.answer) ∙ said in
-    let ending : Ending = record { change = replacing_all (replaced_by_end s work end) (over run) (event.Finish run.run end); timed_out = false } in
+    let ending : Ending = record { change = replacing_all (replaced_by_end s run.renewed work end) (over run) (event.Finish run.run end); timed_out = false } in
     IfOk-weaker c.finish_by.result (λ e. e ≡ ending) (λ e. IsFinish s number told e.timed_out e.change) (λ e same.
     subst (λ (e : Ending). IsFinish s number told e.timed_out e.change) (sym same) (finish-step s number index told run work end is told_is))
     c.finish_by.ensures
@@ -201,7 +201,7 @@ returns-in-None c =
     let said = rw c.in-None.is at c.in_ok-end.ensures in
     let more = asked-more (given_of told.answer) (ap (λ (a : Answer). wants_more (given_of a)) (sym c.answer.ensures.answer) ∙ said) in
     let ending : Ending = record {
-      change = replacing_all (replaced_by (retried s.now work) reach.Stays s.works) (over run) (event.TimedOut run.run);
+      change = replacing_all (replaced_by (retried run.renewed s.now work) reach.Stays s.works) (over run) (event.TimedOut run.run);
       timed_out = true;
     } in
     IfOk-weaker c.time_out.result (λ e. e ≡ ending) (λ e. IsFinish s number told e.timed_out e.change) (λ e same.

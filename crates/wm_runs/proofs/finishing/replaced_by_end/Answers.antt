@@ -13,8 +13,8 @@ replaced_by-requires c =
     let end = c.args.end.now in
     let itself = c.in_ok-itself-2.itself in
     let to = c.in_ok-itself-2.reach in
-    let is : itself ≡ ended s.now end work = search rules in
+    let is : itself ≡ ended c.args.renewed s.now end work = search rules in
     let came : c.end_reach.result ≡ Ok to = search rules in
     let rise : RiseFrom work.seq (numbers_of to) =
     subst (λ found. IfOk found (λ reach. RiseFrom work.seq (numbers_of reach))) came c.end_reach.ensures.rises in
-    same-rise work.seq itself (ended s.now end work) (numbers_of to) is (ended-same work.request.period s.now end work).seq rise
+    same-rise work.seq itself (ended c.args.renewed s.now end work) (numbers_of to) is (ended-same work.request.period c.args.renewed s.now end work).seq rise

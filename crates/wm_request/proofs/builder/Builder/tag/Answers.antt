@@ -17,4 +17,5 @@ invariant_of-self c = record {
       c.insert_tag.ensures.err (subst IsShortText (sym c.from_string.ensures) c.requires) c.self.invariant.tags_are;
   backoff_is = c.self.invariant.backoff_is;
   period_is = c.self.invariant.period_is;
+  next_is = c.self.invariant.next_is;
 }
