@@ -1,5 +1,5 @@
 //! The list of all public types.
-ghost use Rattle.std.specs.Prelude.{◌≡◌, ◌==◌, List, [], ◌∷◌, ◌++◌, length, IfErr, OnOk, OnErr};
+ghost use Rattle.std.specs.Prelude.{◌≡◌, ◌==◌, List, [], ◌∷◌, ◌++◌, length, IfErr, IfOk, OnOk, OnErr};
 
 use std::alloc::{AllocError, AllocFailed, Global};
 use std::marker::Model;
@@ -84,5 +84,16 @@ impl<T> Items<T> {
         ensures value_returned { IfErr result (λ failed. failed.value ≡ value) }
     {
         self.elements.push(value)
+    }
+}
+
+impl<T: Copy> Items<T> {
+    /// The same values in a list of its own, whose memory is taken at once.
+    pub fn copied(&self, alloc: Global) -> Result<Items<T>, AllocError>
+        ensures { IfOk result (λ same. same ≡ self.entry.now) }
+    {
+        Ok(Items {
+            elements: Vec::from_slice(alloc, self.elements.as_slice())?,
+        })
     }
 }

@@ -21,11 +21,11 @@ impl Replica for Text {
 
 impl<T: Replica> Replica for Items<T> {
     fn replica(&self, alloc: Global) -> Result<Items<T>, AllocError> {
-        let mut copies = Items::new(alloc);
+        let mut copies = Vec::with_capacity(alloc, self.len())?;
         for element in self.as_slice() {
             copies.push(element.replica(alloc)?)?;
         }
-        Ok(copies)
+        Ok(Items::from_vec(copies))
     }
 }
 

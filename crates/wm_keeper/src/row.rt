@@ -70,7 +70,7 @@ impl Replica for Row {
         Ok(Row {
             version: self.version,
             seq: self.seq,
-            id: self.id.replica(alloc)?,
+            id: self.id.copied(alloc)?,
             name: self.name.replica(alloc)?,
             class: self.class.replica(alloc)?,
             kind: self.kind,
@@ -90,7 +90,7 @@ impl Replica for Row {
             enqueued_at: self.enqueued_at,
             input: self.input.replica(alloc)?,
             output: self.output.replica(alloc)?,
-            prior: self.prior.replica(alloc)?,
+            prior: self.prior.copied(alloc)?,
             tags: self.tags.replica(alloc)?,
             next_at: self.next_at,
             keep_for: self.keep_for,

@@ -149,7 +149,7 @@ impl Replica for Record {
             seq: self.seq,
             name: self.name.replica(alloc)?,
             request: self.request.replica(alloc)?,
-            prior: self.prior.replica(alloc)?,
+            prior: self.prior.copied(alloc)?,
             phase: self.phase,
             attempt: self.attempt,
             backoff_n: self.backoff_n,

@@ -1,6 +1,4 @@
 //! The state of the machine: records, runs, instances and what is set.
-ghost use Rattle.std.specs.Prelude.{◌≡◌, IfOk};
-
 use crate::record::{Record, Shown};
 use std::alloc::{AllocError, Global};
 use uuid::Uuid;
@@ -68,19 +66,12 @@ pub struct WorkQuery {
     pub tags: Items<Text>,
 }
 
-/// The same values again.
-fn copied<T: Copy>(alloc: Global, values: &Items<T>) -> Result<Items<T>, AllocError>
-    ensures { IfOk result (λ same. same ≡ values.entry.now) }
-{
-    Ok(Items::from_vec(Vec::from_slice(alloc, values.as_slice())?))
-}
-
 impl Replica for WorkQuery {
     fn replica(&self, alloc: Global) -> Result<WorkQuery, AllocError> {
         Ok(WorkQuery {
-            ids: copied(alloc, &self.ids)?,
+            ids: self.ids.copied(alloc)?,
             names: self.names.replica(alloc)?,
-            states: copied(alloc, &self.states)?,
+            states: self.states.copied(alloc)?,
             tags: self.tags.replica(alloc)?,
         })
     }
