@@ -1,7 +1,6 @@
 pub mod Acknowledged
 pub mod Claims
 pub mod Images
-pub mod InstancePlaces
 pub mod NoLines
 pub mod Parts
 pub mod RemovedWorks

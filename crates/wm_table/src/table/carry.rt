@@ -6,11 +6,7 @@ ghost use Rattle.wm_collections.specs.Lists.{is_among};
 ghost use Rattle.wm_keeper.specs.Keeper.{AreOfDifferentNumbers};
 ghost use Rattle.wm_keeper.specs.Store.{changed_rows, IsAtMost, TellsOn};
 ghost use Rattle.wm_machine.specs.Limits.{FitsRow};
-ghost use Rattle.wm_machine.specs.Retired.{with_retired};
 ghost use Rattle.wm_machine.specs.Rows.{rows_of};
-ghost use Rattle.wm_machine.specs.Runs.{other_runs, with_out, with_stopped};
-ghost use Rattle.wm_machine.specs.Turns.{with_turned};
-ghost use Rattle.wm_machine.specs.Updated.{is_run_of, with_renewed};
 ghost use Rattle.wm_machine.specs.Valid.{AreNumberedInOrder, IsRecord};
 ghost use Rattle.wm_steps.specs.Entries.{prepared_entries, AreEntriesOf, IsFollowable};
 ghost use Rattle.wm_steps.specs.Numbers.{Ascend};
@@ -27,11 +23,12 @@ use crate::table::Trouble;
 use crate::table::row_changes::row_changes;
 use std::alloc::{AllocError, Global};
 use std::mem;
-use wm_collections::{Items, Text, is_among};
+use wm_collections::{Items, Text};
 use wm_graph::Graph;
 use wm_index::Index;
 use wm_keeper::{Change, Keeper};
-use wm_machine::{Event, Instance, Record, Run, State, WorkQuery};
+use wm_lifecycle::{remove_run, renew_run, retire_each, set_out, stop_runs, turn_run};
+use wm_machine::{Event, Record, Run, State, WorkQuery};
 use wm_ready::Ready;
 use wm_runs::returned;
 use wm_steps::entries::{prepare_entries, settle_entries, undo_entries};
@@ -264,95 +261,6 @@ fn change_setting(
         SettingChange::Retire(class) => retire_each(alloc, &mut state.instances, &class),
         SettingChange::Observe(query) => observers.push_reserved(query),
         SettingChange::Hush => state.hushed = true,
-    }
-}
-
-/// Has the instances of this class retired. It takes no memory.
-fn retire_each(alloc: Global, instances: &mut Items<Instance>, class: &Text)
-    ensures { instances.new ≡ with_retired class.now instances.old }
-{
-    let mut elements = mem::replace(instances, Items::new(alloc)).into_vec();
-    set_each_retired(elements.as_mut_slice(), class);
-    *instances = Items::from_vec(elements);
-}
-
-/// Has the instances of this class retired.
-fn set_each_retired(instances: &mut [Instance], class: &Text)
-    ensures { instances.new ≡ with_retired class.now instances.old }
-{
-    for instance in instances.iter_mut() {
-        if instance.class == *class {
-            instance.retired = true;
-        }
-    }
-}
-
-/// Has the run of this number at its next turn. It takes no memory.
-fn turn_run(runs: &mut [Run], number: u64)
-    requires { AllByRecursion (λ run. run.turn ≤ 999) runs.old }
-    ensures { runs.new ≡ with_turned number runs.old }
-{
-    for run in runs.iter_mut() {
-        if run.run == number {
-            run.turn += 1;
-        }
-    }
-}
-
-/// Has the runs of these numbers stopped. It takes no memory.
-fn stop_runs(runs: &mut [Run], numbers: &[u64])
-    ensures { runs.new ≡ with_stopped (λ run. is_among numbers.now run.run) runs.old }
-{
-    for run in runs.iter_mut() {
-        if is_among(numbers, run.run) {
-            run.current = false;
-        }
-    }
-}
-
-/// Has the current run of the work of this number renewed. It takes no memory.
-fn renew_run(runs: &mut [Run], seq: u64)
-    ensures { runs.new ≡ with_renewed (is_run_of seq) runs.old }
-{
-    for run in runs.iter_mut() {
-        if is_run_of(run, seq) {
-            run.renewed = true;
-        }
-    }
-}
-
-/// Whether a run is the current one of the work of this number.
-fn is_run_of(run: &Run, seq: u64) -> bool
-    ensures { result ≡ is_run_of seq run.now }
-{
-    run.current && run.seq == seq
-}
-
-/// Takes the run of this number out.
-fn remove_run(runs: &mut Vec<Run>, number: u64)
-    ensures { runs.new.items ≡ other_runs number runs.old.items }
-{
-    runs.retain(|run| run.run != number);
-}
-
-/// Has the instance of this number out or not. It takes no memory.
-fn set_out(alloc: Global, instances: &mut Items<Instance>, number: u32, out: bool)
-    requires { AreNumberedInOrder 0 instances.old }
-    ensures { instances.new ≡ with_out out number instances.old }
-{
-    let mut elements = mem::replace(instances, Items::new(alloc)).into_vec();
-    set_at_out(elements.as_mut_slice(), number, out);
-    *instances = Items::from_vec(elements);
-}
-
-/// Has the instance of this number out or not, which stands at the number.
-fn set_at_out(instances: &mut [Instance], number: u32, out: bool)
-    requires { AreNumberedInOrder 0 instances.old }
-    ensures { instances.new ≡ with_out out number instances.old }
-{
-    let index = number as usize;
-    if index < instances.len() {
-        instances[index].out = out;
     }
 }
 

@@ -22,7 +22,7 @@ use Rattle.wm_steps.specs.Nodes.{nodes_of}
 use Rattle.wm_steps.specs.StepChanges.{changed_state, changed_works, Fits, IsStepOf}
 use Rattle.wm_steps.specs.declared.change.StepChange.{StepChange}
 use Rattle.wm_table.proofs.Images.{images-kept, images-made}
-use Rattle.wm_table.proofs.InstancePlaces.{ordered-is}
+use Rattle.wm_lifecycle.proofs.InstancePlaces.{ordered-is}
 use Rattle.wm_steps.proofs.StepNodes.{step-addable, step-follows, step-grown, step-nodes, step-removed, step-replaced, viewed-step}
 use Rattle.wm_steps.proofs.ReplacedRecords.{replaced_within, told_within}
 use Rattle.wm_table.proofs.StepRows.{removed_fit, rows-made, turns_left, new_runs-few, runs-changed}

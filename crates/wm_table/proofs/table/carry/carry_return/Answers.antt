@@ -4,7 +4,7 @@ use Rattle.wm_runs.specs.Builds.{IsReturn}
 use Rattle.wm_steps.proofs.BusyClasses.{step-named}
 use Rattle.wm_steps.specs.Readied.{AreNamed}
 use Rattle.wm_steps.specs.StepChanges.{changed_state}
-use Rattle.wm_table.proofs.InstancePlaces.{ordered-is}
+use Rattle.wm_lifecycle.proofs.InstancePlaces.{ordered-is}
 use Rattle.wm_table.proofs.Returns.{return-fewer, return-viewed}
 use Rattle.wm_table.proofs.table.carry.carry_return.Goals as goal
 

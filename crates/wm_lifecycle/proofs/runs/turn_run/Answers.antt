@@ -5,8 +5,8 @@ use Rattle.std.proofs.lemmas.List.{drop-set-lt, drop_more}
 use Rattle.std.proofs.lemmas.List.Edits.{map_over_more}
 use Rattle.wm_machine.specs.Turns.{turned}
 use Rattle.wm_machine.specs.declared.state.Run.{Run}
-use Rattle.wm_table.proofs.table.carry.turn_run.Goals as goal
-use Rattle.wm_table.proofs.table.carry.turn_run.Goals.{then-run-number, else-run-number}
+use Rattle.wm_lifecycle.proofs.runs.turn_run.Goals as goal
+use Rattle.wm_lifecycle.proofs.runs.turn_run.Goals.{then-run-number, else-run-number}
 
 -- what holds of each from an index on holds of each after it, whatever comes to stand there
 All-after : {T : Type 0} (P : T → Type 0) (xs : List T) (i : ℕ) (x y : T) → i < length xs → AllByRecursion P (drop i xs)

@@ -1,6 +1,6 @@
 use Rattle.std.proofs.Common.{sym}
-use Rattle.wm_table.proofs.InstancePlaces.{out-none, out-there}
-use Rattle.wm_table.proofs.table.carry.set_at_out.Goals as goal
+use Rattle.wm_lifecycle.proofs.InstancePlaces.{out-none, out-there}
+use Rattle.wm_lifecycle.proofs.instances.set_at_out.Goals as goal
 
 pub returns-then-index-instances : goal.returns-then-index-instances
 returns-then-index-instances c =

@@ -4,8 +4,8 @@ use Rattle.std.proofs.lemmas.List.Edits.{map_over_more}
 use Rattle.wm_machine.proofs.Retirings.{retired_in}
 use Rattle.wm_machine.specs.Retired.{made_retired}
 use Rattle.wm_machine.specs.declared.state.Instance.{Instance}
-use Rattle.wm_table.proofs.table.carry.set_each_retired.Goals as goal
-use Rattle.wm_table.proofs.table.carry.set_each_retired.Goals.{then-eq, else-eq}
+use Rattle.wm_lifecycle.proofs.instances.set_each_retired.Goals as goal
+use Rattle.wm_lifecycle.proofs.instances.set_each_retired.Goals.{then-eq, else-eq}
 
 pub loop-instance-preserved : goal.loop-instance-preserved
 loop-instance-preserved c =

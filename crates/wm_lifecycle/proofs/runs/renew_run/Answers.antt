@@ -3,8 +3,8 @@ use Rattle.std.proofs.lemmas.List.Edits.{map_over_more}
 use Rattle.wm_machine.proofs.Owed.{renewed_in}
 use Rattle.wm_machine.specs.Updated.{is_run_of, made_new}
 use Rattle.wm_machine.specs.declared.state.Run.{Run}
-use Rattle.wm_table.proofs.table.carry.renew_run.Goals as goal
-use Rattle.wm_table.proofs.table.carry.renew_run.Goals.{then-is_run_of, else-is_run_of}
+use Rattle.wm_lifecycle.proofs.runs.renew_run.Goals as goal
+use Rattle.wm_lifecycle.proofs.runs.renew_run.Goals.{then-is_run_of, else-is_run_of}
 
 pub loop-run-preserved : goal.loop-run-preserved
 loop-run-preserved c =

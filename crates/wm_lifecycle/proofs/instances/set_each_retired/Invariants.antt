@@ -1,6 +1,6 @@
 use Rattle.std.proofs.Common.{◌≡◌, ◌++◌, drop, take}
 use Rattle.wm_machine.specs.Retired.{with_retired}
-use Rattle.wm_table.proofs.table.carry.set_each_retired.Given as goal
+use Rattle.wm_lifecycle.proofs.instances.set_each_retired.Given as goal
 
 -- the instances so far are set
 abbrev pub invariant-loop-instance : goal.invariant-loop-instance

@@ -1,7 +1,7 @@
 use Rattle.std.proofs.Common.{◌≡◌, ◌++◌, drop, take}
 use Rattle.wm_collections.specs.Lists.{is_among}
 use Rattle.wm_machine.specs.Runs.{with_stopped}
-use Rattle.wm_table.proofs.table.carry.stop_runs.Given as goal
+use Rattle.wm_lifecycle.proofs.runs.stop_runs.Given as goal
 
 -- the runs so far are stopped where they are meant
 abbrev pub invariant-loop-run : goal.invariant-loop-run

@@ -1,7 +1,7 @@
 use Rattle.std.proofs.Common.{◌≡◌, ◌≤◌, ◌++◌, drop, take}
 use Rattle.std.specs.List.{AllByRecursion}
 use Rattle.wm_machine.specs.Turns.{with_turned}
-use Rattle.wm_table.proofs.table.carry.turn_run.Given as goal
+use Rattle.wm_lifecycle.proofs.runs.turn_run.Given as goal
 
 -- the runs so far are as they come to be, and those that are left are in one of their turns
 abbrev pub invariant-loop-run : goal.invariant-loop-run

@@ -4,8 +4,8 @@ use Rattle.wm_collections.specs.Lists.{is_among}
 use Rattle.wm_machine.proofs.Stops.{stopped_in}
 use Rattle.wm_machine.specs.Runs.{stopped}
 use Rattle.wm_machine.specs.declared.state.Run.{Run}
-use Rattle.wm_table.proofs.table.carry.stop_runs.Goals as goal
-use Rattle.wm_table.proofs.table.carry.stop_runs.Goals.{then-is_among, else-is_among}
+use Rattle.wm_lifecycle.proofs.runs.stop_runs.Goals as goal
+use Rattle.wm_lifecycle.proofs.runs.stop_runs.Goals.{then-is_among, else-is_among}
 
 pub loop-run-preserved : goal.loop-run-preserved
 loop-run-preserved c =

@@ -1,6 +1,6 @@
 use Rattle.std.proofs.Common.{◌≡◌, ◌++◌, drop, take}
 use Rattle.wm_machine.specs.Updated.{is_run_of, with_renewed}
-use Rattle.wm_table.proofs.table.carry.renew_run.Given as goal
+use Rattle.wm_lifecycle.proofs.runs.renew_run.Given as goal
 
 -- the runs so far are renewed where they are meant
 abbrev pub invariant-loop-run : goal.invariant-loop-run
