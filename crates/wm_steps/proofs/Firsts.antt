@@ -67,21 +67,25 @@ none-left test (work ∷ works) none =
       | inr fails ↦ (fails, none-left test works (rw fails at none))
     ]
 
+pub none-startable : (s : State) → first_of s ≡ None → AllByRecursion (λ work. is_work_startable s work ≡ false) s.works
+unfolding first_of
+none-startable s none = none-left (is_work_startable s) s.works (least-none (filter (is_work_startable s) s.works) none)
+
 -- ---- entries
 
-same-itself : (entry : Entry) → is_same entry entry ≡ true
+pub same-itself : (entry : Entry) → is_same entry entry ≡ true
 same-itself entry = grind (arith, nat_tests)
 
-same-due : (one other : Entry) → is_same one other ≡ true → one.due ≡ other.due
+pub same-due : (one other : Entry) → is_same one other ≡ true → one.due ≡ other.due
 same-due one other same = grind (arith, nat_tests)
 
 same-number : (one other : Entry) → is_same one other ≡ true → one.seq ≡ other.seq
 same-number one other same = grind (arith, nat_tests)
 
-same-signature : (one other : Entry) → is_same one other ≡ true → one.sig ≡ other.sig
+pub same-signature : (one other : Entry) → is_same one other ≡ true → one.sig ≡ other.sig
 same-signature one other same = grind (arith, nat_tests)
 
-same-class : (one other : Entry) → is_same one other ≡ true → one.class ≡ other.class
+pub same-class : (one other : Entry) → is_same one other ≡ true → one.class ≡ other.class
 same-class one other same = grind (arith, nat_tests)
 
 not-not : (b : Bool) → not (not b) ≡ b
@@ -128,10 +132,6 @@ module _ (names : List (List ℕ)) (s : State) (entries : List Entry) (bits : �
         | inr not_startable ↦ not_startable
       ]) (All-stored s.works)))
 
-  none-startable : first_of s ≡ None → AllByRecursion (λ work. is_work_startable s work ≡ false) s.works
-  unfolding first_of
-  none-startable none = none-left (is_work_startable s) s.works (least-none (filter (is_work_startable s) s.works) none)
-
   none-before : (first : Record) → first_of s ≡ Some first → AllByRecursion (λ work. is_work_startable s work ≡ true → comes_before work first ≡ false) s.works
   unfolding first_of
   none-before first is =
@@ -141,7 +141,7 @@ module _ (names : List (List ℕ)) (s : State) (entries : List Entry) (bits : �
       → is_work_startable s work ≡ true → entry.due ≡ due_of work → entry.seq ≡ work.seq → (found : Option Record) → first_of s ≡ found
       → IsSomeAnd found (λ first. first.seq ≡ entry.seq)
   by_found entry first work stored startable due seq None none =
-      absurd (false≢true (sym (All-of_one (λ work. is_work_startable s work ≡ false) s.works work (none-startable none) stored) ∙ startable))
+      absurd (false≢true (sym (All-of_one (λ work. is_work_startable s work ≡ false) s.works work (none-startable s none) stored) ∙ startable))
   by_found entry first work stored startable due seq (Some other) is =
       let other_stored = first_of-stored s other is in
       let other_startable = first_of-startable s other is in

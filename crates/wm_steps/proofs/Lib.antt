@@ -34,3 +34,6 @@ pub mod Tests
 pub mod Unmets
 pub mod Unsucceeding
 pub mod Views
+pub mod Wakes
+pub mod Wakings
+pub mod WorksWithIds

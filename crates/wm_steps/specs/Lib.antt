@@ -10,3 +10,4 @@ pub mod Startables
 pub mod StepChanges
 pub mod Touched
 pub mod Views
+pub mod Wakes

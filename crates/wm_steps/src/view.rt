@@ -19,6 +19,7 @@ ghost use Rattle.wm_steps.specs.Nodes.{nodes_of, reached_from, IsUnmarked};
 ghost use Rattle.wm_steps.specs.Numbers.{Ascend, RiseFrom};
 ghost use Rattle.wm_steps.specs.Readied.{IsFirstOf};
 ghost use Rattle.wm_steps.specs.Readiness.{is_ready_in};
+ghost use Rattle.wm_steps.specs.Wakes.{IsWakeOf};
 
 use crate::covers::Covers;
 use crate::entries::index_of;
@@ -106,6 +107,19 @@ impl View {
             .first(self.state.now, startable.tracker.met(), &startable.busy)
     }
 
+    /// The moment at which the state wakes, where no run is out: the least one above now at which a
+    /// work is due whose prerequisites have succeeded and whose constraints are met. None where no
+    /// work waits for its moment alone. It takes no memory.
+    pub fn wake(&self) -> Option<u64>
+        requires { self.now.runs ≡ [] }
+        ensures { IsWakeOf self.now result }
+    {
+        let startable = &self.startable;
+        startable
+            .ready
+            .wake(self.state.now, startable.tracker.met(), &startable.busy)
+    }
+
     /// The work of a number; none where no work has it. It takes no memory.
     pub fn work(&self, number: u64) -> Option<&Record>
         ensures found { option_copied result ≡ work_numbered number self.now.works }
@@ -160,6 +174,15 @@ impl View {
         ensures { result ≡ option_map (λ (work : Record). work.seq) (work_with_id self.now.works id) }
     {
         self.index.by_id(&id)
+    }
+
+    /// The work of an id; none where no work has it. It takes no memory.
+    pub fn with_id(&self, id: Uuid) -> Option<&Record>
+        ensures found { option_copied result ≡ work_with_id self.now.works id }
+        ensures there { IfSome result (λ work. work_numbered work.now.seq self.now.works ≡ Some work.now) }
+    {
+        let number = self.index.by_id(&id)?;
+        self.work(number)
     }
 
     /// The numbers of the works of a unique name, ascending. It takes no memory.

@@ -1,7 +1,8 @@
 //! The table: the state, the log of the events that led to it, and the keeper of its rows.
 ghost use Rattle.std.specs.Prelude.{◌≡◌, ◌≢◌, ◌↔◌, ◌++◌, ◌∷◌, [], true, false, Err, Some, None, IsTrue, IsSome, MatchBool, IfOk, IfErr, IfSome, OnOk, OnErr};
-ghost use Rattle.std.specs.Option.{option_copied};
+ghost use Rattle.std.specs.Option.{option_copied, option_map};
 ghost use Rattle.wm_collections.specs.Lists.{last_of};
+ghost use Rattle.wm_machine.specs.Cancelled.{work_with_id};
 ghost use Rattle.wm_machine.specs.First.{first_of};
 ghost use Rattle.wm_machine.specs.Outcome.{IsLegalLine};
 ghost use Rattle.wm_machine.specs.declared.reply.Reply.{Reply};
@@ -10,11 +11,13 @@ ghost use Rattle.wm_machine.specs.Opened.{AreFresh, Opened};
 ghost use Rattle.wm_machine.specs.Quiet.{IsQuiet};
 ghost use Rattle.wm_machine.specs.Replay.{Replay};
 ghost use Rattle.wm_machine.specs.Rows.{rows_of};
+ghost use Rattle.wm_machine.specs.Shown.{shown_of};
 ghost use Rattle.wm_machine.specs.Valid.{Valid};
 ghost use Rattle.wm_observe.specs.Notes.{last_notes};
 ghost use Rattle.wm_machine.specs.declared.event.Event.TheVariants as event;
 ghost use Rattle.wm_rows.specs.Sound.{AreSound};
 ghost use Rattle.wm_steps.specs.StepChanges.{row_changes, IsStepOf};
+ghost use Rattle.wm_steps.specs.Wakes.{IsWakeOf};
 ghost use Rattle.wm_settings.specs.Builds.{ChangesNoRow, ChangesRows};
 ghost use Rattle.wm_runs.specs.Reports.{goes_on, CountsIn, IsOut};
 ghost use Rattle.wm_table.specs.Images.{IsLine, IsNoLine};
@@ -33,10 +36,12 @@ use crate::table::carry::{carry_out, carry_return, commit};
 use std::alloc::{AllocError, Global};
 use std::marker::{Model, PhantomData};
 use ticket::{Held, Ticket, held_for};
+use uuid::Uuid;
 use wm_collections::{Items, Replica, both};
 use wm_commands::execute;
+use wm_conditions::Conditions;
 use wm_keeper::{KeepFault, Keeper, Row};
-use wm_machine::{Cause, Command, Event, Instance, Reply, Run, State};
+use wm_machine::{Cause, Command, Event, Instance, Record, Reply, Run, Shown, State};
 use wm_observe::{Note, step_notes};
 use wm_opening::{Opening, open};
 use wm_roll::Roll;
@@ -480,6 +485,37 @@ impl<K: Keeper, M: Mark> Table<K, M> {
         ensures { result ≡ self.now.state.now }
     {
         self.view.state.now
+    }
+
+    /// The conditions that hold.
+    pub fn conditions(&self) -> Conditions
+        ensures { result ≡ self.now.state.conditions }
+    {
+        self.view.state.conditions
+    }
+
+    /// The moment at which the quiet state wakes where nothing is changed in it, and none where it
+    /// doesn't. It takes no memory.
+    pub fn wake(&self) -> Option<u64>
+        requires { IsQuiet self.now.state }
+        ensures { IsWakeOf self.now.state result }
+    {
+        self.view.wake()
+    }
+
+    /// The record of an id; none where no record has it. It takes no memory.
+    pub fn work(&self, id: &Uuid) -> Option<&Record>
+        ensures { option_copied result ≡ work_with_id self.now.state.works id.now }
+    {
+        self.view.with_id(*id)
+    }
+
+    /// The state shown of the work of an id; none where no record has it. It takes no memory.
+    pub fn shown(&self, id: &Uuid) -> Option<Shown>
+        ensures { result ≡ option_map (shown_of self.now.state.works) (work_with_id self.now.state.works id.now) }
+    {
+        let work = self.view.with_id(*id)?;
+        Some(self.view.shown_of(work))
     }
 
     /// The log's last event, by which it replays to the state; none where the log is empty.

@@ -1,5 +1,5 @@
-use Rattle.wm_commands.proofs.IndexedWorks.{index-found}
 use Rattle.wm_steps.proofs.Views.{reached-view}
+use Rattle.wm_steps.proofs.WorksWithIds.{index-found}
 use Rattle.wm_commands.proofs.update.index_with_id.Goals as goal
 
 pub returns : goal.returns
