@@ -13,7 +13,7 @@ use Rattle.wm_machine.specs.declared.event.Event.TheVariants as event
 use Rattle.wm_machine.specs.declared.record.Record.{Record}
 use Rattle.wm_machine.specs.declared.state.Run.{Run}
 use Rattle.wm_machine.specs.declared.state.State.{State}
-use Rattle.wm_runs.specs.Reports.{is_timeout, wants_more}
+use Rattle.wm_runs.specs.Reports.{wants_more}
 use Rattle.wm_runs.specs.declared.starting.Claimed.{Claimed}
 use Rattle.wm_runs.specs.declared.starting.Claimed.TheVariants as claimed
 use Rattle.wm_runs.specs.declared.starting.Claiming.{Claiming}
@@ -57,14 +57,13 @@ IsEndOf answer None = wants_more (given_of answer) ≡ true
 abbrev pub over : Run → RunChange
 over ended = runs.End ended.run ended.instance
 
--- the step by which the run of this number is over, as was told; whether for want of a turn
-pub record IsFinish (s : State) (number : ℕ) (told : Report) (timed_out : Bool) (change : StepChange) : Type 0 where
+-- the step by which the run of this number is over, as was told, or for want of the turn that was wanted
+pub record IsFinish (s : State) (number : ℕ) (told : Report) (change : StepChange) : Type 0 where
   pub reported : Reported
   pub gave : Given
   pub told_is : given_of told.answer ≡ Some gave
   pub has_given : HasGiven reported gave
   pub ends : role_of change.event ≡ role.Ends number reported
-  pub how : is_timeout change.event ≡ timed_out
   pub step : IsStepOf s change
 
 -- the step by which the run of this number goes on, as was told, which changes no row

@@ -2,8 +2,6 @@
 use Rattle.std.specs.Prelude.{◌≡◌, ℕ, ◌&&◌, Bool, true, false, Option, Some, IsSome, IsSomeAnd, nat_lt, slice_get}
 use Rattle.wm_machine.specs.Runs.{run_numbered}
 use Rattle.wm_machine.specs.Valid.{IsWorkOf, Valid}
-use Rattle.wm_machine.specs.declared.event.Event.{Event}
-use Rattle.wm_machine.specs.declared.event.Event.TheVariants as event
 use Rattle.wm_machine.specs.declared.record.Record.{Record}
 use Rattle.wm_machine.specs.declared.state.Run.{Run}
 use Rattle.wm_machine.specs.declared.state.State.{State}
@@ -47,8 +45,3 @@ wants_more _ = false
 -- whether a report is of the wish for one more turn, and the run has one: it has 1,000 turns
 abbrev pub goes_on : Report → Bool
 goes_on told = nat_lt told.k 999 && wants_more (given_of told.answer)
-
--- whether an event is that a run had no turn left
-abbrev pub is_timeout : Event → Bool
-is_timeout (event.TimedOut run) = true
-is_timeout _ = false

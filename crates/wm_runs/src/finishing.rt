@@ -17,20 +17,17 @@ use wm_machine::{End, Event, Record, Run};
 use wm_steps::{Replacement, RunChange, StepChange, View};
 use wm_worker::{Answer, Told};
 
-/// The change of the step by which a run is over.
-#[derive(Drop)]
-pub struct Ending {
-    pub change: StepChange,
-    /// Whether the run had no turn left.
-    pub timed_out: bool,
-}
-
-/// The end of the run of this number, for which the report counts, and which doesn't go on.
-pub fn finish(alloc: Global, view: &View, number: u64, told: &Told) -> Result<Ending, AllocError>
+/// The end of the run of this number, for which the report counts, and which doesn't go on: as its
+/// worker told, or for want of one more turn.
+pub fn finish(
+    alloc: Global,
+    view: &View,
+    number: u64,
+    told: &Told,
+) -> Result<StepChange, AllocError>
     requires counts { CountsIn view.now number told.now }
     requires over { goes_on told.now ≡ false }
-    ensures { IfOk result (λ ending.
-        IsFinish view.entry.now number told.now ending.timed_out ending.change) }
+    ensures { IfOk result (IsFinish view.entry.now number told.now) }
 {
     let FoundRun { run, work, .. } = found_run(view, number);
     match end_of(alloc, told.answer())? {
@@ -60,20 +57,15 @@ fn finish_by(
     work: &Record,
     run: &Run,
     end: End,
-) -> Result<Ending, AllocError>
+) -> Result<StepChange, AllocError>
     requires { IsUnmarked (nodes_of view.now.works) work.now.seq }
-    ensures { IfOk result (λ ending. ending ≡ record {
-      change = replacing_all (replaced_by_end view.entry.now run.entry.now.renewed work.entry.now end) (over run.entry.now) (Event.Finish run.entry.now.run end);
-      timed_out = false;
-    }) }
+    ensures { IfOk result (λ change. change
+        ≡ replacing_all (replaced_by_end view.entry.now run.entry.now.renewed work.entry.now end) (over run.entry.now) (Event.Finish run.entry.now.run end)) }
 {
     let replaced = replaced_by_end(alloc, view, work, &end, run.renewed);
     let (end, replaced) = both(end, replaced)?;
     let event = Event::Finish { run: run.run, end };
-    Ok(Ending {
-        change: StepChange::replacing_all(alloc, replaced, over(run), event),
-        timed_out: false,
-    })
+    Ok(StepChange::replacing_all(alloc, replaced, over(run), event))
 }
 
 /// The records that take the place of others where a run of a work ended so, which was renewed or
@@ -95,20 +87,15 @@ fn replaced_by_end(
 }
 
 /// The end of a run of a work that has no turn left.
-fn time_out(alloc: Global, view: &View, work: &Record, run: &Run) -> Result<Ending, AllocError>
-    ensures { IfOk result (λ ending. ending ≡ record {
-      change = replacing_all (replaced_by (retried run.entry.now.renewed view.entry.now.now work.entry.now) Reach.Stays view.entry.now.works)
-          (over run.entry.now) (Event.TimedOut run.entry.now.run);
-      timed_out = true;
-    }) }
+fn time_out(alloc: Global, view: &View, work: &Record, run: &Run) -> Result<StepChange, AllocError>
+    ensures { IfOk result (λ change. change
+        ≡ replacing_all (replaced_by (retried run.entry.now.renewed view.entry.now.now work.entry.now) Reach.Stays view.entry.now.works)
+        (over run.entry.now) (Event.TimedOut run.entry.now.run)) }
 {
     let itself = timed_out(alloc, work, view.state.now, run.renewed)?;
     let replaced = replaced_by(alloc, view, &itself, &Reach::Stays)?;
     let event = Event::TimedOut { run: run.run };
-    Ok(Ending {
-        change: StepChange::replacing_all(alloc, replaced, over(run), event),
-        timed_out: true,
-    })
+    Ok(StepChange::replacing_all(alloc, replaced, over(run), event))
 }
 
 /// What becomes of the runs and instances where a run is over.

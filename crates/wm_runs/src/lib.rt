@@ -14,8 +14,8 @@ mod returning;
 pub mod starting;
 mod turning;
 
-pub use finishing::{Ending, finish};
-pub use reports::{counts_in, goes_on, is_stopped};
+pub use finishing::finish;
+pub use reports::{counts_in, goes_on, is_stopped, wants_more};
 pub use returning::returned;
 pub use starting::{Claimed, Claiming, claim_first};
 pub use turning::next_turn;

@@ -1,6 +1,6 @@
 //! Which run the report of a worker is about, and whether it counts.
 ghost use Rattle.std.specs.Prelude.{◌≡◌, ◌↔◌, false, true, IsSome, IsTrue};
-ghost use Rattle.wm_runs.specs.Reports.{goes_on, Counts, CountsIn, IsFoundRun, IsOut};
+ghost use Rattle.wm_runs.specs.Reports.{goes_on, wants_more, Counts, CountsIn, IsFoundRun, IsOut};
 ghost use Rattle.wm_worker.specs.Answers.{given_of};
 
 use wm_machine::{Record, Run};
@@ -78,9 +78,16 @@ pub fn is_stopped(view: &View, number: u64) -> bool
     }
 }
 
+/// Whether a worker wants one more turn.
+pub fn wants_more(told: &Told) -> bool
+    ensures { result ≡ wants_more (given_of told.now.answer) }
+{
+    matches!(told.answer(), Answer::More(_))
+}
+
 /// Whether a worker wants one more turn, and its run has one.
 pub fn goes_on(told: &Told) -> bool
     ensures { result ≡ goes_on told.now }
 {
-    told.k() < LAST_TURN && matches!(told.answer(), Answer::More(_))
+    told.k() < LAST_TURN && wants_more(told)
 }

@@ -24,7 +24,7 @@ use Rattle.wm_observe.specs.Notes.{last_notes}
 use Rattle.wm_observe.specs.declared.note.Note.{Note}
 use Rattle.wm_roll.specs.Parts.{without}
 use Rattle.wm_roll.specs.Views.{RollView}
-use Rattle.wm_runs.specs.Reports.{is_timeout, CountsIn, IsOut}
+use Rattle.wm_runs.specs.Reports.{wants_more, CountsIn, IsOut}
 use Rattle.wm_runs.specs.declared.starting.Claimed.{Claimed}
 use Rattle.wm_runs.specs.declared.starting.Claimed.TheVariants as claimed
 use Rattle.wm_rows.specs.Sound.{checked, AreSound}
@@ -184,15 +184,14 @@ IsClaim s _ _ = ⊥
 
 -- ---- turn
 
--- the run of this number is over, by an event that ends it as was told; whether for want of a turn
-pub record IsFinished {K : Type 0} (store : K → Store) (number : ℕ) (told : Report) (timed_out : Bool) (old new : TableState K) : Type 0 where
+-- the run of this number is over, by an event that ends it as was told, or for want of the turn that was wanted
+pub record IsFinished {K : Type 0} (store : K → Store) (number : ℕ) (told : Report) (old new : TableState K) : Type 0 where
   pub ending : Event
   pub reported : Reported
   pub gave : Given
   pub told_is : given_of told.answer ≡ Some gave
   pub has_given : HasGiven reported gave
   pub ends : role_of ending ≡ role.Ends number reported
-  pub how : is_timeout ending ≡ timed_out
   pub step : IsOneStep store ending old new
 
 -- the run of this number is at its next turn, as was told, by an event of which the keeper learns nothing, and keeps what it took
@@ -203,11 +202,12 @@ pub record IsTurned {K : Type 0} (store : K → Store) (number : ℕ) (told : Re
   pub keeper : new.keeper ≡ old.keeper
   pub input : IsSomeAnd (run_numbered number new.state.runs) (λ run. told.input ≡ run.input)
 
--- the report counts, and the run is over
+-- the report counts, and the run is over; whether for want of a turn
 pub record IsTurnOver {K : Type 0} (store : K → Store) (ticket : TicketState) (told : Report) (timed_out : Bool) (old new : TableState K)
     : Type 0 where
   pub counts : CountsIn old.state ticket.task.run told
-  pub finished : IsFinished store ticket.task.run told timed_out old new
+  pub finished : IsFinished store ticket.task.run told old new
+  pub wanted : wants_more (given_of told.answer) ≡ timed_out
 
 -- the report counts, and the run goes on, by an event of which the keeper learns nothing: the next ticket is of the same run, and holds what
 -- that keeps

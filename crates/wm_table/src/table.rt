@@ -47,7 +47,7 @@ use wm_opening::{Opening, open};
 use wm_roll::Roll;
 use wm_rows::RowFault;
 use wm_runs::{
-    Claimed, Claiming, Ending, claim_first, counts_in, finish, goes_on, is_stopped, next_turn,
+    Claimed, Claiming, claim_first, counts_in, finish, goes_on, is_stopped, next_turn, wants_more,
 };
 use wm_steps::{StepChange, View};
 use wm_worker::Told;
@@ -684,11 +684,12 @@ impl<K: Keeper, M: Mark> Table<K, M> {
         ensures cause { TurnCause result (K.store self.old.keeper).faults (K.store self.new.keeper).faults }
         ensures roll { IsRollReturned held result self.old.roll self.new.roll }
     {
+        let wanted_more = wants_more(&told);
         match self.finish(held.task.run, &told) {
-            Ok(timed_out) => {
+            Ok(()) => {
                 drop(told);
                 drop(held);
-                if timed_out {
+                if wanted_more {
                     TurnAnswer::TimedOut
                 } else {
                     TurnAnswer::Finished
@@ -698,21 +699,18 @@ impl<K: Keeper, M: Mark> Table<K, M> {
         }
     }
 
-    /// Ends the run of this number in one event, and says whether it had no turn left.
-    fn finish(&mut self, number: u64, told: &Told) -> Result<bool, Trouble>
+    /// Ends the run of this number in one event.
+    fn finish(&mut self, number: u64, told: &Told) -> Result<(), Trouble>
         requires counts { CountsIn self.old.state number told.now }
         requires over { goes_on told.now ≡ false }
         requires off { NoneOf number self.old.roll }
-        ensures ok { IfOk result (λ timed_out.
-            IsFinished K.store number told.now timed_out self.old self.new) }
+        ensures ok { OnOk result (IsFinished K.store number told.now self.old self.new) }
         ensures err { OnErr result (IsUntouched K.store IsNoLine self.old self.new) }
         ensures cause { TroubleCause result (K.store self.old.keeper).faults (K.store self.new.keeper).faults }
         ensures roll { self.new.roll ≡ self.old.roll }
     {
-        let ending = finish(self.alloc, &self.view, number, told)?;
-        let Ending { change, timed_out } = ending;
-        self.make(change)?;
-        Ok(timed_out)
+        let change = finish(self.alloc, &self.view, number, told)?;
+        self.make(change)
     }
 
     /// Makes the step of a change, and before it the notes of its event. Where it changes no row, the

@@ -27,7 +27,6 @@ use Rattle.wm_runs.proofs.RunLookups.{found-numbered}
 use Rattle.wm_runs.specs.Builds.{over, IsFinish}
 use Rattle.wm_runs.specs.Reached.{change_by, end_reach, replaced_by, replaced_by_end}
 use Rattle.wm_runs.specs.Reports.{goes_on, wants_more, CountsIn, IsFoundRun}
-use Rattle.wm_runs.specs.declared.finishing.Ending.{Ending}
 use Rattle.wm_runs.specs.declared.reach.Reach.{Reach}
 use Rattle.wm_runs.specs.declared.reach.Reach.TheVariants as reach
 use Rattle.wm_steps.proofs.Lookups.{All-at, stored-at}
@@ -77,7 +76,7 @@ run-keeps s i run work itself to reached at of same =
 -- the run is over by this end
 finish-step : (s : State) (number i : ℕ) (told : Report) (run : Run) (work : Record) (end : End) → IsReported s number i told run work
     → given_of told.answer ≡ Some (given_by end)
-    → IsFinish s number told false (replacing_all (replaced_by_end s run.renewed work end) (over run) (event.Finish run.run end))
+    → IsFinish s number told (replacing_all (replaced_by_end s run.renewed work end) (over run) (event.Finish run.run end))
 finish-step s number i told run work end is told_is =
     let valid = is.is_found.valid in
     let named = found-numbered number s.runs run is.is_found.found in
@@ -101,7 +100,6 @@ finish-step s number i told run work end is told_is =
       told_is = told_is;
       has_given = refl;
       ends = ap (λ n. role.Ends n (This (given_by end))) named;
-      how = refl;
       step =
           replacing_all-step s gone (change_by itself to) (end_in s run end) (over run) (event.Finish run.run end) valid legal keeps
           (ends-agree s i run work end is.is_found.valid is.is_found.at is.is_found.of) refl
@@ -118,7 +116,7 @@ last-turn told progress stays told_is = elim (cases_Bool (ltb told.k 999)) [
 -- the run is over for want of a turn
 timeout-step : (s : State) (number i : ℕ) (told : Report) (run : Run) (work : Record) (progress : Option (List DataEntry))
     → IsReported s number i told run work → goes_on told ≡ false → given_of told.answer ≡ Some (More progress)
-    → IsFinish s number told true (replacing_all (replaced_by (retried run.renewed s.now work) reach.Stays s.works) (over run) (event.TimedOut run.run))
+    → IsFinish s number told (replacing_all (replaced_by (retried run.renewed s.now work) reach.Stays s.works) (over run) (event.TimedOut run.run))
 timeout-step s number i told run work progress is stays told_is =
     let valid = is.is_found.valid in
     let named = found-numbered number s.runs run is.is_found.found in
@@ -142,7 +140,6 @@ timeout-step s number i told run work progress is stays told_is =
       told_is = told_is;
       has_given = (progress, refl);
       ends = ap (λ n. role.Ends n SomeMore) named;
-      how = refl;
       step =
           replacing_all-step s gone touch (end_in s run Retry) (over run) (event.TimedOut run.run) valid legal keeps
           (ends-agree s i run work Retry is.is_found.valid is.is_found.at is.is_found.of) refl
@@ -180,10 +177,9 @@ returns-in-Some c =
     } in
     let said = rw c.in-Some.is at c.in_ok-end.ensures in
     let told_is : given_of told.answer ≡ Some (given_by end) = ap given_of (sym c.answer.ensures.answer) ∙ said in
-    let ending : Ending = record { change = replacing_all (replaced_by_end s run.renewed work end) (over run) (event.Finish run.run end); timed_out = false } in
-    IfOk-weaker c.finish_by.result (λ e. e ≡ ending) (λ e. IsFinish s number told e.timed_out e.change) (λ e same.
-    subst (λ (e : Ending). IsFinish s number told e.timed_out e.change) (sym same) (finish-step s number index told run work end is told_is))
-    c.finish_by.ensures
+    let change = replacing_all (replaced_by_end s run.renewed work end) (over run) (event.Finish run.run end) in
+    IfOk-weaker c.finish_by.result (λ e. e ≡ change) (IsFinish s number told) (λ e same.
+    subst (IsFinish s number told) (sym same) (finish-step s number index told run work end is told_is)) c.finish_by.ensures
 
 pub returns-in-None : goal.returns-in-None
 returns-in-None c =
@@ -200,10 +196,6 @@ returns-in-None c =
     } in
     let said = rw c.in-None.is at c.in_ok-end.ensures in
     let more = asked-more (given_of told.answer) (ap (λ (a : Answer). wants_more (given_of a)) (sym c.answer.ensures.answer) ∙ said) in
-    let ending : Ending = record {
-      change = replacing_all (replaced_by (retried run.renewed s.now work) reach.Stays s.works) (over run) (event.TimedOut run.run);
-      timed_out = true;
-    } in
-    IfOk-weaker c.time_out.result (λ e. e ≡ ending) (λ e. IsFinish s number told e.timed_out e.change) (λ e same.
-    subst (λ (e : Ending). IsFinish s number told e.timed_out e.change) (sym same)
-    (timeout-step s number index told run work more.0 is c.requires.over more.1)) c.time_out.ensures
+    let change = replacing_all (replaced_by (retried run.renewed s.now work) reach.Stays s.works) (over run) (event.TimedOut run.run) in
+    IfOk-weaker c.time_out.result (λ e. e ≡ change) (IsFinish s number told) (λ e same.
+    subst (IsFinish s number told) (sym same) (timeout-step s number index told run work more.0 is c.requires.over more.1)) c.time_out.ensures
