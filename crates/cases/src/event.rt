@@ -1,7 +1,6 @@
 //! The events of a log in words.
 
-use part_calls::conditions::flags;
-use part_calls::names::backoff_policy_name;
+use case_files::names::{backoff_policy_name, flags};
 use std::alloc::{AllocError, Global};
 use uuid::Uuid;
 use wm_collections::Text;

@@ -16,7 +16,7 @@ mod row;
 
 use crate::outcome::tell_cases;
 use crate::reader::read_parts;
-use part_calls::files::{TextFile, text_files};
+use case_files::files::{TextFile, text_files};
 use std::alloc::{AllocError, Global};
 use std::io;
 use std::process::ExitCode;

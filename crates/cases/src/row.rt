@@ -1,7 +1,7 @@
 //! Rows as text: a JSON object of the fields that differ from those of a plain row.
 
 use crate::reader::LineFault;
-use part_calls::rows::{NUMBER_COUNT, NUMBERS, Others, is_field, numbers_of, row_of};
+use case_files::rows::{NUMBER_COUNT, NUMBERS, Others, is_field, numbers_of, row_of};
 use serde_json::{Map, Value, push, put};
 use std::alloc::{AllocError, Global};
 use wm_collections::{Items, Text};

@@ -1,17 +1,35 @@
 //! Chains and the batches that they are, of `wm_chain`.
 ghost use Rattle.std.specs.Prelude.{◌≤◌, length, IfOk};
 
-use crate::fields::{
-    Item, RowFault, both, flag, given, has_only, id, items, list, read_some, unless_refused,
-};
 use crate::requests::begin;
 use crate::told::{Tell, id as id_told, list as list_told, named, pair};
+use case_files::fields::{RowFault, both, flag, given, has_only, id, items, list, unless_refused};
 use serde_json::Value;
 use std::alloc::{AllocError, Global};
 use uuid::Uuid;
 use wm_chain::{ChainFault, Continuation, batch_of};
 use wm_collections::Items;
 use wm_request::{Batch, Node, Request};
+
+/// What is read of a chain, as it stands in a row.
+trait FromRow: Drop {
+    fn read(alloc: Global, value: &Value) -> Result<Self, RowFault>;
+}
+
+/// What values are read as, at least one.
+fn read_some<T: FromRow>(alloc: Global, values: &[Value]) -> Result<Vec<T>, RowFault>
+    ensures { IfOk result (λ some. 1 ≤ length some.items) }
+{
+    let mut some = Vec::new(alloc);
+    for value in values {
+        let one = T::read(alloc, value)?;
+        some.push(one)?;
+    }
+    if some.is_empty() {
+        return Err(RowFault::Value);
+    }
+    Ok(some)
+}
 
 /// A request of this id, which repeats where there is a period.
 fn request(alloc: Global, id: Uuid, period: Option<u64>) -> Result<Request, RowFault> {
@@ -28,10 +46,10 @@ fn period(form: &Value) -> Result<Option<u64>, RowFault> {
 }
 
 /// A work of a batch.
-impl Item for Node {
-    fn read(alloc: Global, item: &Value) -> Result<Node, RowFault> {
-        let (id, period) = (id(item, "id")?, period(item)?);
-        let after = list(alloc, item, "after")?;
+impl FromRow for Node {
+    fn read(alloc: Global, value: &Value) -> Result<Node, RowFault> {
+        let (id, period) = (id(value, "id")?, period(value)?);
+        let after = list(alloc, value, "after")?;
         let (after, request) = both(after, request(alloc, id, period))?;
         Ok(Node { request, after })
     }
@@ -70,9 +88,9 @@ fn fault_told(alloc: Global, fault: ChainFault) -> Result<Value, AllocError> {
 }
 
 /// A one-time request of a layer, by the number that its id is.
-impl Item for Request {
-    fn read(alloc: Global, item: &Value) -> Result<Request, RowFault> {
-        let number = item.as_u64().ok_or(RowFault::Value)?;
+impl FromRow for Request {
+    fn read(alloc: Global, value: &Value) -> Result<Request, RowFault> {
+        let number = value.as_u64().ok_or(RowFault::Value)?;
         request(alloc, Uuid::from_u128(u128::from(number)), None)
     }
 }
@@ -104,9 +122,9 @@ fn with_layers(
 }
 
 /// A chain is a list of layers, at least one.
-impl Item for Continuation {
-    fn read(alloc: Global, item: &Value) -> Result<Continuation, RowFault> {
-        let layers = item.as_array().ok_or(RowFault::Value)?;
+impl FromRow for Continuation {
+    fn read(alloc: Global, value: &Value) -> Result<Continuation, RowFault> {
+        let layers = value.as_array().ok_or(RowFault::Value)?;
         let Some((first, others)) = layers.split_first() else {
             return Err(RowFault::Value);
         };

@@ -1,8 +1,8 @@
 //! When conditions meet constraints, of `wm_conditions`.
 
-use crate::fields::{RowFault, flag, has_only, unless_refused};
-use crate::names::{network_name, network_named};
 use crate::told::Told;
+use case_files::fields::{RowFault, flag, has_only, unless_refused};
+use case_files::names::{network_name, network_named};
 use serde_json::Value;
 use std::alloc::{AllocError, Global};
 use wm_conditions::{Conditions, Constraints, Network, met};
@@ -49,19 +49,6 @@ fn conditions(number: u8) -> Conditions {
         battery_low: number & 2 != 0,
         storage_low: number & 1 != 0,
     }
-}
-
-/// The conditions by their names.
-pub fn flags(conditions: &Conditions) -> [(&'static str, bool); 7] {
-    [
-        ("connected", conditions.connected),
-        ("metered", conditions.metered),
-        ("roaming", conditions.roaming),
-        ("charging", conditions.charging),
-        ("idle", conditions.idle),
-        ("battery_low", conditions.battery_low),
-        ("storage_low", conditions.storage_low),
-    ]
 }
 
 /// What conditions have in common: how many they are, and the numbers of what holds in all of them,

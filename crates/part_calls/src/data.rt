@@ -1,12 +1,12 @@
 //! Data, its builder and its JSON, of `wm_data`, and what inputs become by each merger, of
 //! `wm_merge`.
 
-use crate::fields::{
+use crate::told::{Told, string};
+use case_files::fields::{
     Item, RowFault, both, count, field, given, has_only, items, letters, read_each, text,
     unless_refused,
 };
-use crate::names::merger_named;
-use crate::told::{Told, string};
+use case_files::names::merger_named;
 use serde_json::{Value, push};
 use std::alloc::{AllocError, Global};
 use wm_data::{Data, DataBuilder, DataFault, Merger};

@@ -4,12 +4,12 @@ ghost use Rattle.wm_request.specs.Requests.{IsShortText};
 
 use crate::conditions::{constraints, constraints_told};
 use crate::data::merger;
-use crate::fields::{
+use crate::told::{Told, id as id_told, list, string};
+use case_files::fields::{
     RowFault, both, count, data, given, has_only, id, items, letters, number, number_if, text,
     unless_refused,
 };
-use crate::names::{backoff_policy_name, backoff_policy_named, merger_name};
-use crate::told::{Told, id as id_told, list, string};
+use case_files::names::{backoff_policy_name, backoff_policy_named, merger_name};
 use serde_json::Value;
 use std::alloc::{AllocError, Global};
 use uuid::Uuid;

@@ -3,9 +3,9 @@ ghost use Rattle.std.specs.Prelude.{◌≡◌, true, IfSome};
 ghost use Rattle.wm_schedule.specs.Clamped.{IsPeriod};
 ghost use Rattle.wm_schedule.specs.Moments.{AreTimes, IsDelay};
 
-use crate::fields::{RowFault, count, has_only, number, number_if, text, unless_refused};
-use crate::names::backoff_policy_named;
 use crate::told::Told;
+use case_files::fields::{RowFault, count, has_only, number, number_if, text, unless_refused};
+use case_files::names::backoff_policy_named;
 use serde_json::Value;
 use std::alloc::Global;
 use wm_schedule::{Backoff, BackoffPolicy, Period, Times, clamp_backoff, clamp_period, due, wait};

@@ -1,9 +1,9 @@
 //! What the stock workers answer to a turn, of `wm_stock`.
 ghost use Rattle.std.specs.Prelude.{◌≡◌, IfOk};
 
-use crate::fields::{RowFault, both, count, data, has_only, text, unless_refused};
-use crate::names::kind_named;
 use crate::told::{data as data_told, named, string};
+use case_files::fields::{RowFault, both, count, data, has_only, text, unless_refused};
+use case_files::names::kind_named;
 use serde_json::Value;
 use std::alloc::{AllocError, Global};
 use wm_stock::{Count, Echo, FailUntil, RetryUntil, Sum, Wait};

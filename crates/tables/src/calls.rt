@@ -1,7 +1,7 @@
 //! The calls by their names.
 
 use crate::{infos, lines, notes, records, rows, texts};
-use part_calls::fields::{RowFault, field, text};
+use case_files::fields::{RowFault, field, text};
 use part_calls::{chains, conditions, data, requests, schedule, workers};
 use serde_json::Value;
 use std::alloc::Global;

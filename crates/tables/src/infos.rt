@@ -1,7 +1,7 @@
 //! What is told of works, as rows give it, and which works match a query, of `wm_query`.
 
 use crate::names::shown_named;
-use part_calls::fields::{
+use case_files::fields::{
     RowFault, both, count, data, field, has_only, id, items, list, name, number, number_if,
 };
 use part_calls::told::list as list_told;

@@ -1,6 +1,6 @@
 //! The lines of scripts, of `wm_script`.
 
-use part_calls::fields::{RowFault, given, has_only, text};
+use case_files::fields::{RowFault, given, has_only, text};
 use part_calls::told::string;
 use serde_json::{Value, push};
 use std::alloc::{AllocError, Global};

@@ -18,8 +18,8 @@ mod rows;
 mod texts;
 
 use crate::calls::difference;
-use part_calls::fields::{RowFault, given, text};
-use part_calls::files::{TextFile, text_files};
+use case_files::fields::{RowFault, given, text};
+use case_files::files::{TextFile, text_files};
 use serde_json::Value;
 use std::alloc::{AllocError, Global};
 use std::collections::BTreeMap;

@@ -1,7 +1,7 @@
 //! What observers are told, of `wm_observe`.
 
 use crate::infos::{info, query};
-use part_calls::fields::{RowFault, both, count, field, has_only, items, number};
+use case_files::fields::{RowFault, both, count, field, has_only, items, number};
 use part_calls::told::Told;
 use serde_json::{Value, push};
 use std::alloc::{AllocError, Global};

@@ -4,12 +4,12 @@ ghost use Rattle.std.specs.Prelude.{◌≡◌, true, ◌^◌, ◌<◌, All, IfSo
 ghost use Rattle.wm_machine.specs.Limits.{FitsRow};
 
 use crate::names::{how_named, phase_name, phase_named};
-use part_calls::fields::{
+use case_files::fields::{
     RowFault, both, count, data, field, flag, has_only, list, name, number, number_if, text,
     unless_refused,
 };
+use case_files::rows::numbers_of;
 use part_calls::requests::request;
-use part_calls::rows::numbers_of;
 use part_calls::told::{Told, list as list_told, string};
 use serde_json::{Value, push};
 use std::alloc::{AllocError, Global};

@@ -2,8 +2,8 @@
 //! store.
 
 use crate::records::{row_of, row_told};
-use part_calls::fields::{RowFault, both, count, field, has_only, id, items, letters, list, name};
-use part_calls::rows::{NUMBER_COUNT, NUMBERS, Others, SEQ, is_field, row_of as row_made};
+use case_files::fields::{RowFault, both, count, field, has_only, id, items, letters, list, name};
+use case_files::rows::{NUMBER_COUNT, NUMBERS, Others, SEQ, is_field, row_of as row_made};
 use part_calls::told::{list as list_told, string};
 use serde_json::Value;
 use std::alloc::{AllocError, Global};

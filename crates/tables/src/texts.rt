@@ -3,7 +3,7 @@
 use crate::infos::infos;
 use crate::names::applied_named;
 use crate::notes::notes_of;
-use part_calls::fields::{
+use case_files::fields::{
     RowFault, both, count, field, has_only, id, list, number, text, unless_refused,
 };
 use part_calls::told::pair;

@@ -1,6 +1,6 @@
 //! The names that rows have for the values of enums, which are those of scripts and replies.
 
-use wm_conditions::Network;
+use wm_conditions::{Conditions, Network};
 use wm_data::Merger;
 use wm_schedule::BackoffPolicy;
 use wm_worker::Kind;
@@ -54,6 +54,19 @@ pub fn network_name(network: Network) -> &'static str {
         Network::NotRoaming => "NOT_ROAMING",
         Network::Metered => "METERED",
     }
+}
+
+/// The conditions by their names.
+pub fn flags(conditions: &Conditions) -> [(&'static str, bool); 7] {
+    [
+        ("connected", conditions.connected),
+        ("metered", conditions.metered),
+        ("roaming", conditions.roaming),
+        ("charging", conditions.charging),
+        ("idle", conditions.idle),
+        ("battery_low", conditions.battery_low),
+        ("storage_low", conditions.storage_low),
+    ]
 }
 
 pub fn kind_named(name: &str) -> Option<Kind> {

@@ -1,5 +1,5 @@
 //! Reads the fields of a row.
-ghost use Rattle.std.specs.Prelude.{◌≡◌, ◌≤◌, length, Ok, IfOk};
+ghost use Rattle.std.specs.Prelude.{◌≡◌, Ok, IfOk};
 
 use serde_json::Value;
 use std::alloc::{AllocError, AllocFailed, Global};
@@ -146,17 +146,6 @@ pub fn read_each<T: Item>(alloc: Global, items: &[Value]) -> Result<Vec<T>, RowF
         all.push(one)?;
     }
     Ok(all)
-}
-
-/// What items are read as, at least one.
-pub fn read_some<T: Item>(alloc: Global, items: &[Value]) -> Result<Vec<T>, RowFault>
-    ensures { IfOk result (λ some. 1 ≤ length some.items) }
-{
-    let some = read_each(alloc, items)?;
-    if some.is_empty() {
-        return Err(RowFault::Value);
-    }
-    Ok(some)
 }
 
 /// What the items of the list under a key are read as.
