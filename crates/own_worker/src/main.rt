@@ -13,11 +13,9 @@ ghost use Rattle.wm_bench.specs.Places.{most_hands};
 mod busy;
 mod photos;
 mod resizer;
-mod stock;
 
 use crate::busy::busy_hands;
 use crate::resizer::Resizer;
-use crate::stock::stock_hands;
 use std::alloc::{AllocError, Global};
 use std::io;
 use std::process::ExitCode;
@@ -29,7 +27,7 @@ use wm_collections::Text;
 use wm_io::{MemorySink, MemorySource, Sink, Source, StdSink, StdSource};
 use wm_keeper::SureKeeper;
 use wm_pool::OpenGate;
-use wm_program::exit;
+use wm_program::{exit, stock_hands};
 use wm_stock::Echo;
 use wm_worker::{Simple, Worker};
 

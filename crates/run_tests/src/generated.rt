@@ -1,12 +1,11 @@
 //! A serial run over a large input that a seed gives.
-ghost use Rattle.std.specs.Prelude.{◌≡◌, ◌≤◌, ◌<◌, ◌^◌, [], length, vec_len, IfOk, IfSome};
+ghost use Rattle.std.specs.Prelude.{◌≡◌, ◌≤◌, ◌<◌, ◌^◌, [], length, vec_len, IfSome};
 ghost use Rattle.std.specs.List.{AllByRecursion};
 ghost use Rattle.wm_bench.specs.Places.{most_hands};
 ghost use Rattle.wm_machine.specs.Outcome.{IsAskable};
 ghost use Rattle.wm_seating.specs.Hands.{instances_from};
 ghost use Rattle.wm_session.specs.Tells.{tells_of, AreInputs};
 
-use part_tests::hands::add_hand;
 use std::alloc::{AllocError, Global};
 use std::marker::Brand;
 use std::test::Fail;
@@ -18,9 +17,9 @@ use wm_io::{Sink, StdSink};
 use wm_keeper::{Keeper, Row, SureKeeper};
 use wm_machine::{Command, Instance};
 use wm_pool::OpenGate;
+use wm_program::stock_hands;
 use wm_roll::Roll;
 use wm_session::run_serial;
-use wm_stock::{AnyStock, STOCK_WORKERS};
 use wm_table::Mark;
 use wm_worker::Worker;
 
@@ -74,18 +73,6 @@ fn serial_with<K: Keeper + Drop, W: Sink + Drop, B: Worker>(
     let instances = instances_of(alloc, &hands)?;
     let roll = Roll::new(alloc)?;
     Ok(serial_over::<K, W, B, Brand>(alloc, rows, instances, roll, commands, hands, sink, keeper))
-}
-
-/// The workers of the program.
-fn stock_hands(alloc: Global) -> Result<Vec<Hand<AnyStock>>, AllocError>
-    ensures { IfOk result (λ hands. vec_len hands ≤ most_hands) }
-{
-    let mut hands = Vec::new(alloc);
-    for number in 0..STOCK_WORKERS {
-        let worker = AnyStock::numbered(number);
-        add_hand(alloc, &mut hands, worker.name(), worker)?;
-    }
-    Ok(hands)
 }
 
 /// How a serial run ends of what seed 1 gives with 10,000 groups, over a keeper in memory, and what it

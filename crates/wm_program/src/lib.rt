@@ -1,5 +1,5 @@
-//! What programs around `wm_cli::run` have in common: the words of the command line, and how a program
-//! ends.
+//! What programs around `wm_cli::run` have in common: the words of the command line, the stock workers,
+//! and how a program ends.
 #![tactic(auto)]
 
 ghost use Rattle.std.specs.Prelude.{◌≡◌, IfOk, IfErr};
@@ -7,10 +7,13 @@ ghost use Rattle.std.specs.Process.{exit_status};
 ghost use Rattle.wm_session.specs.Status.{code_of};
 ghost use Rattle.wm_session.specs.declared.status.Status.TheVariants as status;
 
+mod stock;
+
 use std::alloc::{AllocError, Global};
 use std::process::ExitCode;
 use std::rt::Env;
 use std::{env, io};
+pub use stock::stock_hands;
 use wm_session::Status;
 
 /// The words of the command line after the program's name. Where the system doesn't give them,

@@ -1,5 +1,5 @@
 use Rattle.std.proofs.Common.{◌≡◌, vec_len}
-use Rattle.own_worker.proofs.stock.stock_hands.Given as goal
+use Rattle.wm_program.proofs.stock.stock_hands.Given as goal
 
 -- the workers so far
 abbrev pub invariant-loop-number : goal.invariant-loop-number

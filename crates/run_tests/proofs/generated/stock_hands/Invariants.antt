@@ -1,6 +1,0 @@
-use Rattle.std.proofs.Common.{◌≡◌, vec_len}
-use Rattle.run_tests.proofs.generated.stock_hands.Given as goal
-
--- the workers so far
-abbrev pub invariant-loop-number : goal.invariant-loop-number
-invariant-loop-number l = vec_len l.hands ≡ l.number
