@@ -1,3 +1,2 @@
 pub mod Bench
-pub mod GivenUp
 pub mod Hands

@@ -2,11 +2,10 @@
 //!
 //! [`execute`] executes a line, and retires on the bench a class that the line retires, which
 //! [`retire_last`] does for whoever executed it. [`give_back`] puts a ticket and its worker back
-//! without an event, and [`give_up`] a claim. `specs/Bench.antt` says how a bench agrees with the
-//! instances of a state, and `specs/Hands.antt` which instances workers are; `proofs/` has what keeps the
-//! two together.
+//! without an event. `specs/Bench.antt` says how a bench agrees with the instances of a state, and
+//! `specs/Hands.antt` which instances workers are; `proofs/` has what keeps the two together.
 #![tactic(auto)]
 
 pub mod steps;
 
-pub use steps::{execute, give_back, give_up, retire_last};
+pub use steps::{execute, give_back, retire_last};

@@ -1,5 +1,5 @@
-//! What is done to a table and a bench at once: a line is executed, a ticket and its worker put back,
-//! and a claim given up.
+//! What is done to a table and a bench at once: a line is executed, and a ticket and its worker put
+//! back.
 ghost use Rattle.std.specs.Prelude.{◌≡◌, ℕ, Some, OnOk, OnErr};
 ghost use Rattle.wm_bench.specs.Places.{changed_at, made_back, IsAwayAt};
 ghost use Rattle.wm_collections.specs.Lists.{last_of};
@@ -9,7 +9,6 @@ ghost use Rattle.wm_machine.specs.declared.command.Command.{Command};
 ghost use Rattle.wm_machine.specs.declared.reply.Reply.{Reply};
 ghost use Rattle.wm_seating.specs.Bench.{places_after};
 ghost use Rattle.wm_roll.specs.Parts.{without};
-ghost use Rattle.wm_seating.specs.GivenUp.{roll_given_up};
 ghost use Rattle.wm_table.specs.Images.{IsLine};
 ghost use Rattle.wm_table.specs.Parts.{WasOut};
 ghost use Rattle.wm_table.specs.Table.{IsOneStep, IsUntouched, TroubleCause};
@@ -17,7 +16,7 @@ ghost use Rattle.wm_table.specs.Table.{IsOneStep, IsUntouched, TroubleCause};
 use wm_bench::{Bench, Seated};
 use wm_keeper::Keeper;
 use wm_machine::{Command, Event};
-use wm_table::{Claim, Mark, Table, Ticket, Trouble};
+use wm_table::{Mark, Table, Ticket, Trouble};
 use wm_worker::Worker;
 
 /// Executes the command of a line, and retires a class that it retires on the bench. Its reply
@@ -78,14 +77,4 @@ pub fn give_back<K: Keeper, B: Worker, M: Mark>(
 {
     table.take_back(ticket);
     bench.give(seat);
-}
-
-/// Gives up a claim: a ticket of it is taken without an event.
-pub fn give_up<K: Keeper, M: Mark>(table: &mut Table<K, M>, claim: Claim<M>)
-    ensures { table.new ≡ record table.old { roll = roll_given_up claim table.old.roll } }
-{
-    match claim {
-        Claim::Run(ticket) => table.take_back(ticket),
-        Claim::Failed { seq: _, cause } => drop(cause),
-    }
 }

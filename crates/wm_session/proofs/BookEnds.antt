@@ -8,7 +8,7 @@ use Rattle.wm_texts.specs.Texts.{log_text}
 use Rattle.wm_machine.specs.declared.command.Command.{Command}
 use Rattle.wm_machine.specs.declared.event.Event.{Event}
 use Rattle.wm_machine.specs.declared.state.State.{State}
-use Rattle.wm_session.proofs.BookParts.{LinesInvariant-front, failed_since}
+use Rattle.wm_session.proofs.BookSteps.{LinesInvariant-front, failed_since}
 use Rattle.wm_session.proofs.WrittenTexts.{IsAppended-kept, IsPartAppended-kept}
 use Rattle.wm_session.specs.BookState.{BookState}
 use Rattle.wm_session.specs.Causes.{status_by_stop, stop_by_fault, EndsBy, StopCause}

@@ -1,43 +1,36 @@
--- The roll of a book beside its runs and its places: who is out, and what each call makes of that.
+-- The roll and the places of a book beside its runs: who is out, and what an event makes of them by its role.
 use Rattle.std.proofs.Common.{◌≡◌, ◌≢◌, ℕ, zero, suc, ◌+◌, ◌<◌, ◌≤◌, Bool, true, false, cond, not, eqb, List, [], ◌∷◌, ◌++◌, map, Option, Some, None, IsSomeAnd, refl, sym, ◌∙◌, ap, subst, inl, inr, arith}
 use Rattle.std.proofs.lemmas.Bool.{cases_Bool, eq-eqb, eqb-true, ne_eqb, true≢false}
 use Rattle.std.specs.List.{list_any, AllByRecursion}
-use Rattle.wm_bench.specs.Places.{changed_at, made_back, IsAwayAt, IsAwayIn}
+use Rattle.wm_bench.specs.Places.{changed_at, made_back, IsAwayAt, IsAwayIn, idle_at, made_away}
 use Rattle.wm_bench.specs.declared.place.Place.{Place}
 use Rattle.wm_bench.specs.declared.place.Presence.{Presence}
 use Rattle.wm_bench.specs.declared.place.Presence.TheVariants.{Idle, Away, Gone}
-use Rattle.wm_collections.proofs.Lists.{any_passes, list_any-false, list_any-filter, list_any-one, map-same, map-twice, one_gives, All-any, All-filter, All-kept, All-map, All-map2, All-push, All-weaker, HasOne-front, HasOne-last, HasOne-weaker}
+use Rattle.wm_collections.proofs.Lists.{any_passes, list_any-false, list_any-filter, list_any-one, map-same, map-twice, one_gives, All-any, All-filter, All-kept, All-map, All-push, All-weaker, HasOne-front, HasOne-last, HasOne-weaker, find-stored, All-with2}
 use Rattle.wm_collections.specs.Lists.{HasOne}
-use Rattle.wm_data.specs.declared.data.DataEntry.{DataEntry}
 use Rattle.wm_machine.proofs.Runnings.{found_or_apart, found_valid, IsFoundOrApart}
-use Rattle.wm_machine.proofs.Steps.{framed}
 use Rattle.wm_machine.proofs.Turns.{turned_at, turned_both}
-use Rattle.wm_machine.specs.Frame.{frame_of, Frame, IsBegunIn, IsLinedIn, IsTurnedIn}
+use Rattle.wm_machine.specs.Frame.{Frame, instances_after, IsFramed}
 use Rattle.wm_machine.specs.Runs.{other_runs, run_numbered, with_out}
-use Rattle.wm_machine.specs.Step.{after, role_of, Legal}
-use Rattle.wm_machine.specs.Turns.{turned, with_turned}
 use Rattle.wm_machine.specs.Valid.{AreNumberedInOrder, IsInstanceOf, Valid}
-use Rattle.wm_machine.specs.declared.command.Command.{Command}
-use Rattle.wm_machine.specs.declared.event.Event.{Event}
-use Rattle.wm_machine.specs.declared.event.Event.TheVariants as event
-use Rattle.wm_machine.specs.declared.reply.Reply.{Reply}
 use Rattle.wm_machine.specs.declared.state.Instance.{Instance}
 use Rattle.wm_machine.specs.declared.state.Run.{Run}
 use Rattle.wm_machine.specs.declared.state.State.{State}
 use Rattle.wm_roll.proofs.Strikings.{listed-without}
 use Rattle.wm_roll.specs.Parts.{is_of, without, IsListed}
 use Rattle.wm_roll.specs.declared.part.Part.{Part}
-use Rattle.wm_runs.proofs.RunLookups.{found-numbered, run_numbered-push, run_numbered-turned}
-use Rattle.wm_seating.proofs.PlacesAndInstances.{away-changed, here-back, run-from, traits-back}
-use Rattle.wm_seating.specs.Bench.{instance_traits, is_away, is_out_on, kind_at, place_traits, Traits}
+use Rattle.wm_runs.proofs.RunLookups.{found-numbered, run_numbered-push}
+use Rattle.wm_seating.proofs.PlacesAndInstances.{away-changed, here-back, run-from, traits-back, away-taken, traits-given, traits-taken, traits-with_out}
+use Rattle.wm_seating.specs.Bench.{instance_traits, is_away, is_out_on, kind_at, place_traits, Traits, places_after}
 use Rattle.wm_session.specs.Invariant.{ListsExactly}
-use Rattle.wm_table.proofs.Parts.{none-without, out-after, out-standing, part-same, stands_in}
-use Rattle.wm_table.specs.Parts.{part_of, ticket_part, IsItOrApart, IsOffRoll, NoneOf, Stands, WasOut}
+use Rattle.wm_table.proofs.Parts.{none-without, part-same, out-framed}
+use Rattle.wm_table.specs.Parts.{part_of, ticket_part, IsItOrApart, WasOut, AreOut}
 use Rattle.wm_table.specs.Rolls.{given_again}
-use Rattle.wm_table.specs.Table.{IsTicketIn}
-use Rattle.wm_table.specs.TableState.{ticket_of, TicketState}
-use Rattle.wm_worker.specs.declared.answer.Given.TheVariants.{More}
+use Rattle.wm_table.specs.TableState.{TicketState}
 use Rattle.wm_worker.specs.declared.kind.Kind.{Kind}
+use Rattle.wm_machine.specs.Role as role
+use Rattle.wm_machine.specs.Role.{Role}
+use Rattle.wm_seating.proofs.RetiredPlaces.{away-after, workers-after}
 
 -- ---- who is out
 
@@ -63,112 +56,19 @@ out-agrees s roll valid exact =
     (any_passes (λ (run : Run). eqb run.instance instance.number) s.runs on)))
     ∙ sym out) valid.instances.out)
 
--- ---- a line
-
--- a run that is stopped stays on the roll
-pub exact-lined : (s : State) (roll : List Part) (line : ℕ) (asked : Command) (answer : Reply) → Legal s (event.Command line asked answer)
-    → ListsExactly s.runs roll → ListsExactly (after s (event.Command line asked answer)).runs roll
-exact-lined s roll line asked answer legal exact =
-    let e = event.Command line asked answer in
-    let is : IsLinedIn asked s (frame_of s e) = framed s e legal in
-    let runs : (after s e).runs ≡ map is.change s.runs = ap (λ (f : Frame). f.runs) is.frame_is in
-    record {
-      of_runs = out-after s e roll legal tt exact.of_runs;
-      each = rw runs
-          (All-map (λ run. IsListed roll (part_of run)) is.change s.runs
-          (λ run listed. subst (IsListed roll) (sym (part-same run (is.change run) (is.keeps run))) listed) exact.each);
-    }
-
--- ---- a run begins
-
--- the run that begins is that of its ticket
-part-begun : (s t : State) (ticket : TicketState) (run : Run) → Valid s → ticket.task.run ≡ s.next_run → run.run ≡ ticket.task.run → t.runs ≡ s.runs ++ run ∷ []
-    → IsTicketIn t ticket → part_of run ≡ ticket_part ticket
-part-begun s t ticket run valid next number runs there =
-    let below : AllByRecursion (λ other. other.run < ticket.task.run) s.runs =
-    All-weaker s.runs (λ other is. let less = is.number in omega (arith, less, next)) valid.runs.each in
-    let found : run_numbered ticket.task.run t.runs ≡ Some run =
-    ap (run_numbered ticket.task.run) runs ∙ run_numbered-push ticket.task.run s.runs run below number in
-    let its : ticket ≡ ticket_of run = subst (λ (o : Option Run). IsSomeAnd o (λ run. ticket ≡ ticket_of run)) found there in
-    ap ticket_part (sym its)
-
-pub exact-begun : (s : State) (roll : List Part) (ticket : TicketState) → Valid s
-    → Legal s (event.Start ticket.task.run ticket.seq ticket.instance ticket.task.input)
-    → IsTicketIn (after s (event.Start ticket.task.run ticket.seq ticket.instance ticket.task.input)) ticket → ListsExactly s.runs roll
-    → ListsExactly (after s (event.Start ticket.task.run ticket.seq ticket.instance ticket.task.input)).runs (roll ++ ticket_part ticket ∷ [])
-exact-begun s roll ticket valid legal there exact =
-    let e = event.Start ticket.task.run ticket.seq ticket.instance ticket.task.input in
-    let t = after s e in
-    let is : IsBegunIn ticket.task.run ticket.instance s (frame_of s e) = framed s e legal in
-    let runs : t.runs ≡ s.runs ++ is.run ∷ [] = ap (λ (f : Frame). f.runs) is.frame_is in
-    let part = part-begun s t ticket is.run valid is.is_next (sym is.number_is) runs there in
-    record {
-      of_runs = All-push (λ part. HasOne (λ run. part_of run ≡ part) t.runs) roll (ticket_part ticket) (out-after s e roll legal tt exact.of_runs)
-          (out-standing t ticket (stands_in t ticket there));
-      each = rw runs
-          (All-push (λ run. IsListed (roll ++ ticket_part ticket ∷ []) (part_of run)) s.runs is.run
-          (All-weaker s.runs (λ run listed. HasOne-front (λ one. one ≡ part_of run) roll (ticket_part ticket ∷ []) listed) exact.each)
-          (HasOne-last (λ one. one ≡ part_of is.run) roll (ticket_part ticket) (sym part)));
-    }
-
--- ---- a run is over
-
-pub exact-left : (s : State) (roll : List Part) (number : ℕ) (e : Event) (run : Run) → Legal s e
-    → ((parts : List Part) → NoneOf number parts → IsOffRoll (role_of e) parts) → run_numbered number s.runs ≡ Some run
-    → (after s e).runs ≡ other_runs run.run s.runs → ListsExactly s.runs roll → ListsExactly (after s e).runs (without number roll)
-exact-left s roll number e run legal off is_running runs exact =
-    let its = found-numbered number s.runs run is_running in
-    record {
-      of_runs = out-after s e (without number roll) legal (off (without number roll) (none-without number roll))
-          (All-kept (λ part. HasOne (λ run. part_of run ≡ part) s.runs) (λ part. not (is_of number part)) roll exact.of_runs);
-      each = rw runs
-          (All-filter (λ other. not (eqb other.run run.run)) s.runs
-          (λ other stays listed.
-          listed-without number roll (part_of other) (λ e. true≢false (sym stays ∙ ap not (eq-eqb other.run run.run (e ∙ sym its)))) listed) exact.each);
-    }
-
 -- ---- a run goes on
 
-part-turned_at : (number : ℕ) (run : Run) → part_of (turned_at number run) ≡ part_of run
+pub part-turned_at : (number : ℕ) (run : Run) → part_of (turned_at number run) ≡ part_of run
 part-turned_at number run = turned_both (λ (r : Run). part_of r ≡ part_of run) number run (λ e. refl) (λ e. refl)
 
 -- the part of a run is still listed once that of another, or its own, was given again
-listed_again : (number : ℕ) (roll : List Part) (part : Part) (its run : Run) → part.run ≡ number → part_of its ≡ part → IsFoundOrApart number its run
+pub listed_again : (number : ℕ) (roll : List Part) (part : Part) (its run : Run) → part.run ≡ number → part_of its ≡ part → IsFoundOrApart number its run
     → IsListed roll (part_of run) → IsListed (given_again part roll) (part_of run)
 listed_again number roll part its run number_is part_is (inl same) listed =
     HasOne-last (λ one. one ≡ part_of run) (without part.run roll) part (sym part_is ∙ ap part_of (sym same.1))
 listed_again number roll part its run number_is part_is (inr other) listed =
     HasOne-front (λ one. one ≡ part_of run) (without part.run roll) (part ∷ [])
     (listed-without part.run roll (part_of run) (λ e. true≢false (sym (eq-eqb run.run number (e ∙ number_is)) ∙ other.0)) listed)
-
-pub exact-turned : (s : State) (roll : List Part) (ticket : TicketState) (progress : Option (List DataEntry)) → Valid s
-    → Legal s (event.Turn ticket.task.run progress) → Stands s ticket → ListsExactly s.runs roll
-    → ListsExactly (after s (event.Turn ticket.task.run progress)).runs (given_again (ticket_part ticket) roll)
-exact-turned s roll ticket progress valid legal stands exact =
-    let e = event.Turn ticket.task.run progress in
-    let t = after s e in
-    let number = ticket.task.run in
-    let part = ticket_part ticket in
-    let is : IsTurnedIn number (More progress) s (frame_of s e) = framed s e legal in
-    let its = found-numbered number s.runs is.run is.is_running in
-    let runs : t.runs ≡ with_turned number s.runs = ap (λ (f : Frame). f.runs) is.frame_is ∙ ap (λ n. with_turned n s.runs) its in
-    let found : run_numbered number t.runs ≡ Some (turned is.run) =
-    ap (run_numbered number) runs ∙ run_numbered-turned number s.runs is.run is.is_running in
-    let stood : (is.run.instance ≡ ticket.instance) × (is.run.kind ≡ ticket.kind) =
-    subst (λ (o : Option Run). IsSomeAnd o (λ run. (run.instance ≡ ticket.instance) × (run.kind ≡ ticket.kind))) is.is_running stands in
-    let still : Stands t ticket =
-    subst (λ (o : Option Run). IsSomeAnd o (λ run. (run.instance ≡ ticket.instance) × (run.kind ≡ ticket.kind))) (sym found) stood in
-    let part_is : part_of is.run ≡ part = λ i. record { run = its i; instance = stood.0 i; kind = stood.1 i } in
-    record {
-      of_runs = All-push (λ part. HasOne (λ run. part_of run ≡ part) t.runs) (without number roll) part
-          (All-kept (λ part. HasOne (λ run. part_of run ≡ part) t.runs) (λ part. not (is_of number part)) roll (out-after s e roll legal tt exact.of_runs))
-          (out-standing t ticket still);
-      each = rw runs
-          (All-map2 (λ run. IsListed (given_again part roll) (part_of run)) (turned_at number) s.runs
-          (λ run found listed.
-          subst (IsListed (given_again part roll)) (sym (part-turned_at number run)) (listed_again number roll part is.run run refl part_is found listed))
-          (found_or_apart number is.run s.runs is.is_running valid.runs.apart) exact.each);
-    }
 
 -- ---- a worker comes back
 
@@ -298,15 +198,6 @@ none_away places instances roll none same =
 
 -- ---- what doesn't change
 
--- who is out by the roll doesn't hang on who is out in the state
-pub out-with_out : (out : Bool) (number : ℕ) (roll : List Part) (instances : List Instance)
-    → map (is_out_on roll) (with_out out number instances) ≡ map (is_out_on roll) instances
-out-with_out out number roll [] = refl
-out-with_out out number roll (instance ∷ instances) = elim (cases_Bool (eqb instance.number number)) [
-  | inl hit ↦ rw hit (ap (λ (rest : List Bool). is_out_on roll instance ∷ rest) (out-with_out out number roll instances))
-  | inr miss ↦ rw miss (ap (λ (rest : List Bool). is_out_on roll instance ∷ rest) (out-with_out out number roll instances))
-]
-
 -- a part that is new is off the roll as if it hadn't been given
 pub without-new : (number : ℕ) (roll : List Part) (part : Part) → part.run ≡ number → AllByRecursion (λ one. one.run ≢ number) roll
     → without number (roll ++ part ∷ []) ≡ roll
@@ -335,3 +226,169 @@ given_back kind_of s roll ticket number worker places now valid traits away same
   ap (map (λ place. is_away place.presence)) are
       ∙ away-given_back kind_of worker number places s.instances roll ticket valid.instances.numbered out.alone same away,
 )
+
+-- the worker of the run of this number is back at its place
+abbrev pub IsBackOf : {B : Type 0} → (B → Kind) → ℕ → State → List (Place B) → List (Place B) → Type 0
+IsBackOf {B} kind_of number s places now =
+    IsSomeAnd (run_numbered number s.runs)
+    (λ run. (worker : B) × IsAwayAt run.instance (kind_of worker) places × (now ≡ changed_at (made_back kind_of worker) run.instance places))
+
+-- the places after an event of this role: a class that a line retires is retired, the worker of a run that begins is taken, and that of one that is
+-- over is back
+abbrev pub ArePlacedBy : {B : Type 0} → (B → Kind) → Role → State → List (Place B) → List (Place B) → Type 0
+ArePlacedBy kind_of (role.Line asked) s places now = now ≡ places_after kind_of asked places
+ArePlacedBy {B} kind_of (role.Begins number instance) s places now =
+    (worker : B) × (idle_at instance places ≡ Some worker) × (now ≡ changed_at (made_away kind_of) instance places)
+ArePlacedBy kind_of role.Refuses s places now = now ≡ places
+ArePlacedBy kind_of (role.GoesOn number gave) s places now = now ≡ places
+ArePlacedBy kind_of (role.Ends number reported) s places now = IsBackOf kind_of number s places now
+ArePlacedBy kind_of (role.Returns number) s places now = IsBackOf kind_of number s places now
+
+-- the roll after it, which has this frame: the part of a run that begins stands at its end, that of one that goes on was given again, and that of one
+-- that is over is off
+abbrev pub IsRolledBy : Role → State → Frame → List Part → List Part → Type 0
+IsRolledBy (role.Line asked) s f roll now = now ≡ roll
+IsRolledBy (role.Begins number instance) s f roll now = IsSomeAnd (run_numbered number f.runs) (λ run. now ≡ roll ++ part_of run ∷ [])
+IsRolledBy role.Refuses s f roll now = now ≡ roll
+IsRolledBy (role.GoesOn number gave) s f roll now = IsSomeAnd (run_numbered number s.runs) (λ run. now ≡ given_again (part_of run) roll)
+IsRolledBy (role.Ends number reported) s f roll now = now ≡ without number roll
+IsRolledBy (role.Returns number) s f roll now = now ≡ without number roll
+
+-- ---- the roll lists exactly the runs
+
+-- a part was given again
+pub exact-again : (number : ℕ) (run : Run) (s : State) (roll : List Part) → Valid s → run_numbered number s.runs ≡ Some run → ListsExactly s.runs roll
+    → ListsExactly s.runs (given_again (part_of run) roll)
+exact-again number run s roll valid is exact =
+    let part = part_of run in
+    record {
+      of_runs = All-push (λ part. HasOne (λ run. part_of run ≡ part) s.runs) (without part.run roll) part
+          (All-kept (λ part. HasOne (λ run. part_of run ≡ part) s.runs) (λ other. not (is_of part.run other)) roll exact.of_runs)
+          (HasOne-weaker s.runs (λ one same. ap part_of same) (find-stored (λ (r : Run). eqb r.run number) s.runs run is));
+      each = All-with2 s.runs (λ one found listed. listed_again number roll part run one (found-numbered number s.runs run is) refl found listed)
+          (found_or_apart number run s.runs is valid.runs.apart) exact.each;
+    }
+
+-- the run of a part is away
+exact-gone : (number : ℕ) (run : Run) (s : State) (runs : List Run) (roll : List Part) → run_numbered number s.runs ≡ Some run
+    → runs ≡ other_runs run.run s.runs → AreOut runs (without number roll) → ListsExactly s.runs roll → ListsExactly runs (without number roll)
+exact-gone number run s runs roll is others out exact =
+    let its = found-numbered number s.runs run is in
+    record {
+      of_runs = out;
+      each = rw others
+          (All-filter (λ other. not (eqb other.run run.run)) s.runs
+          (λ other stays listed.
+          listed-without number roll (part_of other) (λ e. true≢false (sym stays ∙ ap not (eq-eqb other.run run.run (e ∙ sym its)))) listed) exact.each);
+    }
+
+out-off : (number : ℕ) (s : State) (roll : List Part) → ListsExactly s.runs roll → AreOut s.runs (without number roll)
+out-off number s roll exact = All-kept (λ part. HasOne (λ run. part_of run ≡ part) s.runs) (λ part. not (is_of number part)) roll exact.of_runs
+
+pub exact-by : (r : Role) (s : State) (f : Frame) (roll now : List Part) → Valid s → IsFramed r s f → IsRolledBy r s f roll now → ListsExactly s.runs roll
+    → ListsExactly f.runs now
+exact-by (role.Line asked) s f roll now valid is rolled exact =
+    subst (λ (roll : List Part). ListsExactly f.runs roll) (sym rolled) (record {
+      of_runs = out-framed (role.Line asked) s f roll is tt exact.of_runs;
+      each = rw (ap (λ (f : Frame). f.runs) is.frame_is)
+          (All-map (λ run. IsListed roll (part_of run)) is.change s.runs
+          (λ run listed. subst (IsListed roll) (sym (part-same run (is.change run) (is.keeps run))) listed) exact.each);
+    })
+exact-by (role.Begins number instance) s f roll now valid is rolled exact =
+    let runs : f.runs ≡ s.runs ++ is.run ∷ [] = ap (λ (f : Frame). f.runs) is.frame_is in
+    let part = part_of is.run in
+    let next : number ≡ s.next_run = is.is_next in
+    let below : AllByRecursion (λ other. other.run < number) s.runs =
+    All-weaker s.runs (λ other its. let less = its.number in omega (arith, less, next)) valid.runs.each in
+    let found : run_numbered number f.runs ≡ Some is.run =
+    ap (run_numbered number) runs ∙ run_numbered-push number s.runs is.run below (sym is.number_is) in
+    let its : now ≡ roll ++ part ∷ [] = subst (λ (o : Option Run). IsSomeAnd o (λ run. now ≡ roll ++ part_of run ∷ [])) found rolled in
+    subst (λ (roll : List Part). ListsExactly f.runs roll) (sym its) (record {
+      of_runs = All-push (λ part. HasOne (λ run. part_of run ≡ part) f.runs) roll part
+          (out-framed (role.Begins number instance) s f roll is tt exact.of_runs)
+          (rw runs (HasOne-last (λ run. part_of run ≡ part) s.runs is.run refl));
+      each = rw runs
+          (All-push (λ run. IsListed (roll ++ part ∷ []) (part_of run)) s.runs is.run
+          (All-weaker s.runs (λ run listed. HasOne-front (λ one. one ≡ part_of run) roll (part ∷ []) listed) exact.each)
+          (HasOne-last (λ one. one ≡ part) roll part refl));
+    })
+exact-by role.Refuses s f roll now valid is rolled exact =
+    subst (λ (roll : List Part). ListsExactly f.runs roll) (sym rolled) (subst (λ (runs : List Run). ListsExactly runs roll) (sym (ap (λ (f : Frame). f.runs) is)) exact)
+exact-by (role.GoesOn number gave) s f roll now valid is rolled exact =
+    let part = part_of is.run in
+    let again = exact-again number is.run s roll valid is.is_running exact in
+    let its : now ≡ given_again part roll =
+    subst (λ (o : Option Run). IsSomeAnd o (λ run. now ≡ given_again (part_of run) roll)) is.is_running rolled in
+    subst (λ (roll : List Part). ListsExactly f.runs roll) (sym its) (record {
+      of_runs = out-framed (role.GoesOn number gave) s f (given_again part roll) is tt again.of_runs;
+      each = rw (ap (λ (f : Frame). f.runs) is.frame_is)
+          (All-map (λ run. IsListed (given_again part roll) (part_of run)) (turned_at is.run.run) s.runs
+          (λ run listed. subst (IsListed (given_again part roll)) (sym (part-turned_at is.run.run run)) listed) again.each);
+    })
+exact-by (role.Ends number reported) s f roll now valid is rolled exact =
+    subst (λ (roll : List Part). ListsExactly f.runs roll) (sym rolled)
+    (exact-gone number is.run s f.runs roll is.is_running (ap (λ (f : Frame). f.runs) is.frame_is)
+    (out-framed (role.Ends number reported) s f (without number roll) is (none-without number roll) (out-off number s roll exact)) exact)
+exact-by (role.Returns number) s f roll now valid is rolled exact =
+    subst (λ (roll : List Part). ListsExactly f.runs roll) (sym rolled)
+    (exact-gone number is.run s f.runs roll is.is_running (ap (λ (f : Frame). f.runs) is.frame_is)
+    (out-framed (role.Returns number) s f (without number roll) is (none-without number roll) (out-off number s roll exact)) exact)
+
+-- ---- the workers are those of the instances
+
+-- of their class and kind, and away where they are out
+pub record AreSeated {B : Type 0} (kind_of : B → Kind) (instances : List Instance) (places : List (Place B)) : Type 0 where
+  pub workers : map (place_traits kind_of) places ≡ map instance_traits instances
+  pub away : map (λ place. is_away place.presence) places ≡ map (λ instance. instance.out) instances
+
+module _ {B : Type 0} (kind_of : B → Kind) (s : State) (f : Frame) (places now : List (Place B)) (numbered : AreNumberedInOrder 0 s.instances)
+    (seated : AreSeated kind_of s.instances places) where
+  seated-back : (number : ℕ) (run : Run) → run_numbered number s.runs ≡ Some run → f.instances ≡ with_out false run.instance s.instances
+      → IsBackOf kind_of number s places now → AreSeated kind_of f.instances now
+  seated-back number run found instances back =
+      let from_zero : 0 + run.instance ≡ run.instance = omega arith in
+      let its =
+      subst (λ (o : Option Run). IsSomeAnd o (λ run. (worker : B) × IsAwayAt run.instance (kind_of worker) places
+      × (now ≡ changed_at (made_back kind_of worker) run.instance places))) found back in
+      record {
+        workers = ap (map (place_traits kind_of)) its.2
+            ∙ traits-given kind_of its.0 run.instance places its.1
+            ∙ seated.workers
+            ∙ sym (traits-with_out false run.instance s.instances)
+            ∙ ap (map instance_traits) (sym instances);
+        away = ap (map (λ place. is_away place.presence)) its.2
+            ∙ away-changed (made_back kind_of its.0) false run.instance 0 places s.instances (λ place is. here-back kind_of its.0 place) numbered seated.away
+            ∙ ap (λ n. map (λ instance. instance.out) (with_out false n s.instances)) from_zero
+            ∙ ap (map (λ instance. instance.out)) (sym instances);
+      }
+
+  pub seated-by : (r : Role) → IsFramed r s f → ArePlacedBy kind_of r s places now → AreSeated kind_of f.instances now
+  seated-by (role.Line asked) is placed =
+      let instances : f.instances ≡ instances_after asked s.instances = ap (λ (f : Frame). f.instances) is.frame_is in
+      record {
+        workers = rw (placed, instances) (workers-after kind_of asked places s.instances seated.workers);
+        away = rw (placed, instances) (away-after kind_of asked places s.instances seated.away);
+      }
+  seated-by (role.Begins number instance) is placed =
+      let instances : f.instances ≡ with_out true instance s.instances = ap (λ (f : Frame). f.instances) is.frame_is in
+      let from_zero : 0 + instance ≡ instance = omega arith in
+      record {
+        workers = ap (map (place_traits kind_of)) placed.2
+            ∙ traits-taken kind_of instance places
+            ∙ seated.workers
+            ∙ sym (traits-with_out true instance s.instances)
+            ∙ ap (map instance_traits) (sym instances);
+        away = ap (map (λ place. is_away place.presence)) placed.2
+            ∙ away-changed (made_away kind_of) true instance 0 places s.instances (away-taken kind_of placed.0 instance places placed.1) numbered seated.away
+            ∙ ap (λ n. map (λ instance. instance.out) (with_out true n s.instances)) from_zero
+            ∙ ap (map (λ instance. instance.out)) (sym instances);
+      }
+  seated-by role.Refuses is placed =
+      let instances : f.instances ≡ s.instances = ap (λ (f : Frame). f.instances) is in
+      record { workers = rw (placed, instances) seated.workers; away = rw (placed, instances) seated.away }
+  seated-by (role.GoesOn number gave) is placed =
+      let instances : f.instances ≡ s.instances = ap (λ (f : Frame). f.instances) is.frame_is in
+      record { workers = rw (placed, instances) seated.workers; away = rw (placed, instances) seated.away }
+  seated-by (role.Ends number reported) is placed =
+      seated-back number is.run is.is_running (ap (λ (f : Frame). f.instances) is.frame_is) placed
+  seated-by (role.Returns number) is placed = seated-back number is.run is.is_running (ap (λ (f : Frame). f.instances) is.frame_is) placed

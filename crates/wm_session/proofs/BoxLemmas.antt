@@ -27,8 +27,8 @@ use Rattle.wm_session.specs.BetweenRuns.{IsAtBegin, IsBetweenRuns, IsOfGiven, Ke
 use Rattle.wm_session.specs.Book.{IsBegun}
 use Rattle.wm_session.specs.BookState.{BookState}
 use Rattle.wm_session.specs.Boxes.{EachAtPlace, IsBoxAfter, IsDiaryLater, IsStartOn}
-use Rattle.wm_session.specs.Drive.{IsCutShort, IsGivenUp, IsLastTurn, IsOtherTurn, IsOutOfGiven, IsUnderWay, KeepBoxesOut}
-use Rattle.wm_table.specs.Table.{IsOneStep, IsUntouched}
+use Rattle.wm_session.specs.Drive.{IsLastTurn, IsOtherTurn, IsOutOfGiven, IsUnderWay, KeepBoxesOut}
+use Rattle.wm_table.specs.Table.{IsOneStep}
 use Rattle.wm_table.specs.TableState.{TicketState}
 use Rattle.wm_worker.specs.Diary.{diary_with}
 use Rattle.wm_worker.specs.Signal.{SignalState}
@@ -79,14 +79,6 @@ boxes-given diary_of log hands number worker idle =
     IsSomeAnd-weaker (slice_get hands number) (λ hand. IsBoxAfter-same diary_of log number hand.worker worker) (idle_at-given hands number worker idle)
 
 module _ {K W B : Type 0} (diary_of : B → Option (List Entry)) (old new : BookState K W B) where
-  -- the session has stopped early without an event
-  of_given-same : {store : K → Store} {may : Event → Type 0} → IsUntouched store may old.table new.table → IsSome new.status → (number : ℕ) (given now : B)
-      → IsOfGiven diary_of old number given now → IsOfGiven diary_of new number given now
-  of_given-same same stopped number given now is = record {
-    box = rw same.log is.box;
-    told = no_longer new.status stopped;
-  }
-
   module _ {store : K → Store} {e : Event} (replays : Replay old.table.first old.table.log old.table.state)
       (step : IsOneStep store e old.table new.table) (goes : new.status ≡ None → old.status ≡ None) where
     -- an event of which it writes nothing down
@@ -135,13 +127,6 @@ abbrev IsFromGiven : {K W B : Type 0} → (B → Option (List Entry)) → List (
 IsFromGiven diary_of given book number worker = IsSomeAnd (slice_get given number) (λ hand. IsOfGiven diary_of book number hand.worker worker)
 
 module _ {K W B : Type 0} (diary_of : B → Option (List Entry)) (given : List (Hand B)) (old new : BookState K W B) where
-  -- the session has stopped early without an event
-  pub KeepBoxes-same : {store : K → Store} {may : Event → Type 0} → IsUntouched store may old.table new.table → IsSome new.status → new.places ≡ old.places
-      → KeepBoxes diary_of given old → KeepBoxes diary_of given new
-  KeepBoxes-same same stopped places keep number worker idle =
-      IsSomeAnd-weaker (slice_get given number) (λ hand. of_given-same diary_of old new same stopped number hand.worker worker)
-      (keep number worker (rw places at idle))
-
   -- an event of which no worker writes anything down
   pub KeepBoxes-silent : {store : K → Store} {e : Event} → Replay old.table.first old.table.log old.table.state
       → IsOneStep store e old.table new.table → (new.status ≡ None → old.status ≡ None)
@@ -292,37 +277,28 @@ KeepBoxes-last {kind_of = kind_of} {diary_of = diary_of} {ticket = ticket} {work
     (HasOne-front (IsStartOn at) old.table.log _ out.started) out.diary out.told) (written ∷ [], last.diary) (λ going. last.diary))
     keep.own)
 
-module _ {K W B : Type 0} {store : K → Store} {kind_of : B → Kind} {diary_of : B → Option (List Entry)} {ticket : TicketState}
-    {has : Option (List Entry)} (owes : Option (List Entry)) {old new : BookState K W B} (given : List (Hand B)) where
-  -- the session has stopped early without an event
-  pub KeepBoxes-given_up : IsGivenUp store kind_of diary_of ticket has old new → KeepBoxesOut diary_of ticket.instance has owes given old
-      → KeepBoxes diary_of given new
-  KeepBoxes-given_up over keep =
-      let at = ticket.instance in
-      let same = over.stopped.table in
-      let stopped = over.stopped.status in
-      KeepBoxes-back diary_of given old new kind_of over.back at over.places
-      (λ n other idle. IsSomeAnd-weaker (slice_get given n) (λ hand. of_given-same diary_of old new same stopped n hand.worker other)
-      (keep.others n other idle))
-      (IsSomeAnd-weaker (slice_get given at)
-      (λ hand out. of_given-back diary_of has owes at hand.worker over.back
-      (record { started = rw same.log out.started; diary = out.diary; told = no_longer new.status stopped }) over.diary_later (no_longer new.status stopped))
-      keep.own)
+-- the session has stopped early, and each run that had started on an instance still has
+module _ {K W B : Type 0} (diary_of : B → Option (List Entry)) (given : List (Hand B)) (old new : BookState K W B) (stopped : IsSome new.status)
+    (starts : (number : ℕ) → HasOne (IsStartOn number) old.table.log → HasOne (IsStartOn number) new.table.log) where
+  of_given-stopped : (number : ℕ) (had now : B) → IsOfGiven diary_of old number had now → IsOfGiven diary_of new number had now
+  of_given-stopped number had now is = record {
+    box = record { untouched = λ none. is.box.untouched (λ one. none (starts number one)); diary = is.box.diary };
+    told = no_longer new.status stopped;
+  }
 
-  -- the session has stopped early while a turn was told
-  pub KeepBoxes-cut : Replay old.table.first old.table.log old.table.state → IsCutShort store kind_of diary_of ticket has old new
-      → KeepBoxesOut diary_of ticket.instance has owes given old → KeepBoxes diary_of given new
-  KeepBoxes-cut replays cut keep =
-      let at = ticket.instance in
-      KeepBoxes-back diary_of given old new kind_of cut.back at cut.places
-      (λ n other idle. IsSomeAnd-weaker (slice_get given n)
-      (λ hand. of_given-silent diary_of old new replays cut.step (no_longer new.status cut.status) n (no_longer new.status cut.status) hand.worker other)
-      (keep.others n other idle))
+  pub KeepBoxes-stopped : ((number : ℕ) (worker : B) → idle_at number new.places ≡ Some worker → idle_at number old.places ≡ Some worker)
+      → KeepBoxes diary_of given old → KeepBoxes diary_of given new
+  KeepBoxes-stopped stays keep number worker idle =
+      IsSomeAnd-weaker (slice_get given number) (λ hand. of_given-stopped number hand.worker worker) (keep number worker (stays number worker idle))
+
+  -- and a worker that was away is back
+  pub KeepBoxes-given_up : (kind_of : B → Kind) (back : B) (at : ℕ) (has owes : Option (List Entry))
+      → new.places ≡ changed_at (made_back kind_of back) at old.places → IsDiaryLater has (diary_of back) → KeepBoxesOut diary_of at has owes given old
+      → KeepBoxes diary_of given new
+  KeepBoxes-given_up kind_of back at has owes places later keep =
+      KeepBoxes-back diary_of given old new kind_of back at places
+      (λ n other idle. IsSomeAnd-weaker (slice_get given n) (λ hand. of_given-stopped n hand.worker other) (keep.others n other idle))
       (IsSomeAnd-weaker (slice_get given at)
-      (λ hand out. of_given-back diary_of has owes at hand.worker cut.back
-      (record {
-        started = rw cut.step.appended (HasOne-front (IsStartOn at) old.table.log _ out.started);
-        diary = out.diary;
-        told = no_longer new.status cut.status;
-      }) cut.diary_later (no_longer new.status cut.status))
+      (λ hand out. of_given-back diary_of has owes at hand.worker back
+      (record { started = starts at out.started; diary = out.diary; told = no_longer new.status stopped }) later (no_longer new.status stopped))
       keep.own)

@@ -2,10 +2,7 @@ pub mod BookClaims
 pub mod BookEnds
 pub mod BookEvents
 pub mod BookImages
-pub mod BookLines
-pub mod BookParts
 pub mod BookReports
-pub mod BookRests
 pub mod BookRolls
 pub mod BookSteps
 pub mod BookStops

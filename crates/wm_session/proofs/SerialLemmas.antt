@@ -6,6 +6,8 @@ use Rattle.std.proofs.lemmas.Bool.{eq-eqb, true≢false}
 use Rattle.wm_bench.specs.Places.{idle_at, changed_at, made_back, IsAwayAt}
 use Rattle.wm_bench.specs.Seat.{Seat}
 use Rattle.wm_bench.specs.declared.hand.Hand.{Hand}
+use Rattle.wm_collections.proofs.Lists.{HasOne-front}
+use Rattle.wm_collections.specs.Lists.{HasOne}
 use Rattle.wm_data.specs.declared.data.DataEntry.{DataEntry}
 use Rattle.wm_keeper.specs.Store.{Store}
 use Rattle.wm_machine.specs.declared.command.Command.{Command}
@@ -33,8 +35,9 @@ use Rattle.wm_machine.proofs.Turns.{after_turn}
 use Rattle.wm_runs.proofs.RunLookups.{run_numbered-turned}
 use Rattle.wm_session.proofs.BookEvents.{end_in_turn, length-turned, other_runs-turned}
 use Rattle.wm_table.proofs.NoLines.{framed_end}
-use Rattle.wm_session.proofs.BookParts.{claimed_step, Replay-same, Replay-step}
-use Rattle.wm_session.proofs.BoxLemmas.{no_longer, KeepBoxes-cut, KeepBoxes-given_up, KeepBoxes-last, KeepBoxes-same, KeepBoxes-silent, KeepBoxes-turned, KeepBoxesOut-later}
+use Rattle.wm_session.proofs.BookClaims.{claimed_step}
+use Rattle.wm_session.proofs.BookSteps.{Replay-same, Replay-step, askable_left}
+use Rattle.wm_session.proofs.BoxLemmas.{no_longer, KeepBoxes-given_up, KeepBoxes-last, KeepBoxes-stopped, KeepBoxes-turned, KeepBoxesOut-later}
 use Rattle.wm_session.proofs.DiaryLemmas.{ticket-found, IsDiaryLater-same}
 use Rattle.wm_roll.specs.Parts.{without}
 use Rattle.wm_runs.specs.Reports.{IsOut}
@@ -44,14 +47,14 @@ use Rattle.wm_session.proofs.HandLemmas.{IsAwayAt-taken, NoneAway-back}
 use Rattle.wm_table.specs.Parts.{ticket_part}
 use Rattle.wm_seating.specs.Bench.{NoneAway}
 use Rattle.wm_seating.proofs.RetiredPlaces.{idle_at-after, NoneAway-after}
-use Rattle.wm_session.specs.Book.{IsBegun, IsClaimStopped, HasStopped, IsFrontStopped, IsLineDone, IsReported, IsStartFailed, IsTurnUntold}
+use Rattle.wm_session.specs.Book.{HasClaimed, IsBegun, IsClaimStopped, IsFrontStopped, IsLineDone, IsReported, IsStartFailed, StopsAfter}
 use Rattle.wm_session.specs.BookState.{BookState}
-use Rattle.wm_session.specs.Boxes.{IsDiaryLater}
-use Rattle.wm_session.specs.Drive.{HasWritten, IsCutShort, IsDriven, IsGivenUp, IsLastTurn, IsNoTurn, IsOtherTurn, IsUnderWay}
+use Rattle.wm_session.specs.Boxes.{IsDiaryLater, IsStartOn}
+use Rattle.wm_session.specs.Drive.{HasTurned, HasWritten, IsDriven, IsGivenUp, IsLastTurn, IsNoTurn, IsOtherTurn, IsUnderWay}
 use Rattle.wm_session.specs.Ended.{HasCommands, IsSerialRun}
 use Rattle.wm_session.specs.BetweenRuns.{GoesInOrder, IsAtBegin, IsBetweenRuns, IsInOrder, IsReady, KeepBoxes}
 use Rattle.wm_table.specs.Table.{IsClaimAnswer, IsFinished, IsOneStep, IsUntouched}
-use Rattle.wm_table.specs.TableState.{TicketState}
+use Rattle.wm_table.specs.TableState.{TableState, TicketState}
 use Rattle.wm_table.specs.declared.table.Claim.{Claim}
 use Rattle.wm_table.specs.declared.table.Claim.TheVariants as claim
 use Rattle.wm_session.specs.declared.book.After.{After}
@@ -85,8 +88,8 @@ module _ {K W B : Type 0} (store : K → Store) (kind_of : B → Kind) (diary_of
       → new.places ≡ changed_at (made_back kind_of seat.worker) ticket.instance old.places
   at_place places = places ∙ ap (λ n. changed_at (made_back kind_of seat.worker) n old.places) number
 
-  given_up : IsDiaryLater (diary_of worker) (diary_of seat.worker) → HasStopped store old new → new.table.roll ≡ without ticket.task.run old.table.roll
-      → new.places ≡ changed_at (made_back kind_of seat.worker) seat.number old.places
+  given_up : IsDiaryLater (diary_of worker) (diary_of seat.worker) → StopsAfter store (HasTurned store ticket) old new
+      → new.table.roll ≡ without ticket.task.run old.table.roll → new.places ≡ changed_at (made_back kind_of seat.worker) seat.number old.places
       → IsGivenUp store kind_of diary_of ticket (diary_of worker) old new
   given_up later stopped roll places = record { back = seat.worker; diary_later = later; stopped = stopped; roll = roll; places = at_place places }
 
@@ -97,13 +100,13 @@ module _ {K W B : Type 0} (store : K → Store) (kind_of : B → Kind) (diary_of
   wrote gave answered is written =
       written ∙ ap (λ given. diary_with (map (λ given. Gave ticket.task.run ticket.k given) (option_to_list given)) (diary_of worker)) is
 
-  last_turn : (told : Report) (timed_out : Bool) → old.status ≡ None → IsFinished store ticket.task.run told timed_out old.table new.table
+  last_turn : (told : Report) → old.status ≡ None → IsFinished store ticket.task.run told old.table new.table
       → new.table.roll ≡ without ticket.task.run old.table.roll
       → new.places ≡ changed_at (made_back kind_of seat.worker) seat.number old.places → new.left ≡ old.left
       → left_to_drain new.table.state ≤ left_to_drain old.table.state
       → diary_of seat.worker ≡ diary_with (turn_entries ticket.task.run ticket.k told.answer) (diary_of worker)
       → IsLastTurn store kind_of diary_of ticket worker old new
-  last_turn told timed_out before ended roll places left no_more written = record {
+  last_turn told before ended roll places left no_more written = record {
     ending = ended.ending;
     reported = ended.reported;
     gave = ended.gave;
@@ -119,47 +122,46 @@ module _ {K W B : Type 0} (store : K → Store) (kind_of : B → Kind) (diary_of
     no_more = no_more;
   }
 
-  cut_short : (told : Report) → IsTurnUntold store ticket told old new → new.table.roll ≡ without ticket.task.run old.table.roll
-      → new.places ≡ changed_at (made_back kind_of seat.worker) seat.number old.places
-      → IsDiaryLater (diary_of worker) (diary_of seat.worker) → IsCutShort store kind_of diary_of ticket (diary_of worker) old new
-  cut_short told untold roll places later = record {
-    progress = untold.turn.progress;
-    back = seat.worker;
-    diary_later = later;
-    before = untold.before;
-    status = untold.status;
-    step = untold.turn.step;
-    roll = roll;
-    places = at_place places;
-    left = untold.left;
-    no_more = untold.no_more;
-  }
-
   -- once a worker's report is given, and the run, which wasn't stopped, doesn't go on, it is over, or the session has stopped early
   pub IsNoTurn-reported : {M : Type 0} (told : Result Report AllocError) (result : After B M) → IsOut old.table.state ticket.task.run true
       → IsReported store kind_of ticket seat told result old new
       → (result ≡ report.Over) ⊎ (result ≡ report.Stopped) → HasWritten diary_of ticket worker seat.worker told
       → IsNoTurn store kind_of diary_of ticket worker old new
-  IsNoTurn-reported (Ok told) report.Over current (inl late) ends written = absurd (not_stopped old.table.state ticket.task.run current late.returned.stopped)
-  IsNoTurn-reported (Ok told) report.Over current (inr done) ends written =
-      inl (last_turn told done.timed_out done.goes_on.before done.ended done.roll done.places done.left done.no_more written)
+  IsNoTurn-reported (Ok told) report.Over current done ends written =
+      elim done.over.made [
+        | inl returned ↦ absurd (not_stopped old.table.state ticket.task.run current returned.stopped)
+        | inr ended ↦
+            inl (last_turn told done.over.before ended.finished done.roll done.places done.over.left done.over.no_more written)
+      ]
   IsNoTurn-reported (Ok told) (report.Go next kept) current done (inl ends) written = absurd (cc)
   IsNoTurn-reported (Ok told) (report.Go next kept) current done (inr ends) written = absurd (cc)
   IsNoTurn-reported (Ok told) (report.Again same kept) current done (inl ends) written = absurd (cc)
   IsNoTurn-reported (Ok told) (report.Again same kept) current done (inr ends) written = absurd (cc)
   IsNoTurn-reported (Ok told) report.Stopped current done ends written =
       elim done.how [
-        | inl stopped ↦ inr (inl (given_up (turn_entries ticket.task.run ticket.k told.answer, written) stopped done.roll done.places))
-        | inr (inl late) ↦ absurd (not_stopped old.table.state ticket.task.run current late.returned.stopped)
-        | inr (inr (inl ended)) ↦ inl (last_turn told ended.timed_out ended.before ended.ended done.roll done.places ended.left ended.no_more written)
-        | inr (inr (inr turned)) ↦
-            inr (inr (cut_short told turned done.roll done.places (turn_entries ticket.task.run ticket.k told.answer, written)))
+        | inl stopped ↦ inr (given_up (turn_entries ticket.task.run ticket.k told.answer, written) (inl stopped) done.roll done.places)
+        | inr untold ↦ elim untold.1.made [
+          | inl (inl returned) ↦ absurd (not_stopped old.table.state ticket.task.run current returned.stopped)
+          | inl (inr ended) ↦
+              inl (last_turn told untold.1.before ended.finished done.roll done.places untold.1.left untold.1.no_more written)
+          | inr turned ↦
+              inr (given_up (turn_entries ticket.task.run ticket.k told.answer, written)
+              (inr (
+                untold.0,
+                record {
+                  before = untold.1.before;
+                  made = (turned.1.progress, turned.1.step);
+                  left = untold.1.left;
+                  no_more = untold.1.no_more;
+                },
+              )) done.roll done.places)
+        ]
       ]
-  IsNoTurn-reported (Err refused) report.Over current late ends written = absurd (not_stopped old.table.state ticket.task.run current late.returned.stopped)
+  IsNoTurn-reported (Err refused) report.Over current late ends written = absurd (not_stopped old.table.state ticket.task.run current late.over.made.stopped)
   IsNoTurn-reported (Err refused) report.Stopped current done ends written =
       elim done.how [
-        | inl stopped ↦ inr (inl (given_up (IsDiaryLater-same (diary_of worker) (diary_of seat.worker) written) stopped done.roll done.places))
-        | inr late ↦ absurd (not_stopped old.table.state ticket.task.run current late.returned.stopped)
+        | inl stopped ↦ inr (given_up (IsDiaryLater-same (diary_of worker) (diary_of seat.worker) written) (inl stopped) done.roll done.places)
+        | inr late ↦ absurd (not_stopped old.table.state ticket.task.run current late.1.made.stopped)
       ]
   IsNoTurn-reported (Err refused) (report.Go next kept) current done ends written = absurd done
   IsNoTurn-reported (Err refused) (report.Again same kept) current done ends written = absurd done
@@ -282,14 +284,18 @@ module _ {K W B : Type 0} (store : K → Store) (old new : BookState K W B) (res
   failed_none seq cause step = ap (λ (t : State). t.runs) step.state ∙ rest.no_run going
 
   -- the event of a claim comes in its turn
+  claimed_turn : {M : Type 0} (claimed : Claim M) (is : IsClaimAnswer store (Some claimed) old.table new.table)
+      → (length new.table.state.runs ≤ 1) × IsInTurn old.table.state (claimed_step store claimed old.table new.table is).0
+  claimed_turn (claim.Run ticket) run =
+      (rw (begun_alone ticket.task.run ticket.seq ticket.instance ticket.task.input run.step) (omega arith), rest.no_run going)
+  claimed_turn (claim.Failed seq cause) step = (rw (failed_none seq cause step) (omega arith), rest.no_run going)
+
   pub GoesInOrder-claimed : {M : Type 0} (claimed : Claim M) → IsClaimAnswer store (Some claimed) old.table new.table → (lines : List Command)
       → GoesInOrder lines old → GoesInOrder lines new
-  GoesInOrder-claimed (claim.Run ticket) run lines =
-      GoesInOrder-step store lines (event.Start ticket.task.run ticket.seq ticket.instance ticket.task.input) old new run.step
-      (rw (begun_alone ticket.task.run ticket.seq ticket.instance ticket.task.input run.step) (omega arith)) rest.replay going (rest.no_run going)
-  GoesInOrder-claimed (claim.Failed seq cause) step lines =
-      GoesInOrder-step store lines (event.StartFailed seq cause) old new step (rw (failed_none seq cause step) (omega arith)) rest.replay going
-      (rest.no_run going)
+  GoesInOrder-claimed claimed is lines =
+      let step = claimed_step store claimed old.table new.table is in
+      let turn = claimed_turn claimed is in
+      GoesInOrder-step store lines step.0 old new step.1 turn.0 rest.replay going turn.1
 
 -- a run that starts in a book at rest is under way
 pub IsUnderWay-begun : {K W B : Type 0} {store : K → Store} {kind_of : B → Kind} {never : Bool} {ticket : TicketState} {seat : Seat B} {signal : SignalState}
@@ -323,41 +329,68 @@ IsBetweenRuns-failed {store = store} {old = old} {new = new} rest failed =
     rest_again rest (Replay-step store (event.StartFailed failed.seq failed.cause) old.table new.table rest.replay failed.step)
     (λ going. failed_none store old new rest failed.goes_on.before failed.seq failed.cause failed.step) failed.roll failed.places
 
--- the session has stopped early, with or without the event of a claim
+-- ---- a session that has stopped early
+
+-- without an event, or with such a one, which is a step of the table
+module _ {K W B : Type 0} (store : K → Store) (made : TableState K → TableState K → Type 0) (old new : BookState K W B)
+    (steps : made old.table new.table → (e : Event) × IsOneStep store e old.table new.table) where
+  pub stops-status : StopsAfter store made old new → IsSome new.status
+  stops-status stops = elim stops [ inl stopped ↦ stopped.status | inr untold ↦ untold.0 ]
+
+  pub stops-left : StopsAfter store made old new → new.left ≡ old.left
+  stops-left stops = elim stops [ inl stopped ↦ stopped.left | inr untold ↦ untold.1.left ]
+
+  stops-no_more : StopsAfter store made old new → left_to_drain new.table.state ≤ left_to_drain old.table.state
+  stops-no_more stops = elim stops [ inl stopped ↦ rw stopped.table.state (omega arith) | inr untold ↦ untold.1.no_more ]
+
+  stops-replay : Replay old.table.first old.table.log old.table.state → StopsAfter store made old new
+      → Replay new.table.first new.table.log new.table.state
+  stops-replay replays stops = elim stops [
+    | inl stopped ↦ Replay-same store old.table new.table replays stopped.table
+    | inr untold ↦ let step = steps untold.1.made in Replay-step store step.0 old.table new.table replays step.1
+  ]
+
+  stops-starts : StopsAfter store made old new → (number : ℕ) → HasOne (IsStartOn number) old.table.log → HasOne (IsStartOn number) new.table.log
+  stops-starts stops number one = elim stops [
+    | inl stopped ↦ rw stopped.table.log one
+    | inr untold ↦ rw (steps untold.1.made).1.appended (HasOne-front (IsStartOn number) old.table.log _ one)
+  ]
+
+  stops-order : Replay old.table.first old.table.log old.table.state
+      → (old.status ≡ None → (is : made old.table new.table) → (length new.table.state.runs ≤ 1) × IsInTurn old.table.state (steps is).0)
+      → StopsAfter store made old new → (lines : List Command) → GoesInOrder lines old → GoesInOrder lines new
+  stops-order replays turn stops lines goes = elim stops [
+    | inl stopped ↦ GoesInOrder-stopped store lines old new stopped.table stopped.status goes
+    | inr untold ↦
+        let is = untold.1.made in
+        let comes = turn untold.1.before is in
+        GoesInOrder-step store lines (steps is).0 old new (steps is).1 comes.0 replays untold.1.before comes.1 goes
+  ]
+
 module _ {K W B M : Type 0} (store : K → Store) (old new : BookState K W B) where
+  abbrev claim_steps : HasClaimed M store old.table new.table → (e : Event) × IsOneStep store e old.table new.table
+  claim_steps is = let step = claimed_step store is.0 old.table new.table is.1 in (step.0, step.1)
+
   pub status-halted : IsClaimStopped M store old new → IsSome new.status
-  status-halted halted = elim halted.how [ inl stopped ↦ stopped.status | inr untold ↦ untold.status ]
+  status-halted halted = stops-status store (HasClaimed M store) old new claim_steps halted.how
 
   pub left-halted : IsClaimStopped M store old new → new.left ≡ old.left
-  left-halted halted = elim halted.how [ inl stopped ↦ stopped.left | inr untold ↦ untold.left ]
+  left-halted halted = stops-left store (HasClaimed M store) old new claim_steps halted.how
 
   pub IsBetweenRuns-halted : IsBetweenRuns old → IsClaimStopped M store old new → IsBetweenRuns new
   IsBetweenRuns-halted rest halted =
-      elim halted.how [
-        | inl stopped ↦
-            rest_again rest (Replay-same store old.table new.table rest.replay stopped.table) (no_longer new.status stopped.status) halted.roll halted.places
-        | inr untold ↦
-            let step = claimed_step store untold.made old.table new.table untold.claimed in
-            rest_again rest (Replay-step store step.0 old.table new.table rest.replay step.1) (no_longer new.status untold.status) halted.roll halted.places
-      ]
+      rest_again rest (stops-replay store (HasClaimed M store) old new claim_steps rest.replay halted.how)
+      (no_longer new.status (status-halted halted)) halted.roll halted.places
 
   pub GoesInOrder-halted : IsBetweenRuns old → IsClaimStopped M store old new → (lines : List Command) → GoesInOrder lines old → GoesInOrder lines new
-  GoesInOrder-halted rest halted lines =
-      elim halted.how [
-        | inl stopped ↦ GoesInOrder-stopped store lines old new stopped.table stopped.status
-        | inr untold ↦ GoesInOrder-claimed store old new rest untold.before untold.made untold.claimed lines
-      ]
+  GoesInOrder-halted rest halted =
+      stops-order store (HasClaimed M store) old new claim_steps rest.replay (λ going is. claimed_turn store old new rest going is.0 is.1) halted.how
 
-  pub KeepBoxes-halted : (diary_of : B → Option (List Entry)) (given : List (Hand B)) → IsBetweenRuns old → IsClaimStopped M store old new
+  pub KeepBoxes-halted : (diary_of : B → Option (List Entry)) (given : List (Hand B)) → IsClaimStopped M store old new
       → KeepBoxes diary_of given old → KeepBoxes diary_of given new
-  KeepBoxes-halted diary_of given rest halted =
-      elim halted.how [
-        | inl stopped ↦ KeepBoxes-same diary_of given old new stopped.table stopped.status halted.places
-        | inr untold ↦
-            let step = claimed_step store untold.made old.table new.table untold.claimed in
-            KeepBoxes-silent diary_of given old new rest.replay step.1 (no_longer new.status untold.status) (no_longer new.status untold.status)
-            (λ number worker idle. rw halted.places at idle)
-      ]
+  KeepBoxes-halted diary_of given halted =
+      KeepBoxes-stopped diary_of given old new (status-halted halted) (stops-starts store (HasClaimed M store) old new claim_steps halted.how)
+      (λ number worker idle. rw halted.places at idle)
 
 -- ---- a run under way
 
@@ -384,45 +417,46 @@ IsDriven-begun {old = old} diary_of number has owes later driven = record {
   boxes = λ given keep. driven.boxes given (KeepBoxesOut-later diary_of number has owes given old later keep);
 }
 
--- the session has stopped early
-pub IsDriven-given_up : {K W B : Type 0} {store : K → Store} {kind_of : B → Kind} {ticket : TicketState} {old new : BookState K W B}
-    (diary_of : B → Option (List Entry)) (has owes : Option (List Entry)) → IsUnderWay kind_of ticket old
-    → IsGivenUp store kind_of diary_of ticket has old new → IsDriven diary_of ticket.instance has owes old new
-IsDriven-given_up {store = store} {old = old} {new = new} diary_of has owes under_way over =
-    let same = over.stopped.table in
-    let stopped = over.stopped.status in
-    record {
-      rest = rest_back over.back under_way (Replay-same store old.table new.table under_way.replay same) (no_longer new.status stopped) over.roll over.places;
-      left = over.stopped.left;
-      no_more = rw same.state (omega arith);
-      order = λ lines. GoesInOrder-stopped store lines old new same stopped;
-      boxes = λ given. KeepBoxes-given_up owes given over;
-    }
-
--- the order is kept by a turn of the run that there is
-GoesInOrder-turned : {K W B : Type 0} (store : K → Store) (number : ℕ) (progress : Option (List DataEntry)) (lines : List Command)
-    (old new : BookState K W B) → IsOneStep store (event.Turn number progress) old.table new.table → Replay old.table.first old.table.log old.table.state
-    → old.status ≡ None → GoesInOrder lines old → GoesInOrder lines new
-GoesInOrder-turned store number progress lines old new step replays going goes =
+-- a turn of the run that there is comes in its turn
+turned_turn : {K W B : Type 0} (store : K → Store) (number : ℕ) (progress : Option (List DataEntry)) (old new : BookState K W B)
+    → IsOneStep store (event.Turn number progress) old.table new.table → length old.table.state.runs ≤ 1 → length new.table.state.runs ≤ 1
+turned_turn store number progress old new step few =
     let s = old.table.state in
     let run = step.legal.report.run in
     let as_many : length new.table.state.runs ≡ length s.runs =
     ap (λ (t : State). length t.runs) (step.state ∙ after_turn s number progress step.legal) ∙ length-turned run.run s.runs in
-    GoesInOrder-step store lines (event.Turn number progress) old new step (subst (λ n. n ≤ 1) (sym as_many) goes.order.few_runs) replays going tt goes
+    subst (λ n. n ≤ 1) (sym as_many) few
 
--- the session has stopped early while a turn was told
-IsDriven-cut : {K W B : Type 0} {store : K → Store} {kind_of : B → Kind} {ticket : TicketState} {old new : BookState K W B}
+GoesInOrder-turned : {K W B : Type 0} (store : K → Store) (number : ℕ) (progress : Option (List DataEntry)) (lines : List Command)
+    (old new : BookState K W B) → IsOneStep store (event.Turn number progress) old.table new.table → Replay old.table.first old.table.log old.table.state
+    → old.status ≡ None → GoesInOrder lines old → GoesInOrder lines new
+GoesInOrder-turned store number progress lines old new step replays going goes =
+    GoesInOrder-step store lines (event.Turn number progress) old new step (turned_turn store number progress old new step goes.order.few_runs) replays going
+    tt goes
+
+-- the event of a turn
+abbrev turn_step : {K : Type 0} (store : K → Store) (ticket : TicketState) (old new : TableState K) → HasTurned store ticket old new
+    → (e : Event) × IsOneStep store e old new
+turn_step store ticket old new is = (event.Turn ticket.task.run is.0, is.1)
+
+-- the session has stopped early, without an event or as a turn was told
+pub IsDriven-given_up : {K W B : Type 0} {store : K → Store} {kind_of : B → Kind} {ticket : TicketState} {old new : BookState K W B}
     (diary_of : B → Option (List Entry)) (has owes : Option (List Entry)) → IsUnderWay kind_of ticket old
-    → IsCutShort store kind_of diary_of ticket has old new → IsDriven diary_of ticket.instance has owes old new
-IsDriven-cut {store = store} {ticket = ticket} {old = old} {new = new} diary_of has owes under_way cut =
-    let number = ticket.task.run in
+    → IsGivenUp store kind_of diary_of ticket has old new → IsDriven diary_of ticket.instance has owes old new
+IsDriven-given_up {store = store} {kind_of = kind_of} {ticket = ticket} {old = old} {new = new} diary_of has owes under_way over =
+    let steps = turn_step store ticket old.table new.table in
+    let stopped = stops-status store (HasTurned store ticket) old new steps over.stopped in
     record {
-      rest = rest_back cut.back under_way (Replay-step store (event.Turn number cut.progress) old.table new.table under_way.replay cut.step)
-          (no_longer new.status cut.status) cut.roll cut.places;
-      left = cut.left;
-      no_more = cut.no_more;
-      order = λ lines. GoesInOrder-turned store number cut.progress lines old new cut.step under_way.replay cut.before;
-      boxes = λ given. KeepBoxes-cut owes given under_way.replay cut;
+      rest = rest_back over.back under_way (stops-replay store (HasTurned store ticket) old new steps under_way.replay over.stopped)
+          (no_longer new.status stopped) over.roll over.places;
+      left = stops-left store (HasTurned store ticket) old new steps over.stopped;
+      no_more = stops-no_more store (HasTurned store ticket) old new steps over.stopped;
+      order = λ lines goes.
+          stops-order store (HasTurned store ticket) old new steps under_way.replay
+          (λ going is. (turned_turn store ticket.task.run is.0 old new is.1 goes.order.few_runs, tt)) over.stopped lines goes;
+      boxes = λ given.
+          KeepBoxes-given_up diary_of given old new stopped (stops-starts store (HasTurned store ticket) old new steps over.stopped) kind_of over.back
+          ticket.instance has owes over.places over.diary_later;
     }
 
 module _ {K W B : Type 0} {store : K → Store} {kind_of : B → Kind} {diary_of : B → Option (List Entry)} {ticket : TicketState} {worker : B}
@@ -452,8 +486,7 @@ module _ {K W B : Type 0} {store : K → Store} {kind_of : B → Kind} {diary_of
   pub IsDriven-turned : IsUnderWay kind_of ticket old → IsNoTurn store kind_of diary_of ticket worker old new
       → IsDriven diary_of ticket.instance (diary_of worker) (diary_of worker) old new
   IsDriven-turned under_way (inl last) = IsDriven-last under_way last
-  IsDriven-turned under_way (inr (inl over)) = IsDriven-given_up diary_of (diary_of worker) (diary_of worker) under_way over
-  IsDriven-turned under_way (inr (inr cut)) = IsDriven-cut diary_of (diary_of worker) (diary_of worker) under_way cut
+  IsDriven-turned under_way (inr over) = IsDriven-given_up diary_of (diary_of worker) (diary_of worker) under_way over
 
 module _ {K W B : Type 0} {store : K → Store} {kind_of : B → Kind} {diary_of : B → Option (List Entry)} {ticket next : TicketState} {worker : B}
     {seat : Seat B} {old new : BookState K W B} where
@@ -551,10 +584,12 @@ module _ {K W B : Type 0} {store : K → Store} {kind_of : B → Kind} {old new 
       → KeepBoxes diary_of given new
   KeepBoxes-front diary_of given stopped =
       elim stopped.how [
-        | inl same ↦ KeepBoxes-same diary_of given old new same.table stopped.status same.places
+        | inl same ↦
+            KeepBoxes-stopped diary_of given old new stopped.status (λ number one. rw same.table.log one)
+            (λ number worker idle. rw same.places at idle)
         | inr untold ↦
-            KeepBoxes-silent diary_of given old new rest.replay untold.line.step (no_longer new.status stopped.status) (no_longer new.status stopped.status)
-            (idle_at-line untold.line)
+            KeepBoxes-stopped diary_of given old new stopped.status
+            (λ number one. rw untold.line.step.appended (HasOne-front (IsStartOn number) old.table.log _ one)) (idle_at-line untold.line)
       ]
 
 -- ---- begin and end
@@ -569,11 +604,6 @@ IsReady-begin {lines = lines} {book = book} begins = record {
   };
   next = λ going. inr (begins.log, begins.lines_are);
 }
-
--- all lines that are left are askable
-askable_left : (done left : List Command) → AllByRecursion IsAskable (done ++ left) → AllByRecursion IsAskable left
-askable_left [] left askable = askable
-askable_left (asked ∷ done) left askable = askable_left done left askable.1
 
 -- a log in order is that of a serial run, once all is done, and else begins one
 pub IsSerialRun-order : (lines : List Command) (ended : Status) (first last : State) (log : List Event) → AllByRecursion IsAskable lines

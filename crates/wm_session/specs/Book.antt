@@ -1,5 +1,5 @@
 -- What the calls of a book do.
-use Rattle.std.specs.Prelude.{◌≡◌, ◌≢◌, ◌⊎◌, ℕ, ◌+◌, ◌<◌, ◌≤◌, Bool, false, List, [], ◌∷◌, ◌++◌, Some, None, IsSome, Result, Ok, Err}
+use Rattle.std.specs.Prelude.{◌≡◌, ◌≢◌, ◌⊎◌, ℕ, ◌+◌, ◌<◌, ◌≤◌, Bool, false, List, [], ◌∷◌, ◌++◌, Option, Some, None, IsSome, Result, Ok, Err}
 use Rattle.std.specs.declared.alloc.AllocError.{AllocError}
 use Rattle.wm_bench.specs.Places.{changed_at, idle_at, made_away, made_back}
 use Rattle.wm_bench.specs.Seat.{Seat}
@@ -18,13 +18,12 @@ use Rattle.wm_seating.specs.Bench.{places_after}
 use Rattle.wm_session.specs.BookState.{BookState}
 use Rattle.wm_io.specs.Pending.{nothing}
 use Rattle.wm_roll.specs.Parts.{without}
-use Rattle.wm_roll.specs.declared.part.Part.{Part}
 use Rattle.wm_runs.specs.Reports.{CountsIn, IsOut}
 use Rattle.wm_table.specs.Images.{IsLine, IsNoLine}
 use Rattle.wm_table.specs.Parts.{ticket_part, WasOut}
 use Rattle.wm_table.specs.Rolls.{given_again}
-use Rattle.wm_table.specs.Table.{HasGoneOn, IsClaimAnswer, IsFinished, IsOneStep, IsReturned, IsUntouched, IsTicketIn}
-use Rattle.wm_table.specs.TableState.{TicketState}
+use Rattle.wm_table.specs.Table.{HasGoneOn, IsClaimAnswer, IsOneStep, IsReturned, IsTurnOver, IsUntouched, IsTicketIn}
+use Rattle.wm_table.specs.TableState.{TableState, TicketState}
 use Rattle.wm_table.specs.declared.table.Claim.{Claim}
 use Rattle.wm_session.specs.declared.book.After.{After}
 use Rattle.wm_session.specs.declared.book.After.TheVariants as after
@@ -32,6 +31,7 @@ use Rattle.wm_session.specs.declared.book.Front.{Front}
 use Rattle.wm_session.specs.declared.book.Front.TheVariants as front
 use Rattle.wm_session.specs.declared.book.Job.{Job}
 use Rattle.wm_session.specs.declared.book.Job.TheVariants as job
+use Rattle.wm_session.specs.declared.book.Stop.{Stop}
 use Rattle.wm_worker.specs.Signal.{SignalState}
 use Rattle.wm_worker.specs.Told.{Report}
 use Rattle.wm_worker.specs.declared.kind.Kind.{Kind}
@@ -47,6 +47,30 @@ pub record StaysStopped {K W B : Type 0} (old new : BookState K W B) : Type 0 wh
   pub status : new.status ≡ old.status
   pub sink : new.sink ≡ old.sink
   pub pending : new.pending ≡ old.pending
+
+-- the session goes on, but for this reason nothing changes
+pub record IsAsBefore {K W B : Type 0} (reason : Type 0) (old new : BookState K W B) : Type 0 where
+  pub going : old.status ≡ None
+  pub why : reason
+  pub book_is : new ≡ old
+
+-- an event was made at the table, while the session went on, by which no more works are left to drain; the lines that are left stay
+pub record IsMade {K W B : Type 0} (event : TableState K → TableState K → Type 0) (old new : BookState K W B) : Type 0 where
+  pub before : old.status ≡ None
+  pub made : event old.table new.table
+  pub left : new.left ≡ old.left
+  pub no_more : left_to_drain new.table.state ≤ left_to_drain old.table.state
+
+-- the session has stopped early without an event, or had before; nothing else is different
+pub record HasStopped {K W B : Type 0} (store : K → Store) (old new : BookState K W B) : Type 0 where
+  pub status : IsSome new.status
+  pub stays : IsSome old.status → StaysStopped old new
+  pub table : IsUntouched store IsNoLine old.table new.table
+  pub left : new.left ≡ old.left
+
+-- so it has, or stopped while such an event was told
+abbrev pub StopsAfter : {K W B : Type 0} → (K → Store) → (TableState K → TableState K → Type 0) → BookState K W B → BookState K W B → Type 0
+StopsAfter store event old new = HasStopped store old new ⊎ (IsSome new.status × IsMade event old new)
 
 -- ---- a line
 
@@ -84,18 +108,6 @@ pub record MustWait (lines : List Command) (s : State) : Type 0 where
   pub some_left : lines ≢ []
   pub not_yet : MayCome lines s → ⊥
 
--- the session goes on, but its next line has to wait, and nothing changes
-pub record IsNotSettled {K W B : Type 0} (old new : BookState K W B) : Type 0 where
-  pub going : old.status ≡ None
-  pub waits : MustWait old.left old.table.state
-  pub book_is : new ≡ old
-
--- the session goes on, but no line is left, and nothing changes
-pub record HasNoLine {K W B : Type 0} (old new : BookState K W B) : Type 0 where
-  pub going : old.status ≡ None
-  pub none_left : old.left ≡ []
-  pub book_is : new ≡ old
-
 -- a line was executed, and the session stopped while its reply was told
 pub record IsLineUntold {K W B : Type 0} (store : K → Store) (kind_of : B → Kind) (old new : BookState K W B) : Type 0 where
   pub before : old.status ≡ None
@@ -117,8 +129,8 @@ pub record IsFrontStopped {K W B : Type 0} (store : K → Store) (kind_of : B �
 -- session has stopped early
 abbrev pub IsFronted : {K W B : Type 0} → (K → Store) → (B → Kind) → Front → BookState K W B → BookState K W B → Type 0
 IsFronted store kind_of front.Moved old new = HasMoved store kind_of old new
-IsFronted store kind_of front.NotSettled old new = IsNotSettled old new
-IsFronted store kind_of front.Ended old new = HasNoLine old new
+IsFronted store kind_of front.NotSettled old new = IsAsBefore (MustWait old.left old.table.state) old new
+IsFronted store kind_of front.Ended old new = IsAsBefore (old.left ≡ []) old new
 IsFronted store kind_of front.Stopped old new = IsFrontStopped store kind_of old new
 
 -- ---- the end
@@ -156,40 +168,22 @@ pub record IsStartFailed {K W B : Type 0} (store : K → Store) (old new : BookS
   pub left : new.left ≡ old.left
   pub fewer : left_to_drain new.table.state < left_to_drain old.table.state
 
--- the session has stopped early, or had before; nothing else is different
-pub record HasStopped {K W B : Type 0} (store : K → Store) (old new : BookState K W B) : Type 0 where
-  pub status : IsSome new.status
-  pub stays : IsSome old.status → StaysStopped old new
-  pub table : IsUntouched store IsNoLine old.table new.table
-  pub left : new.left ≡ old.left
-
--- a work was started, or couldn't start, and the session stopped while that was told: a run that began stays in the state, without a
--- ticket, and its worker stays on the bench
-pub record IsClaimUntold {K W B : Type 0} (M : Type 0) (store : K → Store) (old new : BookState K W B) : Type 0 where
-  pub made : Claim M
-  pub before : old.status ≡ None
-  pub status : IsSome new.status
-  pub claimed : IsClaimAnswer store (Some made) old.table new.table
-  pub left : new.left ≡ old.left
+-- a work was started, or couldn't start: a run that began stays in the state
+abbrev pub HasClaimed : {K : Type 0} → Type 0 → (K → Store) → TableState K → TableState K → Type 0
+HasClaimed M store old new = (claimed : Claim M) × IsClaimAnswer store (Some claimed) old new
 
 -- the session has stopped early, with or without the event of a claim; bench and roll are as they were
 pub record IsClaimStopped {K W B : Type 0} (M : Type 0) (store : K → Store) (old new : BookState K W B) : Type 0 where
-  pub how : HasStopped store old new ⊎ IsClaimUntold M store old new
+  pub how : StopsAfter store (HasClaimed M store) old new
   pub places : new.places ≡ old.places
   pub roll : new.table.roll ≡ old.table.roll
-
--- the session goes on, but no work can start, and nothing changes
-pub record NothingStarts {K W B : Type 0} (old new : BookState K W B) : Type 0 where
-  pub going : old.status ≡ None
-  pub none_first : first_of old.table.state ≡ None
-  pub book_is : new ≡ old
 
 -- Run where a run began; Failed where the work that is first couldn't start; None where nothing is startable; Stopped where the session has
 -- stopped early
 abbrev pub IsClaimed : {K W B M : Type 0} → (K → Store) → (B → Kind) → Bool → Job B M → BookState K W B → BookState K W B → Type 0
 IsClaimed store kind_of never (job.Run ticket seat signal) old new = IsBegun store kind_of never ticket seat signal old new
 IsClaimed store kind_of never job.Failed old new = IsStartFailed store old new
-IsClaimed store kind_of never job.None old new = NothingStarts old new
+IsClaimed store kind_of never job.None old new = IsAsBefore (first_of old.table.state ≡ None) old new
 IsClaimed {M = M} store kind_of never job.Stopped old new = IsClaimStopped M store old new
 
 -- ---- a report
@@ -209,56 +203,22 @@ pub record IsTurnTold {K W B : Type 0} (store : K → Store) (ticket next : Tick
   pub left : new.left ≡ old.left
   pub no_more : left_to_drain new.table.state ≤ left_to_drain old.table.state
 
--- a run's turn was made, and the session stopped while that was told: the run stays in the state, without a ticket
-pub record IsTurnUntold {K W B : Type 0} (store : K → Store) (ticket : TicketState) (told : Report) (old new : BookState K W B) : Type 0 where
-  pub next : TicketState
-  pub before : old.status ≡ None
-  pub status : IsSome new.status
-  pub turn : HasGoneOn store ticket told next old.table new.table
-  pub left : new.left ≡ old.left
-  pub no_more : left_to_drain new.table.state ≤ left_to_drain old.table.state
+-- a run is over by its report, or by its return, where it was stopped
+abbrev pub IsLast : {K : Type 0} → (K → Store) → TicketState → Report → TableState K → TableState K → Type 0
+IsLast store ticket told old new = IsReturned store ticket.task.run old new ⊎ IsTurnOver store ticket told old new
 
--- a run is over, for want of a turn or not, it is off the roll and its worker is back, and no more works are left to drain
-pub record IsOver {K W B : Type 0} (store : K → Store) (kind_of : B → Kind) (ticket : TicketState) (seat : Seat B) (told : Report)
+-- a run is over so, or goes on
+abbrev pub IsTurnMade : {K : Type 0} → (K → Store) → TicketState → Report → TableState K → TableState K → Type 0
+IsTurnMade store ticket told old new = IsLast store ticket told old new ⊎ ((next : TicketState) × HasGoneOn store ticket told next old new)
+
+-- a run is over by this event, it is off the roll and its worker is back
+pub record IsOver {K W B : Type 0} (event : TableState K → TableState K → Type 0) (kind_of : B → Kind) (ticket : TicketState) (seat : Seat B)
     (old new : BookState K W B) : Type 0 where
-  pub timed_out : Bool
   pub goes_on : GoesOn old new
-  pub counts : CountsIn old.table.state ticket.task.run told
-  pub ended : IsFinished store ticket.task.run told timed_out old.table new.table
+  pub over : IsMade event old new
   pub out : WasOut old.table.state old.table.roll ticket
   pub roll : new.table.roll ≡ without ticket.task.run old.table.roll
   pub places : new.places ≡ changed_at (made_back kind_of seat.worker) seat.number old.places
-  pub left : new.left ≡ old.left
-  pub no_more : left_to_drain new.table.state ≤ left_to_drain old.table.state
-
--- a run is over, for want of a turn or not, and the session stopped while that was told
-pub record IsEndUntold {K W B : Type 0} (store : K → Store) (ticket : TicketState) (told : Report) (old new : BookState K W B) : Type 0 where
-  pub timed_out : Bool
-  pub before : old.status ≡ None
-  pub status : IsSome new.status
-  pub counts : CountsIn old.table.state ticket.task.run told
-  pub ended : IsFinished store ticket.task.run told timed_out old.table new.table
-  pub left : new.left ≡ old.left
-  pub no_more : left_to_drain new.table.state ≤ left_to_drain old.table.state
-
--- the run, which was stopped, is over, it is off the roll and its worker is back, and no more works are left to drain
-pub record IsLateOver {K W B : Type 0} (store : K → Store) (kind_of : B → Kind) (ticket : TicketState) (seat : Seat B) (old new : BookState K W B)
-    : Type 0 where
-  pub goes_on : GoesOn old new
-  pub returned : IsReturned store ticket.task.run old.table new.table
-  pub out : WasOut old.table.state old.table.roll ticket
-  pub roll : new.table.roll ≡ without ticket.task.run old.table.roll
-  pub places : new.places ≡ changed_at (made_back kind_of seat.worker) seat.number old.places
-  pub left : new.left ≡ old.left
-  pub no_more : left_to_drain new.table.state ≤ left_to_drain old.table.state
-
--- the run, which was stopped, is over, and the session stopped while that was told
-pub record IsLateUntold {K W B : Type 0} (store : K → Store) (ticket : TicketState) (old new : BookState K W B) : Type 0 where
-  pub before : old.status ≡ None
-  pub status : IsSome new.status
-  pub returned : IsReturned store ticket.task.run old.table new.table
-  pub left : new.left ≡ old.left
-  pub no_more : left_to_drain new.table.state ≤ left_to_drain old.table.state
 
 -- what was told doesn't count for the run, which wasn't stopped: ticket and seat come back as they were, and nothing changes
 pub record IsAskedAgain {K W B : Type 0} (ticket same : TicketState) (seat kept : Seat B) (told : Report) (old new : BookState K W B) : Type 0 where
@@ -271,24 +231,14 @@ pub record IsAskedAgain {K W B : Type 0} (ticket same : TicketState) (seat kept 
 
 -- a run that was stopped is over, where the session went on until its report came
 abbrev pub IsLateIfStopped : {K W B : Type 0} → (K → Store) → TicketState → BookState K W B → BookState K W B → Type 0
-IsLateIfStopped store ticket old new = old.status ≡ None → IsOut old.table.state ticket.task.run false → IsLateUntold store ticket old new
+IsLateIfStopped store ticket old new =
+    old.status ≡ None → IsOut old.table.state ticket.task.run false → IsSome new.status × IsMade (IsReturned store ticket.task.run) old new
 
--- the session has stopped early without an event of the run, or with the one by which it is over that was stopped, as it always is then, or had
--- stopped before; the run is off the roll, and the worker is back
-pub record IsGivenBack {K W B : Type 0} (store : K → Store) (kind_of : B → Kind) (ticket : TicketState) (seat : Seat B) (old new : BookState K W B)
-    : Type 0 where
-  pub how : HasStopped store old new ⊎ IsLateUntold store ticket old new
-  pub late : IsLateIfStopped store ticket old new
-  pub out : WasOut old.table.state old.table.roll ticket
-  pub roll : new.table.roll ≡ without ticket.task.run old.table.roll
-  pub places : new.places ≡ changed_at (made_back kind_of seat.worker) seat.number old.places
-
--- the session has stopped early, without an event of the run, or with the one by which it is over or goes on, which for a run that was stopped is
--- its return; the run is off the roll, and the worker is back
-pub record IsReportStopped {K W B : Type 0} (store : K → Store) (kind_of : B → Kind) (ticket : TicketState) (seat : Seat B) (told : Report)
-    (old new : BookState K W B) : Type 0 where
-  pub how : HasStopped store old new ⊎
-      (IsLateUntold store ticket old new ⊎ (IsEndUntold store ticket told old new ⊎ IsTurnUntold store ticket told old new))
+-- the session has stopped early without an event of the run, or with such a one, which for a run that was stopped is its return, or had stopped
+-- before; the run is off the roll, and its worker is back
+pub record IsGivenBack {K W B : Type 0} (store : K → Store) (event : TableState K → TableState K → Type 0) (kind_of : B → Kind)
+    (ticket : TicketState) (seat : Seat B) (old new : BookState K W B) : Type 0 where
+  pub how : StopsAfter store event old new
   pub late : IsLateIfStopped store ticket old new
   pub out : WasOut old.table.state old.table.roll ticket
   pub roll : new.table.roll ≡ without ticket.task.run old.table.roll
@@ -300,10 +250,32 @@ pub record IsReportStopped {K W B : Type 0} (store : K → Store) (kind_of : B �
 abbrev pub IsReported : {K W B M : Type 0} → (K → Store) → (B → Kind) → TicketState → Seat B → Result Report AllocError → After B M
     → BookState K W B → BookState K W B → Type 0
 IsReported store kind_of ticket seat (Ok told) (after.Go next kept) old new = IsTurnTold store ticket next seat kept told old new
-IsReported store kind_of ticket seat (Ok told) after.Over old new =
-    IsLateOver store kind_of ticket seat old new ⊎ IsOver store kind_of ticket seat told old new
+IsReported store kind_of ticket seat (Ok told) after.Over old new = IsOver (IsLast store ticket told) kind_of ticket seat old new
 IsReported store kind_of ticket seat (Ok told) (after.Again same kept) old new = IsAskedAgain ticket same seat kept told old new
-IsReported store kind_of ticket seat (Ok told) after.Stopped old new = IsReportStopped store kind_of ticket seat told old new
-IsReported store kind_of ticket seat (Err refused) after.Over old new = IsLateOver store kind_of ticket seat old new
-IsReported store kind_of ticket seat (Err refused) after.Stopped old new = IsGivenBack store kind_of ticket seat old new
+IsReported store kind_of ticket seat (Ok told) after.Stopped old new = IsGivenBack store (IsTurnMade store ticket told) kind_of ticket seat old new
+IsReported store kind_of ticket seat (Err refused) after.Over old new = IsOver (IsReturned store ticket.task.run) kind_of ticket seat old new
+IsReported store kind_of ticket seat (Err refused) after.Stopped old new =
+    IsGivenBack store (IsReturned store ticket.task.run) kind_of ticket seat old new
 IsReported store kind_of ticket seat (Err refused) _ old new = ⊥
+
+-- ---- told or not
+
+-- what a call answers whose event was made, where the session goes on or stops as it is told
+abbrev pub front_told : Option Stop → Front
+front_told None = front.Moved
+front_told (Some why) = front.Stopped
+
+abbrev pub failed_told : {B M : Type 0} → Option Stop → Job B M
+failed_told None = job.Failed
+failed_told (Some why) = job.Stopped
+
+abbrev pub over_told : {B M : Type 0} → Option Stop → After B M
+over_told None = after.Over
+over_told (Some why) = after.Stopped
+
+-- a book with a ticket off its roll, without an event, and its worker back
+abbrev pub with_back : {K W B : Type 0} → (B → Kind) → TicketState → Seat B → BookState K W B → BookState K W B
+with_back kind_of ticket seat book = record book {
+  table = record book.table { roll = without ticket.task.run book.table.roll };
+  places = changed_at (made_back kind_of seat.worker) seat.number book.places;
+}

@@ -1,5 +1,5 @@
 -- What driving a run to its end does.
-use Rattle.std.specs.Prelude.{◌≡◌, ◌⊎◌, ℕ, ◌+◌, ◌<◌, ◌≤◌, true, List, [], ◌∷◌, slice_get, Option, Some, None, IsSome, IsSomeAnd, Result, Ok, Err}
+use Rattle.std.specs.Prelude.{◌≡◌, ◌⊎◌, ℕ, ◌+◌, ◌<◌, ◌≤◌, true, List, [], ◌∷◌, slice_get, Option, Some, None, IsSomeAnd, Result, Ok, Err}
 use Rattle.std.specs.declared.alloc.AllocError.{AllocError}
 use Rattle.wm_bench.specs.Places.{changed_at, made_back, IsAwayAt}
 use Rattle.wm_bench.specs.Seat.{Seat}
@@ -18,7 +18,7 @@ use Rattle.wm_machine.specs.declared.command.Command.{Command}
 use Rattle.wm_machine.specs.declared.event.Event.{Event}
 use Rattle.wm_machine.specs.declared.event.Event.TheVariants as event
 use Rattle.wm_seating.specs.Bench.{NoneAway}
-use Rattle.wm_session.specs.Book.{GoesOn, HasStopped}
+use Rattle.wm_session.specs.Book.{GoesOn, StopsAfter}
 use Rattle.wm_session.specs.BookState.{BookState}
 use Rattle.wm_session.specs.Boxes.{IsDiaryLater, IsStartOn}
 use Rattle.wm_session.specs.BetweenRuns.{GoesInOrder, IsBetweenRuns, KeepBoxes}
@@ -27,7 +27,7 @@ use Rattle.wm_runs.specs.Reports.{IsOut}
 use Rattle.wm_table.specs.Parts.{ticket_part}
 use Rattle.wm_table.specs.Rolls.{given_again}
 use Rattle.wm_table.specs.Table.{IsOneStep, IsTicketIn}
-use Rattle.wm_table.specs.TableState.{TicketState}
+use Rattle.wm_table.specs.TableState.{TableState, TicketState}
 use Rattle.wm_worker.specs.Diary.{diary_with, turn_entries}
 use Rattle.wm_worker.specs.Told.{Report}
 use Rattle.wm_worker.specs.declared.answer.Entry.{Entry}
@@ -88,28 +88,18 @@ pub record IsLastTurn {K W B : Type 0} (store : K → Store) (kind_of : B → Ki
   pub left : new.left ≡ old.left
   pub no_more : left_to_drain new.table.state ≤ left_to_drain old.table.state
 
--- the session has stopped early, and the worker, whose diary begins with this, is back
+-- the run of a ticket goes on, by an event
+abbrev pub HasTurned : {K : Type 0} → (K → Store) → TicketState → TableState K → TableState K → Type 0
+HasTurned store ticket old new = (progress : Option (List DataEntry)) × IsOneStep store (event.Turn ticket.task.run progress) old new
+
+-- the session has stopped early, without an event or as it was told that the run goes on, and the worker, whose diary begins with this, is back
 pub record IsGivenUp {K W B : Type 0} (store : K → Store) (kind_of : B → Kind) (diary_of : B → Option (List Entry)) (ticket : TicketState)
     (diary : Option (List Entry)) (old new : BookState K W B) : Type 0 where
   pub back : B
   pub diary_later : IsDiaryLater diary (diary_of back)
-  pub stopped : HasStopped store old new
+  pub stopped : StopsAfter store (HasTurned store ticket) old new
   pub roll : new.table.roll ≡ without ticket.task.run old.table.roll
   pub places : new.places ≡ changed_at (made_back kind_of back) ticket.instance old.places
-
--- the session has stopped early while it was told that the run goes on, and the worker, whose diary begins with this, is back
-pub record IsCutShort {K W B : Type 0} (store : K → Store) (kind_of : B → Kind) (diary_of : B → Option (List Entry)) (ticket : TicketState)
-    (diary : Option (List Entry)) (old new : BookState K W B) : Type 0 where
-  pub progress : Option (List DataEntry)
-  pub back : B
-  pub diary_later : IsDiaryLater diary (diary_of back)
-  pub before : old.status ≡ None
-  pub status : IsSome new.status
-  pub step : IsOneStep store (event.Turn ticket.task.run progress) old.table new.table
-  pub roll : new.table.roll ≡ without ticket.task.run old.table.roll
-  pub places : new.places ≡ changed_at (made_back kind_of back) ticket.instance old.places
-  pub left : new.left ≡ old.left
-  pub no_more : left_to_drain new.table.state ≤ left_to_drain old.table.state
 
 -- The run goes on with this ticket, which is at the next turn of at most 1,000, and this seat, whose worker has written down what it gave.
 pub record IsOtherTurn {K W B : Type 0} (store : K → Store) (kind_of : B → Kind) (diary_of : B → Option (List Entry)) (ticket : TicketState)
@@ -133,8 +123,7 @@ pub record IsOtherTurn {K W B : Type 0} (store : K → Store) (kind_of : B → K
 abbrev pub IsNoTurn : {K W B : Type 0} → (K → Store) → (B → Kind) → (B → Option (List Entry)) → TicketState → B → BookState K W B
     → BookState K W B → Type 0
 IsNoTurn store kind_of diary_of ticket worker old new =
-    IsLastTurn store kind_of diary_of ticket worker old new ⊎
-    (IsGivenUp store kind_of diary_of ticket (diary_of worker) old new ⊎ IsCutShort store kind_of diary_of ticket (diary_of worker) old new)
+    IsLastTurn store kind_of diary_of ticket worker old new ⊎ IsGivenUp store kind_of diary_of ticket (diary_of worker) old new
 
 -- the worker of a run took a turn: no turn follows, or the run goes on
 abbrev pub IsTurned : {K W B : Type 0} → (K → Store) → (B → Kind) → (B → Option (List Entry)) → TicketState → B

@@ -1,5 +1,5 @@
 -- What the type of a book keeps at every moment.
-use Rattle.std.specs.Prelude.{◌≡◌, ℕ, ◌+◌, ◌^◌, ◌<◌, ◌≤◌, false, List, ◌++◌, length, map, Option, Some, None}
+use Rattle.std.specs.Prelude.{◌≡◌, ◌+◌, ◌^◌, ◌<◌, ◌≤◌, false, List, ◌++◌, length, map, Option, Some, None}
 use Rattle.std.specs.List.{AllByRecursion}
 use Rattle.wm_machine.specs.Outcome.{IsAskable}
 use Rattle.wm_machine.specs.Log.{commands_of, AreNumberedFrom, HasPrefix}
@@ -20,7 +20,6 @@ use Rattle.wm_table.specs.Parts.{part_of, AreOut}
 use Rattle.wm_io.specs.Pending.{IsGivenBut}
 use Rattle.wm_session.specs.Pending.{pending_text}
 use Rattle.wm_session.specs.Tells.{Tells}
-use Rattle.wm_io.specs.Writing.{IsAppended}
 use Rattle.wm_session.specs.declared.book.Stop.{Stop}
 
 -- while a session goes on, the lines are those that were executed and those that are left; after it has stopped early, those that were

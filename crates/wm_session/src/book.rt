@@ -9,10 +9,11 @@ ghost use Rattle.wm_machine.specs.Serial.{drains_first};
 ghost use Rattle.wm_machine.specs.Valid.{Valid};
 ghost use Rattle.wm_seating.specs.Bench.{instance_traits, place_traits, NoneAway};
 ghost use Rattle.wm_session.specs.BetweenRuns.{IsBetweenRuns};
-ghost use Rattle.wm_session.specs.Book.{IsSessionOver, IsClaimed, IsFronted, IsReported, MayCome, MustWait, SettlesNext};
+ghost use Rattle.wm_session.specs.Book.{failed_told, front_told, over_told, with_back, IsSessionOver, IsClaimed, IsFronted, IsReported, MayCome, MustWait, SettlesNext};
 ghost use Rattle.wm_session.specs.Ended.{IsHandedBack, IsSessionEnd, IsWrittenOut};
 ghost use Rattle.wm_session.specs.Tells.{tells_of};
 ghost use Rattle.wm_table.specs.Images.{LeavesOnly};
+ghost use Rattle.wm_table.specs.Parts.{WasOut};
 
 use crate::ended::Ended;
 use crate::pending::{tell_last, tell_rest};
@@ -26,7 +27,7 @@ use wm_collections::Items;
 use wm_io::{Pending, Sink, WriteFault};
 use wm_keeper::Keeper;
 use wm_machine::Command;
-use wm_seating::{execute, give_back, give_up};
+use wm_seating::{execute, give_back};
 use wm_table::{Claim, Mark, Table, TableEnd, Ticket, Trouble, TurnAnswer};
 use wm_worker::{Signal, Told, Worker};
 
@@ -109,6 +110,37 @@ pub enum After<B, M: Mark> {
 /// Whether a run began.
 fn has_begun<B, M: Mark>(job: &Job<B, M>) -> bool {
     matches!(job, Job::Run(..))
+}
+
+/// What became of the next line once its event was made, where the session goes on or stops as it is
+/// told.
+fn front_told(status: Option<Stop>) -> Front
+    ensures { result ≡ front_told status }
+{
+    match status {
+        None => Front::Moved,
+        Some(_) => Front::Stopped,
+    }
+}
+
+/// The same of a work that couldn't start.
+fn failed_told<B, M: Mark>(status: Option<Stop>) -> Job<B, M>
+    ensures { result ≡ failed_told status }
+{
+    match status {
+        None => Job::Failed,
+        Some(_) => Job::Stopped,
+    }
+}
+
+/// The same of a run that is over.
+fn over_told<B, M: Mark>(status: Option<Stop>) -> After<B, M>
+    ensures { result ≡ over_told status }
+{
+    match status {
+        None => After::Over,
+        Some(_) => After::Stopped,
+    }
 }
 
 /// That a session of this run was over when it was asked: only [`Book::over`] makes one.
@@ -221,13 +253,8 @@ impl<K: Keeper, W: Sink, B: Worker, M: Mark> Book<K, W, B, M> {
         }
         self.signals.raise_stopped(self.table.runs());
         self.line += 1;
-        match tell_last(&mut self.pending, self.alloc, &self.table, &mut self.sink) {
-            Ok(()) => Front::Moved,
-            Err(fault) => {
-                self.status = Some(Stop::from(fault));
-                Front::Stopped
-            }
-        }
+        self.status = tell_last(&mut self.pending, self.alloc, &self.table, &mut self.sink);
+        front_told(self.status)
     }
 
     /// Starts the work that is first, tells it, and takes the worker of its instance from the bench. The
@@ -279,25 +306,24 @@ impl<K: Keeper, W: Sink, B: Worker, M: Mark> Book<K, W, B, M> {
                 return Job::Stopped;
             }
         };
-        match tell_last(&mut self.pending, self.alloc, &self.table, &mut self.sink) {
-            Ok(()) => match claim {
-                Claim::Run(ticket) => {
-                    let Some(seat) = self.bench.take(ticket.instance()) else {
-                        unreachable!();
-                    };
-                    Job::Run(ticket, seat, signal)
-                }
-                Claim::Failed { seq: _, cause } => {
-                    drop(cause);
+        match claim {
+            Claim::Run(ticket) => {
+                let Some(seat) = self.bench.take(ticket.instance()) else {
+                    unreachable!();
+                };
+                self.status = tell_last(&mut self.pending, self.alloc, &self.table, &mut self.sink);
+                if self.status.is_some() {
                     drop(signal);
-                    Job::Failed
+                    self.put_back(ticket, seat);
+                    return Job::Stopped;
                 }
-            },
-            Err(fault) => {
+                Job::Run(ticket, seat, signal)
+            }
+            Claim::Failed { seq: _, cause } => {
+                drop(cause);
                 drop(signal);
-                self.status = Some(Stop::from(fault));
-                give_up(&mut self.table, claim);
-                Job::Stopped
+                self.status = tell_last(&mut self.pending, self.alloc, &self.table, &mut self.sink);
+                failed_told(self.status)
             }
         }
     }
@@ -317,13 +343,24 @@ impl<K: Keeper, W: Sink, B: Worker, M: Mark> Book<K, W, B, M> {
     {
         if self.status.is_some() {
             drop(told);
-            give_back(&mut self.table, &mut self.bench, ticket, seat);
+            self.put_back(ticket, seat);
             return After::Stopped;
         }
         match told {
             Ok(told) => self.end_turn(ticket, seat, told),
             Err(_) => self.end_refused(ticket, seat),
         }
+    }
+
+    /// Takes a ticket without an event, and puts its worker back, once the session has stopped early.
+    fn put_back(&mut self, ticket: Ticket<M>, seat: Seated<B>)
+        requires stopped { IsSome self.old.status }
+        requires number { seat.number ≡ ticket.instance }
+        requires kind { B.kind_of seat.worker ≡ ticket.kind }
+        ensures out { WasOut self.old.table.state self.old.table.roll ticket }
+        ensures book { self.new ≡ with_back B.kind_of ticket seat self.old }
+    {
+        give_back(&mut self.table, &mut self.bench, ticket, seat);
     }
 
     /// Ends a run whose worker was refused memory, while the session goes on: the run that was stopped
@@ -339,17 +376,12 @@ impl<K: Keeper, W: Sink, B: Worker, M: Mark> Book<K, W, B, M> {
             Ok(()) => {
                 self.bench.give(seat);
                 self.signals.remove(run);
-                match tell_last(&mut self.pending, self.alloc, &self.table, &mut self.sink) {
-                    Ok(()) => After::Over,
-                    Err(fault) => {
-                        self.status = Some(Stop::from(fault));
-                        After::Stopped
-                    }
-                }
+                self.status = tell_last(&mut self.pending, self.alloc, &self.table, &mut self.sink);
+                over_told(self.status)
             }
             Err(ticket) => {
                 self.status = Some(Stop::Memory);
-                give_back(&mut self.table, &mut self.bench, ticket, seat);
+                self.put_back(ticket, seat);
                 After::Stopped
             }
         }
@@ -365,31 +397,24 @@ impl<K: Keeper, W: Sink, B: Worker, M: Mark> Book<K, W, B, M> {
         let run = ticket.task().run;
         match self.table.turn(ticket, told) {
             TurnAnswer::Go(next) => {
-                match tell_last(&mut self.pending, self.alloc, &self.table, &mut self.sink) {
-                    Ok(()) => After::Go(next, seat),
-                    Err(fault) => {
-                        self.status = Some(Stop::from(fault));
-                        give_back(&mut self.table, &mut self.bench, next, seat);
-                        After::Stopped
-                    }
+                self.status = tell_last(&mut self.pending, self.alloc, &self.table, &mut self.sink);
+                if self.status.is_some() {
+                    self.put_back(next, seat);
+                    return After::Stopped;
                 }
+                After::Go(next, seat)
             }
             TurnAnswer::Finished | TurnAnswer::TimedOut | TurnAnswer::Late => {
                 self.bench.give(seat);
                 self.signals.remove(run);
-                match tell_last(&mut self.pending, self.alloc, &self.table, &mut self.sink) {
-                    Ok(()) => After::Over,
-                    Err(fault) => {
-                        self.status = Some(Stop::from(fault));
-                        After::Stopped
-                    }
-                }
+                self.status = tell_last(&mut self.pending, self.alloc, &self.table, &mut self.sink);
+                over_told(self.status)
             }
             TurnAnswer::Again(ticket) => After::Again(ticket, seat),
             TurnAnswer::Refused(ticket, told, trouble) => {
                 drop(told);
                 self.status = Some(Stop::from(trouble));
-                give_back(&mut self.table, &mut self.bench, ticket, seat);
+                self.put_back(ticket, seat);
                 After::Stopped
             }
         }

@@ -1,10 +1,11 @@
 //! The texts of a table's events, as they are told to a sink.
-ghost use Rattle.std.specs.Prelude.{◌≡◌, ◌++◌, [], false, IfOk, OnOk};
-ghost use Rattle.wm_io.specs.Pending.{nothing, IsGivenBut};
+ghost use Rattle.std.specs.Prelude.{◌≡◌, [], false, IfOk, OnOk};
+ghost use Rattle.wm_io.specs.Pending.{IsGivenBut};
 ghost use Rattle.wm_io.specs.Writing.{WriteCause};
-ghost use Rattle.wm_session.specs.Pending.{pending_text};
+ghost use Rattle.wm_session.specs.Pending.{pending_text, IsTold};
 ghost use Rattle.wm_texts.specs.Texts.{last_text};
 
+use crate::book::Stop;
 use std::alloc::{AllocError, Global};
 use wm_io::{HasText, Pending, Sink, WriteFault};
 use wm_keeper::Keeper;
@@ -30,20 +31,22 @@ impl<'a, K: Keeper, M: Mark> HasText for LastEvent<'a, K, M> {
 }
 
 /// Puts the text of the table's last event behind what is pending, and writes that as far as the sink
-/// takes it. Where memory is refused for the text, it is still to be made.
+/// takes it: why the session stops by that, where it does. Where memory is refused for the text, it is
+/// still to be made.
 pub fn tell_last<K: Keeper, W: Sink, M: Mark>(
     pending: &mut Pending,
     alloc: Global,
     table: &Table<K, M>,
     sink: &mut W,
-) -> Result<(), WriteFault>
+) -> Option<Stop>
     requires { pending.old.untold ≡ false }
-    ensures told { IsGivenBut (W.given sink.old) (W.given sink.new)
-        (pending.old.bytes ++ last_text table.now.first table.now.log) (pending_text table.now pending.new) }
-    ensures all { OnOk result (pending.new ≡ nothing) }
-    ensures cause { WriteCause result (W.faults sink.old) (W.faults sink.new) }
+    ensures { IsTold W.given W.faults (last_text table.now.first table.now.log) pending.old pending.new
+        sink.old sink.new result }
 {
-    pending.tell(alloc, &LastEvent { table }, sink)
+    match pending.tell(alloc, &LastEvent { table }, sink) {
+        Ok(()) => None,
+        Err(fault) => Some(Stop::from(fault)),
+    }
 }
 
 /// Writes what is pending in the end, as far as the sink takes it; a text that is still to be made is

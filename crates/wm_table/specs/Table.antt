@@ -202,12 +202,10 @@ pub record IsTurned {K : Type 0} (store : K → Store) (number : ℕ) (told : Re
   pub keeper : new.keeper ≡ old.keeper
   pub input : IsSomeAnd (run_numbered number new.state.runs) (λ run. told.input ≡ run.input)
 
--- the report counts, and the run is over; whether for want of a turn
-pub record IsTurnOver {K : Type 0} (store : K → Store) (ticket : TicketState) (told : Report) (timed_out : Bool) (old new : TableState K)
-    : Type 0 where
+-- the report counts, and the run is over
+pub record IsTurnOver {K : Type 0} (store : K → Store) (ticket : TicketState) (told : Report) (old new : TableState K) : Type 0 where
   pub counts : CountsIn old.state ticket.task.run told
   pub finished : IsFinished store ticket.task.run told old new
-  pub wanted : wants_more (given_of told.answer) ≡ timed_out
 
 -- the report counts, and the run goes on, by an event of which the keeper learns nothing: the next ticket is of the same run, and holds what
 -- that keeps
@@ -242,12 +240,12 @@ pub record IsTurnRefused {K : Type 0} (store : K → Store) (ticket : TicketStat
   pub same_report : report ≡ told
   pub untouched : IsUntouched store IsNoLine old new
 
--- Go, Finished or TimedOut where the report counts, with its event; Late where the run was stopped, whatever it says; Again where it doesn't count;
--- Refused where it counts and there is trouble
+-- Go, Finished or TimedOut where the report counts, with its event: TimedOut where it asks for one more turn; Late where the run was stopped, whatever
+-- it says; Again where it doesn't count; Refused where it counts and there is trouble
 abbrev pub IsTurnAnswer : {K M : Type 0} → (K → Store) → TicketState → Report → TurnAnswer M → TableState K → TableState K → Type 0
 IsTurnAnswer store ticket told (turn.Go next) old new = HasGoneOn store ticket told next old new
-IsTurnAnswer store ticket told turn.Finished old new = IsTurnOver store ticket told false old new
-IsTurnAnswer store ticket told turn.TimedOut old new = IsTurnOver store ticket told true old new
+IsTurnAnswer store ticket told turn.Finished old new = IsTurnOver store ticket told old new × (wants_more (given_of told.answer) ≡ false)
+IsTurnAnswer store ticket told turn.TimedOut old new = IsTurnOver store ticket told old new × (wants_more (given_of told.answer) ≡ true)
 IsTurnAnswer store ticket told turn.Late old new = IsReturned store ticket.task.run old new
 IsTurnAnswer store ticket told (turn.Again back) old new = IsTurnKept ticket told back old new
 IsTurnAnswer store ticket told (turn.Refused back report why) old new = IsTurnRefused store ticket told back report old new

@@ -31,11 +31,11 @@ returns-in-Stopped g c =
           (record {
             back = seat.worker;
             diary_later = IsDiaryLater-same has (diary_of seat.worker) c.in-Err.ensures.diary_err;
-            stopped = stopped;
+            stopped = inl stopped;
             roll = given.roll;
             places = given.places
                 ∙ ap (λ n. changed_at (made_back g.B.Worker.kind_of seat.worker) n c.args.book.now.places) (c.begin.ensures.number ∙ c.requires.number);
           })
       | inr late ↦
-          absurd (not_stopped c.args.book.now.table.state c.args.ticket.task.run c.requires.under_way.current late.returned.stopped)
+          absurd (not_stopped c.args.book.now.table.state c.args.ticket.task.run c.requires.under_way.current late.1.made.stopped)
     ]

@@ -49,4 +49,4 @@ returns-in-Stopped-clause-order g c =
 
 pub returns-in-Stopped-clause-boxes : goal.returns-in-Stopped-clause-boxes
 returns-in-Stopped-clause-boxes g c given =
-    KeepBoxes-halted g.K.Keeper.store c.args.book.now c.claim_alone.new.self g.B.Worker.diary_of given c.requires c.in-Stopped.ensures
+    KeepBoxes-halted g.K.Keeper.store c.args.book.now c.claim_alone.new.self g.B.Worker.diary_of given c.in-Stopped.ensures

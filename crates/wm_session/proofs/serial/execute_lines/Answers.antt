@@ -64,8 +64,8 @@ returns-in-Ended g c =
           rw is.book_is (record {
             askable = c.drains_first.ensures.askable;
             rest = kept.rest;
-            done = λ going. is.none_left;
-            quiet = λ going. kept.quiet is.going (ap drains_first is.none_left);
+            done = λ going. is.why;
+            quiet = λ going. kept.quiet is.going (ap drains_first is.why);
             order = kept.order;
             boxes = kept.boxes;
           })
@@ -84,4 +84,4 @@ returns-in-Ended g c =
 pub unreachable-requires : goal.unreachable-requires
 unreachable-requires g c =
     let is = c.in-NotSettled.ensures in
-    absurd (is.waits.not_yet (λ settles. c.lines.invariant.quiet is.going (drains-settles c.lines.book.left settles)))
+    absurd (is.why.not_yet (λ settles. c.lines.invariant.quiet is.going (drains-settles c.lines.book.left settles)))

@@ -1,4 +1,4 @@
-use Rattle.wm_session.proofs.BookRests.{IsBetweenRuns-rests}
+use Rattle.wm_session.proofs.BookSteps.{IsBetweenRuns-rests}
 use Rattle.wm_session.specs.Tells.{tells_of}
 use Rattle.wm_session.proofs.book.Book.drains_first.Goals as goal
 

@@ -1,7 +1,7 @@
 use Rattle.std.proofs.Common.{◌∙◌, ◌<◌, ◌+◌, ◌^◌, length, sym, ap, subst, arith}
 use Rattle.std.specs.List.{AllByRecursion}
 use Rattle.wm_machine.specs.Outcome.{IsAskable}
-use Rattle.wm_session.proofs.BookLines.{BookInvariant-new}
+use Rattle.wm_session.proofs.BookSteps.{BookInvariant-new}
 use Rattle.wm_session.specs.Tells.{tells_of}
 use Rattle.wm_session.proofs.book.Book.new.Goals as goal
 
