@@ -15,6 +15,7 @@ mod names;
 mod notes;
 mod records;
 mod rows;
+mod spellings;
 mod texts;
 
 use crate::calls::difference;
