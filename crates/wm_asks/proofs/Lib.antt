@@ -1,0 +1,6 @@
+pub mod Answered
+pub mod AskTextsLemmas
+pub mod DrainFronts
+pub mod Meetings
+pub mod Readied
+pub mod MetStarts
