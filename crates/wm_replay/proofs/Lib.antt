@@ -1,0 +1,5 @@
+pub mod CheckedBatches
+pub mod MemberUpdates
+pub mod NamedPlans
+pub mod Placings
+pub mod Steps

@@ -1,0 +1,4 @@
+pub mod CancelCounts
+pub mod Commands
+pub mod Counting
+pub mod ToldWorks

@@ -1,0 +1,3 @@
+pub mod Cancels
+pub mod Counted
+pub mod Updates

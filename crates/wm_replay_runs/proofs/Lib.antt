@@ -1,0 +1,4 @@
+pub mod Closings
+pub mod Givings
+pub mod StartLemmas
+pub mod TurnLemmas

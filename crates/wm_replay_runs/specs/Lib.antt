@@ -1,0 +1,6 @@
+pub mod Away
+pub mod Closings
+pub mod Ending
+pub mod Giving
+pub mod Starts
+pub mod TurnedRuns
