@@ -1,6 +1,5 @@
 pub mod Answered
 pub mod AskTextsLemmas
-pub mod DrainFronts
 pub mod Meetings
 pub mod Readied
 pub mod MetStarts
