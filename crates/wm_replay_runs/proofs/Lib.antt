@@ -1,4 +1,3 @@
 pub mod Closings
 pub mod Givings
-pub mod StartLemmas
 pub mod TurnLemmas
