@@ -2,7 +2,6 @@
 ghost use Rattle.std.specs.Prelude.{◌≡◌, false, [], IfSome, IsSome};
 ghost use Rattle.wm_machine.specs.Built.{AreAsked};
 ghost use Rattle.wm_machine.specs.Outcome.{IsLegalLine};
-ghost use Rattle.wm_request.specs.Requests.{IsRequest};
 
 use crate::resizer::number;
 use std::alloc::Global;
@@ -50,28 +49,12 @@ pub fn photos(alloc: Global) -> Option<Batch> {
     chain.then(then).ok()?.batch().ok()
 }
 
-/// Reads a request, whose types keep it within its limits.
-fn look_at(request: &Request)
-    ensures { IsRequest request.now }
-{
-    let id = request.id();
-    let _bytes = id.as_bytes();
-    let _size = request.input().size();
-    let _class = request.class();
-    let _tags = request.tags();
-    let _backoff = request.backoff();
-    let _delay = request.initial_delay();
-    let _period = request.period();
-    let _keep = request.keep();
-    let _next = request.next();
-}
-
-/// Reads the requests of a batch.
-fn look_at_each(batch: &Batch)
+/// Shows that the requests of a batch are within their limits.
+fn show_limits(batch: &Batch)
     ensures { AreAsked batch.now.works }
 {
     for work in batch.works().as_slice() {
-        look_at(&work.request);
+        work.request.show_limits();
     }
 }
 
@@ -93,7 +76,7 @@ fn begin<M: Mark>(alloc: Global, roll: Roll) -> Option<Table<SureKeeper, M>>
 fn enqueue<M: Mark>(table: &Table<SureKeeper, M>, batch: Batch) -> Command
     ensures { IsLegalLine table.now.state result }
 {
-    look_at_each(&batch);
+    show_limits(&batch);
     Command::Enqueue { named: None, batch }
 }
 

@@ -1,7 +1,7 @@
 //! A request, whose type keeps its limits.
 ghost use Rattle.std.specs.Prelude.{◌≡◌, IfSome};
 ghost use Rattle.wm_request.specs.Batches.{IsBatch};
-ghost use Rattle.wm_request.specs.Requests.{of_record, AreTags, IsNextRun, IsShortText, IsWithin};
+ghost use Rattle.wm_request.specs.Requests.{of_record, AreTags, IsNextRun, IsRequest, IsShortText, IsWithin};
 ghost use Rattle.wm_schedule.specs.Clamped.{IsBackoffDelay, IsPeriod};
 ghost use Rattle.wm_schedule.specs.Moments.{IsDelay};
 
@@ -168,6 +168,23 @@ impl Request {
         ensures within { IsNextRun self.now.period self.now.next }
     {
         self.next
+    }
+
+    /// Shows that it is a request within its limits, as its types keep it: for a caller whose next call
+    /// asks for that.
+    pub fn show_limits(&self)
+        ensures { IsRequest self.now }
+    {
+        let id = self.id();
+        let _bytes = id.as_bytes();
+        let _size = self.input().size();
+        let _class = self.class();
+        let _tags = self.tags();
+        let _backoff = self.backoff();
+        let _delay = self.initial_delay();
+        let _period = self.period();
+        let _keep = self.keep();
+        let _next = self.next();
     }
 }
 
