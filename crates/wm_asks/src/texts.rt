@@ -2,13 +2,11 @@
 ghost use Rattle.std.specs.Prelude.{◌≡◌, IfOk, OnOk, OnErr};
 ghost use Rattle.serde_json.specs.View.{view, members_view};
 ghost use Rattle.wm_asks.specs.AskTexts as texts;
-ghost use Rattle.wm_texts.specs.Texts.{id_text, state_name};
 
 use crate::ask::{LiveRefusal, LiveReply};
 use serde_json::{Map, Value, json, put};
 use std::alloc::{AllocError, Global};
-use uuid::Uuid;
-use wm_machine::Shown;
+use wm_texts::texts::{id_value, state_name};
 
 /// What is written for an answer to the ask of a line, where the state is hushed or isn't: one compact
 /// JSON object, keys in ascending byte order, and LF. For a reply that is nothing, since its event has
@@ -100,27 +98,5 @@ fn refusal_name(refusal: &LiveRefusal) -> &'static str
         LiveRefusal::KindMismatch { .. } => "KindMismatch",
         LiveRefusal::NotWaiting { .. } => "NotWaiting",
         LiveRefusal::NeverDue { .. } => "NeverDue",
-    }
-}
-
-/// An id, hyphenated and in lower case.
-fn id_value(alloc: Global, id: &Uuid) -> Result<Value, AllocError>
-    ensures { IfOk result (λ value. view value ≡ id_text id.now) }
-{
-    let mut buffer = Uuid::encode_buffer();
-    Value::try_from_str(alloc, id.hyphenated().encode_lower(&mut buffer))
-}
-
-/// The name of a state, after `androidx.work.WorkInfo.State`.
-fn state_name(state: Shown) -> &'static str
-    ensures { result.now ≡ state_name state }
-{
-    match state {
-        Shown::Enqueued => "ENQUEUED",
-        Shown::Running => "RUNNING",
-        Shown::Succeeded => "SUCCEEDED",
-        Shown::Failed => "FAILED",
-        Shown::Blocked => "BLOCKED",
-        Shown::Cancelled => "CANCELLED",
     }
 }

@@ -31,8 +31,11 @@ pub fn check_all(alloc: Global, rows: &[Row]) -> Result<Items<Record>, RowFault>
     Ok(before.into_works())
 }
 
-/// The record of a row that is sound after these records.
-fn read_after(alloc: Global, before: &Before, row: &Row) -> Result<Record, RowFault>
+/// The record of a row that is sound after these records, which are those of the rows before it.
+///
+/// `BadRow` with the row's number where it isn't in the grammar, else `Unsound` where it isn't sound
+/// after these.
+pub fn read_after(alloc: Global, before: &Before, row: &Row) -> Result<Record, RowFault>
     ensures ok { IfOk result (λ work. read_after before.now row.now ≡ Ok work) }
     ensures sound { IfOk result (λ work. is_sound_after before.now work ≡ true) }
     ensures err { IfErr result (IsFaultOf (read_after before.now row.now)) }

@@ -12,7 +12,8 @@ pub mod rows;
 mod sound;
 mod texts;
 
-pub use checking::check_all;
+pub use checking::{check_all, read_after};
 pub use fault::RowFault;
 pub use reading::from_row;
 pub use rows::{have_one_row, is_same, to_row};
+pub use sound::Before;

@@ -21,7 +21,7 @@ const MOST_WORKS: usize = 100_000;
 
 /// The records of the rows so far, with their ids and names. A contract sees the records alone.
 #[derive(Drop)]
-pub(crate) struct Before {
+pub struct Before {
     works: Vec<Record>,
     ids: BTreeSet<Uuid>,
     names: BTreeSet<String>,
@@ -43,7 +43,7 @@ impl Model for Before {
 
 impl Before {
     /// No record. It takes no memory.
-    pub(crate) fn new(alloc: Global) -> Before
+    pub fn new(alloc: Global) -> Before
         ensures { result ≡ [] }
     {
         Before {
@@ -55,14 +55,14 @@ impl Before {
     }
 
     /// The records, taken out.
-    pub(crate) fn into_works(self) -> Items<Record>
+    pub fn into_works(self) -> Items<Record>
         ensures { result ≡ self }
     {
         Items::from_vec(self.works)
     }
 
     /// These and one more, which is sound after them.
-    pub(crate) fn with(mut self, alloc: Global, work: Record) -> Result<Before, AllocError>
+    pub fn with(mut self, alloc: Global, work: Record) -> Result<Before, AllocError>
         requires { is_sound_after self work ≡ true }
         ensures { IfOk result (λ more. more ≡ self ++ work ∷ []) }
     {

@@ -20,3 +20,4 @@ mod works;
 
 pub use limits::{Limit, MAX_LINE_BYTES, MAX_LINES, MAX_SCRIPT_BYTES, ScriptFault, first_limit};
 pub use lines::{command_of, first_line, read_lines};
+pub use objects::has_only;

@@ -114,7 +114,7 @@ fn asked_in(alloc: Global, line: &[u8]) -> Result<Command, Unread>
 
 /// The JSON value of a line, if it has one. Memory that is refused is the only error.
 #[tactic(auto, using(crate::proofs::LinesLemmas::values))]
-fn value_of(alloc: Global, line: &[u8]) -> Result<Option<Value>, AllocError>
+pub fn value_of(alloc: Global, line: &[u8]) -> Result<Option<Value>, AllocError>
     ensures { IfOk result (λ value. option_map view value ≡ value_of line.now) }
 {
     match Value::from_slice(alloc, line) {
@@ -184,7 +184,7 @@ fn one_key<'v>(value: &'v Value, key: &str) -> Option<&'v Value>
 
 /// An id under the one further key.
 #[tactic(auto, unfolding(crate::specs::Lines::id_under))]
-fn id_under(value: &Value, key: &str) -> Option<Uuid>
+pub fn id_under(value: &Value, key: &str) -> Option<Uuid>
     ensures { result ≡ id_under key.now (view value.now) }
 {
     id_in(one_key(value, key)?)

@@ -323,8 +323,8 @@ fn put_name(
     }
 }
 
-// An id, hyphenated and in lower case.
-fn id_value(alloc: Global, id: &Uuid) -> Result<Value, AllocError>
+/// An id, hyphenated and in lower case.
+pub fn id_value(alloc: Global, id: &Uuid) -> Result<Value, AllocError>
     ensures { IfOk result (λ value. view value ≡ texts.id_text id.now) }
 {
     let mut buffer = Uuid::encode_buffer();
@@ -342,8 +342,8 @@ fn applied_name(applied: Applied) -> &'static str
     }
 }
 
-// The name of a state, after `androidx.work.WorkInfo.State`.
-fn state_name(state: Shown) -> &'static str
+/// The name of a state, after `androidx.work.WorkInfo.State`.
+pub fn state_name(state: Shown) -> &'static str
     ensures { result.now ≡ texts.state_name state }
 {
     match state {
