@@ -38,6 +38,6 @@ fn make(alloc: Global, state: &mut State, event: &Event) -> Result<bool, AllocEr
         Event::Turn { run, progress } => turn(alloc, state, *run, progress),
         Event::Finish { run, end } => finish(alloc, state, *run, end),
         Event::TimedOut { run } => timed_out(alloc, state, *run),
-        Event::Late { run } => late(alloc, state, *run),
+        Event::Late { run } => Ok(late(alloc, state, *run)),
     }
 }

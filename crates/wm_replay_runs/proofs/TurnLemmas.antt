@@ -1,32 +1,18 @@
 -- Runs that go on, and the number by which one is found.
-use Rattle.std.proofs.Common.{◌≡◌, ℕ, ◌+◌, ◌≤◌, cond, eqb, List, map, min, false, Option, Some, sym, ◌∙◌, ap, arith}
-use Rattle.std.specs.List.{AllByRecursion}
+use Rattle.std.proofs.Common.{◌≡◌, ℕ, eqb, false, List, Option, Some, sym, ◌∙◌, ap}
 use Rattle.std.proofs.lemmas.Bool.{eqb-true}
 use Rattle.wm_replay_runs.specs.Away.{over, IsAwayFrom, IsOf, IsTurnOf}
 use Rattle.wm_replay_runs.specs.declared.finishing.Ended.{Ended}
-use Rattle.wm_replay_runs.specs.TurnedRuns.{turned_within}
-use Rattle.wm_collections.proofs.Lists.{All-weaker, find-passes, map-same}
+use Rattle.wm_collections.proofs.Lists.{find-passes}
 use Rattle.wm_machine.specs.Ends.{end_of, returned_of}
 use Rattle.wm_machine.specs.Runs.{changed_work, other_runs, run_numbered, with_out}
-use Rattle.wm_machine.specs.Turns.{telling, turn_of, turned, with_turned}
+use Rattle.wm_machine.specs.Turns.{telling, turn_of, with_turned}
 use Rattle.wm_machine.specs.declared.state.Run.{Run}
 use Rattle.wm_machine.specs.declared.state.State.{State}
 use Rattle.wm_data.specs.declared.data.DataEntry.{DataEntry}
 use Rattle.wm_machine.specs.declared.event.End.{End}
 use Rattle.wm_machine.specs.declared.record.Record.{Record}
 use Rattle.wm_machine.specs.declared.state.Instance.{Instance}
-
-turned-is : (run : Run) → run.turn ≤ 999 → turned_within run ≡ turned run
-turned-is run few =
-    let next : min (run.turn + 1) 1000 ≡ run.turn + 1 = omega arith in
-    ap (λ turn. record run { turn = turn }) next
-
--- runs in one of their turns go on within the bound
-pub turned-within : (number : ℕ) (runs : List Run) → AllByRecursion (λ run. run.turn ≤ 999) runs
-    → map (λ run. cond (eqb run.run number) (turned_within run) run) runs ≡ with_turned number runs
-turned-within number runs few =
-    map-same (λ (run : Run). cond (eqb run.run number) (turned_within run) run) (λ (run : Run). cond (eqb run.run number) (turned run) run) runs
-    (All-weaker runs (λ run within. ap (λ then. cond (eqb run.run number) then run) (turned-is run within)) few)
 
 -- a run that is found by a number has it
 pub numbered : (number : ℕ) (runs : List Run) (run : Run) → run_numbered number runs ≡ Some run → run.run ≡ number

@@ -3,4 +3,3 @@ pub mod Closings
 pub mod Ending
 pub mod Giving
 pub mod Starts
-pub mod TurnedRuns

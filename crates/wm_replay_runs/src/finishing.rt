@@ -7,9 +7,10 @@ ghost use Rattle.wm_machine.specs.declared.event.Event.TheVariants as event;
 
 use crate::ending::end_work;
 use crate::giving::{may_end, may_want_more};
-use crate::run_changes::{remove_run, run_numbered, set_out};
+use crate::run_changes::{remove_run, run_numbered};
 use crate::turning::LAST_TURN;
 use std::alloc::{AllocError, Global};
+use wm_lifecycle::set_out;
 use wm_machine::{End, State};
 
 /// A run's work and instance, by their numbers, and whether it was renewed.
@@ -110,5 +111,6 @@ fn end_run(
     let now = state.now;
     end_work(alloc, &mut state.works, ended.seq, ended.renewed, now, end)?;
     remove_run(alloc, &mut state.runs, number);
-    set_out(alloc, &mut state.instances, ended.instance, false)
+    set_out(alloc, &mut state.instances, ended.instance, false);
+    Ok(())
 }

@@ -5,17 +5,16 @@ ghost use Rattle.wm_machine.specs.First.{first_of, idle_instance};
 ghost use Rattle.wm_machine.specs.Input.{input_of};
 ghost use Rattle.wm_machine.specs.Runs.{one_attempt_more, run_on, start_refusal};
 ghost use Rattle.wm_machine.specs.Step.{after, IsStartFailure, Legal};
-ghost use Rattle.wm_machine.specs.Valid.{Valid};
+ghost use Rattle.wm_machine.specs.Valid.{AreNumberedInOrder, Valid};
 ghost use Rattle.wm_machine.specs.declared.event.Event.TheVariants as event;
 
 use crate::ending::fail_start;
 use crate::inputs::input_among;
-use crate::run_changes::set_out;
 use crate::work_changes::{Started, change_work};
 use std::alloc::{AllocError, Global};
 use wm_collections::{at, both};
 use wm_data::Data;
-use wm_lifecycle::started;
+use wm_lifecycle::{set_out, started};
 use wm_machine::{Cause, Instance, Record, Run, State, idle_in, is_live};
 use wm_query::first_index;
 
@@ -52,7 +51,8 @@ fn begin_named(
     seq: u64,
     instance: u32,
 ) -> Result<bool, AllocError>
-    requires { state.old.next_run < 18446744073709551615 }
+    requires few_runs { state.old.next_run < 18446744073709551615 }
+    requires numbered { AreNumberedInOrder 0 state.old.instances }
     ensures named { IfOk result (λ named. IsTrue named ↔ IsNamed started run seq instance) }
     ensures state { IfOk result (λ named. state.new ≡ (if named then begun state.old started else state.old)) }
 {
@@ -72,11 +72,12 @@ fn is_named(begun: &Run, run: u64, seq: u64, instance: u32) -> bool
 
 /// Begins a run.
 fn begin(alloc: Global, state: &mut State, run: Run) -> Result<(), AllocError>
-    requires { state.old.next_run < 18446744073709551615 }
+    requires few_runs { state.old.next_run < 18446744073709551615 }
+    requires numbered { AreNumberedInOrder 0 state.old.instances }
     ensures { OnOk result (state.new ≡ begun state.old run) }
 {
     change_work(alloc, &mut state.works, run.seq, &Started)?;
-    set_out(alloc, &mut state.instances, run.instance, true)?;
+    set_out(alloc, &mut state.instances, run.instance, true);
     state.next_run += 1;
     state.runs.push(run)?;
     Ok(())

@@ -33,7 +33,7 @@ pub fn turn(
         return Ok(false);
     };
     change_work(alloc, &mut state.works, seq, &Telling { progress })?;
-    turn_run(alloc, &mut state.runs, run)?;
+    turn_run(alloc, &mut state.runs, run);
     Ok(true)
 }
 

@@ -11,4 +11,4 @@ returns-clause-state c =
     let progress = c.args.progress.now in
     let is =
     subst (λ (found : Option ℕ). MatchOption found (IsTurn s c.args.run progress → ⊥) (IsTurnOf s c.args.run progress)) c.in-Some.is c.in_ok-seq.ensures in
-    turn-made s c.args.run progress c.in-Some.seq c.change_work.new.works c.turn_run.new.runs is c.in_ok-change_work.ensures c.in_ok-turn_run.ensures
+    turn-made s c.args.run progress c.in-Some.seq c.change_work.new.works c.turn_run.new.runs is c.in_ok-change_work.ensures c.turn_run.ensures
