@@ -1,5 +1,5 @@
 use Rattle.wm_machine.specs.declared.event.Event.TheVariants as event
-use Rattle.wm_replay.proofs.Steps.{stepped}
+use Rattle.wm_replay.proofs.Steps.{stepped, then_after}
 use Rattle.wm_replay.proofs.replaying.make.Goals as goal
 
 pub returns-in-Start : goal.returns-in-Start
@@ -24,4 +24,7 @@ returns-in-TimedOut c =
 
 pub returns-in-Late : goal.returns-in-Late
 returns-in-Late c =
-    rw c.in-Late.is (stepped c.args.state.now c.late.new.state (event.Late c.in-Late.run') c.late.result c.late.ensures.legal c.late.ensures.state)
+    rw c.in-Late.is (record {
+      legal_is = c.late.ensures.legal;
+      state_is = then_after c.args.state.now c.late.new.state (event.Late c.in-Late.run') c.late.result c.late.ensures.state;
+    })
