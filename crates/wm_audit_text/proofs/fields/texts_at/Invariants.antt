@@ -1,0 +1,10 @@
+-- The texts so far and those of the items that are left are all.
+use Rattle.std.proofs.Common.{◌≡◌, ◌++◌, drop, filter_map}
+use Rattle.serde_json.specs.Find.{as_str}
+use Rattle.serde_json.specs.View.{items_view, view}
+use Rattle.wm_audit_text.specs.Fields.{texts_at}
+use Rattle.wm_audit_text.proofs.fields.texts_at.Given as goal
+use Rattle.wm_data.specs.DataRead.{item_list}
+
+abbrev pub invariant-loop-item : goal.invariant-loop-item
+invariant-loop-item l = l.texts ++ filter_map as_str (item_list (items_view (drop l.item-index l.item-items))) ≡ texts_at l.fn.key (view l.fn.value)
