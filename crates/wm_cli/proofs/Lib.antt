@@ -9,4 +9,3 @@ pub mod RunsUnopened
 pub mod RunsWithoutEvents
 pub mod ScriptLimits
 pub mod TakenBytes
-pub mod WordsLemmas

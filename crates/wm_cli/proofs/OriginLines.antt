@@ -6,10 +6,10 @@ use Rattle.wm_cli.specs.Causes.{HaveLines, IsToldTooLong, IsToldWithin}
 use Rattle.wm_cli.specs.Ended.{ForScript}
 use Rattle.wm_cli.specs.Lines.{generated_groups, lines_of}
 use Rattle.wm_cli.specs.Reading.{IsReadStatus}
-use Rattle.wm_cli.specs.Words.{asked, options_of, AskForScript}
-use Rattle.wm_cli.specs.declared.words.Options.{Options as ReadOptions}
-use Rattle.wm_cli.specs.declared.words.Origin.{Origin}
-use Rattle.wm_cli.specs.declared.words.Origin.TheVariants.{Script, Seed}
+use Rattle.wm_words.specs.Run.{asked, options_of, AskForScript}
+use Rattle.wm_words.specs.declared.run.Options.{Options as ReadOptions}
+use Rattle.wm_words.specs.declared.run.Origin.{Origin}
+use Rattle.wm_words.specs.declared.run.Origin.TheVariants.{Script, Seed}
 use Rattle.wm_faults.specs.Faults.{Failed}
 use Rattle.wm_generator.proofs.GeneratedWorks.{AreAskable-generated}
 use Rattle.wm_generator.specs.Generated.{generated}

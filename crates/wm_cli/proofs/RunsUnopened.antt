@@ -5,10 +5,10 @@ use Rattle.wm_cli.proofs.Opening.{IsSerialRun-unopened}
 use Rattle.wm_cli.proofs.OriginLines.{AreAskable-lines_of}
 use Rattle.wm_cli.proofs.RunImages.{crash-unopened}
 use Rattle.wm_cli.proofs.RunsWithoutEvents.{HasCommands-nothing}
-use Rattle.wm_cli.proofs.WordsLemmas.{origin-fits}
+use Rattle.wm_words.proofs.WordsLemmas.{origin-fits}
 use Rattle.wm_cli.specs.Ended.{IsRunOf}
 use Rattle.wm_cli.specs.Lines.{lines_of}
-use Rattle.wm_cli.specs.Words.{origin_of}
+use Rattle.wm_words.specs.Run.{origin_of}
 use Rattle.wm_session.specs.Ended.{IsUnbegun}
 use Rattle.wm_session.specs.Tells.{Tells}
 use Rattle.wm_session.specs.declared.ended.Ended.{Ended}

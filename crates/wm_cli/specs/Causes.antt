@@ -1,7 +1,7 @@
 -- Which status a fault of reading gives, and when each status comes.
 use Rattle.std.specs.Prelude.{◌≡◌, ◌⊎◌, ℕ, ℤ, Bool, List, Option, Some, None, IfSome, IsSomeAnd, Err}
-use Rattle.wm_cli.specs.Words.{options_of}
-use Rattle.wm_cli.specs.declared.words.Origin.TheVariants.{Script}
+use Rattle.wm_words.specs.Run.{options_of}
+use Rattle.wm_words.specs.declared.run.Origin.TheVariants.{Script}
 use Rattle.wm_faults.specs.Faults.{Failed}
 use Rattle.wm_keeper.specs.declared.row.Row.{Row}
 use Rattle.wm_rows.specs.Sound.{checked}

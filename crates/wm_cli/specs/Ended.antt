@@ -4,7 +4,7 @@ use Rattle.std.specs.declared.alloc.Global.{Global}
 use Rattle.wm_bench.specs.declared.hand.Hand.{Hand}
 use Rattle.wm_cli.specs.Causes.{IsOpeningStatus, IsUnlessMemory, StoreCause}
 use Rattle.wm_cli.specs.Images.{IsHeldAlone, RunImages}
-use Rattle.wm_cli.specs.Words.{options_of, AskForNoThreads}
+use Rattle.wm_words.specs.Run.{options_of, AskForNoThreads}
 use Rattle.wm_data.specs.declared.data.DataEntry.{DataEntry}
 use Rattle.wm_faults.specs.Faults.{Failed}
 use Rattle.wm_keeper.specs.Store.{Store, GoesOn, IsAtMost, IsSettled}

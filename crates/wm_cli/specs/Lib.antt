@@ -7,4 +7,3 @@ pub mod Lines
 pub mod Reading
 pub mod Script
 pub mod Taken
-pub mod Words

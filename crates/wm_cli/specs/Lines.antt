@@ -1,7 +1,7 @@
 -- The lines of a run.
 use Rattle.std.specs.Prelude.{ℕ, List}
-use Rattle.wm_cli.specs.declared.words.Origin.{Origin}
-use Rattle.wm_cli.specs.declared.words.Origin.TheVariants as origin
+use Rattle.wm_words.specs.declared.run.Origin.{Origin}
+use Rattle.wm_words.specs.declared.run.Origin.TheVariants as origin
 use Rattle.wm_generator.specs.Generated.{generated}
 use Rattle.wm_machine.specs.declared.command.Command.{Command}
 use Rattle.wm_script.specs.Lines.{commands_in}

@@ -13,7 +13,6 @@ mod instances;
 mod pool;
 mod program;
 mod script;
-mod words;
 mod work;
 
 pub use beginning::open_book;

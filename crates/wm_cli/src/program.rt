@@ -7,7 +7,7 @@ ghost use Rattle.wm_cli.specs.Ended.{AreBoxesOf, AreHandsOf, AreReportedOnce, Ar
 ghost use Rattle.wm_cli.specs.Lines.{lines_of};
 ghost use Rattle.wm_cli.specs.Reading.{AreCommandsOf, IsReadStatus};
 ghost use Rattle.wm_cli.specs.Script.{IsTakenWithin};
-ghost use Rattle.wm_cli.specs.Words.{options_of, origin_of, AskForNoThreads, AskForScript};
+ghost use Rattle.wm_words.specs.Run.{options_of, origin_of, AskForNoThreads, AskForScript};
 ghost use Rattle.wm_faults.specs.Faults.{Failed};
 ghost use Rattle.wm_keeper.specs.Store.{told_before, KeepsTelling};
 ghost use Rattle.wm_keeper.specs.declared.row.Row.{Row};
@@ -25,7 +25,6 @@ use crate::beginning::open_book;
 use crate::instances::instances_of;
 use crate::pool::run_pool;
 use crate::script::{ReadFault, read_script};
-use crate::words::{Origin, options_of};
 use std::alloc::{AllocError, Global};
 use std::marker::Brand;
 use std::sync::Wait;
@@ -41,6 +40,7 @@ use wm_roll::Roll;
 use wm_script::{Limit, MAX_SCRIPT_BYTES, ScriptFault, read_lines};
 use wm_session::{Book, Ended, Status, run_serial};
 use wm_table::Mark;
+use wm_words::{Origin, options_of};
 use wm_worker::Worker;
 
 /// How many groups of works a seed gives.

@@ -4,10 +4,10 @@ use Rattle.wm_cli.proofs.RunsWithoutEvents.{IsTextWritten-nothing, ForScript-any
 use Rattle.wm_cli.proofs.ReportedRuns.{AreReportedOnce-nothing, AreReportedOnce-replayed}
 use Rattle.wm_cli.proofs.RunsUnopened.{IsRunOf-unopened}
 use Rattle.wm_cli.proofs.OriginLines.{long_of_script, past_within, without_lines}
-use Rattle.wm_cli.proofs.WordsLemmas.{no_threads, origin_read, script_asked}
+use Rattle.wm_words.proofs.WordsLemmas.{no_threads, origin_read, script_asked}
 use Rattle.wm_cli.specs.Ended.{IsRunOf}
 use Rattle.wm_cli.specs.Lines.{lines_of}
-use Rattle.wm_cli.specs.Words.{origin_of}
+use Rattle.wm_words.specs.Run.{origin_of}
 use Rattle.wm_session.specs.Tells.{tells_of}
 use Rattle.wm_session.specs.declared.status.Status.TheVariants.{Done, Usage}
 use Rattle.wm_cli.proofs.program.run.Goals as goal

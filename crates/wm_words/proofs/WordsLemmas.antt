@@ -8,10 +8,11 @@ use Rattle.std.specs.Str.Parse.{digits_value, ParsesUnsigned}
 use Rattle.std.proofs.lemmas.Bool.{leb-true}
 use Rattle.std.proofs.lemmas.Bool.Decides.{nat_tests}
 use Rattle.std.proofs.lemmas.Str.Parse.{IsNumeralModel, numerals_by_value, parse_digits}
-use Rattle.wm_cli.specs.Words.{Options, Setting, are_options, asked, is_numeral, most_seed, number_within, options_in, options_of, origin_in, origin_of, settings_of, store_in, value_of, workers_in, AskForNoThreads, AskForScript}
-use Rattle.wm_cli.specs.declared.words.Options.{Options as ReadOptions}
-use Rattle.wm_cli.specs.declared.words.Origin.{Origin}
-use Rattle.wm_cli.specs.declared.words.Origin.TheVariants.{Script, Seed}
+use Rattle.wm_words.specs.Run.{run_options, Options, asked, options_in, options_of, origin_in, origin_of, workers_in, AskForNoThreads, AskForScript}
+use Rattle.wm_words.specs.Settings.{Setting, are_options, is_numeral, most_seed, number_within, settings_of, store_in, value_of}
+use Rattle.wm_words.specs.declared.run.Options.{Options as ReadOptions}
+use Rattle.wm_words.specs.declared.run.Origin.{Origin}
+use Rattle.wm_words.specs.declared.run.Origin.TheVariants.{Script, Seed}
 
 -- texts of digits, and their values, as `parse` has them
 digits_read : IsNumeralModel (λ text. list_all is_ascii_digit text ≡ true) (digits_value 10)
@@ -103,10 +104,10 @@ IsOfSeed-settings true (Some options) within = within
 IsOfSeed-settings false options within = tt
 
 IsOfSeed-words : (read : Option (List Setting))
-    → IsOfSeed (origin_or (option_and_then (λ settings. cond (are_options settings) (options_in settings) None) read))
+    → IsOfSeed (origin_or (option_and_then (λ settings. cond (are_options run_options settings) (options_in settings) None) read))
 IsOfSeed-words None = tt
 IsOfSeed-words (Some settings) =
-    IsOfSeed-settings (are_options settings) (options_in settings)
+    IsOfSeed-settings (are_options run_options settings) (options_in settings)
     (IsOfSeed-options (store_in settings) (workers_in settings) (origin_in settings) (IsOfSeed-value (value_of (codes "--generate") settings)))
 
 -- each seed that the words give is a number of 64 bits

@@ -1,7 +1,7 @@
 -- The value of the option tells where the lines come from.
 use Rattle.std.proofs.Common.{None, Some}
-use Rattle.wm_cli.proofs.WordsLemmas.{origin_set, origin_unset}
-use Rattle.wm_cli.proofs.words.origin_in.Goals as goal
+use Rattle.wm_words.proofs.WordsLemmas.{origin_set, origin_unset}
+use Rattle.wm_words.proofs.run.origin_in.Goals as goal
 
 pub returns-in_err-number_within-in-Some : goal.returns-in_err-number_within-in-Some
 returns-in_err-number_within-in-Some c =

@@ -1,18 +1,16 @@
-//! The words of the command line.
+//! The words of the command line as settings, and the forms of their values.
 ghost use Rattle.std.specs.Prelude.{◌≡◌, ◌⊎◌, ◌≤◌, false, length, map, None, option_map, string_bytes, IfSome, MatchOption};
 ghost use Rattle.std.specs.Char.{is_ascii_digit};
-ghost use Rattle.std.specs.List.{list_all};
+ghost use Rattle.std.specs.List.{list_all, list_any};
 ghost use Rattle.std.specs.Option.{option_map_or};
-ghost use Rattle.wm_cli.specs.Words.{are_options, asked, is_name_byte, is_name, is_numeral, is_option, number_within, options_of, origin_in, set, setting_in, settings_of, value_of, workers_in, IsFirst};
+ghost use Rattle.std.specs.Str.{bytes_eq};
+ghost use Rattle.wm_words.specs.Settings.{are_options, is_name_byte, is_name, is_numeral, number_within, set, setting_in, settings_of, value_of, IsFirst};
 
 /// The most bytes that the name of a store has.
 const MAX_NAME_BYTES: usize = 200;
 
 /// The most digits that a number has.
 const MAX_DIGITS: usize = 20;
-
-/// The most workers that the words may ask for.
-const MAX_WORKERS: u64 = 64;
 
 /// A byte that the name of a store may have.
 fn is_name_byte(byte: u8) -> bool
@@ -27,7 +25,9 @@ fn are_name_bytes(bytes: &[u8]) -> bool
     bytes.iter().all(|byte| is_name_byte(*byte))
 }
 
-fn is_name(name: &str) -> bool
+/// Whether a text may name a store: 1 to 200 bytes of ASCII letters, digits, `.`, `_`, `/` and `-`, of
+/// which the first isn't `-`.
+pub fn is_name(name: &str) -> bool
     ensures { result ≡ is_name name.now }
 {
     let bytes = name.as_bytes();
@@ -51,7 +51,7 @@ fn is_numeral(text: &str) -> bool
 }
 
 /// The number that 1 to 20 decimal digits write, where it is at most `most`.
-fn number_within(most: u64, text: &str) -> Option<u64>
+pub fn number_within(most: u64, text: &str) -> Option<u64>
     ensures value { result ≡ number_within most text.now }
     ensures within { IfSome result (λ number. number ≤ most) }
 {
@@ -64,7 +64,7 @@ fn number_within(most: u64, text: &str) -> Option<u64>
 
 /// An option of the command line, with its value.
 #[derive(Clone, Copy)]
-struct Setting<'w> {
+pub struct Setting<'w> {
     option: &'w str,
     value: &'w str,
 }
@@ -97,7 +97,7 @@ fn first_setting(words: &[String]) -> Option<(Setting<'_>, &[String])>
 }
 
 /// The value that the words give this option, the first where it stands twice.
-fn value_of<'w>(option: &str, words: &'w [String]) -> Option<&'w str>
+pub fn value_of<'w>(option: &str, words: &'w [String]) -> Option<&'w str>
     ensures { IfSome (settings_of (map string_bytes words.now))
         (λ settings. option_map (λ value. value.now) result ≡ value_of option.now settings) }
 {
@@ -112,89 +112,28 @@ fn value_of<'w>(option: &str, words: &'w [String]) -> Option<&'w str>
     None
 }
 
-/// Whether this is an option that there is.
-fn is_option(option: &str) -> bool
-    ensures { result ≡ is_option option.now }
+/// Whether an option is one of those that there are.
+#[tactic(auto, using(wm_collections::proofs::Lists::list_any_after))]
+fn is_among(option: &str, options: &[&str]) -> bool
+    ensures { result ≡ list_any (λ own. bytes_eq own option.now) (map (λ own. own.now) options.now) }
 {
-    option == "--store" || option == "--workers" || option == "--generate"
+    options.contains(&option)
 }
 
-/// Whether the words are settings, of options that there are, none twice.
-fn are_options(words: &[String]) -> bool
-    ensures { result ≡ option_map_or are_options (settings_of (map string_bytes words.now)) false }
+/// Whether the words are settings of these options, none twice.
+pub fn are_options(options: &[&str], words: &[String]) -> bool
+    ensures { result ≡ option_map_or (are_options (map (λ own. own.now) options.now))
+        (settings_of (map string_bytes words.now)) false }
 {
     let mut rest = words;
     while !rest.is_empty() {
         let Some((setting, later)) = first_setting(rest) else {
             return false;
         };
-        if !is_option(setting.option) || value_of(setting.option, later).is_some() {
+        if !is_among(setting.option, options) || value_of(setting.option, later).is_some() {
             return false;
         }
         rest = later;
     }
     true
-}
-
-/// Where the lines of a run come from.
-#[derive(Clone, Copy)]
-pub enum Origin {
-    /// They are those of the script that the source has.
-    Script,
-    /// They are those that this seed gives.
-    Seed(u64),
-}
-
-/// What the words of the command line ask for.
-#[derive(Clone, Copy)]
-pub struct Options<'w> {
-    /// The name of the store.
-    pub store: &'w str,
-    /// The number of workers, 0 where the words don't say it.
-    pub workers: u32,
-    /// Where the lines come from, the script where the words give no seed.
-    pub origin: Origin,
-}
-
-/// The number of workers that the words ask for.
-fn workers_in(words: &[String]) -> Option<u32>
-    ensures asked { IfSome (settings_of (map string_bytes words.now)) (λ settings. result ≡ workers_in settings) }
-    ensures few { IfSome result (λ workers. workers ≤ 64) }
-{
-    match value_of("--workers", words) {
-        Some(value) => Some(number_within(MAX_WORKERS, value)? as u32),
-        None => Some(0),
-    }
-}
-
-/// Where the lines come from that the words ask for.
-fn origin_in(words: &[String]) -> Option<Origin>
-    ensures asked { IfSome (settings_of (map string_bytes words.now)) (λ settings. result ≡ origin_in settings) }
-{
-    match value_of("--generate", words) {
-        Some(value) => Some(Origin::Seed(number_within(u64::MAX, value)?)),
-        None => Some(Origin::Script),
-    }
-}
-
-/// What the words ask for: `--store NAME` and, where they are given, `--workers N` and
-/// `--generate SEED`, in any order, each once at most, as two words or as one with `=`.
-pub fn options_of(words: &[String]) -> Option<Options<'_>>
-    ensures asked { option_map asked result ≡ options_of (map string_bytes words.now) }
-    ensures few { IfSome result (λ options. options.workers ≤ 64) }
-{
-    if !are_options(words) {
-        return None;
-    }
-    let store = value_of("--store", words)?;
-    if !is_name(store) {
-        return None;
-    }
-    let workers = workers_in(words)?;
-    let origin = origin_in(words)?;
-    Some(Options {
-        store,
-        workers,
-        origin,
-    })
 }

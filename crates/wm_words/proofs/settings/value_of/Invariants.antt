@@ -1,7 +1,7 @@
 -- What is left of the words has the same value of the option as all of them.
 use Rattle.std.proofs.Common.{◌≡◌, length, map, option_map, string_bytes}
-use Rattle.wm_cli.specs.Words.{settings_of, value_of}
-use Rattle.wm_cli.proofs.words.value_of.Given as goal
+use Rattle.wm_words.specs.Settings.{settings_of, value_of}
+use Rattle.wm_words.proofs.settings.value_of.Given as goal
 
 abbrev pub invariant-loop-option : goal.invariant-loop-option
 invariant-loop-option l =

@@ -1,13 +1,9 @@
--- The words of the command line.
-use Rattle.std.specs.Prelude.{◌≡◌, ℕ, ◌+◌, ◌<◌, ◌==◌, ◌&&◌, ◌||◌, Bool, true, not, List, [], ◌∷◌, length, find, slice_index, nat_lt, nat_le, codes, take, drop, position, is_none, if◌then◌else◌, Option, Some, None, IfSome, bytes_eq, option_and_then, option_map, IsSomeAnd}
+-- The words of the command line as settings, and the forms of their values.
+use Rattle.std.specs.Prelude.{◌≡◌, ℕ, ◌+◌, ◌<◌, ◌==◌, ◌&&◌, ◌||◌, Bool, true, not, List, [], ◌∷◌, length, find, slice_index, nat_lt, nat_le, codes, take, drop, position, is_none, if◌then◌else◌, Option, Some, None, bytes_eq, option_and_then, option_map}
 use Rattle.std.specs.Char.{is_ascii_digit}
-use Rattle.std.specs.List.{list_all}
-use Rattle.std.specs.Option.{option_map_or}
+use Rattle.std.specs.List.{list_all, list_any}
 use Rattle.std.specs.Str.Parse.{digits_value}
-use Rattle.wm_cli.specs.declared.words.Options.{Options as ReadOptions}
-use Rattle.wm_cli.specs.declared.words.Origin.{Origin}
-use Rattle.wm_cli.specs.declared.words.Origin.TheVariants.{Script, Seed}
-use Rattle.wm_cli.specs.declared.words.Setting.{Setting as ReadSetting}
+use Rattle.wm_words.specs.declared.settings.Setting.{Setting as ReadSetting}
 
 abbrev pub is_between : ℕ → ℕ → ℕ → Bool
 is_between low high byte = nat_le low byte && nat_le byte high
@@ -54,58 +50,25 @@ settings_of (word ∷ next ∷ words) =
       | None ↦ option_map (λ settings. record { option = word; value = next } ∷ settings) (settings_of words)
     ]
 
--- the options that there are
-abbrev pub is_option : List ℕ → Bool
-is_option option = bytes_eq option (codes "--store") || bytes_eq option (codes "--workers") || bytes_eq option (codes "--generate")
-
 -- the value that the settings give this option, the first where it stands twice
 abbrev pub value_of : List ℕ → List Setting → Option (List ℕ)
 value_of option settings =
     option_map (λ setting. setting.value) (find (λ setting. bytes_eq setting.option option) settings)
 
--- each option is one that there is, and none stands twice
-abbrev pub are_options : List Setting → Bool
-are_options [] = true
-are_options (setting ∷ later) =
-    is_option setting.option && is_none (value_of setting.option later) && are_options later
+-- each option is one of these, and none stands twice
+abbrev pub are_options : List (List ℕ) → List Setting → Bool
+are_options options [] = true
+are_options options (setting ∷ later) =
+    list_any (λ own. bytes_eq own setting.option) options && is_none (value_of setting.option later) && are_options options later
 
 -- the name of the store, which has to be set
 abbrev pub store_in : List Setting → Option (List ℕ)
 store_in settings =
     option_and_then (λ name. if is_name name then Some name else None) (value_of (codes "--store") settings)
 
--- the number of workers, at most 64; 0 where it isn't set
-abbrev pub workers_in : List Setting → Option ℕ
-workers_in settings = elim (value_of (codes "--workers") settings) [ Some value ↦ number_within 64 value | None ↦ Some 0 ]
-
 -- the greatest number of 64 bits
 abbrev pub most_seed : ℕ
 most_seed = 18446744073709551615
-
--- where the lines come from: of a seed, a number of 64 bits, where one is set, and else of the script
-abbrev pub origin_in : List Setting → Option Origin
-origin_in settings = option_map_or (λ value. option_map Seed (number_within most_seed value)) (value_of (codes "--generate") settings) (Some Script)
-
--- what the words ask for
-pub record Options : Type 0 where
-  pub store : List ℕ
-  pub workers : ℕ
-  pub origin : Origin
-
--- what the settings ask for
-abbrev pub options_in : List Setting → Option Options
-options_in settings =
-    option_and_then (λ store. option_and_then (λ workers.
-    option_map (λ origin. record { store = store; workers = workers; origin = origin }) (origin_in settings)) (workers_in settings)) (store_in settings)
-
--- what the words ask for: they are settings, of options that there are, none twice, and each value has the form of its option
-abbrev pub options_of : List (List ℕ) → Option Options
-options_of words =
-    option_and_then (λ settings. if are_options settings then options_in settings else None) (settings_of words)
-
--- what options that point to their words ask for
-abbrev pub asked : ReadOptions → Options
-asked options = record { store = options.store.now; workers = options.workers; origin = options.origin }
 
 -- what a setting that points to its words sets
 abbrev pub set : ReadSetting → Setting
@@ -115,15 +78,3 @@ set setting = record { option = setting.option.now; value = setting.value.now }
 pub record IsFirst (setting : Setting) (words later : List (List ℕ)) : Type 0 where
   pub settings : settings_of words ≡ option_map (λ settings. setting ∷ settings) (settings_of later)
   pub shorter : length later < length words
-
--- the words ask for no threads
-abbrev pub AskForNoThreads : List (List ℕ) → Type 0
-AskForNoThreads words = IfSome (options_of words) (λ options. options.workers ≡ 0)
-
--- the words are right, and ask for a script
-abbrev pub AskForScript : List (List ℕ) → Type 0
-AskForScript words = IsSomeAnd (options_of words) (λ options. options.origin ≡ Script)
-
--- where the lines come from that the words ask for, where they are right
-abbrev pub origin_of : List (List ℕ) → Origin
-origin_of words = option_map_or (λ options. options.origin) (options_of words) Script

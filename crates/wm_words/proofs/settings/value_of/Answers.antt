@@ -1,8 +1,8 @@
 -- What is left of the words tells what all of them do.
 use Rattle.std.proofs.Common.{option_map, ap, sym, ◌∙◌}
-use Rattle.wm_cli.specs.Words.{set, value_of}
-use Rattle.wm_cli.proofs.WordsLemmas.{IfSome-unread, none_read, value_of-first}
-use Rattle.wm_cli.proofs.words.value_of.Goals as goal
+use Rattle.wm_words.specs.Settings.{set, value_of}
+use Rattle.wm_words.proofs.WordsLemmas.{IfSome-unread, none_read, value_of-first}
+use Rattle.wm_words.proofs.settings.value_of.Goals as goal
 
 pub returns-in_err-setting : goal.returns-in_err-setting
 returns-in_err-setting c =

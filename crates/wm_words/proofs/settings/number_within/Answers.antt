@@ -1,7 +1,7 @@
 -- A numeral that `parse` refuses is above every number of its type.
 use Rattle.std.proofs.Common.{arith, sym, ◌∙◌}
-use Rattle.wm_cli.proofs.WordsLemmas.{number_within-refused}
-use Rattle.wm_cli.proofs.words.number_within.Goals as goal
+use Rattle.wm_words.proofs.WordsLemmas.{number_within-refused}
+use Rattle.wm_words.proofs.settings.number_within.Goals as goal
 
 pub returns-in_err-number-clause-value : goal.returns-in_err-number-clause-value
 returns-in_err-number-clause-value c =

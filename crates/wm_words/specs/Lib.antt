@@ -1,0 +1,4 @@
+pub mod Callers
+pub mod Live
+pub mod Run
+pub mod Settings
