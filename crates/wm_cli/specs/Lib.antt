@@ -5,5 +5,6 @@ pub mod Ended
 pub mod Images
 pub mod Lines
 pub mod Reading
+pub mod Run
 pub mod Script
 pub mod Taken

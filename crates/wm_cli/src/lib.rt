@@ -2,7 +2,8 @@
 //!
 //! [`run`] does all that the program does: it reads the words of the command line, then the whole
 //! script, then loads the store, and executes the script's commands one after another, driving the
-//! workers that it is given. Its contract is the promise of the program. [`open_book`] begins a run over
+//! workers that it is given. Its contract is the promise of the program, `IsRun` of `specs/Run.antt`.
+//! [`read_script`] reads a script from its source. [`open_book`] begins a run over
 //! rows that were loaded, and [`run_pool`] drives its workers in threads, over a
 //! [`Book`](wm_session::Book) behind a lock.
 #![tactic(auto)]
@@ -19,4 +20,5 @@ pub use beginning::open_book;
 pub use instances::instances_of;
 pub use pool::run_pool;
 pub use program::run;
+pub use script::{ReadFault, read_script};
 pub use wm_session::{Ended, Status};

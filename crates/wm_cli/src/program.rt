@@ -1,25 +1,23 @@
 //! The top call: all that the program does, with its contract.
-ghost use Rattle.std.specs.Prelude.{◌≡◌, ◌↔◌, ◌+◌, ◌≤◌, ◌<◌, ◌^◌, ℕ, ℤ, Bool, List, [], length, map, vec_len, true, false, None, Some, Err, IfOk, IfErr, IfSome, OnOk, string_bytes};
+ghost use Rattle.std.specs.Prelude.{◌≡◌, ◌+◌, ◌≤◌, ◌<◌, ◌^◌, ℕ, [], length, map, vec_len, None, Some, Err, IfOk, IfErr, IfSome, OnOk, string_bytes};
 ghost use Rattle.std.specs.List.{AllByRecursion};
 ghost use Rattle.wm_bench.specs.Places.{idle_hands, most_hands};
-ghost use Rattle.wm_cli.specs.Causes.{HaveLines, IsToldTooLong, IsUnlessMemory, LimitCause, StoreCause};
-ghost use Rattle.wm_cli.specs.Ended.{AreBoxesOf, AreHandsOf, AreReportedOnce, AreRowsKept, ForScript, HaveToldOnDone, IsBegunBy, IsOpeningRefused, IsQuietOnDone, IsReplayed, IsRunEnd, IsRunOf, IsStoreOf};
+ghost use Rattle.wm_cli.specs.Ended.{ForScript, IsRunEnd};
 ghost use Rattle.wm_cli.specs.Lines.{lines_of};
 ghost use Rattle.wm_cli.specs.Reading.{AreCommandsOf, IsReadStatus};
+ghost use Rattle.wm_cli.specs.Run.{reads_of, IsRun};
 ghost use Rattle.wm_cli.specs.Script.{IsTakenWithin};
-ghost use Rattle.wm_words.specs.Run.{options_of, origin_of, AskForNoThreads, AskForScript};
+ghost use Rattle.wm_words.specs.Run.{options_of};
 ghost use Rattle.wm_faults.specs.Faults.{Failed};
-ghost use Rattle.wm_keeper.specs.Store.{told_before, KeepsTelling};
+ghost use Rattle.wm_keeper.specs.Store.{told_before};
 ghost use Rattle.wm_keeper.specs.declared.row.Row.{Row};
 ghost use Rattle.wm_machine.specs.Outcome.{IsAskable};
-ghost use Rattle.wm_rows.specs.Sound.{checked, AreSound};
 ghost use Rattle.wm_script.specs.Limits.{first_limit, most_script_bytes};
 ghost use Rattle.wm_script.specs.declared.limits.Limit.{Limit};
 ghost use Rattle.wm_session.specs.BetweenRuns.{IsAtBegin};
-ghost use Rattle.wm_session.specs.Ended.{IsBookEnd, IsSerialEnd, IsTextWritten};
+ghost use Rattle.wm_session.specs.Ended.{IsBookEnd, IsSerialEnd};
 ghost use Rattle.wm_seating.specs.Hands.{instances_from};
 ghost use Rattle.wm_session.specs.Tells.{tells_of, AreInputs};
-ghost use Rattle.wm_table.specs.Table.{row_fault};
 
 use crate::beginning::open_book;
 use crate::instances::instances_of;
@@ -234,7 +232,8 @@ fn run_book<
 /// whoever calls, or of any one type; they are of any kinds, and at most 10,000. The gate is passed
 /// before each command and before each turn of a worker. What comes back is how the run ended, with
 /// the log of its events between the first state and the last, the keeper, the sink and the workers.
-/// Each status has its cause: see [`Status`]. With threads, that the call returns isn't promised.
+/// What is promised of it stands in `IsRun`, fact by fact. Each status has its cause: see [`Status`].
+/// With threads, that the call returns isn't promised.
 pub fn run<
     R: Threads + Wait + Sync,
     S: Source,
@@ -253,99 +252,8 @@ pub fn run<
     gate: &G,
 ) -> Ended<K, W, B>
     requires few_hands { vec_len hands ≤ most_hands }
-
-    // The log replays, from the state that the rows held opened to, as the state machine. The rows
-    // held are those that the keeper told, where it tells rows to the end.
-    ensures replay { IsReplayed (told_before (K.store keeper).rows (K.store result.keeper).rows)
-        (instances_from B.kind_of 0 hands.items)
-        result.began result.first result.log result.last }
-    // And they are those, told to the end or not, where it is told in the end that a crash may leave any.
-    ensures replay_left { (image : List Row) → (K.store result.keeper).images image
-        → IsReplayed (K.store keeper).rows (instances_from B.kind_of 0 hands.items)
-        result.began result.first result.log result.last }
-    // Rows that the keeper told are told in the end, unless it is lost then.
-    ensures keeps_telling { KeepsTelling (K.store keeper) (K.store result.keeper) }
-    ensures begun { IsBegunBy result.status result.began }
-    ensures at_opening { IsOpeningRefused result.status result.began result.at_opening }
-    // Where no store was opened, the sink is as it was.
-    ensures not_begun_keeps { result.began ≡ false → result.sink ≡ sink }
-    // The rows kept are the last state's, and those of before where no store was opened.
-    ensures rows { AreRowsKept result.began result.last (K.store keeper) (K.store result.keeper) }
-    // They stand in the store that the words name.
-    ensures store { result.began ≡ true → IsStoreOf (map string_bytes words.now) (K.store result.keeper).name }
-    // It is a run of the seed's lines, where the words give one, and else of the script's, those of the
-    // bytes that the source had left, where it tells them, and else of some bytes. The log has these
-    // lines as its commands, a front of them, and on `Done` all. Without threads it is that of a serial
-    // run over them, or a front of one. Where nothing was pending in the store, a crash leaves the last
-    // state's rows, or those of the state after the event that was being committed; and where no store
-    // was opened the rows of before, or those of the opening that was being committed.
-    ensures script { ForScript (S.left source.old) (λ bytes.
-        IsRunOf (tells_of K.store W.given W.faults B.kind_of B.diary_of) (map string_bytes words.now)
-        hands.items keeper (lines_of (origin_of (map string_bytes words.now)) bytes) result) }
-    // The bytes written are the log's text, a front of it, and on `Done` all.
-    ensures bytes { IsTextWritten (W.given sink) (W.given result.sink)
-        result.status result.first result.log }
-    // On `Done` nothing is startable and no run is unreturned.
-    ensures end { IsQuietOnDone result.status result.last }
-    // Each run is reported once: at most, and just once where nothing is left to do in the end.
-    ensures reports { AreReportedOnce result.first result.log result.last }
-    // The workers whose class wasn't retired come back.
-    ensures hands { AreHandsOf B.kind_of result.began result.last hands.items result.hands.items }
-    // Without threads each of them is the one that was given, with what it wrote down.
-    ensures boxes { AskForNoThreads (map string_bytes words.now)
-        → AreBoxesOf B.diary_of result.began hands.items
-        result.log result.last result.hands.items }
-    ensures diaries { AskForNoThreads (map string_bytes words.now)
-        → HaveToldOnDone B.diary_of result.status hands.items
-        result.first result.log result.last result.hands.items }
-
-    // At most one byte more than a script may have is read, and nothing where a seed gives the lines.
-    ensures reads { IsTakenWithin (most_script_bytes + 1) (S.left source.old) (S.left source.new) }
-    ensures generated_reads_nothing { (seed : ℕ) → origin_of (map string_bytes words.now) ≡ Origin.Seed seed
-        → source.new ≡ source.old }
-
-    // The causes: when each status comes. Memory alone is free.
-    ensures done { result.status ≡ Status.Done → result.began ≡ true }
-    ensures usage { (result.status ≡ Status.Usage)
-        ↔ (options_of (map string_bytes words.now) ≡ None) }
-    ensures usage_reads_nothing { result.status ≡ Status.Usage → source.new ≡ source.old }
-    ensures usage_keeps { result.status ≡ Status.Usage
-        → (result.keeper ≡ keeper) × (result.sink ≡ sink) }
-    ensures source_fault { result.status ≡ Status.SourceFault
-        → Failed (S.faults source.old) (S.faults source.new) }
-    ensures source_fault_keeps { result.status ≡ Status.SourceFault
-        → (result.keeper ≡ keeper) × (result.sink ≡ sink) }
-    ensures script_too_long { LimitCause result.status
-        (S.faults source.old) (S.faults source.new) (S.left source.old) }
-    ensures script_too_long_of_script { (limit : Limit) → result.status ≡ Status.ScriptTooLong limit
-        → AskForScript (map string_bytes words.now) }
-    ensures script_too_long_keeps { (limit : Limit) → result.status ≡ Status.ScriptTooLong limit
-        → (result.keeper ≡ keeper) × (result.sink ≡ sink) }
-    ensures long_script { (limit : Limit) → AskForScript (map string_bytes words.now)
-        → IsToldTooLong limit (S.left source.old)
-        → ¬ Failed (S.faults source.old) (S.faults source.new)
-        → IsUnlessMemory result.status (Status.ScriptTooLong limit) }
-    ensures keeper_fault { result.status ≡ Status.KeeperFault
-        → Failed (K.store keeper).faults (K.store result.keeper).faults }
-    ensures sink_fault { result.status ≡ Status.SinkFault
-        → Failed (W.faults sink) (W.faults result.sink) }
-    ensures bad_store { StoreCause result.status
-        (told_before (K.store keeper).rows (K.store result.keeper).rows) }
-    ensures unsound_store { (rows : List Row) (seq : ℤ) (bad_row : Bool)
-        → HaveLines (map string_bytes words.now) (S.left source.old) (S.faults source.old) (S.faults source.new)
-        → told_before (K.store keeper).rows (K.store result.keeper).rows ≡ Some rows
-        → checked rows ≡ Err (row_fault seq bad_row)
-        → ¬ Failed (K.store keeper).faults (K.store result.keeper).faults
-        → IsUnlessMemory result.status (Status.BadStore seq bad_row) }
-
-    // Completeness: right words, with a seed or a script within its limits, a sound store and no fault.
-    ensures completes { (rows : List Row)
-        → HaveLines (map string_bytes words.now) (S.left source.old) (S.faults source.old) (S.faults source.new)
-        → told_before (K.store keeper).rows (K.store result.keeper).rows ≡ Some rows
-        → AreSound rows
-        → ¬ Failed (K.store keeper).faults (K.store result.keeper).faults
-        → ¬ Failed (W.faults sink) (W.faults result.sink)
-        → IsUnlessMemory result.status Status.Done }
+    ensures { IsRun (tells_of K.store W.given W.faults B.kind_of B.diary_of) (reads_of S.left S.faults)
+        (map string_bytes words.now) hands.items source.old source.new keeper sink result }
 {
     let Some(options) = options_of(words) else {
         return Ended::before_begin(alloc, Status::Usage, keeper, sink, hands);
