@@ -9,8 +9,10 @@ use Rattle.wm_audit_text.specs.Headers.{end_in, end_json, hands_in, header_json}
 use Rattle.wm_audit_text.specs.StoredRows.{row_in, row_json}
 use Rattle.wm_audit_text.specs.Fields.{number_at}
 use Rattle.wm_audit_text.specs.declared.entry.Entry.{Entry}
+use Rattle.wm_audit_text.specs.declared.entry.Entry.TheVariants as entry
 use Rattle.wm_audit_text.specs.declared.headers.Header.{Header}
 use Rattle.wm_keeper.specs.declared.row.Row.{Row}
+use Rattle.wm_machine.specs.Outcome.{IsAskable}
 use Rattle.wm_machine.specs.declared.event.Event.{Event}
 use Rattle.wm_machine.specs.declared.event.Event.TheVariants as event
 use Rattle.wm_machine.specs.declared.state.Instance.{Instance}
@@ -82,3 +84,8 @@ HasCanonical e = Unit {0}
 -- an event is told by its line, where its command is canonical
 unfoldable pub IsToldCanonical : Event → Type 0
 IsToldCanonical e = HasCanonical e → IsTold e
+
+-- what a line tells may be told: a command may be asked, and another event isn't one of a command
+abbrev pub MayBeTold : Entry → Type 0
+MayBeTold (entry.Command line asked) = IsAskable asked
+MayBeTold (entry.Run e) = entry_of e ≡ entry.Run e

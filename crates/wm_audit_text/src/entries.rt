@@ -1,9 +1,10 @@
 //! What the line of an event tells, read.
-ghost use Rattle.std.specs.Prelude.{◌≡◌, ◌≤◌, IfOk, Some};
+ghost use Rattle.std.specs.Prelude.{◌≡◌, ◌≤◌, IfOk, IfSome, Some};
 ghost use Rattle.serde_json.specs.Data.{depth};
 ghost use Rattle.serde_json.specs.Read.{max_depth};
 ghost use Rattle.serde_json.specs.View.{view};
 ghost use Rattle.wm_audit_text.specs.Entries as entries;
+ghost use Rattle.wm_audit_text.specs.Lines.{MayBeTold};
 ghost use Rattle.wm_audit_text.specs.declared.entry.Entry.TheVariants.{Run};
 
 use crate::entry::Entry;
@@ -18,7 +19,8 @@ use wm_spelling::command_in;
 #[tactic(auto, unfolding(crate::specs::Entries::entry_in))]
 pub(crate) fn entry_in(alloc: Global, value: &Value) -> Result<Option<Entry>, AllocError>
     requires { depth (view value.now) ≤ max_depth }
-    ensures { IfOk result (λ entry. entry ≡ entries.entry_in (view value.now)) }
+    ensures entry { IfOk result (λ entry. entry ≡ entries.entry_in (view value.now)) }
+    ensures may_be { IfOk result (λ entry. IfSome entry MayBeTold) }
 {
     entry_under(alloc, text_at(value, "event"), value)
 }
@@ -26,7 +28,8 @@ pub(crate) fn entry_in(alloc: Global, value: &Value) -> Result<Option<Entry>, Al
 /// What a value of this name tells.
 fn entry_under(alloc: Global, name: &str, value: &Value) -> Result<Option<Entry>, AllocError>
     requires { depth (view value.now) ≤ max_depth }
-    ensures { IfOk result (λ entry. entry ≡ entries.entry_under name.now (view value.now)) }
+    ensures entry { IfOk result (λ entry. entry ≡ entries.entry_under name.now (view value.now)) }
+    ensures may_be { IfOk result (λ entry. IfSome entry MayBeTold) }
 {
     match name {
         "command" => command_entry(alloc, value),
@@ -46,7 +49,9 @@ fn entry_under(alloc: Global, name: &str, value: &Value) -> Result<Option<Entry>
 
 /// An event that is told.
 fn told(event: Event) -> Result<Option<Entry>, AllocError>
-    ensures { IfOk result (λ entry. entry ≡ Some (Run event)) }
+    requires { entries.entry_of event ≡ Run event }
+    ensures entry { IfOk result (λ entry. entry ≡ Some (Run event)) }
+    ensures may_be { IfOk result (λ entry. IfSome entry MayBeTold) }
 {
     Ok(Some(Entry::Run(event)))
 }
@@ -54,7 +59,8 @@ fn told(event: Event) -> Result<Option<Entry>, AllocError>
 /// A command under the number of its line.
 fn command_entry(alloc: Global, value: &Value) -> Result<Option<Entry>, AllocError>
     requires { depth (view value.now) ≤ max_depth }
-    ensures { IfOk result (λ entry. entry ≡ entries.command_entry (view value.now)) }
+    ensures entry { IfOk result (λ entry. entry ≡ entries.command_entry (view value.now)) }
+    ensures may_be { IfOk result (λ entry. IfSome entry MayBeTold) }
 {
     match value.get("command") {
         Some(asked) => Ok(Some(Entry::Command {

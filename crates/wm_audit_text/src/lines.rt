@@ -112,7 +112,8 @@ pub fn row_of(alloc: Global, line: &[u8]) -> Result<Option<Row>, AllocError>
 /// What a line tells of an event, if it is spelled as one.
 #[tactic(auto, unfolding(crate::specs::Lines::entry_at))]
 pub fn entry_of(alloc: Global, line: &[u8]) -> Result<Option<Entry>, AllocError>
-    ensures { IfOk result (λ entry. entry ≡ lines.entry_at line.now) }
+    ensures entry { IfOk result (λ entry. entry ≡ lines.entry_at line.now) }
+    ensures may_be { IfOk result (λ entry. IfSome entry lines.MayBeTold) }
 {
     let Some(value) = value_of(alloc, line)? else {
         return Ok(None);

@@ -1,0 +1,12 @@
+pub mod AuditsSound
+pub mod Cuts
+pub mod Exports
+pub mod Happenings
+pub mod Hushed
+pub mod LastLines
+pub mod Lines
+pub mod OneVerdict
+pub mod Openings
+pub mod Reachings
+pub mod SoundAudits
+pub mod Tellings
