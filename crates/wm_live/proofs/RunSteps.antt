@@ -1,0 +1,177 @@
+-- A run that begins, goes on and ends in a stand.
+use Rattle.std.proofs.Common.{◌≡◌, ℕ, ◌+◌, ◌≤◌, true, false, List, [], ◌∷◌, ◌++◌, length, map, Option, Some, refl, sym, ◌∙◌, ap, subst, arith}
+use Rattle.std.proofs.lemmas.Bool.{eq-eqb}
+use Rattle.wm_bench.specs.Places.{changed_at, idle_at, made_away, made_back, IsAwayAt}
+use Rattle.wm_bench.specs.Seat.{Seat}
+use Rattle.wm_data.specs.declared.data.DataEntry.{DataEntry}
+use Rattle.wm_keeper.specs.Store.{Store}
+use Rattle.wm_live.proofs.Taken.{length-turned, other_runs-turned, taken_again, ticket-found, ticket_kind, without-new, IsAwayAt-taken, NoneAway-back}
+use Rattle.wm_live.specs.Rest.{IsAtRest, IsUnderWay}
+use Rattle.wm_live.specs.StandState.{StandState}
+use Rattle.wm_machine.proofs.Logs.{Replay-push}
+use Rattle.wm_machine.proofs.Starts.{after_start}
+use Rattle.wm_machine.proofs.Steps.{Valid-after}
+use Rattle.wm_machine.proofs.Turns.{after_turn}
+use Rattle.wm_machine.specs.Frame.{Frame}
+use Rattle.wm_machine.specs.Replay.{Replay}
+use Rattle.wm_machine.specs.Role as role
+use Rattle.wm_machine.specs.Role.{Reported}
+use Rattle.wm_machine.specs.Runs.{other_runs, run_on, with_out}
+use Rattle.wm_machine.specs.Step.{role_of}
+use Rattle.wm_machine.specs.Turns.{with_turned}
+use Rattle.wm_machine.specs.declared.event.Cause.{Cause}
+use Rattle.wm_machine.specs.declared.event.Event.{Event}
+use Rattle.wm_machine.specs.declared.state.Run.{Run}
+use Rattle.wm_machine.specs.declared.state.State.{State}
+use Rattle.wm_machine.specs.Valid.{Valid}
+use Rattle.wm_machine.specs.declared.event.Event.TheVariants as event
+use Rattle.wm_roll.specs.Parts.{without}
+use Rattle.wm_roll.specs.declared.part.Part.{Part}
+use Rattle.wm_seating.proofs.PlacesAndInstances.{traits-back, traits-taken, traits-with_out}
+use Rattle.wm_seating.specs.Bench.{instance_traits, place_traits, NoneAway}
+use Rattle.wm_table.proofs.NoLines.{framed_end}
+use Rattle.wm_table.specs.Parts.{ticket_part}
+use Rattle.wm_table.specs.Rolls.{given_again}
+use Rattle.wm_table.specs.Table.{IsOneStep, IsTicketIn}
+use Rattle.wm_table.specs.TableState.{TableState, TicketState}
+use Rattle.wm_runs.specs.Reports.{IsOut}
+use Rattle.wm_worker.specs.declared.kind.Kind.{Kind}
+
+-- ---- one event
+
+pub Replay-step : {K : Type 0} (store : K → Store) (e : Event) (old new : TableState K) → Replay old.first old.log old.state
+    → IsOneStep store e old new → Replay new.first new.log new.state
+Replay-step store e old new replays step =
+    rw (step.first, step.appended, step.state) (Replay-push old.first old.log old.state e replays step.legal)
+
+pub Valid-step : {K : Type 0} (store : K → Store) (e : Event) (old new : TableState K) → Valid old.state → IsOneStep store e old new → Valid new.state
+Valid-step store e old new valid step = rw step.state (Valid-after old.state e valid step.legal)
+
+-- ---- a run begins
+
+module _ {K B : Type 0} (store : K → Store) (kind_of : B → Kind) (ticket : TicketState) (seat : Seat B) (old new : StandState K B)
+    (rest : IsAtRest kind_of old)
+    (step : IsOneStep store (event.Start ticket.task.run ticket.seq ticket.instance ticket.task.input) old.table new.table)
+    (ticket_in : IsTicketIn new.table.state ticket) (roll : new.table.roll ≡ old.table.roll ++ ticket_part ticket ∷ [])
+    (worker : idle_at ticket.instance old.places ≡ Some seat.worker) (places : new.places ≡ changed_at (made_away kind_of) ticket.instance old.places) where
+  begun_workers : map (place_traits kind_of) new.places ≡ map instance_traits new.table.state.instances
+  begun_workers =
+      let s = old.table.state in
+      let on = step.legal in
+      let instances : new.table.state.instances ≡ with_out true on.idle.number s.instances =
+      ap (λ (t : State). t.instances) (step.state ∙ after_start s ticket.task.run ticket.seq ticket.instance ticket.task.input on) in
+      ap (map (place_traits kind_of)) places
+      ∙ traits-taken kind_of ticket.instance old.places
+      ∙ rest.idle.workers
+      ∙ sym (traits-with_out true on.idle.number s.instances)
+      ∙ ap (map instance_traits) (sym instances)
+
+  -- its worker is of the ticket's kind
+  pub begun_kind : kind_of seat.worker ≡ ticket.kind
+  begun_kind =
+      let t = new.table.state in
+      let traits : map (place_traits kind_of) old.places ≡ map instance_traits t.instances =
+      sym (traits-taken kind_of ticket.instance old.places) ∙ ap (map (place_traits kind_of)) (sym places) ∙ begun_workers in
+      ticket_kind kind_of seat.worker t ticket _ old.places (Valid-step store _ old.table new.table rest.idle.valid step) traits refl ticket_in worker
+
+  pub under_way-begun : IsUnderWay kind_of ticket new
+  under_way-begun =
+      let s = old.table.state in
+      let on = step.legal in
+      let task = ticket.task in
+      let its_run = run_on s on.work on.idle task.input in
+      let runs : new.table.state.runs ≡ its_run ∷ [] =
+      ap (λ (t : State). t.runs) (step.state ∙ after_start s task.run ticket.seq ticket.instance task.input on)
+      ∙ ap (λ (runs : List Run). runs ++ its_run ∷ []) rest.idle.no_run in
+      let number : s.next_run ≡ task.run = sym on.run_is in
+      record {
+        replay = Replay-step store _ old.table new.table rest.replay step;
+        valid = Valid-step store _ old.table new.table rest.idle.valid step;
+        workers = begun_workers;
+        ticket_in = ticket_in;
+        current = rw (runs, eq-eqb s.next_run task.run number) refl;
+        few = subst (λ (runs : List Run). length runs ≤ 1) (sym runs) (omega arith);
+        alone = rw (runs, eq-eqb s.next_run task.run number) refl;
+        alone_out = ap (without task.run) (roll ∙ ap (λ (roll : List Part). roll ++ ticket_part ticket ∷ []) rest.idle.none_out)
+            ∙ without-new task.run [] (ticket_part ticket) refl tt;
+        away = rw (places, ← begun_kind) (IsAwayAt-taken kind_of seat.worker ticket.instance old.places worker);
+        others = λ back. rw places (NoneAway-back kind_of back ticket.instance old.places rest.idle.none_away);
+      }
+
+-- a work couldn't start
+pub rest-failed : {K B : Type 0} (store : K → Store) (kind_of : B → Kind) (seq : ℕ) (cause : Cause) (old new : StandState K B) → IsAtRest kind_of old
+    → IsOneStep store (event.StartFailed seq cause) old.table new.table → new.table.roll ≡ old.table.roll → new.places ≡ old.places
+    → IsAtRest kind_of new
+rest-failed store kind_of seq cause old new rest step roll places = record {
+  replay = Replay-step store _ old.table new.table rest.replay step;
+  idle = record {
+    valid = Valid-step store _ old.table new.table rest.idle.valid step;
+    workers = ap (map (place_traits kind_of)) places ∙ rest.idle.workers ∙ ap (λ (t : State). map instance_traits t.instances) (sym step.state);
+    none_away = rw places rest.idle.none_away;
+    no_run = ap (λ (t : State). t.runs) step.state ∙ rest.idle.no_run;
+    none_out = roll ∙ rest.idle.none_out;
+  };
+}
+
+-- ---- a run goes on
+
+pub under_way-turned : {K B : Type 0} (store : K → Store) (kind_of : B → Kind) (ticket next : TicketState) (progress : Option (List DataEntry)) (old new : StandState K B)
+    → IsUnderWay kind_of ticket old → IsOneStep store (event.Turn ticket.task.run progress) old.table new.table
+    → next ≡ record ticket { k = ticket.k + 1 } → IsTicketIn new.table.state next → IsOut new.table.state next.task.run true
+    → new.table.roll ≡ given_again (ticket_part ticket) old.table.roll → new.places ≡ old.places → IsUnderWay kind_of next new
+under_way-turned store kind_of ticket next progress old new under_way step next_is ticket_in current roll places =
+    let s = old.table.state in
+    let number = ticket.task.run in
+    let of_run = ticket-found ticket under_way.ticket_in step.legal.report.is_running in
+    let is = step.state ∙ after_turn s number progress step.legal in
+    let runs : new.table.state.runs ≡ with_turned number s.runs =
+    ap (λ (t : State). t.runs) is ∙ ap (λ (t : TicketState). with_turned t.task.run s.runs) (sym of_run) in
+    record {
+      replay = Replay-step store _ old.table new.table under_way.replay step;
+      valid = Valid-step store _ old.table new.table under_way.valid step;
+      workers = ap (map (place_traits kind_of)) places ∙ under_way.workers ∙ ap (λ (t : State). map instance_traits t.instances) (sym is);
+      ticket_in = ticket_in;
+      current = current;
+      few = subst (λ n. n ≤ 1) (sym (ap length runs ∙ length-turned number s.runs)) under_way.few;
+      alone = ap (λ (t : TicketState). other_runs t.task.run new.table.state.runs) next_is
+          ∙ ap (other_runs number) runs
+          ∙ other_runs-turned number s.runs
+          ∙ under_way.alone;
+      alone_out = ap (λ (t : TicketState). without t.task.run new.table.roll) next_is
+          ∙ ap (without number) roll
+          ∙ taken_again ticket old.table.roll
+          ∙ under_way.alone_out;
+      away = subst (λ (t : TicketState). IsAwayAt t.instance t.kind new.places) (sym next_is) (rw places under_way.away);
+      others = λ back. subst (λ (t : TicketState). NoneAway (changed_at (made_back kind_of back) t.instance new.places)) (sym next_is)
+          (rw places (under_way.others back));
+    }
+
+-- ---- a run ends
+
+pub rest-ended : {K B : Type 0} (store : K → Store) (kind_of : B → Kind) (ticket : TicketState) (back : B) (ending : Event) (reported : Reported)
+    (old new : StandState K B) → IsUnderWay kind_of ticket old → role_of ending ≡ role.Ends ticket.task.run reported
+    → IsOneStep store ending old.table new.table → kind_of back ≡ ticket.kind → new.table.roll ≡ without ticket.task.run old.table.roll
+    → new.places ≡ changed_at (made_back kind_of back) ticket.instance old.places → IsAtRest kind_of new
+rest-ended store kind_of ticket back ending reported old new under_way ends step kind roll places =
+    let s = old.table.state in
+    let number = ticket.task.run in
+    let ended = framed_end s number reported ending ends step.legal in
+    let instances : new.table.state.instances ≡ with_out false ended.run.instance s.instances =
+    ap (λ (t : State). t.instances) step.state ∙ ap (λ (f : Frame). f.instances) ended.frame_is in
+    let away : IsAwayAt ticket.instance (kind_of back) old.places = subst (λ kind. IsAwayAt ticket.instance kind old.places) (sym kind) under_way.away in
+    record {
+      replay = Replay-step store _ old.table new.table under_way.replay step;
+      idle = record {
+        valid = Valid-step store _ old.table new.table under_way.valid step;
+        workers = traits-back kind_of back ticket.instance old.places new.places away places
+            ∙ under_way.workers
+            ∙ sym (traits-with_out false ended.run.instance s.instances)
+            ∙ ap (map instance_traits) (sym instances);
+        none_away = rw places (under_way.others back);
+        no_run = ap (λ (t : State). t.runs) step.state
+            ∙ ap (λ (f : Frame). f.runs) ended.frame_is
+            ∙ ap (λ (t : TicketState). other_runs t.task.run s.runs) (sym (ticket-found ticket under_way.ticket_in ended.is_running))
+            ∙ under_way.alone;
+        none_out = roll ∙ under_way.alone_out;
+      };
+    }

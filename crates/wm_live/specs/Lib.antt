@@ -1,0 +1,5 @@
+pub mod Asking
+pub mod Drained
+pub mod Live
+pub mod Rest
+pub mod StandState
