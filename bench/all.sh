@@ -37,6 +37,7 @@ table() {
   row store.sh "commits to a file on a disk, the opening of a store, and its size"
   row groups.sh "generated groups of five works in a store on a disk"
   row memory.sh "100,000 works of class Count, of ten turns each"
+  row audits.sh "the export of a run, and the check of its audit"
   row pool.sh "what threads cost works that take next to no time, and gain those that take a millisecond a turn"
 }
 

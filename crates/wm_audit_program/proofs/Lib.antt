@@ -1,0 +1,3 @@
+mod Canonical
+mod Exports
+mod Told

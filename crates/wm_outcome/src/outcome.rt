@@ -1,0 +1,43 @@
+//! What the program comes to, with its code and its text.
+ghost use Rattle.std.specs.Prelude.{◌≡◌, IfOk, string_bytes};
+ghost use Rattle.wm_outcome.specs.Outcomes.{code_of, text_of};
+
+use std::alloc::{AllocError, Global};
+use wm_audit_program::{Checked, Exported};
+use wm_session::Ended;
+use wm_worker::Worker;
+
+/// What the program came to, by its first word.
+#[derive(Drop)]
+pub enum Outcome<K, W, B = Box<dyn Worker + Send>> {
+    /// A run, without one of the first words below.
+    Run(Ended<K, W, B>),
+    /// The export of a run, by `export`.
+    Export(Exported<K, W, B>),
+    /// The check of an audit, by `check`.
+    Check(Checked<K, W>),
+}
+
+impl<K, W, B> Outcome<K, W, B> {
+    /// The exit status of the program.
+    pub fn code(&self) -> u8
+        ensures { result ≡ code_of self.now }
+    {
+        match self {
+            Outcome::Run(ended) => ended.status.code(),
+            Outcome::Export(exported) => exported.status.code(),
+            Outcome::Check(checked) => checked.status.code(),
+        }
+    }
+
+    /// What the program writes on standard error, without the line's end. It may be empty.
+    pub fn text(&self, alloc: Global) -> Result<String, AllocError>
+        ensures { IfOk result (λ text. string_bytes text ≡ text_of self.now) }
+    {
+        match self {
+            Outcome::Run(ended) => ended.status.text(alloc),
+            Outcome::Export(exported) => exported.status.text(alloc),
+            Outcome::Check(checked) => String::from_str(alloc, checked.status.text()),
+        }
+    }
+}
