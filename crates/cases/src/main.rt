@@ -1,5 +1,5 @@
 //! The worked cases of whole runs: the program reads the case files where it runs, has
-//! [`wm_cli::run`] do each case over a source, a sink and a keeper in memory, and prints what came
+//! [`wm_outcome::program`] do each case over a source, a sink and a keeper in memory, and prints what came
 //! of it. What it has to print stands in the crate's file `stdout`, written by hand.
 //!
 //! A case file ends in `.cases`; the files are read in the order of their names. The folder
@@ -7,6 +7,7 @@
 //! `data/README.md` has the form of a case and of its outcome.
 #![tactic(auto)]
 
+mod audit;
 mod event;
 mod holds;
 mod outcome;

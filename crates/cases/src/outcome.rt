@@ -2,6 +2,7 @@
 ghost use Rattle.std.specs.Prelude.{◌≤◌, vec_len};
 ghost use Rattle.wm_bench.specs.Places.{most_hands};
 
+use crate::audit::tell_audit;
 use crate::event::event_words;
 use crate::holds::Holds;
 use crate::part::{Failing, Part};
@@ -9,13 +10,15 @@ use crate::row::row_text;
 use std::alloc::{AllocError, Global};
 use std::sync::Wait;
 use std::thread::Threads;
+use wm_audit_program::{Checked, Exported};
 use wm_bench::Hand;
-use wm_cli::{Ended, Status};
-use wm_collections::{Replica, Text};
+use wm_cli::Ended;
+use wm_collections::Replica;
 use wm_io::{MemorySink, MemorySource};
 use wm_keeper::{Change, Keeper, MemoryKeeper, Row, SureKeeper};
 use wm_machine::Event;
-use wm_stock::{AnyStock, STOCK_WORKERS};
+use wm_outcome::{Outcome, program};
+use wm_program::stock_hands;
 use wm_worker::Worker;
 
 /// What comes of the parts of a case file, one after another.
@@ -64,7 +67,8 @@ fn tell_part<R: Threads + Wait + Sync>(
     Ok(kept)
 }
 
-/// Runs a part with these calls failing and the workers of the program: see [`tell_run_of`].
+/// Runs a part with these calls failing and the workers of the program: see [`tell_run_of`]. Where no
+/// call fails, its audit is looked at too.
 fn tell_run<R: Threads + Wait + Sync>(
     rt: &R,
     alloc: Global,
@@ -73,13 +77,12 @@ fn tell_run<R: Threads + Wait + Sync>(
     failing: &Failing,
     store: &mut SureKeeper,
 ) -> Result<SureKeeper, AllocError> {
-    let mut hands = Vec::new(alloc);
-    for number in 0..STOCK_WORKERS {
-        let worker = AnyStock::numbered(number);
-        let class = Text::from_str(alloc, worker.name())?;
-        hands.push(Hand { class, worker })?;
+    let hands = stock_hands(alloc)?;
+    let kept = tell_run_of(rt, alloc, told, part, failing, store, hands)?;
+    if !part.brief && part.failing.is_empty() {
+        tell_audit(rt, alloc, told, part, store)?;
     }
-    tell_run_of(rt, alloc, told, part, failing, store, hands)
+    Ok(kept)
 }
 
 /// Runs a part on these rows with these calls failing and these workers, tells what came of it, and
@@ -100,7 +103,7 @@ fn tell_run_of<R: Threads + Wait + Sync, B: Worker + Send>(
     let sink = MemorySink::new(part.moves, Vec::from_slice(alloc, &failing.sink)?);
     let keeper = keeper_of(alloc, store, failing)?;
     let holds = Holds::of(alloc, &part.holds)?;
-    let ended = wm_cli::run(
+    let outcome = program(
         rt,
         alloc,
         &part.words,
@@ -113,8 +116,36 @@ fn tell_run_of<R: Threads + Wait + Sync, B: Worker + Send>(
     if holds.missed() {
         told.push_str("missed\n")?;
     }
-    tell_ended(alloc, told, &ended, part.brief)?;
-    Ok(SureKeeper::new(ended.keeper.into_rows()))
+    let keeper = tell_outcome(alloc, told, outcome, part.brief)?;
+    Ok(SureKeeper::new(keeper.into_rows()))
+}
+
+/// Tells what the words came to, and gives the keeper back.
+fn tell_outcome<B: Worker>(
+    alloc: Global,
+    told: &mut String,
+    outcome: Outcome<MemoryKeeper, MemorySink, B>,
+    brief: bool,
+) -> Result<MemoryKeeper, AllocError> {
+    told.push_str(status_line(alloc, &outcome)?.as_str())?;
+    match outcome {
+        Outcome::Run(ended) => {
+            tell_ended(alloc, told, &ended, brief)?;
+            tell_bytes(alloc, told, ended.sink.bytes())?;
+            Ok(ended.keeper)
+        }
+        Outcome::Export(exported) => {
+            let Exported { ended, sink, .. } = exported;
+            tell_ended(alloc, told, &ended, brief)?;
+            tell_bytes(alloc, told, sink.bytes())?;
+            Ok(ended.keeper)
+        }
+        Outcome::Check(checked) => {
+            let Checked { keeper, sink, .. } = checked;
+            tell_bytes(alloc, told, sink.bytes())?;
+            Ok(keeper)
+        }
+    }
 }
 
 /// The first line of what is told of a run.
@@ -130,14 +161,19 @@ fn heading(alloc: Global, part: &Part, failing: &Failing) -> Result<String, Allo
     }
 }
 
-fn source_of(alloc: Global, part: &Part, failing: &Failing) -> Result<MemorySource, AllocError> {
+/// A source of the script.
+pub fn source_of(
+    alloc: Global,
+    part: &Part,
+    failing: &Failing,
+) -> Result<MemorySource, AllocError> {
     let script = Vec::from_slice(alloc, &part.script)?;
     let failing = Vec::from_slice(alloc, &failing.source)?;
     Ok(MemorySource::new(script, part.moves, failing))
 }
 
 /// A keeper of the store's rows.
-fn keeper_of(
+pub fn keeper_of(
     alloc: Global,
     store: &mut SureKeeper,
     failing: &Failing,
@@ -149,31 +185,31 @@ fn keeper_of(
     }
 }
 
-/// Tells how a run ended: its status, whether the table was begun, unless it is to be brief its log
-/// and its rows, and the bytes written.
-fn tell_ended<B: Worker>(
+/// Tells of how a run ended whether the table was begun, and unless it is to be brief its log and its
+/// rows.
+fn tell_ended<W, B: Worker>(
     alloc: Global,
     told: &mut String,
-    ended: &Ended<MemoryKeeper, MemorySink, B>,
+    ended: &Ended<MemoryKeeper, W, B>,
     brief: bool,
 ) -> Result<(), AllocError> {
-    told.push_str(status_line(alloc, &ended.status)?.as_str())?;
     told.push_str(if ended.began {
         "begun\n"
     } else {
         "not begun\n"
     })?;
-    if !brief {
-        tell_log_and_rows(alloc, told, ended)?;
+    if brief {
+        Ok(())
+    } else {
+        tell_log_and_rows(alloc, told, ended)
     }
-    tell_bytes(alloc, told, ended.sink.bytes())
 }
 
 /// Tells the events of a log, the classes that have no worker any more, and the rows kept.
-fn tell_log_and_rows<B: Worker>(
+fn tell_log_and_rows<W, B: Worker>(
     alloc: Global,
     told: &mut String,
-    ended: &Ended<MemoryKeeper, MemorySink, B>,
+    ended: &Ended<MemoryKeeper, W, B>,
 ) -> Result<(), AllocError> {
     let log = ended.log.as_slice();
     tell_events(alloc, told, log, false)?;
@@ -234,19 +270,29 @@ fn tell_gone<B: Worker>(told: &mut String, hands: &[Hand<B>]) -> Result<(), Allo
     Ok(())
 }
 
-/// A status with its code, and its text where it has one.
-fn status_line(alloc: Global, status: &Status) -> Result<String, AllocError> {
-    let code = status.code();
-    let text = status.text(alloc)?;
+/// What the words came to: the status with its code, and its text where it has one.
+fn status_line<K, W, B>(alloc: Global, outcome: &Outcome<K, W, B>) -> Result<String, AllocError> {
+    let name = status_name(alloc, outcome)?;
+    let code = outcome.code();
+    let text = outcome.text(alloc)?;
     if text.is_empty() {
-        format!(in alloc; "status {status:?}, code {code}\n")
+        format!(in alloc; "status {name}, code {code}\n")
     } else {
-        format!(in alloc; "status {status:?}, code {code}: {text}\n")
+        format!(in alloc; "status {name}, code {code}: {text}\n")
+    }
+}
+
+/// The name of the status, with what it says besides.
+fn status_name<K, W, B>(alloc: Global, outcome: &Outcome<K, W, B>) -> Result<String, AllocError> {
+    match outcome {
+        Outcome::Run(ended) => format!(in alloc; "{:?}", ended.status),
+        Outcome::Export(exported) => format!(in alloc; "{:?}", exported.status),
+        Outcome::Check(checked) => format!(in alloc; "{:?}", checked.status),
     }
 }
 
 /// Tells one line.
-fn tell_line(told: &mut String, begins: &str, text: &str) -> Result<(), AllocError> {
+pub fn tell_line(told: &mut String, begins: &str, text: &str) -> Result<(), AllocError> {
     told.push_str(begins)?;
     told.push_str(text)?;
     told.push('\n')
