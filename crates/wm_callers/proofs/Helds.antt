@@ -3,8 +3,10 @@ use Rattle.std.proofs.Common.{◌≡◌, ℕ, ◌+◌, List, [], ◌∷◌, ◌+
 use Rattle.std.proofs.lemmas.List.{map-append}
 use mathlib.Core.List.{IsPrefix}
 use Rattle.atomic_table.specs.declared.shared.Seat.{Seat}
+use Rattle.wm_collections.proofs.Lists.{All-push}
 use Rattle.wm_callers.specs.Calls.{IsCalled}
-use Rattle.wm_callers.specs.History.{asked_at, asked_by, asked_in, Stands}
+use Rattle.wm_callers.specs.ForDesk.{IsForDesk}
+use Rattle.wm_callers.specs.History.{asked_at, asked_by, asked_in, IsOfDesk, Stands}
 use Rattle.wm_callers.specs.Inputs.{DeskInputs}
 use Rattle.wm_callers.specs.Invariants.{HeldInvariant, PassInvariant, pass_state}
 use Rattle.wm_callers.specs.Places.{places_of, ArePart}
@@ -29,28 +31,29 @@ abbrev pub entry_of : ℕ → ℕ → Command → Reply → Signed
 entry_of number line command reply = record { caller = number; line = line; command = command; reply = reply }
 
 -- a log and its history with one command more
-pub stands-push : (callers : List ℕ) (log : List Event) (all : List Signed) (number line : ℕ) (command : Command) (reply : Reply) → Stands callers log all
+pub stands-push : (callers : List ℕ) (log : List Event) (all : List Signed) (number line : ℕ) (command : Command) (reply : Reply) → IsForDesk command → Stands callers log all
     → Stands (callers ++ number ∷ []) (log ++ event.Command line command reply ∷ []) (all ++ entry_of number line command reply ∷ [])
-stands-push callers log all number line command reply stands =
+stands-push callers log all number line command reply fits stands =
     let entry = entry_of number line command reply in
     record {
       numbers = map-append (λ (e : Signed). e.caller) all (entry ∷ []) ∙ ap (λ numbers. numbers ++ number ∷ []) stands.numbers;
       commands = map-append asked_by all (entry ∷ []) ∙ ap (λ asked. asked ++ asked_by entry ∷ []) stands.commands
           ∙ sym (asked-append log (event.Command line command reply ∷ []));
+      alone = All-push IsOfDesk log (event.Command line command reply) stands.alone fits;
     }
 
 -- ---- the locked value
 
 pub held-called : (desk : DeskInputs) (before now : TableTold) (callers numbers : List ℕ) (seat next : Seat (Unit {0}) View) (calls counted faults number line : ℕ) (command : Command) (reply : Reply)
-    → HeldInvariant desk before callers seat calls faults → now.log ≡ before.log ++ event.Command line command reply ∷ [] → now.faults ≡ before.faults
+    → IsForDesk command → HeldInvariant desk before callers seat calls faults → now.log ≡ before.log ++ event.Command line command reply ∷ [] → now.faults ≡ before.faults
     → IsDeskSeat desk.board next → all_of next ≡ all_of seat ++ entry_of number line command reply ∷ [] → numbers ≡ callers ++ number ∷ [] → counted ≡ calls + 1
     → HeldInvariant desk now numbers next counted faults
-held-called desk before now callers numbers seat next calls counted faults number line command reply held log count rest all more one =
+held-called desk before now callers numbers seat next calls counted faults number line command reply fits held log count rest all more one =
     let entry = entry_of number line command reply in
     let longer : length (all_of next) ≡ length (all_of seat) + 1 = ap length all ∙ length-append (all_of seat) (entry ∷ []) in
     record {
       seat_is = rest;
-      stands = rw (more, log, all) (stands-push callers before.log (all_of seat) number line command reply held.stands);
+      stands = rw (more, log, all) (stands-push callers before.log (all_of seat) number line command reply fits held.stands);
       counted = one ∙ ap (λ n. n + 1) held.counted ∙ sym longer;
       faulted = rw count held.faulted;
       later = rw count held.later;

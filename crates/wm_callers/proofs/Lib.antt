@@ -1,7 +1,6 @@
 pub mod Asking
 pub mod Closings
 pub mod Helds
-pub mod IdleCalls
 pub mod Keeps
 pub mod Lists
 pub mod Rests

@@ -1,20 +1,13 @@
--- What a desk may be asked, and what its calls do to a pass.
+-- What the calls of a desk do to a pass.
 use Rattle.std.specs.Prelude.{◌≡◌, ℕ, ◌+◌, List, [], ◌∷◌, ◌++◌, length}
 use mathlib.Core.List.{IsPrefix}
 use Rattle.wm_callers.specs.PassState.{PassState}
 use Rattle.wm_callers.specs.Places.{places_of, ArePart}
 use Rattle.wm_machine.specs.declared.command.Command.{Command}
-use Rattle.wm_machine.specs.declared.command.Command.TheVariants as command
 use Rattle.wm_callers.specs.declared.entry.Signed.{Signed}
 use Rattle.wm_callers.specs.declared.pass.Receipt.{Receipt}
 use Rattle.wm_table.specs.declared.table.Trouble.{Trouble}
 use Rattle.wm_table.specs.declared.table.Trouble.TheVariants as trouble
-
--- a command that every state answers, and that adds no observer
-abbrev pub IsForDesk : Command → Type 0
-IsForDesk command.Settle = ⊥
-IsForDesk (command.Observe query) = ⊥
-IsForDesk _ = Unit {0}
 
 -- what was seen begins what is seen, which ends with this caller's number, this line, this command and this reply, at the place of the receipt
 pub record IsCalled (line : ℕ) (command : Command) (receipt : Receipt) (old new : PassState) : Type 0 where

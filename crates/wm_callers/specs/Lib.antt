@@ -1,7 +1,7 @@
 pub mod Calls
 pub mod Closing
+pub mod ForDesk
 pub mod History
-pub mod Idle
 pub mod Inputs
 pub mod Invariants
 pub mod Openings

@@ -1,8 +1,9 @@
 //! The desk, where several threads give commands to one table.
 ghost use Rattle.std.specs.Prelude.{◌≡◌, [], length, IfOk, IfErr};
-ghost use Rattle.wm_callers.specs.Calls.{IsCalled, IsForDesk, IsLooked, IsMet, IsRefused};
+ghost use Rattle.wm_callers.specs.Calls.{IsCalled, IsLooked, IsMet, IsRefused};
 ghost use Rattle.wm_callers.specs.Closing.{fresh_passes, IsBefore, IsClosed};
-ghost use Rattle.wm_callers.specs.Idle.{IsIdle};
+ghost use Rattle.wm_callers.specs.ForDesk.{IsForDesk};
+ghost use Rattle.wm_seating.specs.Idle.{IsIdle};
 ghost use Rattle.wm_callers.specs.Openings.{inputs_of};
 ghost use Rattle.wm_callers.specs.Told.{told_of};
 ghost use Rattle.wm_collections.specs.Lists.{AllLater};

@@ -1,7 +1,8 @@
 //! What stands under the lock of a desk.
 ghost use Rattle.std.specs.Prelude.{◌≡◌, IfOk, IfErr};
-ghost use Rattle.wm_callers.specs.Calls.{IsCalled, IsForDesk, IsLooked, IsRefused};
-ghost use Rattle.wm_callers.specs.Idle.{IsIdle};
+ghost use Rattle.wm_callers.specs.Calls.{IsCalled, IsLooked, IsRefused};
+ghost use Rattle.wm_callers.specs.ForDesk.{IsForDesk};
+ghost use Rattle.wm_seating.specs.Idle.{IsIdle};
 ghost use Rattle.wm_callers.specs.Invariants.{HeldInvariant, PassInvariant, pass_state};
 ghost use Rattle.wm_callers.specs.Told.{told_of};
 ghost use Rattle.wm_machine.specs.Outcome.{IsAskable};
@@ -35,7 +36,7 @@ pub(crate) struct Held<K: Keeper, B: Worker, M: Mark, J: DeskMark> {
 }
 
 impl<K: Keeper, B: Worker, M: Mark, J: DeskMark> Model for Held<K, B, M, J> {
-    ghost use Rattle.wm_callers.specs.Idle.{IsIdle};
+    ghost use Rattle.wm_seating.specs.Idle.{IsIdle};
     ghost use Rattle.wm_callers.specs.Invariants.{HeldInvariant};
     ghost use Rattle.wm_callers.specs.Told.{told_of};
     ghost use Rattle.wm_table.specs.TableState.{TableState};

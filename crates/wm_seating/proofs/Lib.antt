@@ -1,2 +1,3 @@
+pub mod IdleTables
 pub mod PlacesAndInstances
 pub mod RetiredPlaces

@@ -1,2 +1,3 @@
 pub mod Bench
 pub mod Hands
+pub mod Idle

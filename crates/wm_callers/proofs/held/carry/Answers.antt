@@ -2,7 +2,7 @@ use Rattle.std.proofs.Common.{rules, ◌≡◌, ◌∙◌, [], ◌∷◌, ◌++�
 use mathlib.Core.List.{IsPrefix}
 use Rattle.wm_callers.proofs.Helds.{called, entry_of, held-called, pass-called}
 use Rattle.wm_callers.specs.Told.{told_of}
-use Rattle.wm_callers.proofs.IdleCalls.{idle-called}
+use Rattle.wm_seating.proofs.IdleTables.{idle-called}
 use Rattle.wm_collections.specs.Lists.{last_of}
 use Rattle.wm_collections.proofs.Lists.{last_of-push}
 use Rattle.wm_machine.specs.declared.event.Event.TheVariants as event
@@ -14,7 +14,7 @@ use Rattle.wm_callers.proofs.held.carry.Goals as goal
 pub returns-in-Ok-clause-held : goal.returns-in-Ok-clause-held
 returns-in-Ok-clause-held g c =
     held-called g.J.DeskMark.desk (told_of g.K.Keeper.store c.args.table.now) (told_of g.K.Keeper.store c.command.new.self) c.args.callers.now.items c.push_reserved.new.self.items c.args.seat.now c.sign-place.new.desk
-    c.args.calls.now.book.total c.add.new.self.book.total c.args.faults.now.book.total c.args.number c.args.line c.args.command c.in-Ok.reply c.requires.held
+    c.args.calls.now.book.total c.add.new.self.book.total c.args.faults.now.book.total c.args.number c.args.line c.args.command c.in-Ok.reply c.requires.fits c.requires.held
     (search rules) (search rules) (subst (λ t. IsDeskSeat t c.sign-place.new.desk) c.requires.board c.sign-place.ensures.desk) (search rules) (search rules) (search rules)
 
 pub returns-in-Ok-clause-pass : goal.returns-in-Ok-clause-pass

@@ -19,6 +19,7 @@ returns-clause-closed g c =
       stands = held.stands;
       seen = All-weaker passes (λ pass f. f.seen_is) fits;
       mine = places-all all passes fits c.requires.ascending whole;
+      counted = whole;
       faults = subst (λ n. min (g.J.DeskMark.desk.faults + n) (2 ^ 64 - 1) ≤ (g.K.Keeper.store c.table.inside.table.keeper).faults) units held.faulted;
       later = held.later;
     }

@@ -1,11 +1,13 @@
 -- A table without runs beside its bench, once it was begun and after a line.
-use Rattle.std.proofs.Common.{◌≡◌, ℕ, List, [], map, sym, ap, ◌∙◌}
+use Rattle.std.proofs.Common.{◌≡◌, ℕ, List, [], map, sym, ap, subst, ◌∙◌}
 use Rattle.wm_bench.specs.declared.place.Place.{Place}
 use Rattle.wm_keeper.specs.Store.{Store}
 use Rattle.wm_keeper.specs.declared.row.Row.{Row}
-use Rattle.wm_machine.proofs.Steps.{framed}
+use Rattle.wm_machine.proofs.Openings.{reached-opened}
+use Rattle.wm_machine.proofs.Steps.{framed, Valid-after}
 use Rattle.wm_machine.specs.Frame.{frame_of, instances_after, Frame, IsLinedIn}
 use Rattle.wm_machine.specs.Opened.{opening_state, reopened, Opened}
+use Rattle.wm_machine.specs.Valid.{Valid}
 use Rattle.wm_machine.specs.declared.command.Command.{Command}
 use Rattle.wm_machine.specs.declared.event.Event.TheVariants as event
 use Rattle.wm_machine.specs.declared.reply.Reply.{Reply}
@@ -17,7 +19,7 @@ use Rattle.wm_seating.specs.Bench.{instance_traits, place_traits, places_after, 
 use Rattle.wm_table.specs.Table.{IsOneStep}
 use Rattle.wm_table.specs.TableState.{TableState}
 use Rattle.wm_worker.specs.declared.kind.Kind.{Kind}
-use Rattle.wm_callers.specs.Idle.{IsIdle}
+use Rattle.wm_seating.specs.Idle.{IsIdle}
 
 pub idle-called : {K B : Type 0} (kind_of : B → Kind) (store : K → Store) (old new : TableState K) (places next : List (Place B)) (line : ℕ) (asked : Command)
     (reply : Reply) → IsIdle kind_of old places → IsOneStep store (event.Command line asked reply) old new → new.roll ≡ old.roll
@@ -28,10 +30,11 @@ idle-called kind_of store old new places next line asked reply idle step roll is
     let instances : new.state.instances ≡ instances_after asked old.state.instances =
     ap (λ (t : State). t.instances) step.state ∙ ap (λ (f : Frame). f.instances) lined.frame_is in
     record {
+      valid = rw step.state (Valid-after old.state e idle.valid step.legal);
       workers = rw (is, instances) (workers-after kind_of asked places old.state.instances idle.workers);
-      at_rest = rw is (NoneAway-after kind_of asked places idle.at_rest);
-      no_runs = ap (λ (t : State). t.runs) step.state ∙ ap (λ (f : Frame). f.runs) lined.frame_is ∙ ap (λ (runs : List Run). map lined.change runs) idle.no_runs;
-      no_roll = roll ∙ idle.no_roll;
+      none_away = rw is (NoneAway-after kind_of asked places idle.none_away);
+      no_run = ap (λ (t : State). t.runs) step.state ∙ ap (λ (f : Frame). f.runs) lined.frame_is ∙ ap (λ (runs : List Run). map lined.change runs) idle.no_run;
+      none_out = roll ∙ idle.none_out;
     }
 
 -- a table that was just begun, with the instances that these workers are
@@ -41,8 +44,9 @@ pub idle-begun : {K B : Type 0} (kind_of : B → Kind) (table : TableState K) (p
 idle-begun kind_of table places rows instances opened begun roll workers none =
     let is : table.state ≡ opening_state (map reopened opened.stored) instances = begun ∙ opened.state in
     record {
+      valid = subst Valid (sym begun) (reached-opened rows instances table.first opened);
       workers = workers ∙ sym (ap (λ (t : State). map instance_traits t.instances) is);
-      at_rest = none;
-      no_runs = ap (λ (t : State). t.runs) is;
-      no_roll = roll;
+      none_away = none;
+      no_run = ap (λ (t : State). t.runs) is;
+      none_out = roll;
     }
