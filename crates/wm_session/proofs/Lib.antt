@@ -8,6 +8,7 @@ pub mod BookSteps
 pub mod BookStops
 pub mod BoxLemmas
 pub mod DiaryLemmas
+pub mod Endings
 pub mod HandLemmas
 pub mod NextLines
 pub mod SerialLemmas

@@ -1,9 +1,11 @@
 -- The text that a sink was given, and what of it is pending.
-use Rattle.std.proofs.Common.{◌≡◌, ℕ, List, [], ◌++◌, Option, refl, sym, ◌∙◌, ap, subst, append_assoc}
-use Rattle.std.proofs.lemmas.List.{append-nil}
+use Rattle.std.proofs.Common.{◌≡◌, ℕ, List, [], ◌++◌, length, take, drop, Option, Result, Ok, Err, OnOk, refl, sym, ◌∙◌, ap, subst, append_assoc}
+use Rattle.std.proofs.Math.Seq.{take-length}
+use Rattle.std.proofs.lemmas.List.{append-nil, take-append-drop}
 use Rattle.wm_io.specs.Pending.{IsGivenBut}
 use Rattle.wm_io.proofs.AppendedTexts.{IsAppended-append, IsAppended-nothing}
 use Rattle.wm_io.specs.Writing.{IsAppended}
+use Rattle.wm_io.specs.declared.writing.WriteFault.{WriteFault}
 use Rattle.wm_session.specs.Ended.{IsPartAppended}
 
 -- nothing was written, and everything is pending
@@ -46,3 +48,15 @@ IsAppended-kept before between now text pending left kept more none =
     let all = IsGivenBut-then before between now text pending left kept more in
     let whole : text ≡ all.written = all.kept ∙ ap (λ (l : List ℕ). all.written ++ l) none ∙ append-nil all.written in
     subst (IsAppended before now) (sym whole) all.given
+
+-- ---- a text that is written at once
+
+-- as much of a text as was taken
+pub part-taken : (before now : Option (List ℕ)) (text : List ℕ) (count : ℕ) → IsAppended before now (take count text) → IsPartAppended before now text
+part-taken before now text count given = record { front = take count text; is_front = (drop count text, sym (take-append-drop count text)); given = given }
+
+-- all of it, where nothing was refused
+pub all-taken : (before now : Option (List ℕ)) (text : List ℕ) (count : ℕ) (answer : Result (Unit {0}) WriteFault) → IsAppended before now (take count text)
+    → OnOk answer (count ≡ length text) → OnOk answer (IsAppended before now text)
+all-taken before now text count (Ok done) given all = subst (IsAppended before now) (ap (λ n. take n text) all ∙ take-length text) given
+all-taken before now text count (Err fault) given all = tt

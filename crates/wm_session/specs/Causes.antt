@@ -1,5 +1,5 @@
 -- Which status a fault gives, and why a session ends early.
-use Rattle.std.specs.Prelude.{◌≡◌, ℕ, Option, Some, None, IsNone, IfSome, Result, OnOk, IfErr}
+use Rattle.std.specs.Prelude.{◌≡◌, ℕ, Option, Some, None, IsNone, IfSome, Result, Ok, Err, OnOk, IfErr}
 use Rattle.wm_faults.specs.Faults.{Failed}
 use Rattle.wm_keeper.specs.declared.keeper.KeepFault.{KeepFault}
 use Rattle.wm_session.specs.declared.book.Stop.{Stop}
@@ -49,3 +49,11 @@ pub record EndsBy (stop : Option Stop) (written : Result (Unit {0}) WriteFault) 
   pub stopped : IfSome stop (λ why. ended ≡ status_by_stop why)
   pub refused : IsNone stop → IfErr written (λ fault. ended ≡ status_by_stop (stop_by_fault fault))
   pub done : IsNone stop → OnOk written (ended ≡ status.Done)
+
+-- how it ends where a table met this trouble, or none and the last write was answered so
+abbrev pub ended_by : Option Trouble → Result (Unit {0}) WriteFault → Status
+ended_by (Some trouble.KeeperFault) written = status.KeeperFault
+ended_by (Some trouble.Memory) written = status.Memory
+ended_by None (Ok done) = status.Done
+ended_by None (Err fault.Failed) = status.SinkFault
+ended_by None (Err fault.Memory) = status.Memory

@@ -2,6 +2,7 @@
 //! be written.
 ghost use Rattle.std.specs.Prelude.{◌≡◌, ◌≢◌, ◌↔◌, ◌^◌, ◌<◌, ◌≤◌, ◌+◌, [], None, Some, length, map, IsSome, IsNone, IsTrue, IfOk, IfErr, MatchBool, Ok, false, true};
 ghost use Rattle.std.specs.List.{AllByRecursion};
+ghost use Rattle.wm_machine.specs.First.{first_of};
 ghost use Rattle.wm_machine.specs.Outcome.{IsAskable};
 ghost use Rattle.wm_machine.specs.Quiet.{IsQuiet};
 ghost use Rattle.wm_machine.specs.Rows.{rows_of};
@@ -463,6 +464,20 @@ impl<K: Keeper, W: Sink, B: Worker, M: Mark> Book<K, W, B, M> {
         } else {
             None
         }
+    }
+
+    /// Whether a work may start. It takes no memory.
+    pub fn has_startable(&self) -> bool
+        ensures { MatchBool result (IsSome (first_of self.now.table.state)) (first_of self.now.table.state ≡ None) }
+    {
+        self.table.has_startable()
+    }
+
+    /// Whether nothing may start and no run is unreturned. It takes no memory.
+    pub fn is_quiet(&self) -> bool
+        ensures { IsTrue result ↔ IsQuiet self.now.table.state }
+    {
+        self.table.quiet()
     }
 
     /// Whether the session has stopped early, or no line is left and there is nothing left to do.

@@ -1,6 +1,6 @@
 //! How a run ended, with its code and its text.
 ghost use Rattle.std.specs.Prelude.{◌≡◌, IfOk, string_bytes};
-ghost use Rattle.wm_session.specs.Causes.{EndsBy};
+ghost use Rattle.wm_session.specs.Causes.{ended_by, EndsBy};
 ghost use Rattle.wm_session.specs.Status.{code_of, status_text, limit_name, row_fault_name, bad_store_text};
 
 use crate::book::Stop;
@@ -73,6 +73,21 @@ impl From<Stop> for Status {
 }
 
 impl Status {
+    /// How it ends where a table met this trouble, or else the last write was answered so.
+    pub fn of_end(trouble: Option<Trouble>, written: Result<(), WriteFault>) -> Status
+        ensures { result ≡ ended_by trouble written }
+    {
+        match trouble {
+            Some(Trouble::KeeperFault) => Status::KeeperFault,
+            Some(Trouble::Memory) => Status::Memory,
+            None => match written {
+                Ok(()) => Status::Done,
+                Err(WriteFault::Failed) => Status::SinkFault,
+                Err(WriteFault::Memory) => Status::Memory,
+            },
+        }
+    }
+
     /// The exit status of the program.
     pub fn code(&self) -> u8
         ensures { result ≡ code_of self.now }
