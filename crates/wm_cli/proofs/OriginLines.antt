@@ -44,7 +44,7 @@ past_told (Some all) limit within past = let clash : None ≡ Some limit = sym w
 -- ---- a run without its lines
 
 -- where its lines are there, it ended for want of memory
-without : (origin : Origin) (ended : Status) (left : Option (List ℕ)) (before now : ℕ) → (origin ≡ Script → IsToldWithin left × ¬ Failed before now)
+pub without : (origin : Origin) (ended : Status) (left : Option (List ℕ)) (before now : ℕ) → (origin ≡ Script → IsToldWithin left × ¬ Failed before now)
     → IsReadStatus ended before now left → ((seed : ℕ) → origin ≡ Seed seed → ended ≡ status.Memory) → ended ≡ status.Memory
 without (Seed seed) ended left before now there read memory = memory seed refl
 without Script status.Memory left before now there read memory = refl

@@ -1,5 +1,6 @@
 -- What a run hands back, from what the calls below it handed back.
 use Rattle.std.proofs.Common.{◌≡◌, ◌⊎◌, ℕ, ℤ, Bool, true, false, List, [], Option, Some, None, IfSome, IsSome, Vec, Global, Result, Ok, Err, IfErr, refl, sym, ◌∙◌, ap, subst, inl, inr}
+use Rattle.atomic_table.specs.Seated.{TableId}
 use Rattle.std.specs.List.{AllByRecursion}
 use Rattle.wm_bench.specs.declared.hand.Hand.{Hand}
 use Rattle.wm_cli.proofs.RunsWithoutEvents.{HasCommands-nothing, IsTextWritten-nothing}
@@ -8,7 +9,7 @@ use Rattle.wm_cli.proofs.Opening.{BeginsSerial-nothing, IsSerialRun-early, IsSer
 use Rattle.wm_cli.proofs.RunImages.{images_told, leaves-only, loaded-alone}
 use Rattle.wm_cli.specs.Benched.{HasJustBegun, IsEndedBeforeLines}
 use Rattle.wm_cli.specs.Causes.{IsBadStore, IsOpeningStatus, IsUnlessMemory, StoreCause}
-use Rattle.wm_cli.specs.Ended.{AreHandsOf, AreRowsKept, HasNotBegun, HasReplayed, IsBegunBy, IsEndedAtOnce, IsOpenedFrom, IsReplayed, IsRunEnd}
+use Rattle.wm_cli.specs.Ended.{AreHandsOf, AreRowsKept, HasNotBegun, HasReplayed, IsBegunBy, IsEndedAtOnce, IsOpenedFrom, IsReplayed, IsRunEnd, IsRunOver, IsTableOver}
 use Rattle.wm_cli.specs.Images.{IsHeldAlone, RunImages, UnbegunImages}
 use Rattle.wm_faults.specs.Faults.{Failed}
 use Rattle.wm_keeper.proofs.Stores.{GoesOn-loaded, GoesOn-same, GoesOn-then, IsAtMost-then}
@@ -30,7 +31,7 @@ use Rattle.wm_session.specs.Causes.{status_by_begin, status_by_keeper}
 use Rattle.wm_session.specs.Ended.{HasCommands, IsBookEnd, IsSerialEnd, IsSerialRun, IsSessionStatus, IsTextWritten, IsUnbegun}
 use Rattle.wm_seating.specs.Hands.{instances_from}
 use Rattle.wm_session.specs.Images.{EndImages}
-use Rattle.wm_session.specs.Tells.{Tells}
+use Rattle.wm_session.specs.Tells.{AreInputs, Tells}
 use Rattle.wm_session.specs.declared.ended.Ended.{Ended}
 use Rattle.wm_session.specs.declared.status.Status.{Status}
 use Rattle.wm_session.specs.declared.status.Status.TheVariants as status
@@ -109,7 +110,7 @@ session_opening status.SourceFault session = absurd session
 session_opening (status.ScriptTooLong limit) session = absurd session
 session_opening (status.BadStore seq bad_row) session = absurd session
 
-session_store : (ended : Status) (held : Option (List Row)) → IsSessionStatus ended → StoreCause ended held
+pub session_store : (ended : Status) (held : Option (List Row)) → IsSessionStatus ended → StoreCause ended held
 session_store status.Done held session = tt
 session_store status.SinkFault held session = tt
 session_store status.KeeperFault held session = tt
@@ -120,71 +121,98 @@ session_store (status.ScriptTooLong limit) held session = tt
 session_store (status.BadStore seq bad_row) held session = absurd session
 
 -- sound rows have no first fault
-none_refused : (rows : List Row) (fault : RowFault) → AreSound rows → checked rows ≡ Err fault → ⊥
+pub none_refused : (rows : List Row) (fault : RowFault) → AreSound rows → checked rows ≡ Err fault → ⊥
 none_refused rows fault sound refused = let clash : Ok sound.0 ≡ Err fault = sym sound.1 ∙ refused in absurd (cc)
 
--- a session that is over ends its run
-pub IsRunEnd-begun : {K W B : Type 0} (tells : Tells K W B) (run : Inputs) (workers : ℕ) (commands : List Command) (hands : List (Hand B)) (keeper : K)
-    (sink : W) (ended : Ended K W B)
-    → IsBookEnd tells run ended → (workers ≡ 0 → IsSerialEnd tells run hands ended) → run.lines ≡ commands → run.instances ≡ instances_from tells.kind_of 0 hands
-    → run.written ≡ tells.given sink → run.sink_faults ≡ tells.sink_faults sink → run.store.faults ≡ (tells.store keeper).faults
-    → run.store.rows ≡ (tells.store keeper).rows → run.store.name ≡ (tells.store keeper).name
-    → ((image : List Row) → run.store.images image → (tells.store keeper).images image) → run.store.is_lost ≡ (tells.store keeper).is_lost
-    → AreSound run.rows
-    → IsRunEnd tells workers commands hands (tells.store keeper).name (Some run.rows) (Some run.rows) keeper sink ended
-IsRunEnd-begun tells run workers commands hands keeper sink ended over serial lines are written sink_faults faults told name images lost sound =
+-- what is over of the table of a book
+over_of : {K W B : Type 0} (tells : Tells K W B) (run : Inputs) (ended : Ended K W B) → IsBookEnd tells run ended → IsTableOver tells run ended
+over_of tells run ended over =
     let session = over.session in
+    record {
+      status_is = session.status_is;
+      began = session.began;
+      at_opening = session.at_opening;
+      opened = session.opened;
+      replay = session.replay;
+      quiet = over.quiet;
+      bytes = session.bytes;
+      rows = session.rows;
+      tells_on = session.tells_on;
+      hands = over.hands;
+      keeper_fault = session.keeper_fault;
+      sink_fault = session.sink_fault;
+    }
+
+-- a table that was begun and is over ends what it was begun for
+pub IsRunOver-begun : {K W B : Type 0} {rows : List Row} {given_to : List Instance} {lines : List Command} {roll : TableId} (tells : Tells K W B)
+    (run : Inputs) (hands : List (Hand B)) (keeper : K) (sink : W) (ended : Ended K W B)
+    → IsTableOver tells run ended → AreInputs tells run keeper rows given_to lines sink roll → given_to ≡ instances_from tells.kind_of 0 hands
+    → AreSound run.rows
+    → IsRunOver tells hands (tells.store keeper).name (Some run.rows) (Some run.rows) keeper sink ended
+IsRunOver-begun tells run hands keeper sink ended over given are sound =
     let instances = instances_from tells.kind_of 0 hands in
     let replayed : HasReplayed (Some run.rows) instances ended.first ended.log ended.last = record {
-      opened = record { rows = run.rows; told = refl; opened = subst (λ all. Opened run.rows all ended.first) are session.opened };
-      replay = session.replay;
+      opened = record { rows = run.rows; told = refl; opened = subst (λ all. Opened run.rows all ended.first) (sym given.instances_are ∙ are) over.opened };
+      replay = over.replay;
     } in
     let is_replayed : IsReplayed (Some run.rows) instances ended.began ended.first ended.log ended.last =
-    subst (λ began. IsReplayed (Some run.rows) instances began ended.first ended.log ended.last) (sym session.began) replayed in
+    subst (λ began. IsReplayed (Some run.rows) instances began ended.first ended.log ended.last) (sym over.began) replayed in
     record {
       replay = is_replayed;
       replay_left = λ image left. is_replayed;
-      begun = session_begun ended.status ended.began session.status_is session.began;
-      at_opening = λ opening. let clash : false ≡ true = sym session.at_opening ∙ opening in absurd (cc);
-      not_begun_keeps = λ unbegun. let clash : true ≡ false = sym session.began ∙ unbegun in absurd (cc);
-      rows = subst (λ began. AreRowsKept began ended.last (tells.store keeper) (tells.store ended.keeper)) (sym session.began) session.rows;
-      store_is = λ began. subst (λ n. IsAtMost n (tells.store ended.keeper).name) name session.tells_on.name;
-      has_commands = subst (λ all. HasCommands all ended.status ended.log) lines session.commands;
-      bytes = subst (λ before. IsTextWritten before (tells.given ended.sink) ended.status ended.first ended.log) written session.bytes;
+      begun = session_begun ended.status ended.began over.status_is over.began;
+      at_opening = λ opening. let clash : false ≡ true = sym over.at_opening ∙ opening in absurd (cc);
+      not_begun_keeps = λ unbegun. let clash : true ≡ false = sym over.began ∙ unbegun in absurd (cc);
+      rows = subst (λ began. AreRowsKept began ended.last (tells.store keeper) (tells.store ended.keeper)) (sym over.began) over.rows;
+      store_is = λ began. subst (λ n. IsAtMost n (tells.store ended.keeper).name) (sym given.name) over.tells_on.name;
+      bytes = subst (λ before. IsTextWritten before (tells.given ended.sink) ended.status ended.first ended.log) (sym given.written) over.bytes;
       end = over.quiet;
-      hands_back = subst (λ began. AreHandsOf tells.kind_of began ended.last hands ended.hands.items) (sym session.began) over.hands;
+      hands_back = subst (λ began. AreHandsOf tells.kind_of began ended.last hands ended.hands.items) (sym over.began) over.hands;
+      opened = session_opening ended.status over.status_is;
+      keeper_fault = λ is. subst (λ n. Failed n (tells.store ended.keeper).faults) (sym given.faults) (over.keeper_fault is);
+      sink_fault = λ is. subst (λ n. Failed n (tells.sink_faults ended.sink)) (sym given.sink_faults) (over.sink_fault is);
+      bad_store = session_store ended.status (Some run.rows) over.status_is;
+      unsound = λ rows seq bad_row stored refused no_fault.
+          let same : run.rows ≡ rows = cc in
+          absurd (none_refused rows (row_fault seq bad_row) (subst AreSound same sound) refused);
+      goes_on = GoesOn-then (tells.store keeper) run.store (tells.store ended.keeper)
+          (GoesOn-same (tells.store keeper) run.store (sym given.told) (λ image left. (given.images image).1 left) (sym given.lost))
+          over.tells_on.goes_on;
+    }
+
+-- so does a session its run
+pub IsRunEnd-begun : {K W B : Type 0} {rows : List Row} {given_to : List Instance} {roll : TableId} (tells : Tells K W B) (run : Inputs) (workers : ℕ)
+    (commands : List Command) (hands : List (Hand B)) (keeper : K) (sink : W) (ended : Ended K W B)
+    → IsBookEnd tells run ended → (workers ≡ 0 → IsSerialEnd tells run hands ended)
+    → AreInputs tells run keeper rows given_to commands sink roll → given_to ≡ instances_from tells.kind_of 0 hands → AreSound run.rows
+    → IsRunEnd tells workers commands hands (tells.store keeper).name (Some run.rows) (Some run.rows) keeper sink ended
+IsRunEnd-begun tells run workers commands hands keeper sink ended over serial given are sound =
+    let session = over.session in
+    let lines : run.lines ≡ commands = sym given.lines_are in
+    let instances = instances_from tells.kind_of 0 hands in
+    record {
+      over = IsRunOver-begun tells run hands keeper sink ended (over_of tells run ended over) given are sound;
+      has_commands = subst (λ all. HasCommands all ended.status ended.log) lines session.commands;
       boxes = λ alone began. (serial alone).boxes;
       diaries = λ alone. (serial alone).diaries;
       serial = λ alone. subst (λ all. IsSerialRun all ended.status ended.first ended.log ended.last) lines (serial alone).serial;
-      opened = session_opening ended.status session.status_is;
-      keeper_fault = λ is. subst (λ n. Failed n (tells.store ended.keeper).faults) faults (session.keeper_fault is);
-      sink_fault = λ is. subst (λ n. Failed n (tells.sink_faults ended.sink)) sink_faults (session.sink_fault is);
       images = λ alone.
           subst
           (λ began. RunImages began ended.at_opening ended.status commands (Some run.rows) instances ended.last ended.log (tells.store ended.keeper))
           (sym session.began)
           (subst (λ all. EndImages ended.status all ended.last ended.log (tells.store ended.keeper)) lines
-          (session.images (λ image left. leaves-only run.rows (tells.store keeper) alone image (images image left))));
-      bad_store = session_store ended.status (Some run.rows) session.status_is;
-      unsound = λ rows seq bad_row stored refused no_fault.
-          let same : run.rows ≡ rows = cc in
-          absurd (none_refused rows (row_fault seq bad_row) (subst AreSound same sound) refused);
-      goes_on = GoesOn-then (tells.store keeper) run.store (tells.store ended.keeper) (GoesOn-same (tells.store keeper) run.store told images lost)
-          session.tells_on.goes_on;
+          (session.images (λ image left. leaves-only run.rows (tells.store keeper) alone image ((given.images image).1 left))));
     }
 
--- so does one that ended before its first line, as a serial run
-pub IsRunEnd-early : {T K W B : Type 0} (tells : Tells K W B) (run : Inputs) (commands : List Command) (hands : List (Hand B)) (keeper : K) (sink : W)
-    (result : Result T (Ended K W B))
-    → IfErr result (IsEndedBeforeLines tells run hands) → run.lines ≡ commands → run.instances ≡ instances_from tells.kind_of 0 hands
-    → run.written ≡ tells.given sink → run.sink_faults ≡ tells.sink_faults sink → run.store.faults ≡ (tells.store keeper).faults
-    → run.store.rows ≡ (tells.store keeper).rows → run.store.name ≡ (tells.store keeper).name
-    → ((image : List Row) → run.store.images image → (tells.store keeper).images image) → run.store.is_lost ≡ (tells.store keeper).is_lost
-    → AreSound run.rows
+-- and one that ended before its first line, as a serial run
+pub IsRunEnd-early : {T K W B : Type 0} {rows : List Row} {given_to : List Instance} {roll : TableId} (tells : Tells K W B) (run : Inputs)
+    (commands : List Command) (hands : List (Hand B)) (keeper : K) (sink : W) (result : Result T (Ended K W B))
+    → IfErr result (IsEndedBeforeLines tells run hands) → AreInputs tells run keeper rows given_to commands sink roll
+    → given_to ≡ instances_from tells.kind_of 0 hands → AreSound run.rows
     → IfErr result (IsRunEnd tells 0 commands hands (tells.store keeper).name (Some run.rows) (Some run.rows) keeper sink)
-IsRunEnd-early tells run commands hands keeper sink (Ok begun) early lines are written sink_faults faults told name images lost sound = tt
-IsRunEnd-early tells run commands hands keeper sink (Err ended) early lines are written sink_faults faults told name images lost sound =
-    IsRunEnd-begun tells run 0 commands hands keeper sink ended early.end (λ alone. early.serial) lines are written sink_faults faults told name images lost sound
+IsRunEnd-early tells run commands hands keeper sink (Ok begun) early given are sound = tt
+IsRunEnd-early tells run commands hands keeper sink (Err ended) early given are sound =
+    IsRunEnd-begun tells run 0 commands hands keeper sink ended early.end (λ alone. early.serial) given are sound
 
 -- the end of a serial run is one with any number of worker threads
 pub IsRunEnd-threads : {K W B : Type 0} (tells : Tells K W B) (workers : ℕ) (commands : List Command) (hands : List (Hand B)) (name : Option (List ℕ))
@@ -192,27 +220,12 @@ pub IsRunEnd-threads : {K W B : Type 0} (tells : Tells K W B) (workers : ℕ) (c
     → IsRunEnd tells 0 commands hands name held before keeper sink ended → IsRunEnd tells workers commands hands name held before keeper sink ended
 IsRunEnd-threads tells workers commands hands name held before keeper sink ended is =
     record {
-      replay = is.replay;
-      replay_left = is.replay_left;
-      begun = is.begun;
-      at_opening = is.at_opening;
-      not_begun_keeps = is.not_begun_keeps;
-      rows = is.rows;
-      store_is = is.store_is;
+      over = is.over;
       has_commands = is.has_commands;
-      bytes = is.bytes;
-      end = is.end;
-      hands_back = is.hands_back;
       boxes = λ alone. is.boxes refl;
       diaries = λ alone. is.diaries refl;
       serial = λ alone. is.serial refl;
-      opened = is.opened;
-      keeper_fault = is.keeper_fault;
-      sink_fault = is.sink_fault;
       images = is.images;
-      bad_store = is.bad_store;
-      unsound = is.unsound;
-      goes_on = is.goes_on;
     }
 
 -- ---- a run whose table wasn't begun
@@ -263,17 +276,17 @@ bad_told (Some kept) rows seq other bad_row bad_other bad stored refused =
     same_fault seq other bad_row bad_other faults
 
 -- what such a status says
-record IsEarly (ended : Status) (before now : ℕ) (held : Option (List Row)) : Type 0 where
-  begun : (began : Bool) → began ≡ false → IsBegunBy ended began
-  early : ended ≡ status.Done → ⊥
-  opened : IsOpeningStatus ended
-  keeper_fault : ended ≡ status.KeeperFault → Failed before now
-  no_sink_fault : ended ≡ status.SinkFault → ⊥
-  bad_store : StoreCause ended held
-  unsound : (rows : List Row) (seq : ℤ) (bad_row : Bool) → held ≡ Some rows → checked rows ≡ Err (row_fault seq bad_row) → ¬ Failed before now
+pub record IsEarly (ended : Status) (before now : ℕ) (held : Option (List Row)) : Type 0 where
+  pub begun : (began : Bool) → began ≡ false → IsBegunBy ended began
+  pub early : ended ≡ status.Done → ⊥
+  pub opened : IsOpeningStatus ended
+  pub keeper_fault : ended ≡ status.KeeperFault → Failed before now
+  pub no_sink_fault : ended ≡ status.SinkFault → ⊥
+  pub bad_store : StoreCause ended held
+  pub unsound : (rows : List Row) (seq : ℤ) (bad_row : Bool) → held ≡ Some rows → checked rows ≡ Err (row_fault seq bad_row) → ¬ Failed before now
       → IsUnlessMemory ended (status.BadStore seq bad_row)
 
-is_early : (ended : Status) (before now : ℕ) (held : Option (List Row)) → EarlyCause ended before now held → IsEarly ended before now held
+pub is_early : (ended : Status) (before now : ℕ) (held : Option (List Row)) → EarlyCause ended before now held → IsEarly ended before now held
 is_early status.Memory before now held cause = record {
   begun = λ began is. tt;
   early = λ done. absurd (cc);
@@ -307,22 +320,27 @@ is_early status.Usage before now held cause = absurd cause
 is_early status.SourceFault before now held cause = absurd cause
 is_early (status.ScriptTooLong limit) before now held cause = absurd cause
 
--- a run that ended before its table was begun, with its keeper as it was told before
-pub IsRunEnd-unbegun : {K W B : Type 0} (tells : Tells K W B) (workers : ℕ) (commands : List Command) (why : Status) (at_opening : Bool)
-    (hands : Vec (Hand B) Global) (name : Option (List ℕ)) (held before : Option (List Row)) (keeper now : K) (sink : W) (ended : Ended K W B)
-    → IsUnbegun why at_opening now sink hands ended → AllByRecursion IsAskable commands → IsAtMost (tells.store keeper).rows (tells.store now).rows
-    → EarlyCause why (tells.store keeper).faults (tells.store now).faults held
-    → (at_opening ≡ true → (why ≡ status.KeeperFault) ⊎ (why ≡ status.Memory))
-    → (IsHeldAlone before (tells.store keeper) → UnbegunImages at_opening before (instances_from tells.kind_of 0 hands.items) (tells.store now))
-    → GoesOn (tells.store keeper) (tells.store now)
-    → IsRunEnd tells workers commands hands.items name held before keeper sink ended
-IsRunEnd-unbegun tells workers commands why at_opening hands name held before keeper now sink ended unbegun askable same cause refused images goes_on =
+is_early_of : {K W B : Type 0} (tells : Tells K W B) (why : Status) (at_opening : Bool) (hands : Vec (Hand B) Global) (held : Option (List Row))
+    (keeper now : K) (sink : W) (ended : Ended K W B)
+    → IsUnbegun why at_opening now sink hands ended → EarlyCause why (tells.store keeper).faults (tells.store now).faults held
+    → IsEarly ended.status (tells.store keeper).faults (tells.store ended.keeper).faults held
+is_early_of tells why at_opening hands held keeper now sink ended unbegun cause =
     let earlier = (tells.store keeper).faults in
     let faults : (tells.store ended.keeper).faults ≡ (tells.store now).faults = ap (λ keeper. (tells.store keeper).faults) unbegun.keeper_is in
-    let is =
     is_early ended.status earlier (tells.store ended.keeper).faults held
     (subst (λ n. EarlyCause ended.status earlier n held) (sym faults)
-    (subst (λ s. EarlyCause s earlier (tells.store now).faults held) (sym unbegun.status_is) cause)) in
+    (subst (λ s. EarlyCause s earlier (tells.store now).faults held) (sym unbegun.status_is) cause))
+
+-- what ended before its table was begun, with its keeper as it was told before
+pub IsRunOver-unbegun : {K W B : Type 0} (tells : Tells K W B) (why : Status) (at_opening : Bool) (hands : Vec (Hand B) Global) (name : Option (List ℕ))
+    (held before : Option (List Row)) (keeper now : K) (sink : W) (ended : Ended K W B)
+    → IsUnbegun why at_opening now sink hands ended → IsAtMost (tells.store keeper).rows (tells.store now).rows
+    → EarlyCause why (tells.store keeper).faults (tells.store now).faults held
+    → (at_opening ≡ true → (why ≡ status.KeeperFault) ⊎ (why ≡ status.Memory))
+    → GoesOn (tells.store keeper) (tells.store now)
+    → IsRunOver tells hands.items name held before keeper sink ended
+IsRunOver-unbegun tells why at_opening hands name held before keeper now sink ended unbegun same cause refused goes_on =
+    let is = is_early_of tells why at_opening hands held keeper now sink ended unbegun cause in
     let nothing : HasNotBegun ended.first ended.log ended.last = record { first_is = unbegun.first; last_is = unbegun.last; no_event = unbegun.log } in
     record {
       replay = subst (λ began. IsReplayed held (instances_from tells.kind_of 0 hands.items) began ended.first ended.log ended.last) (sym unbegun.began) nothing;
@@ -335,26 +353,41 @@ IsRunEnd-unbegun tells workers commands why at_opening hands name held before ke
       rows = subst (λ began. AreRowsKept began ended.last (tells.store keeper) (tells.store ended.keeper)) (sym unbegun.began)
           (subst (λ keeper_is. IsAtMost (tells.store keeper).rows (tells.store keeper_is).rows) (sym unbegun.keeper_is) same);
       store_is = λ began. let clash : true ≡ false = sym began ∙ unbegun.began in absurd (cc);
-      has_commands = HasCommands-nothing commands ended.status ended.log unbegun.log (λ done. absurd (is.early done));
       bytes = IsTextWritten-nothing (tells.given sink) (tells.given ended.sink) ended.status ended.first ended.log (ap tells.given unbegun.sink_is) unbegun.log;
       end = λ done. absurd (is.early done);
       hands_back = subst (λ began. AreHandsOf tells.kind_of began ended.last hands.items ended.hands.items) (sym unbegun.began)
           (ap (λ v. v.items) unbegun.hands_are);
-      boxes = λ alone began. let clash : true ≡ false = sym began ∙ unbegun.began in absurd (cc);
-      diaries = λ alone done. absurd (is.early done);
-      serial = λ alone. IsSerialRun-unopened commands ended.status ended.first ended.log ended.last askable is.early unbegun.first unbegun.log;
       opened = is.opened;
       keeper_fault = is.keeper_fault;
       sink_fault = λ fault. absurd (is.no_sink_fault fault);
-      images = λ alone. rw (unbegun.began, unbegun.opening, unbegun.keeper_is) (images alone);
       bad_store = is.bad_store;
       unsound = is.unsound;
       goes_on = subst (λ keeper_is. GoesOn (tells.store keeper) (tells.store keeper_is)) (sym unbegun.keeper_is) goes_on;
     }
 
+-- a run that ended so
+pub IsRunEnd-unbegun : {K W B : Type 0} (tells : Tells K W B) (workers : ℕ) (commands : List Command) (why : Status) (at_opening : Bool)
+    (hands : Vec (Hand B) Global) (name : Option (List ℕ)) (held before : Option (List Row)) (keeper now : K) (sink : W) (ended : Ended K W B)
+    → IsUnbegun why at_opening now sink hands ended → AllByRecursion IsAskable commands → IsAtMost (tells.store keeper).rows (tells.store now).rows
+    → EarlyCause why (tells.store keeper).faults (tells.store now).faults held
+    → (at_opening ≡ true → (why ≡ status.KeeperFault) ⊎ (why ≡ status.Memory))
+    → (IsHeldAlone before (tells.store keeper) → UnbegunImages at_opening before (instances_from tells.kind_of 0 hands.items) (tells.store now))
+    → GoesOn (tells.store keeper) (tells.store now)
+    → IsRunEnd tells workers commands hands.items name held before keeper sink ended
+IsRunEnd-unbegun tells workers commands why at_opening hands name held before keeper now sink ended unbegun askable same cause refused images goes_on =
+    let is = is_early_of tells why at_opening hands held keeper now sink ended unbegun cause in
+    record {
+      over = IsRunOver-unbegun tells why at_opening hands name held before keeper now sink ended unbegun same cause refused goes_on;
+      has_commands = HasCommands-nothing commands ended.status ended.log unbegun.log (λ done. absurd (is.early done));
+      boxes = λ alone began. let clash : true ≡ false = sym began ∙ unbegun.began in absurd (cc);
+      diaries = λ alone done. absurd (is.early done);
+      serial = λ alone. IsSerialRun-unopened commands ended.status ended.first ended.log ended.last askable is.early unbegun.first unbegun.log;
+      images = λ alone. rw (unbegun.began, unbegun.opening, unbegun.keeper_is) (images alone);
+    }
+
 -- ---- a run whose rows were loaded
 
-opened_told : {held : Option (List Row)} {rows : List Row} {instances : List Instance} {first : State} → IfSome held (λ kept. rows ≡ kept)
+pub opened_told : {held : Option (List Row)} {rows : List Row} {instances : List Instance} {first : State} → IfSome held (λ kept. rows ≡ kept)
     → IsOpenedFrom (Some rows) instances first → IsOpenedFrom held instances first
 opened_told {held} told is =
     record { rows = is.rows; told = subst (λ all. IfSome held (λ kept. all ≡ kept)) (sym is.told) told; opened = is.opened }
@@ -369,7 +402,7 @@ kept_loaded : (began : Bool) (last : State) (before loaded now : Store) → IsAt
 kept_loaded true last before loaded now same kept = kept
 kept_loaded false last before loaded now same kept = IsAtMost-then before.rows loaded.rows now.rows same kept
 
-store_told : (ended : Status) (held : Option (List Row)) (rows : List Row) → IfSome held (λ kept. rows ≡ kept) → StoreCause ended (Some rows)
+pub store_told : (ended : Status) (held : Option (List Row)) (rows : List Row) → IfSome held (λ kept. rows ≡ kept) → StoreCause ended (Some rows)
     → StoreCause ended held
 store_told (status.BadStore seq bad_row) held rows told bad =
     record { rows = bad.rows; told = subst (λ all. IfSome held (λ kept. all ≡ kept)) (sym bad.told) told; refused = bad.refused }
@@ -382,7 +415,7 @@ store_told status.SourceFault held rows told bad = tt
 store_told (status.ScriptTooLong limit) held rows told bad = tt
 
 -- rows that were loaded are those told before, where rows are told to the end
-loaded_told : (before loaded now : Option (List Row)) (rows : List Row) → IfSome loaded (λ held. rows ≡ held) → IsAtMost before loaded
+pub loaded_told : (before loaded now : Option (List Row)) (rows : List Row) → IfSome loaded (λ held. rows ≡ held) → IsAtMost before loaded
     → IfSome now (λ told. IsSome loaded) → IfSome (told_before before now) (λ kept. rows ≡ kept)
 loaded_told before loaded None rows is same goes_on = tt
 loaded_told None loaded (Some told) rows is same goes_on = tt
@@ -403,48 +436,71 @@ loaded_left before loaded rows image is same left = elim left [
     told_then (Some kept) (Some held) is same told = let both : kept ≡ held = cc in is ∙ sym both
     told_then (Some kept) None is same told = absurd cc
 
--- the end of a run over the rows that were loaded is one over the keeper as it was before
-pub IsRunEnd-loaded : {K W B : Type 0} (tells : Tells K W B) (workers : ℕ) (commands : List Command) (hands : List (Hand B)) (name : List ℕ)
-    (rows : List Row) (keeper loaded : K) (sink : W) (ended : Ended K W B)
-    → IsRunEnd tells workers commands hands (tells.store loaded).name (Some rows) (Some rows) loaded sink ended
-    → IsAtMost (Some name) (tells.store loaded).name → IsLoaded rows (tells.store keeper) (tells.store loaded)
-    → IsStoreKept (tells.store keeper) (tells.store loaded) → KeepsTelling (tells.store keeper) (tells.store loaded)
-    → (tells.store loaded).faults ≡ (tells.store keeper).faults
-    → IsRunEnd tells workers commands hands (Some name) (told_before (tells.store keeper).rows (tells.store ended.keeper).rows)
-    (tells.store keeper).rows keeper sink ended
-IsRunEnd-loaded tells workers commands hands name rows keeper loaded sink ended is named are kept telling faults =
+-- what a keeper that loaded these rows tells, beside what it told before
+pub record HasLoaded (name : List ℕ) (rows : List Row) (before loaded : Store) : Type 0 where
+  pub named : IsAtMost (Some name) loaded.name
+  pub rows_are : IsLoaded rows before loaded
+  pub kept : IsStoreKept before loaded
+  pub telling : KeepsTelling before loaded
+  pub no_fault : loaded.faults ≡ before.faults
+
+-- where a crash may leave any rows, those loaded are those told before
+left_told : {K : Type 0} (store : K → Store) (name : List ℕ) (rows image : List Row) (keeper loaded now : K) → HasLoaded name rows (store keeper) (store loaded)
+    → GoesOn (store loaded) (store now) → (store now).images image → IfSome (store keeper).rows (λ kept. rows ≡ kept)
+left_told store name rows image keeper loaded now is goes_on left =
+    loaded_left (store keeper) (store loaded) rows image is.rows_are is.kept.rows (goes_on.images image left)
+
+-- what is over that went over the rows that were loaded is so for the keeper as it was before
+pub IsRunOver-loaded : {K W B : Type 0} (tells : Tells K W B) (hands : List (Hand B)) (name : List ℕ) (rows : List Row) (keeper loaded : K) (sink : W)
+    (ended : Ended K W B)
+    → IsRunOver tells hands (tells.store loaded).name (Some rows) (Some rows) loaded sink ended → HasLoaded name rows (tells.store keeper) (tells.store loaded)
+    → IsRunOver tells hands (Some name) (told_before (tells.store keeper).rows (tells.store ended.keeper).rows) (tells.store keeper).rows keeper sink ended
+IsRunOver-loaded tells hands name rows keeper loaded sink ended is load =
     let before = (tells.store keeper).rows in
     let last = (tells.store ended.keeper).rows in
     let held = told_before before last in
-    let told : IfSome held (λ kept. rows ≡ kept) = loaded_told before (tells.store loaded).rows last rows are.told kept.rows is.goes_on.rows in
-    let told_left : (image : List Row) → (tells.store ended.keeper).images image → IfSome before (λ kept. rows ≡ kept) =
-    λ image left. loaded_left (tells.store keeper) (tells.store loaded) rows image are kept.rows (is.goes_on.images image left) in
+    let told : IfSome held (λ kept. rows ≡ kept) = loaded_told before (tells.store loaded).rows last rows load.rows_are.told load.kept.rows is.goes_on.rows in
     record {
       replay = replayed_told ended.began held rows _ ended.first ended.log ended.last told is.replay;
-      replay_left = λ image left. replayed_told ended.began before rows _ ended.first ended.log ended.last (told_left image left) is.replay;
+      replay_left = λ image left.
+          replayed_told ended.began before rows _ ended.first ended.log ended.last
+          (left_told tells.store name rows image keeper loaded ended.keeper load is.goes_on left) is.replay;
       begun = is.begun;
       at_opening = is.at_opening;
       not_begun_keeps = is.not_begun_keeps;
-      rows = kept_loaded ended.began ended.last (tells.store keeper) (tells.store loaded) (tells.store ended.keeper) kept.rows is.rows;
-      store_is = λ began. IsAtMost-then (Some name) (tells.store loaded).name (tells.store ended.keeper).name named (is.store_is began);
-      has_commands = is.has_commands;
+      rows = kept_loaded ended.began ended.last (tells.store keeper) (tells.store loaded) (tells.store ended.keeper) load.kept.rows is.rows;
+      store_is = λ began. IsAtMost-then (Some name) (tells.store loaded).name (tells.store ended.keeper).name load.named (is.store_is began);
       bytes = is.bytes;
       end = is.end;
       hands_back = is.hands_back;
-      boxes = is.boxes;
-      diaries = is.diaries;
-      serial = is.serial;
       opened = is.opened;
-      keeper_fault = λ fault. subst (λ n. Failed n (tells.store ended.keeper).faults) faults (is.keeper_fault fault);
+      keeper_fault = λ fault. subst (λ n. Failed n (tells.store ended.keeper).faults) load.no_fault (is.keeper_fault fault);
       sink_fault = is.sink_fault;
-      images = λ alone.
-          images_told ended.began ended.at_opening ended.status commands before rows (instances_from tells.kind_of 0 hands) ended.last ended.log (tells.store ended.keeper)
-          told_left
-          (is.images (loaded-alone rows (tells.store keeper) (tells.store loaded) are kept alone));
       bad_store = store_told ended.status held rows told is.bad_store;
       unsound = λ all seq bad_row stored refused no_fault.
           let both : rows ≡ all = subst (λ held. IfSome held (λ kept. rows ≡ kept)) stored told in
-          is.unsound all seq bad_row (ap Some both) refused (subst (λ n. ¬ Failed n (tells.store ended.keeper).faults) (sym faults) no_fault);
+          is.unsound all seq bad_row (ap Some both) refused (subst (λ n. ¬ Failed n (tells.store ended.keeper).faults) (sym load.no_fault) no_fault);
       goes_on = GoesOn-then (tells.store keeper) (tells.store loaded) (tells.store ended.keeper)
-          (GoesOn-loaded (tells.store keeper) (tells.store loaded) kept telling) is.goes_on;
+          (GoesOn-loaded (tells.store keeper) (tells.store loaded) load.kept load.telling) is.goes_on;
+    }
+
+-- so is the end of a run
+pub IsRunEnd-loaded : {K W B : Type 0} (tells : Tells K W B) (workers : ℕ) (commands : List Command) (hands : List (Hand B)) (name : List ℕ)
+    (rows : List Row) (keeper loaded : K) (sink : W) (ended : Ended K W B)
+    → IsRunEnd tells workers commands hands (tells.store loaded).name (Some rows) (Some rows) loaded sink ended
+    → HasLoaded name rows (tells.store keeper) (tells.store loaded)
+    → IsRunEnd tells workers commands hands (Some name) (told_before (tells.store keeper).rows (tells.store ended.keeper).rows)
+    (tells.store keeper).rows keeper sink ended
+IsRunEnd-loaded tells workers commands hands name rows keeper loaded sink ended is load =
+    record {
+      over = IsRunOver-loaded tells hands name rows keeper loaded sink ended is.over load;
+      has_commands = is.has_commands;
+      boxes = is.boxes;
+      diaries = is.diaries;
+      serial = is.serial;
+      images = λ alone.
+          images_told ended.began ended.at_opening ended.status commands (tells.store keeper).rows rows (instances_from tells.kind_of 0 hands) ended.last
+          ended.log (tells.store ended.keeper)
+          (λ image left. left_told tells.store name rows image keeper loaded ended.keeper load is.over.goes_on left)
+          (is.images (loaded-alone rows (tells.store keeper) (tells.store loaded) load.rows_are load.kept alone));
     }

@@ -7,7 +7,7 @@ use Rattle.wm_cli.specs.Images.{IsHeldAlone, RunImages}
 use Rattle.wm_words.specs.Run.{options_of, AskForNoThreads}
 use Rattle.wm_data.specs.declared.data.DataEntry.{DataEntry}
 use Rattle.wm_faults.specs.Faults.{Failed}
-use Rattle.wm_keeper.specs.Store.{Store, GoesOn, IsAtMost, IsSettled}
+use Rattle.wm_keeper.specs.Store.{Store, GoesOn, IsAtMost, IsSettled, TellsOn}
 use Rattle.wm_keeper.specs.declared.row.Row.{Row}
 use Rattle.wm_machine.specs.Opened.{opening_state, Opened}
 use Rattle.wm_machine.specs.Quiet.{IsQuiet}
@@ -19,12 +19,13 @@ use Rattle.wm_machine.specs.declared.event.Event.TheVariants as event
 use Rattle.wm_machine.specs.declared.state.Instance.{Instance}
 use Rattle.wm_machine.specs.declared.state.State.{State}
 use Rattle.wm_rows.specs.Sound.{checked}
-use Rattle.wm_session.specs.Ended.{AreBoxesBack, AreHandsBack, HasCommands, HaveTold, IsSerialRun, IsTextWritten}
+use Rattle.wm_session.specs.Ended.{AreBoxesBack, AreHandsBack, HasCommands, HaveTold, IsSerialRun, IsSessionStatus, IsTextWritten}
 use Rattle.wm_seating.specs.Hands.{instances_from}
 use Rattle.wm_session.specs.Tells.{Tells}
 use Rattle.wm_session.specs.declared.ended.Ended.{Ended}
 use Rattle.wm_session.specs.declared.status.Status.{Status}
 use Rattle.wm_session.specs.declared.status.Status.TheVariants as status
+use Rattle.wm_table.specs.Inputs.{Inputs}
 use Rattle.wm_table.specs.Table.{row_fault, HoldsRowsOf}
 use Rattle.wm_table.specs.TableState.{TableState}
 use Rattle.wm_worker.specs.declared.answer.Entry.{Entry}
@@ -136,11 +137,27 @@ pub record IsEndedAtOnce {K W B : Type 0} (table : TableState K) (sink : W) (han
   pub sink_is : ended.sink ≡ sink
   pub hands_are : ended.hands ≡ hands
 
--- A run that is over whose commands, these, were read, and that was given these workers, this keeper, of a store of this name, where it tells it,
--- and this sink; so many worker threads drove its works. The keeper told these rows before, and they are held where it tells rows to the end. Each
--- fact is the promise of `run` of that name, but for the last one, which says what is told.
-pub record IsRunEnd {K W B : Type 0} (tells : Tells K W B) (workers : ℕ) (commands : List Command) (hands : List (Hand B)) (name : Option (List ℕ))
-    (held before : Option (List Row)) (keeper : K) (sink : W) (ended : Ended K W B) : Type 0 where
+-- A table that was begun is over, of what its run was given: the log replays from the state that its rows open to, on `Done` nothing is left to do, its
+-- text was written, the rows kept are the last state's, and the workers whose class wasn't retired come back. A fault is answered where one was met.
+pub record IsTableOver {K W B : Type 0} (tells : Tells K W B) (run : Inputs) (ended : Ended K W B) : Type 0 where
+  pub status_is : IsSessionStatus ended.status
+  pub began : ended.began ≡ true
+  pub at_opening : ended.at_opening ≡ false
+  pub opened : Opened run.rows run.instances ended.first
+  pub replay : Replay ended.first ended.log ended.last
+  pub quiet : IsQuietOnDone ended.status ended.last
+  pub bytes : IsTextWritten run.written (tells.given ended.sink) ended.status ended.first ended.log
+  pub rows : HoldsRowsOf ended.last (tells.store ended.keeper)
+  pub tells_on : TellsOn run.store (tells.store ended.keeper)
+  pub hands : AreHandsBack tells.kind_of ended.last ended.hands.items
+  pub keeper_fault : ended.status ≡ status.KeeperFault → Failed run.store.faults (tells.store ended.keeper).faults
+  pub sink_fault : ended.status ≡ status.SinkFault → Failed run.sink_faults (tells.sink_faults ended.sink)
+
+-- What is over that was to open a store once its lines were read, whatever executes them, and that was given these workers, this keeper, of a store of
+-- this name, where it tells it, and this sink. The keeper told these rows before, and they are held where it tells rows to the end. Each fact is the
+-- promise of `run` of that name, but for the last one, which says what is told.
+pub record IsRunOver {K W B : Type 0} (tells : Tells K W B) (hands : List (Hand B)) (name : Option (List ℕ)) (held before : Option (List Row)) (keeper : K)
+    (sink : W) (ended : Ended K W B) : Type 0 where
   pub replay : IsReplayed held (instances_from tells.kind_of 0 hands) ended.began ended.first ended.log ended.last
   pub replay_left : (image : List Row) → (tells.store ended.keeper).images image
       → IsReplayed before (instances_from tells.kind_of 0 hands) ended.began ended.first ended.log ended.last
@@ -149,20 +166,25 @@ pub record IsRunEnd {K W B : Type 0} (tells : Tells K W B) (workers : ℕ) (comm
   pub not_begun_keeps : ended.began ≡ false → ended.sink ≡ sink
   pub rows : AreRowsKept ended.began ended.last (tells.store keeper) (tells.store ended.keeper)
   pub store_is : ended.began ≡ true → IsAtMost name (tells.store ended.keeper).name
-  pub has_commands : HasCommands commands ended.status ended.log
   pub bytes : IsTextWritten (tells.given sink) (tells.given ended.sink) ended.status ended.first ended.log
   pub end : IsQuietOnDone ended.status ended.last
   pub hands_back : AreHandsOf tells.kind_of ended.began ended.last hands ended.hands.items
-  pub boxes : workers ≡ 0 → AreBoxesOf tells.diary_of ended.began hands ended.log ended.last ended.hands.items
-  pub diaries : workers ≡ 0 → HaveToldOnDone tells.diary_of ended.status hands ended.first ended.log ended.last ended.hands.items
-  pub serial : workers ≡ 0 → IsSerialRun commands ended.status ended.first ended.log ended.last
   pub opened : IsOpeningStatus ended.status
   pub keeper_fault : ended.status ≡ status.KeeperFault → Failed (tells.store keeper).faults (tells.store ended.keeper).faults
   pub sink_fault : ended.status ≡ status.SinkFault → Failed (tells.sink_faults sink) (tells.sink_faults ended.sink)
-  pub images : IsHeldAlone before (tells.store keeper)
-      → RunImages ended.began ended.at_opening ended.status commands before (instances_from tells.kind_of 0 hands) ended.last ended.log
-      (tells.store ended.keeper)
   pub bad_store : StoreCause ended.status held
   pub unsound : (rows : List Row) (seq : ℤ) (bad_row : Bool) → held ≡ Some rows → checked rows ≡ Err (row_fault seq bad_row)
       → ¬ Failed (tells.store keeper).faults (tells.store ended.keeper).faults → IsUnlessMemory ended.status (status.BadStore seq bad_row)
   pub goes_on : GoesOn (tells.store keeper) (tells.store ended.keeper)
+
+-- A run that is over whose commands, these, were read; so many worker threads drove its works. Each fact besides is the promise of `run` of that name.
+pub record IsRunEnd {K W B : Type 0} (tells : Tells K W B) (workers : ℕ) (commands : List Command) (hands : List (Hand B)) (name : Option (List ℕ))
+    (held before : Option (List Row)) (keeper : K) (sink : W) (ended : Ended K W B) : Type 0 where
+  pub over : IsRunOver tells hands name held before keeper sink ended
+  pub has_commands : HasCommands commands ended.status ended.log
+  pub boxes : workers ≡ 0 → AreBoxesOf tells.diary_of ended.began hands ended.log ended.last ended.hands.items
+  pub diaries : workers ≡ 0 → HaveToldOnDone tells.diary_of ended.status hands ended.first ended.log ended.last ended.hands.items
+  pub serial : workers ≡ 0 → IsSerialRun commands ended.status ended.first ended.log ended.last
+  pub images : IsHeldAlone before (tells.store keeper)
+      → RunImages ended.began ended.at_opening ended.status commands before (instances_from tells.kind_of 0 hands) ended.last ended.log
+      (tells.store ended.keeper)

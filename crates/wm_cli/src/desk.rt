@@ -47,6 +47,16 @@ impl<K: Keeper, W: Sink, B: Worker, M: Mark, L: Ledger> Desk<K, W, B, M, L> {
         self.book.over()
     }
 
+    /// Whether a work may start.
+    pub fn has_startable(&self) -> bool {
+        self.book.has_startable()
+    }
+
+    /// Whether nothing may start and no run is out.
+    pub fn is_quiet(&self) -> bool {
+        self.book.is_quiet()
+    }
+
     /// The number of the next line, from 1; none where no line is left.
     pub fn next_line(&self) -> Option<u32> {
         self.book.next_line()

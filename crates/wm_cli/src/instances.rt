@@ -1,11 +1,12 @@
 //! The instances that the given workers are.
-ghost use Rattle.std.specs.Prelude.{◌≡◌, ◌^◌, ◌<◌, length, IfOk};
+ghost use Rattle.std.specs.Prelude.{◌≡◌, ◌^◌, ◌<◌, [], length, IfOk};
 ghost use Rattle.wm_seating.specs.Hands.{instances_from};
 
 use std::alloc::{AllocError, Global};
 use wm_bench::Hand;
 use wm_collections::{Items, Replica};
 use wm_machine::Instance;
+use wm_roll::Roll;
 use wm_worker::Worker;
 
 /// The instances that these workers are, numbered from 0 in order.
@@ -29,4 +30,18 @@ pub fn instances_of<B: Worker>(
         number += 1;
     }
     Ok(instances)
+}
+
+/// The instances of these workers, and a roll on which no part stands.
+pub fn instances_and_roll<B: Worker>(
+    alloc: Global,
+    hands: &[Hand<B>],
+) -> Result<(Items<Instance>, Roll), AllocError>
+    requires { length hands.now < 2 ^ 32 }
+    ensures instances { IfOk result (λ begun. begun.0 ≡ instances_from B.kind_of 0 hands.now) }
+    ensures roll { IfOk result (λ begun. begun.1.parts ≡ []) }
+{
+    let instances = instances_of(alloc, hands)?;
+    let roll = Roll::new(alloc)?;
+    Ok((instances, roll))
 }

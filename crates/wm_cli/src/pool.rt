@@ -7,10 +7,12 @@ ghost use Rattle.wm_session.specs.Tells.{tells_of};
 use crate::desk::{Desk, Start};
 use crate::work::{Part, Work};
 use std::alloc::{AllocError, Global};
+use std::hint::spin_loop;
 use std::marker::Brand;
+use std::sync::atomic::{AtomicU64, Ordering};
 use std::sync::ledger::{Blank, Ledger, Share};
-use std::sync::{Condvar, Mutex, Wait};
-use std::thread::Threads;
+use std::sync::{Condvar, Mutex, MutexGuard, Wait};
+use std::thread::{Threads, yield_now};
 use wm_io::Sink;
 use wm_keeper::Keeper;
 use wm_pool::{Gate, Point, Shared, drive};
@@ -18,13 +20,25 @@ use wm_session::{Book, Ended, Front, run_serial};
 use wm_table::Mark;
 use wm_worker::Worker;
 
-/// What the threads of a run share: the desk behind its lock, and that it has changed.
+/// How often a thread asks for the lock before it sleeps until the lock is free.
+const TRIES: u32 = 200;
+
+/// How often it pauses in between, so long that whoever has the lock takes several turns: a turn that
+/// follows one of another thread finds nothing of the desk in its processor's memory.
+const PAUSES: u32 = 200;
+
+/// What the threads of a run share: the desk behind its lock, and what they wait for.
 struct Pool<'a, K: Keeper, W: Sink, B: Worker, M: Mark, L: Ledger, R: Wait, G: Gate> {
     rt: &'a R,
     alloc: Global,
     gate: &'a G,
     desk: Mutex<Desk<K, W, B, M, L>>,
-    changed: Condvar,
+    /// Notified where a work may start, or the session is over.
+    startable: Condvar,
+    /// Notified where nothing is left to do, or the session is over.
+    settled: Condvar,
+    /// How many threads wait for a work. It changes while the lock is held.
+    idle: AtomicU64,
 }
 
 impl<
@@ -48,48 +62,48 @@ impl<
     ghost portion = { λ part. part.share.parts };
 
     fn next(&self, part: &mut Part<M, L>) -> Option<Work<B, M>> {
-        let mut desk = self.desk.lock(self.rt);
+        let mut desk = self.lock();
         'waiting: for _ in self.rt.forever() {
             if let Some(over) = desk.over() {
                 part.over = Some(over);
+                drop(desk);
+                self.wake_all();
                 return None;
             }
             match desk.claim(&mut part.share) {
-                Start::Begun(work) => return Some(work),
-                Start::Changed => self.changed.notify_all(),
-                Start::Nothing => desk = self.changed.wait(self.rt, desk),
+                Start::Begun(work) => {
+                    self.wake_next(desk);
+                    return Some(work);
+                }
+                Start::Changed => {}
+                Start::Nothing => desk = self.await_work(desk),
             }
         }
         unreachable!()
     }
 
+    /// Whoever takes the last turn of a run goes on with `next`, so it wakes nobody here.
     fn turn(&self, part: &mut Part<M, L>, mut work: Work<B, M>) -> Option<Work<B, M>> {
         self.pass_turn(&work);
         let told = work.turn(self.alloc);
-        let back = self.desk.lock(self.rt).report(&mut part.share, work, told);
-        // nobody waits for the next turn of a run
-        if back.is_none() {
-            self.changed.notify_all();
-        }
-        back
+        self.lock().report(&mut part.share, work, told)
     }
 
     fn front(&self) -> bool {
         self.pass_line();
-        let mut desk = self.desk.lock(self.rt);
+        let mut desk = self.lock();
         for _ in self.rt.forever() {
             match desk.front_step() {
                 Front::Moved => {
-                    drop(desk);
-                    self.changed.notify_all();
+                    self.wake_next(desk);
                     return true;
                 }
                 Front::Ended | Front::Stopped => {
                     drop(desk);
-                    self.changed.notify_all();
+                    self.wake_all();
                     return false;
                 }
-                Front::NotSettled => desk = self.changed.wait(self.rt, desk),
+                Front::NotSettled => desk = self.settled.wait(self.rt, desk),
             }
         }
         unreachable!()
@@ -106,9 +120,51 @@ impl<'a, K: Keeper, W: Sink, B: Worker, M: Mark, L: Ledger, R: Wait, G: Gate> Po
     R,
     G,
 > {
+    /// Takes the lock. A thread that has to wait pauses, and sleeps only where that takes long.
+    fn lock(&self) -> MutexGuard<'_, Desk<K, W, B, M, L>> {
+        for _try in 0..TRIES {
+            if let Some(desk) = self.desk.try_lock() {
+                return desk;
+            }
+            pause();
+        }
+        self.desk.lock(self.rt)
+    }
+
+    /// Waits until a work may start or the session is over, with the lock let go meanwhile. Where
+    /// nothing is left to do, the front may go on.
+    fn await_work<'d>(
+        &'d self,
+        desk: MutexGuard<'d, Desk<K, W, B, M, L>>,
+    ) -> MutexGuard<'d, Desk<K, W, B, M, L>> {
+        if desk.is_quiet() {
+            self.settled.notify_all();
+        }
+        self.idle.fetch_add(1, Ordering::SeqCst);
+        let desk = self.startable.wait(self.rt, desk);
+        self.idle.fetch_sub(1, Ordering::SeqCst);
+        desk
+    }
+
+    /// Lets the lock go, and wakes a thread that waits for a work, where a work may start. That thread
+    /// wakes the next one.
+    fn wake_next(&self, desk: MutexGuard<'_, Desk<K, W, B, M, L>>) {
+        let has_work = self.idle.load(Ordering::SeqCst) > 0 && desk.has_startable();
+        drop(desk);
+        if has_work {
+            self.startable.notify_one();
+        }
+    }
+
+    /// Wakes all threads that wait, since the session is over.
+    fn wake_all(&self) {
+        self.startable.notify_all();
+        self.settled.notify_all();
+    }
+
     /// Passes the gate before the next line, where one is left.
     fn pass_line(&self) {
-        let next = self.desk.lock(self.rt).next_line();
+        let next = self.lock().next_line();
         if let Some(line) = next {
             self.gate.at(Point::Front { line });
         }
@@ -122,6 +178,14 @@ impl<'a, K: Keeper, W: Sink, B: Worker, M: Mark, L: Ledger, R: Wait, G: Gate> Po
             k: work.ticket.k(),
         });
     }
+}
+
+/// Lets whoever has the lock take several turns, and other threads have the processor.
+fn pause() {
+    for _i in 0..PAUSES {
+        spin_loop();
+    }
+    yield_now();
 }
 
 /// A portion of the ledger for one thread.
@@ -206,7 +270,9 @@ fn drive_counted<
         alloc,
         gate,
         desk: Mutex::new(Desk::new(book, out)),
-        changed: Condvar::new(),
+        startable: Condvar::new(),
+        settled: Condvar::new(),
+        idle: AtomicU64::new(0),
     };
     let (parts, _) = drive(rt, &pool, parts);
     gather(&mut all, parts);
@@ -215,7 +281,9 @@ fn drive_counted<
         alloc: _,
         gate: _,
         desk,
-        changed: _,
+        startable: _,
+        settled: _,
+        idle: _,
     } = pool;
     desk.into_inner().close(&mut all)
 }

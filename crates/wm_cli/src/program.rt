@@ -4,7 +4,7 @@ ghost use Rattle.std.specs.List.{AllByRecursion};
 ghost use Rattle.wm_bench.specs.Places.{idle_hands, most_hands};
 ghost use Rattle.wm_cli.specs.Ended.{ForScript, IsRunEnd};
 ghost use Rattle.wm_cli.specs.Lines.{lines_of};
-ghost use Rattle.wm_cli.specs.Reading.{AreCommandsOf, IsReadStatus};
+ghost use Rattle.wm_cli.specs.Reading.{IsReadStatus};
 ghost use Rattle.wm_cli.specs.Run.{reads_of, IsRun};
 ghost use Rattle.wm_cli.specs.Script.{IsTakenWithin};
 ghost use Rattle.wm_words.specs.Run.{options_of};
@@ -13,17 +13,16 @@ ghost use Rattle.wm_keeper.specs.Store.{told_before};
 ghost use Rattle.wm_keeper.specs.declared.row.Row.{Row};
 ghost use Rattle.wm_machine.specs.Outcome.{IsAskable};
 ghost use Rattle.wm_script.specs.Limits.{first_limit, most_script_bytes};
-ghost use Rattle.wm_script.specs.declared.limits.Limit.{Limit};
 ghost use Rattle.wm_session.specs.BetweenRuns.{IsAtBegin};
 ghost use Rattle.wm_session.specs.Ended.{IsBookEnd, IsSerialEnd};
 ghost use Rattle.wm_seating.specs.Hands.{instances_from};
 ghost use Rattle.wm_session.specs.Tells.{tells_of, AreInputs};
 
 use crate::beginning::open_book;
-use crate::instances::instances_of;
+use crate::instances::instances_and_roll;
 use crate::pool::run_pool;
-use crate::script::{ReadFault, read_script};
-use std::alloc::{AllocError, Global};
+use crate::script::read_commands;
+use std::alloc::Global;
 use std::marker::Brand;
 use std::sync::Wait;
 use std::thread::Threads;
@@ -35,7 +34,6 @@ use wm_keeper::{Keeper, Row};
 use wm_machine::{Command, Instance};
 use wm_pool::Gate;
 use wm_roll::Roll;
-use wm_script::{Limit, MAX_SCRIPT_BYTES, ScriptFault, read_lines};
 use wm_session::{Book, Ended, Status, run_serial};
 use wm_table::Mark;
 use wm_words::{Origin, options_of};
@@ -53,29 +51,6 @@ struct Crew<'a, R, G> {
     gate: &'a G,
     workers: u32,
     ghost few: { workers ≤ 64 },
-}
-
-/// Reads the commands of a script, or says with which status a run ends without them.
-#[tactic(auto, using(crate::proofs::ScriptLimits::read_whole))]
-fn read_commands<S: Source>(alloc: Global, source: &mut S) -> Result<Items<Command>, Status>
-    ensures commands { IfOk result (AreCommandsOf (S.left source.old)) }
-    ensures askable { IfOk result (AllByRecursion IsAskable) }
-    ensures few { IfOk result (λ commands. length commands < 2 ^ 32) }
-    ensures no_fault { OnOk result (S.faults source.new ≡ S.faults source.old) }
-    ensures reads { IsTakenWithin (most_script_bytes + 1) (S.left source.old) (S.left source.new) }
-    ensures status { IfErr result (λ status. IsReadStatus status
-        (S.faults source.old) (S.faults source.new) (S.left source.old)) }
-{
-    let script = match read_script(alloc, source, MAX_SCRIPT_BYTES) {
-        Ok(script) => script,
-        Err(ReadFault::Failed) => return Err(Status::SourceFault),
-        Err(ReadFault::Memory) => return Err(Status::Memory),
-    };
-    match read_lines(alloc, &script) {
-        Ok(commands) => Ok(commands),
-        Err(ScriptFault::TooLong(limit)) => Err(Status::ScriptTooLong(limit)),
-        Err(ScriptFault::Memory) => Err(Status::Memory),
-    }
 }
 
 /// The lines of a run, those of the script or those that a seed gives, for which the source isn't
@@ -106,20 +81,6 @@ fn lines_of<S: Source>(
             Err(_) => Err(Status::Memory),
         },
     }
-}
-
-/// The instances of these workers, and a roll on which no part stands.
-fn instances_and_roll<B: Worker>(
-    alloc: Global,
-    hands: &[Hand<B>],
-) -> Result<(Items<Instance>, Roll), AllocError>
-    requires { length hands.now < 2 ^ 32 }
-    ensures instances { IfOk result (λ begun. begun.0 ≡ instances_from B.kind_of 0 hands.now) }
-    ensures roll { IfOk result (λ begun. begun.1.parts ≡ []) }
-{
-    let instances = instances_of(alloc, hands)?;
-    let roll = Roll::new(alloc)?;
-    Ok((instances, roll))
 }
 
 /// Loads the store of this name, opens it and executes the commands on it.

@@ -1,9 +1,17 @@
-//! The reading of a script from its source, to its end or past its limit.
-ghost use Rattle.std.specs.Prelude.{◌≡◌, ◌+◌, ◌<◌, ◌≤◌, length, IfOk};
+//! The reading of a script from its source, to its end or past its limit, and of its commands.
+ghost use Rattle.std.specs.Prelude.{◌≡◌, ◌+◌, ◌<◌, ◌≤◌, ◌^◌, length, IfErr, IfOk, OnOk};
+ghost use Rattle.std.specs.List.{AllByRecursion};
+ghost use Rattle.wm_cli.specs.Reading.{AreCommandsOf, IsReadStatus};
 ghost use Rattle.wm_cli.specs.Script.{IsPieceOf, IsReadFrom, IsTakenWithin, ReadCause};
+ghost use Rattle.wm_machine.specs.Outcome.{IsAskable};
+ghost use Rattle.wm_script.specs.Limits.{most_script_bytes};
 
 use std::alloc::{AllocError, Global};
+use wm_collections::Items;
 use wm_io::{Got, Source};
+use wm_machine::Command;
+use wm_script::{Limit, MAX_SCRIPT_BYTES, ScriptFault, read_lines};
+use wm_session::Status;
 
 /// How many bytes are asked for in one read.
 const PIECE_BYTES: usize = 65_536;
@@ -68,5 +76,28 @@ fn read_piece<S: Source>(
         }
         Got::End => Ok(true),
         Got::Failed => Err(ReadFault::Failed),
+    }
+}
+
+/// Reads the commands of a script, or says with which status a run ends without them.
+#[tactic(auto, using(crate::proofs::ScriptLimits::read_whole))]
+pub fn read_commands<S: Source>(alloc: Global, source: &mut S) -> Result<Items<Command>, Status>
+    ensures commands { IfOk result (AreCommandsOf (S.left source.old)) }
+    ensures askable { IfOk result (AllByRecursion IsAskable) }
+    ensures few { IfOk result (λ commands. length commands < 2 ^ 32) }
+    ensures no_fault { OnOk result (S.faults source.new ≡ S.faults source.old) }
+    ensures reads { IsTakenWithin (most_script_bytes + 1) (S.left source.old) (S.left source.new) }
+    ensures status { IfErr result (λ status. IsReadStatus status
+        (S.faults source.old) (S.faults source.new) (S.left source.old)) }
+{
+    let script = match read_script(alloc, source, MAX_SCRIPT_BYTES) {
+        Ok(script) => script,
+        Err(ReadFault::Failed) => return Err(Status::SourceFault),
+        Err(ReadFault::Memory) => return Err(Status::Memory),
+    };
+    match read_lines(alloc, &script) {
+        Ok(commands) => Ok(commands),
+        Err(ScriptFault::TooLong(limit)) => Err(Status::ScriptTooLong(limit)),
+        Err(ScriptFault::Memory) => Err(Status::Memory),
     }
 }

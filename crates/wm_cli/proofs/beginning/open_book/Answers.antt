@@ -45,10 +45,7 @@ returns-in-Ok-clause-ended g c =
     let given = c.requires.inputs in
     rw given.rows_are
     (IsRunEnd-early tells g.M.Mark.inputs c.args.commands c.args.hands.items c.args.keeper c.args.sink c.book_of_table.result
-    c.book_of_table.ensures.ended
-    (sym given.lines_are) (sym given.instances_are ∙ c.requires.instances) (sym given.written) (sym given.sink_faults) (sym given.faults)
-    (sym given.told) (sym given.name)
-    (λ image left. (given.images image).1 left) (sym given.lost) (subst AreSound given.rows_are c.in-Ok.ensures.sound))
+    c.book_of_table.ensures.ended given c.requires.instances (subst AreSound given.rows_are c.in-Ok.ensures.sound))
 
 pub returns-in-Err-clause-ended : goal.returns-in-Err-clause-ended
 returns-in-Err-clause-ended g c =

@@ -140,7 +140,7 @@ returns-in-Ok g c =
           };
       bytes = search rules;
       end = search rules;
-      reports = AreReportedOnce-replayed _ _ ended.began ended.first ended.log ended.last c.run_commands.ensures.replay;
+      reports = AreReportedOnce-replayed _ _ ended.began ended.first ended.log ended.last c.run_commands.ensures.over.replay;
       hands = search rules;
       boxes = λ alone. c.run_commands.ensures.boxes (no_threads words c.in-Some.options c.in-Some.ensures.asked alone);
       diaries = λ alone. c.run_commands.ensures.diaries (no_threads words c.in-Some.options c.in-Some.ensures.asked alone);
@@ -163,6 +163,6 @@ returns-in-Ok g c =
       keeper_fault = search rules;
       sink_fault = search rules;
       bad_store = search rules;
-      unsound_store = λ rows seq bad_row lines held refused. c.run_commands.ensures.unsound rows seq bad_row held refused;
+      unsound_store = λ rows seq bad_row lines held refused. c.run_commands.ensures.over.unsound rows seq bad_row held refused;
       completes = search rules;
     }

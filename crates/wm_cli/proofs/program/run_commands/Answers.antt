@@ -35,4 +35,11 @@ pub returns : goal.returns
 returns g c =
     let tells = tells_of g.K.Keeper.store g.W.Sink.given g.W.Sink.faults g.B.Worker.kind_of g.B.Worker.diary_of in
     IsRunEnd-loaded tells c.args.crew.now.workers c.args.commands c.args.hands.items c.args.store.now c.in-Ok.rows.items c.args.keeper c.load.new.self c.args.sink c.run_loaded.result
-    c.run_loaded.ensures c.in-Ok.ensures.name c.in-Ok.ensures.rows c.load.ensures.kept c.load.ensures.telling c.in-Ok.ensures.cause
+    c.run_loaded.ensures
+    (record {
+      named = c.in-Ok.ensures.name;
+      rows_are = c.in-Ok.ensures.rows;
+      kept = c.load.ensures.kept;
+      telling = c.load.ensures.telling;
+      no_fault = c.in-Ok.ensures.cause;
+    })

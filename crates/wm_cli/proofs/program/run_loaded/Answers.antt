@@ -1,4 +1,4 @@
-use Rattle.std.proofs.Common.{Some, sym, ◌∙◌, subst}
+use Rattle.std.proofs.Common.{Some, subst}
 use Rattle.wm_cli.proofs.RunEnds.{IsRunEnd-begun, IsRunEnd-threads}
 use Rattle.wm_rows.specs.Sound.{AreSound}
 use Rattle.wm_session.specs.Ended.{IsSerialEnd}
@@ -14,9 +14,7 @@ returns-in-Ok g c =
     (IsRunEnd-begun tells run c.args.crew.now.workers c.args.commands c.args.hands.items c.args.keeper c.args.sink c.run_book.result
     c.run_book.ensures.end
     (λ alone. subst (λ hands. IsSerialEnd tells run hands c.run_book.result) c.in-Ok.ensures.workers (c.run_book.ensures.serial alone))
-    (sym given.lines_are) (sym given.instances_are ∙ c.requires.instances) (sym given.written) (sym given.sink_faults) (sym given.faults)
-    (sym given.told) (sym given.name)
-    (λ image left. (given.images image).1 left) (sym given.lost) (subst AreSound given.rows_are c.in-Ok.ensures.sound))
+    given c.requires.instances (subst AreSound given.rows_are c.in-Ok.ensures.sound))
 
 pub returns-in-Err : goal.returns-in-Err
 returns-in-Err g c =

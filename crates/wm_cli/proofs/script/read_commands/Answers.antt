@@ -2,7 +2,7 @@
 use Rattle.std.proofs.Common.{◌≡◌, Some, rules}
 use Rattle.wm_cli.proofs.ScriptLimits.{same_limit}
 use Rattle.wm_script.specs.Limits.{first_limit}
-use Rattle.wm_cli.proofs.program.read_commands.Goals as goal
+use Rattle.wm_cli.proofs.script.read_commands.Goals as goal
 
 pub returns-in-Err-TooLong-clause-status : goal.returns-in-Err-TooLong-clause-status
 returns-in-Err-TooLong-clause-status g c =
