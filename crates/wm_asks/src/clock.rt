@@ -5,15 +5,19 @@ ghost use Rattle.wm_asks.specs.Clocks.{stepped};
 /// The greatest moment that a line may set, in milliseconds.
 pub const LAST_MOMENT: u64 = 9_007_199_254_740_991;
 
-/// What tells moments. A contract sees the list of the answers that it has given.
+/// What tells moments. A contract sees the list of the answers that it has given, and its pace.
 pub trait Clock {
     /// The answers that it has given, in order.
     ghost answers: { Self → List ℕ };
 
+    /// What it goes by, which stays, as the step of a clock of equal steps.
+    ghost pace: { Self → ℕ };
+
     /// The next answer, a moment in milliseconds.
     fn now(&mut self) -> u64
         requires { length (answers self.old) < 2 ^ 53 }
-        ensures { answers self.new ≡ answers self.old ++ result ∷ [] };
+        ensures answers { answers self.new ≡ answers self.old ++ result ∷ [] }
+        ensures pace { pace self.new ≡ pace self.old };
 }
 
 /// A clock that answers its step, then twice its step, and so on, and stays at 2^53 - 1 from where it
@@ -45,6 +49,8 @@ impl Clock for StepClock {
     ghost use Rattle.wm_asks.specs.Clocks.{answers_of};
 
     ghost answers = { λ clock. answers_of clock.step clock.count };
+
+    ghost pace = { λ clock. clock.step };
 
     fn now(&mut self) -> u64 {
         self.count += 1;

@@ -6,12 +6,9 @@ use Rattle.wm_bench.specs.declared.place.Place.{Place}
 use Rattle.wm_keeper.specs.Store.{Store}
 use Rattle.wm_live.proofs.DrainFronts.{goes-nothing}
 use Rattle.wm_live.proofs.DrainSteps.{last_text-push}
-use Rattle.wm_live.proofs.RunSteps.{Valid-step}
 use Rattle.wm_live.specs.Drained.{with_last_told, HasSettled, HasStopped, IsCutShort, IsExecuted, IsLastUntold}
-use Rattle.wm_live.specs.Rest.{IsAtRest, IsIdle}
+use Rattle.wm_live.specs.Rest.{IsAtRest}
 use Rattle.wm_live.specs.StandState.{StandState}
-use Rattle.wm_machine.proofs.Steps.{framed}
-use Rattle.wm_machine.specs.Frame.{frame_of, instances_after, Frame, IsLinedIn}
 use Rattle.wm_machine.specs.Step.{after}
 use Rattle.wm_machine.specs.declared.command.Command.{Command}
 use Rattle.wm_machine.specs.declared.event.Event.{Event}
@@ -19,8 +16,9 @@ use Rattle.wm_machine.specs.declared.event.Event.TheVariants as event
 use Rattle.wm_machine.specs.declared.reply.Reply.{Reply}
 use Rattle.wm_machine.specs.declared.state.Run.{Run}
 use Rattle.wm_machine.specs.declared.state.State.{State}
-use Rattle.wm_seating.proofs.RetiredPlaces.{workers-after, NoneAway-after}
+use Rattle.wm_seating.proofs.IdleTables.{idle-called}
 use Rattle.wm_seating.specs.Bench.{places_after}
+use Rattle.wm_seating.specs.Idle.{IsIdle}
 use Rattle.wm_table.specs.Table.{IsOneStep, IsUntouched}
 use Rattle.wm_table.specs.TableState.{TableState}
 use Rattle.wm_table.specs.declared.table.Trouble.{Trouble}
@@ -38,20 +36,7 @@ module _ {K B : Type 0} (store : K → Store) (kind_of : B → Kind) (line : ℕ
 
   -- table and bench agree as before
   pub idle-commanded : IsIdle kind_of t p
-  idle-commanded =
-      let s = old.table.state in
-      let lined : IsLinedIn asked s (frame_of s its_event) = framed s its_event step.legal in
-      let instances : t.state.instances ≡ instances_after asked s.instances =
-      ap (λ (t : State). t.instances) step.state ∙ ap (λ (f : Frame). f.instances) lined.frame_is in
-      record {
-        valid = Valid-step store its_event old.table t rest.idle.valid step;
-        workers = rw (places, instances) (workers-after kind_of asked old.places s.instances rest.idle.workers);
-        none_away = rw places (NoneAway-after kind_of asked old.places rest.idle.none_away);
-        no_run = ap (λ (t : State). t.runs) step.state
-            ∙ ap (λ (f : Frame). f.runs) lined.frame_is
-            ∙ ap (λ (runs : List Run). map lined.change runs) rest.idle.no_run;
-        none_out = roll ∙ rest.idle.none_out;
-      }
+  idle-commanded = idle-called kind_of store old.table t old.places p line asked reply rest.idle step roll places
 
   told_text : last_text t.first t.log ≡ log_text old.table.state (its_event ∷ [])
   told_text =
@@ -112,7 +97,7 @@ module _ {K B : Type 0} (store : K → Store) (kind_of : B → Kind) (line : ℕ
       })
 
   -- it was told, and the drain met trouble
-  cut-drained : (trouble : Trouble) (new : StandState K B) → HasStopped trouble (with_last_told between) new → IsCutShort line asked trouble old new
+  cut-drained : (trouble : Trouble) (new : StandState K B) → HasStopped kind_of trouble (with_last_told between) new → IsCutShort line asked trouble old new
   cut-drained trouble new stopped =
       let told = stopped.told in
       record {
@@ -139,7 +124,7 @@ module _ {K B : Type 0} (store : K → Store) (kind_of : B → Kind) (line : ℕ
         none_out = stopped.none_out;
       }
 
-  pub is_cut : (trouble : Trouble) (new : StandState K B) → IsLastUntold trouble between new ⊎ HasStopped trouble (with_last_told between) new
+  pub is_cut : (trouble : Trouble) (new : StandState K B) → IsLastUntold trouble between new ⊎ HasStopped kind_of trouble (with_last_told between) new
       → IsCutShort line asked trouble old new
   is_cut trouble new (inl untold) = cut-untold trouble new untold
   is_cut trouble new (inr stopped) = cut-drained trouble new stopped

@@ -7,6 +7,7 @@ use Rattle.wm_asks.specs.Drains.{GoesAsDrain}
 use Rattle.wm_collections.specs.Lists.{last_of}
 use Rattle.wm_keeper.specs.Store.{Store}
 use Rattle.wm_live.specs.Drained.{HasDrained, HasStopped}
+use Rattle.wm_live.specs.Rest.{AreBack}
 use Rattle.wm_live.specs.StandState.{StandState}
 use Rattle.wm_machine.specs.Log.{command_in}
 use Rattle.wm_machine.specs.Replay.{Replay}
@@ -18,6 +19,7 @@ use Rattle.wm_table.specs.Table.{IsOneStep, IsUntouched}
 use Rattle.wm_table.specs.declared.table.Trouble.{Trouble}
 use Rattle.wm_table.specs.declared.table.Trouble.TheVariants.{Memory}
 use Rattle.wm_texts.specs.Texts.{event_text, last_text, log_text}
+use Rattle.wm_worker.specs.declared.kind.Kind.{Kind}
 
 -- ---- texts
 
@@ -77,9 +79,9 @@ module _ {K B : Type 0} where
             ∙ ap (λ (more : List ℕ). old.text ++ more) (sym (log_text-append s one.events between.table.state other.events one.goes.replay));
       }
 
-  pub stopped-then : (trouble : Trouble) (old between new : StandState K B) → HasDrained old between → HasStopped trouble between new
-      → HasStopped trouble old new
-  stopped-then trouble old between new one other =
+  pub stopped-then : (kind_of : B → Kind) (trouble : Trouble) (old between new : StandState K B) → HasDrained old between
+      → HasStopped kind_of trouble between new → HasStopped kind_of trouble old new
+  stopped-then kind_of trouble old between new one other =
       let s = old.table.state in
       let told = other.told in
       record {
@@ -99,6 +101,7 @@ module _ {K B : Type 0} where
         };
         few_runs = other.few_runs;
         none_out = other.none_out;
+        back = other.back;
       }
 
 -- ---- one event
@@ -125,9 +128,9 @@ module _ {K B : Type 0} (store : K → Store) (old new : StandState K B) (e : Ev
   }
 
   -- its text found no memory
-  pub stopped-step : (trouble : Trouble) → trouble ≡ Memory → new.text ≡ old.text → length new.table.state.runs ≤ 1 → new.table.roll ≡ []
-      → HasStopped trouble old new
-  stopped-step trouble memory text few none = record {
+  pub stopped-step : (kind_of : B → Kind) (trouble : Trouble) → trouble ≡ Memory → new.text ≡ old.text → length new.table.state.runs ≤ 1
+      → new.table.roll ≡ [] → AreBack kind_of new.table new.places → HasStopped kind_of trouble old new
+  stopped-step kind_of trouble memory text few none back = record {
     events = e ∷ [];
     more = [];
     first = step.first;
@@ -137,13 +140,14 @@ module _ {K B : Type 0} (store : K → Store) (old new : StandState K B) (e : Ev
     told = record { told = []; untold = e ∷ []; events_are = refl; few = memory; text_is = refl };
     few_runs = few;
     none_out = none;
+    back = back;
   }
 
 -- no event was made
-pub stopped-untouched : {K B : Type 0} (store : K → Store) {may : Event → Type 0} (trouble : Trouble) (old new : StandState K B)
+pub stopped-untouched : {K B : Type 0} (store : K → Store) (kind_of : B → Kind) {may : Event → Type 0} (trouble : Trouble) (old new : StandState K B)
     → IsUntouched store may old.table new.table → new.text ≡ old.text → length old.table.state.runs ≤ 1 → new.table.roll ≡ []
-    → HasStopped trouble old new
-stopped-untouched store trouble old new same text few none = record {
+    → AreBack kind_of new.table new.places → HasStopped kind_of trouble old new
+stopped-untouched store kind_of trouble old new same text few none back = record {
   events = [];
   more = [];
   first = same.first;
@@ -153,4 +157,5 @@ stopped-untouched store trouble old new same text few none = record {
   told = record { told = []; untold = []; events_are = refl; few = tt; text_is = refl };
   few_runs = subst (λ (t : State). length t.runs ≤ 1) (sym same.state) few;
   none_out = none;
+  back = back;
 }

@@ -34,7 +34,7 @@ module _ {K B : Type 0} (kind_of : B → Kind) (table : TableState K) (places : 
   abbrev fresh : StandState K B
   fresh = record { table = table; places = places; text = [] }
 
-  pub is_in_trouble : (store : K → Store) (trouble : Trouble) (end : LiveEnd K B) → HasStopped trouble fresh new → IsEndOf store (Some trouble) new end
+  pub is_in_trouble : (store : K → Store) (trouble : Trouble) (end : LiveEnd K B) → HasStopped kind_of trouble fresh new → IsEndOf store (Some trouble) new end
       → Valid end.table.last → IsOpenedInTrouble store table end
   is_in_trouble store trouble end stopped is valid =
       let log : end.table.log ≡ stopped.events = is.log ∙ stopped.appended ∙ ap (λ (log : List Event). log ++ stopped.events) empty in

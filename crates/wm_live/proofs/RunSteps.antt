@@ -3,10 +3,11 @@ use Rattle.std.proofs.Common.{◌≡◌, ℕ, ◌+◌, ◌≤◌, true, false, L
 use Rattle.std.proofs.lemmas.Bool.{eq-eqb}
 use Rattle.wm_bench.specs.Places.{changed_at, idle_at, made_away, made_back, IsAwayAt}
 use Rattle.wm_bench.specs.Seat.{Seat}
+use Rattle.wm_bench.specs.declared.place.Place.{Place}
 use Rattle.wm_data.specs.declared.data.DataEntry.{DataEntry}
 use Rattle.wm_keeper.specs.Store.{Store}
 use Rattle.wm_live.proofs.Taken.{length-turned, other_runs-turned, taken_again, ticket-found, ticket_kind, without-new, IsAwayAt-taken, NoneAway-back}
-use Rattle.wm_live.specs.Rest.{IsAtRest, IsUnderWay}
+use Rattle.wm_live.specs.Rest.{AreBack, IsAtRest, IsUnderWay}
 use Rattle.wm_live.specs.StandState.{StandState}
 use Rattle.wm_machine.proofs.Logs.{Replay-push}
 use Rattle.wm_machine.proofs.Starts.{after_start}
@@ -29,6 +30,7 @@ use Rattle.wm_roll.specs.Parts.{without}
 use Rattle.wm_roll.specs.declared.part.Part.{Part}
 use Rattle.wm_seating.proofs.PlacesAndInstances.{traits-back, traits-taken, traits-with_out}
 use Rattle.wm_seating.specs.Bench.{instance_traits, place_traits, NoneAway}
+use Rattle.wm_seating.specs.Idle.{IsIdle}
 use Rattle.wm_table.proofs.NoLines.{framed_end}
 use Rattle.wm_table.specs.Parts.{ticket_part}
 use Rattle.wm_table.specs.Rolls.{given_again}
@@ -145,6 +147,29 @@ under_way-turned store kind_of ticket next progress old new under_way step next_
       others = λ back. subst (λ (t : TicketState). NoneAway (changed_at (made_back kind_of back) t.instance new.places)) (sym next_is)
           (rw places (under_way.others back));
     }
+
+-- ---- a worker comes back
+
+-- the worker of a run that is under way comes back to its place
+pub back-given : {K B : Type 0} (kind_of : B → Kind) (ticket : TicketState) (seat : Seat B) (old : StandState K B) (table : TableState K) (places : List (Place B))
+    → IsUnderWay kind_of ticket old → seat.number ≡ ticket.instance → kind_of seat.worker ≡ ticket.kind → table.state ≡ old.table.state
+    → places ≡ changed_at (made_back kind_of seat.worker) seat.number old.places → AreBack kind_of table places
+back-given kind_of ticket seat old table places under_way number kind state given =
+    let worker = seat.worker in
+    let at : places ≡ changed_at (made_back kind_of worker) ticket.instance old.places =
+    given ∙ ap (λ n. changed_at (made_back kind_of worker) n old.places) number in
+    let away : IsAwayAt ticket.instance (kind_of worker) old.places = subst (λ kind. IsAwayAt ticket.instance kind old.places) (sym kind) under_way.away in
+    record {
+      workers = traits-back kind_of worker ticket.instance old.places places away at
+          ∙ under_way.workers
+          ∙ ap (λ (t : State). map instance_traits t.instances) (sym state);
+      none_away = rw at (under_way.others worker);
+    }
+
+-- no worker is away
+pub back-idle : {K B : Type 0} (kind_of : B → Kind) (table : TableState K) (places : List (Place B)) → IsIdle kind_of table places
+    → AreBack kind_of table places
+back-idle kind_of table places idle = record { workers = idle.workers; none_away = idle.none_away }
 
 -- ---- a run ends
 

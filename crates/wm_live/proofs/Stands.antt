@@ -1,5 +1,5 @@
 -- What a claim and a turn make of a stand, told or not.
-use Rattle.std.proofs.Common.{◌≡◌, ◌⊎◌, ℕ, ◌+◌, ◌==◌, ◌<◌, ◌≤◌, true, false, true≢false, List, [], ◌∷◌, ◌++◌, length, Option, Some, None, option_map, IsSomeAnd, refl, sym, ◌∙◌, ap, subst, inl, inr, arith}
+use Rattle.std.proofs.Common.{◌≡◌, ◌⊎◌, ℕ, ◌+◌, ◌==◌, ◌<◌, ◌≤◌, true, false, true≢false, List, [], ◌∷◌, ◌++◌, length, map, Option, Some, None, option_map, IsSomeAnd, refl, sym, ◌∙◌, ap, subst, inl, inr, arith}
 use Rattle.std.proofs.lemmas.List.{append-nil}
 use Rattle.std.specs.List.{list_any, AllByRecursion}
 use Rattle.wm_bench.specs.Places.{changed_at, idle_at, made_back}
@@ -9,7 +9,7 @@ use Rattle.wm_collections.proofs.Lists.{All-weaker}
 use Rattle.wm_keeper.specs.Store.{Store}
 use Rattle.wm_live.proofs.DrainFronts.{goes-nothing}
 use Rattle.wm_live.proofs.DrainSteps.{drained-step, drained-then, stopped-step, stopped-untouched}
-use Rattle.wm_live.proofs.RunSteps.{begun_kind, rest-ended, rest-failed, under_way-begun, under_way-turned}
+use Rattle.wm_live.proofs.RunSteps.{back-given, back-idle, begun_kind, rest-ended, rest-failed, under_way-begun, under_way-turned}
 use Rattle.wm_live.proofs.Taken.{taken_again, ticket-found, without-new, IsTaken}
 use Rattle.wm_live.specs.Drained.{HasAdvanced, HasBegun, HasEnded, HasStopped, HasTurned}
 use Rattle.wm_live.specs.Rest.{with_back, IsAtRest, IsUnderWay}
@@ -34,6 +34,7 @@ use Rattle.wm_roll.specs.declared.part.Part.{Part}
 use Rattle.wm_runs.proofs.RunLookups.{found-numbered, run_numbered-turned}
 use Rattle.wm_runs.specs.Reports.{IsOut}
 use Rattle.wm_seating.proofs.PlacesAndInstances.{all_here, idle_at-in, no_seat}
+use Rattle.wm_seating.specs.Bench.{instance_traits, place_traits}
 use Rattle.wm_table.proofs.Claims.{IsOneStep-roll}
 use Rattle.wm_table.proofs.NoLines.{silent_end}
 use Rattle.wm_table.specs.Images.{IsNoLine}
@@ -75,10 +76,14 @@ claimed_idle store kind_of ticket old t place rest claimed same none =
 -- nothing was claimed, for trouble
 pub stopped-rest : {K B : Type 0} (store : K → Store) (kind_of : B → Kind) {may : Event → Type 0} (trouble : Trouble) (old new : StandState K B)
     → IsAtRest kind_of old → IsUntouched store may old.table new.table → new.text ≡ old.text → new.table.roll ≡ old.table.roll
-    → HasStopped trouble old new
-stopped-rest store kind_of trouble old new rest same text roll =
-    stopped-untouched store trouble old new same text (subst (λ (runs : List Run). length runs ≤ 1) (sym rest.idle.no_run) (omega arith))
+    → new.places ≡ old.places → HasStopped kind_of trouble old new
+stopped-rest store kind_of trouble old new rest same text roll places =
+    stopped-untouched store kind_of trouble old new same text (subst (λ (runs : List Run). length runs ≤ 1) (sym rest.idle.no_run) (omega arith))
     (roll ∙ rest.idle.none_out)
+    (record {
+      workers = ap (map (place_traits kind_of)) places ∙ rest.idle.workers ∙ ap (λ (t : State). map instance_traits t.instances) (sym same.state);
+      none_away = rw places rest.idle.none_away;
+    })
 
 module _ {K B : Type 0} (store : K → Store) (kind_of : B → Kind) (ticket : TicketState) (seat : Seat B) (old : StandState K B) (t : TableState K)
     (p : List (Place B)) (rest : IsAtRest kind_of old) (claimed : IsRunClaimed store ticket old.table t)
@@ -108,7 +113,7 @@ module _ {K B : Type 0} (store : K → Store) (kind_of : B → Kind) (ticket : T
       }
 
   -- its text found no memory, and its worker is back
-  pub begun-untold : (trouble : Trouble) → trouble ≡ Memory → HasStopped trouble old (with_back kind_of ticket seat (claimed_with old.text))
+  pub begun-untold : (trouble : Trouble) → trouble ≡ Memory → HasStopped kind_of trouble old (with_back kind_of ticket seat (claimed_with old.text))
   begun-untold trouble memory =
       let s = old.table.state in
       let on = claimed.step.legal in
@@ -118,9 +123,10 @@ module _ {K B : Type 0} (store : K → Store) (kind_of : B → Kind) (ticket : T
       ap (λ (t : State). t.runs) (claimed.step.state ∙ after_start s task.run ticket.seq ticket.instance task.input on)
       ∙ ap (λ (runs : List Run). runs ++ run_on s on.work on.idle task.input ∷ []) rest.idle.no_run in
       stopped-step store old back (start_of ticket) rest.replay (IsOneStep-roll store old.table t (without task.run t.roll) (start_of ticket) claimed.step)
-      refl claimed_turn trouble memory refl (subst (λ (runs : List Run). length runs ≤ 1) (sym runs) (omega arith))
+      refl claimed_turn kind_of trouble memory refl (subst (λ (runs : List Run). length runs ≤ 1) (sym runs) (omega arith))
       (ap (without task.run) (roll ∙ ap (λ (roll : List Part). roll ++ ticket_part ticket ∷ []) rest.idle.none_out)
       ∙ without-new task.run [] (ticket_part ticket) refl tt)
+      (back-given kind_of ticket seat (claimed_with old.text) back.table back.places (claimed_way old.text) taken.number (claimed_kind old.text) refl refl)
 
 module _ {K B : Type 0} (store : K → Store) (kind_of : B → Kind) (old new : StandState K B) (seq : ℕ) (cause : Cause) (rest : IsAtRest kind_of old)
     (step : IsOneStep store (event.StartFailed seq cause) old.table new.table) (roll : new.table.roll ≡ old.table.roll)
@@ -134,11 +140,12 @@ module _ {K B : Type 0} (store : K → Store) (kind_of : B → Kind) (old new : 
   }
 
   -- its text found no memory
-  pub failed-untold : (trouble : Trouble) → trouble ≡ Memory → new.text ≡ old.text → HasStopped trouble old new
+  pub failed-untold : (trouble : Trouble) → trouble ≡ Memory → new.text ≡ old.text → HasStopped kind_of trouble old new
   failed-untold trouble memory text =
       let now = rest-failed store kind_of seq cause old new rest step roll places in
-      stopped-step store old new (event.StartFailed seq cause) rest.replay step refl rest.idle.no_run trouble memory text
+      stopped-step store old new (event.StartFailed seq cause) rest.replay step refl rest.idle.no_run kind_of trouble memory text
       (subst (λ (runs : List Run). length runs ≤ 1) (sym now.idle.no_run) (omega arith)) now.idle.none_out
+      (back-idle kind_of new.table new.places now.idle)
 
 -- ---- a turn
 
@@ -190,12 +197,15 @@ module _ {K B : Type 0} (store : K → Store) (kind_of : B → Kind) (ticket nex
       }
 
   -- its text found no memory, and its worker is back
-  pub turned-untold : (trouble : Trouble) → trouble ≡ Memory → HasStopped trouble old (with_back kind_of next seat (turned_with old.text))
+  pub turned-untold : (trouble : Trouble) → trouble ≡ Memory → HasStopped kind_of trouble old (with_back kind_of next seat (turned_with old.text))
   turned-untold trouble memory =
       let e = event.Turn ticket.task.run on.progress in
       let way = turned_way old.text in
-      stopped-step store old (with_back kind_of next seat (turned_with old.text)) e under_way.replay
-      (IsOneStep-roll store old.table t (without next.task.run t.roll) e on.step) refl tt trouble memory refl way.few way.alone_out
+      let back = with_back kind_of next seat (turned_with old.text) in
+      stopped-step store old back e under_way.replay (IsOneStep-roll store old.table t (without next.task.run t.roll) e on.step) refl tt kind_of trouble memory refl
+      way.few way.alone_out
+      (back-given kind_of next seat (turned_with old.text) back.table back.places way (number ∙ ap (λ (t : TicketState). t.instance) (sym turned_is))
+      (kind ∙ ap (λ (t : TicketState). t.kind) (sym turned_is)) refl refl)
 
 -- an answer of the table by which a run is over
 abbrev IsOverAnswer : {M : Type 0} → TurnAnswer M → Type 0
@@ -249,17 +259,20 @@ module _ {K B : Type 0} (store : K → Store) (kind_of : B → Kind) (ticket : T
   }
 
   -- its text found no memory
-  pub ended-untold : (trouble : Trouble) → trouble ≡ Memory → new.text ≡ old.text → HasStopped trouble old new
+  pub ended-untold : (trouble : Trouble) → trouble ≡ Memory → new.text ≡ old.text → HasStopped kind_of trouble old new
   ended-untold trouble memory text =
-      stopped-step store old new over.ending under_way.replay over.step ended_silent ended_turn trouble memory text
+      stopped-step store old new over.ending under_way.replay over.step ended_silent ended_turn kind_of trouble memory text
       (subst (λ (runs : List Run). length runs ≤ 1) (sym ended_rest.idle.no_run) (omega arith)) ended_rest.idle.none_out
+      (back-idle kind_of new.table new.places ended_rest.idle)
 
 -- a report met trouble: the run is given back, without an event
 pub stopped-back : {K B : Type 0} (store : K → Store) {may : Event → Type 0} (kind_of : B → Kind) (ticket back : TicketState) (seat : Seat B) (trouble : Trouble)
-    (old made : StandState K B) → IsUnderWay kind_of ticket old → back ≡ ticket → IsUntouched store may old.table made.table → made.text ≡ old.text
-    → made.table.roll ≡ given_again (ticket_part ticket) old.table.roll → HasStopped trouble old (with_back kind_of back seat made)
-stopped-back store {may = may} kind_of ticket back seat trouble old made under_way same_ticket same text roll =
-    stopped-untouched store {may = may} trouble old (with_back kind_of back seat made) (record {
+    (old made : StandState K B) → IsUnderWay kind_of ticket old → seat.number ≡ ticket.instance → kind_of seat.worker ≡ ticket.kind → back ≡ ticket
+    → IsUntouched store may old.table made.table → made.text ≡ old.text → made.places ≡ old.places
+    → made.table.roll ≡ given_again (ticket_part ticket) old.table.roll → HasStopped kind_of trouble old (with_back kind_of back seat made)
+stopped-back store {may = may} kind_of ticket back seat trouble old made under_way number kind same_ticket same text places roll =
+    let now = with_back kind_of back seat made in
+    stopped-untouched store kind_of {may = may} trouble old now (record {
       first = same.first;
       state = same.state;
       log = same.log;
@@ -270,11 +283,14 @@ stopped-back store {may = may} kind_of ticket back seat trouble old made under_w
     ∙ ap (without ticket.task.run) roll
     ∙ taken_again ticket old.table.roll
     ∙ under_way.alone_out)
+    (back-given kind_of ticket seat old now.table now.places under_way number kind same.state
+    (ap (changed_at (made_back kind_of seat.worker) seat.number) places))
 
 -- a run was given back without an event, where the trouble was its worker's
 pub stopped-here : {K B : Type 0} (kind_of : B → Kind) (ticket : TicketState) (seat : Seat B) (trouble : Trouble) (old : StandState K B)
-    → IsUnderWay kind_of ticket old → HasStopped trouble old (with_back kind_of ticket seat old)
-stopped-here kind_of ticket seat trouble old under_way = record {
+    → IsUnderWay kind_of ticket old → seat.number ≡ ticket.instance → kind_of seat.worker ≡ ticket.kind
+    → HasStopped kind_of trouble old (with_back kind_of ticket seat old)
+stopped-here kind_of ticket seat trouble old under_way number kind = record {
   events = [];
   more = [];
   first = refl;
@@ -284,6 +300,7 @@ stopped-here kind_of ticket seat trouble old under_way = record {
   told = record { told = []; untold = []; events_are = refl; few = tt; text_is = refl };
   few_runs = under_way.few;
   none_out = under_way.alone_out;
+  back = (let now = with_back kind_of ticket seat old in back-given kind_of ticket seat old now.table now.places under_way number kind refl refl);
 }
 
 -- ---- a run from its start to its end

@@ -3,7 +3,7 @@ use Rattle.std.specs.Prelude.{◌≡◌, ◌⊎◌, ℕ, ◌+◌, ◌<◌, ◌�
 use Rattle.wm_asks.specs.Drains.{GoesAsDrain, IsDrain}
 use Rattle.wm_bench.specs.Seat.{Seat}
 use Rattle.wm_faults.specs.Faults.{HasCause}
-use Rattle.wm_live.specs.Rest.{IsAtRest, IsUnderWay}
+use Rattle.wm_live.specs.Rest.{AreBack, IsAtRest, IsUnderWay}
 use Rattle.wm_live.specs.StandState.{StandState}
 use Rattle.wm_live.specs.declared.drive.Progress.{Progress}
 use Rattle.wm_live.specs.declared.drive.Progress.TheVariants as progress
@@ -50,8 +50,8 @@ pub record IsToldOf (trouble : Trouble) (s : State) (events : List Event) (text 
   pub few : IsUntold trouble untold
   pub text_is : text ≡ log_text s told
 
--- a drain went on by these events, and was cut short by a trouble: no ticket is out
-pub record HasStopped {K B : Type 0} (trouble : Trouble) (old new : StandState K B) : Type 0 where
+-- a drain went on by these events, and was cut short by a trouble: no ticket is out, and the workers are back
+pub record HasStopped {K B : Type 0} (kind_of : B → Kind) (trouble : Trouble) (old new : StandState K B) : Type 0 where
   pub events : List Event
   pub more : List ℕ
   pub first : new.table.first ≡ old.table.first
@@ -61,6 +61,7 @@ pub record HasStopped {K B : Type 0} (trouble : Trouble) (old new : StandState K
   pub told : IsToldOf trouble old.table.state events more
   pub few_runs : length new.table.state.runs ≤ 1
   pub none_out : new.table.roll ≡ []
+  pub back : AreBack kind_of new.table new.places
 
 -- ---- a start
 
@@ -87,7 +88,7 @@ abbrev pub IsClaimed : {K B M : Type 0} → (B → Kind) → Job B M → StandSt
 IsClaimed kind_of (job.Run ticket seat) old new = HasBegun kind_of ticket seat old new
 IsClaimed kind_of job.Failed old new = HasAdvanced kind_of old new
 IsClaimed kind_of job.None old new = HasNothing old new
-IsClaimed kind_of (job.Stopped trouble) old new = HasStopped trouble old new
+IsClaimed kind_of (job.Stopped trouble) old new = HasStopped kind_of trouble old new
 
 -- ---- a turn
 
@@ -110,19 +111,19 @@ pub record HasEnded {K B : Type 0} (kind_of : B → Kind) (old new : StandState 
 abbrev pub IsTurned : {K B M : Type 0} → (B → Kind) → TicketState → After B M → StandState K B → StandState K B → Type 0
 IsTurned kind_of ticket (after.Go next seat) old new = HasTurned kind_of ticket next seat old new
 IsTurned kind_of ticket after.Over old new = HasEnded kind_of old new
-IsTurned kind_of ticket (after.Stopped trouble) old new = HasStopped trouble old new
+IsTurned kind_of ticket (after.Stopped trouble) old new = HasStopped kind_of trouble old new
 
 -- all turns of a run
 abbrev pub IsDriven : {K B : Type 0} → (B → Kind) → Result (Unit {0}) Trouble → StandState K B → StandState K B → Type 0
 IsDriven kind_of (Ok done) old new = HasEnded kind_of old new
-IsDriven kind_of (Err trouble) old new = HasStopped trouble old new
+IsDriven kind_of (Err trouble) old new = HasStopped kind_of trouble old new
 
 -- ---- a drain
 
 abbrev pub IsAdvanced : {K B : Type 0} → (B → Kind) → Progress → StandState K B → StandState K B → Type 0
 IsAdvanced kind_of progress.Driven old new = HasAdvanced kind_of old new
 IsAdvanced kind_of progress.Nothing old new = HasNothing old new
-IsAdvanced kind_of (progress.Stopped trouble) old new = HasStopped trouble old new
+IsAdvanced kind_of (progress.Stopped trouble) old new = HasStopped kind_of trouble old new
 
 -- all that was startable was driven to its end
 pub record HasSettled {K B : Type 0} (kind_of : B → Kind) (old new : StandState K B) : Type 0 where
@@ -132,7 +133,7 @@ pub record HasSettled {K B : Type 0} (kind_of : B → Kind) (old new : StandStat
 
 abbrev pub IsDrained : {K B : Type 0} → (B → Kind) → Result (Unit {0}) Trouble → StandState K B → StandState K B → Type 0
 IsDrained kind_of (Ok done) old new = HasSettled kind_of old new
-IsDrained kind_of (Err trouble) old new = HasStopped trouble old new
+IsDrained kind_of (Err trouble) old new = HasStopped kind_of trouble old new
 
 -- ---- a command
 
@@ -148,7 +149,7 @@ pub record IsLastUntold {K B : Type 0} (trouble : Trouble) (old new : StandState
 -- the last event was told, and all that was startable was driven to its end
 abbrev pub IsToldAndDrained : {K B : Type 0} → (B → Kind) → Result (Unit {0}) Trouble → StandState K B → StandState K B → Type 0
 IsToldAndDrained kind_of (Ok done) old new = HasSettled kind_of (with_last_told old) new
-IsToldAndDrained kind_of (Err trouble) old new = IsLastUntold trouble old new ⊎ HasStopped trouble (with_last_told old) new
+IsToldAndDrained kind_of (Err trouble) old new = IsLastUntold trouble old new ⊎ HasStopped kind_of trouble (with_last_told old) new
 
 -- the command of this line was executed and its reply told, and all that was startable then was driven to its end
 pub record IsExecuted {K B : Type 0} (kind_of : B → Kind) (line : ℕ) (asked : Command) (reply : Reply) (old new : StandState K B) : Type 0 where

@@ -10,19 +10,17 @@ use Rattle.wm_machine.specs.Valid.{Valid}
 use Rattle.wm_roll.specs.Parts.{without}
 use Rattle.wm_runs.specs.Reports.{IsOut}
 use Rattle.wm_seating.specs.Bench.{instance_traits, place_traits, NoneAway}
+use Rattle.wm_seating.specs.Idle.{IsIdle}
 use Rattle.wm_table.specs.Table.{IsTicketIn}
 use Rattle.wm_table.specs.TableState.{TableState, TicketState}
 use Rattle.wm_worker.specs.declared.kind.Kind.{Kind}
 
--- the state is valid, the workers are the instances, none of them is away, no run is unreturned and no ticket out
-pub record IsIdle {K B : Type 0} (kind_of : B → Kind) (table : TableState K) (places : List (Place B)) : Type 0 where
-  pub valid : Valid table.state
+-- the workers are the instances, and none of them is away
+pub record AreBack {K B : Type 0} (kind_of : B → Kind) (table : TableState K) (places : List (Place B)) : Type 0 where
   pub workers : map (place_traits kind_of) places ≡ map instance_traits table.state.instances
   pub none_away : NoneAway places
-  pub no_run : table.state.runs ≡ []
-  pub none_out : table.roll ≡ []
 
--- the same of a stand, and its log replays
+-- table and bench of a stand are idle, and its log replays
 pub record IsAtRest {K B : Type 0} (kind_of : B → Kind) (stand : StandState K B) : Type 0 where
   pub replay : Replay stand.table.first stand.table.log stand.table.state
   pub idle : IsIdle kind_of stand.table stand.places

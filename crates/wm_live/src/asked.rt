@@ -24,6 +24,7 @@ pub(crate) fn asked<K: Keeper, M: Mark, C: Clock>(
     requires quiet { IsQuiet table.now.state }
     requires may { MayAsk ask (C.answers clock.old) }
     ensures came { Came table.now.state ask (C.answers clock.old) (C.answers clock.new) result }
+    ensures pace { C.pace clock.new ≡ C.pace clock.old }
     ensures legal { IfOk result (IsLegalLine table.now.state) }
 {
     match ask {
@@ -119,7 +120,8 @@ fn due_met(id: Uuid, now: u64, due: u64) -> Result<Command, LiveRefusal>
 /// The moment that a clock tells, where it is above the present one.
 fn tick<C: Clock>(now: u64, clock: &mut C) -> Result<Command, LiveReply>
     requires { length (C.answers clock.old) < 2 ^ 53 }
-    ensures { (moment : ℕ) × ((C.answers clock.new ≡ C.answers clock.old ++ moment ∷ []) × (result ≡ ticked now moment)) }
+    ensures pace { C.pace clock.new ≡ C.pace clock.old }
+    ensures told { (moment : ℕ) × ((C.answers clock.new ≡ C.answers clock.old ++ moment ∷ []) × (result ≡ ticked now moment)) }
 {
     let told = clock.now().min(LAST_MOMENT);
     if told > now {

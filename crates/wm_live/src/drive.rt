@@ -1,7 +1,8 @@
 //! A drain: all that is startable is started and driven to its end, one work after another.
 ghost use Rattle.std.specs.Prelude.{◌≡◌, true, IfOk, IsSome};
 ghost use Rattle.wm_live.specs.Drained.{AdvanceCause, IsAdvanced, IsDrained, IsDriven, IsTurned, TurnCause};
-ghost use Rattle.wm_live.specs.Rest.{IsAtRest, IsIdle, IsUnderWay};
+ghost use Rattle.wm_live.specs.Rest.{IsAtRest, IsUnderWay};
+ghost use Rattle.wm_seating.specs.Idle.{IsIdle};
 ghost use Rattle.wm_table.specs.Table.{TroubleCause};
 ghost use Rattle.wm_worker.specs.Answers.{given_of};
 ghost use Rattle.wm_worker.specs.Told.{IsReportOf};
@@ -10,6 +11,7 @@ use crate::stand::{After, Job, Stand};
 use std::alloc::{AllocError, Global};
 use wm_bench::Seated;
 use wm_keeper::Keeper;
+use wm_pool::{Gate, OpenGate, Point};
 use wm_table::{Mark, Ticket, Trouble};
 use wm_worker::{Signal, Told, Worker};
 
@@ -36,9 +38,21 @@ pub fn drain<K: Keeper, B: Worker, M: Mark>(stand: &mut Stand<K, B, M>) -> Resul
     ensures drained { IsDrained B.kind_of result stand.old stand.new }
     ensures cause { TroubleCause result (K.store stand.old.table.keeper).faults (K.store stand.new.table.keeper).faults }
 {
+    drain_at(stand, &OpenGate)
+}
+
+/// The same, and passes the gate before each turn of a run.
+pub fn drain_at<K: Keeper, B: Worker, M: Mark, G: Gate>(
+    stand: &mut Stand<K, B, M>,
+    gate: &G,
+) -> Result<(), Trouble>
+    requires { IsIdle B.kind_of stand.old.table stand.old.places }
+    ensures drained { IsDrained B.kind_of result stand.old stand.new }
+    ensures cause { TroubleCause result (K.store stand.old.table.keeper).faults (K.store stand.new.table.keeper).faults }
+{
     stand.replays();
     'starts: loop {
-        match drive_first(stand) {
+        match drive_first(stand, gate) {
             Progress::Driven => {}
             Progress::Nothing => return Ok(()),
             Progress::Stopped(trouble) => return Err(trouble),
@@ -47,13 +61,16 @@ pub fn drain<K: Keeper, B: Worker, M: Mark>(stand: &mut Stand<K, B, M>) -> Resul
 }
 
 /// Starts the work that is first, and drives its run to its end.
-fn drive_first<K: Keeper, B: Worker, M: Mark>(stand: &mut Stand<K, B, M>) -> Progress
+fn drive_first<K: Keeper, B: Worker, M: Mark, G: Gate>(
+    stand: &mut Stand<K, B, M>,
+    gate: &G,
+) -> Progress
     requires { IsAtRest B.kind_of stand.old }
     ensures advanced { IsAdvanced B.kind_of result stand.old stand.new }
     ensures cause { AdvanceCause result (K.store stand.old.table.keeper).faults (K.store stand.new.table.keeper).faults }
 {
     match stand.claim() {
-        Job::Run(ticket, seat) => match drive(stand, ticket, seat) {
+        Job::Run(ticket, seat) => match drive(stand, gate, ticket, seat) {
             Ok(()) => Progress::Driven,
             Err(trouble) => Progress::Stopped(trouble),
         },
@@ -64,8 +81,9 @@ fn drive_first<K: Keeper, B: Worker, M: Mark>(stand: &mut Stand<K, B, M>) -> Pro
 }
 
 /// Drives a run that has started to its end: its worker begins, and then takes its turns.
-fn drive<K: Keeper, B: Worker, M: Mark>(
+fn drive<K: Keeper, B: Worker, M: Mark, G: Gate>(
     stand: &mut Stand<K, B, M>,
+    gate: &G,
     ticket: Ticket<M>,
     mut seat: Seated<B>,
 ) -> Result<(), Trouble>
@@ -77,7 +95,7 @@ fn drive<K: Keeper, B: Worker, M: Mark>(
 {
     let signal = Signal::never(ticket.task().run);
     match seat.begin(stand.alloc, ticket.task()) {
-        Ok(()) => take_turns(stand, ticket, seat, &signal),
+        Ok(()) => take_turns(stand, gate, ticket, seat, &signal),
         Err(_) => {
             stand.put_back(ticket, seat);
             Err(Trouble::Memory)
@@ -87,8 +105,9 @@ fn drive<K: Keeper, B: Worker, M: Mark>(
 
 /// Has the worker of a run, which has begun it, take turn after turn, until the run is over or there is
 /// trouble. A run has at most 1,000 turns, so it ends.
-fn take_turns<K: Keeper, B: Worker, M: Mark>(
+fn take_turns<K: Keeper, B: Worker, M: Mark, G: Gate>(
     stand: &mut Stand<K, B, M>,
+    gate: &G,
     mut ticket: Ticket<M>,
     mut seat: Seated<B>,
     signal: &Signal,
@@ -101,7 +120,7 @@ fn take_turns<K: Keeper, B: Worker, M: Mark>(
     ensures cause { TroubleCause result (K.store stand.old.table.keeper).faults (K.store stand.new.table.keeper).faults }
 {
     'turns: loop {
-        match turn_once(stand, ticket, seat, signal) {
+        match turn_once(stand, gate, ticket, seat, signal) {
             After::Go(next, kept) => {
                 ticket = next;
                 seat = kept;
@@ -112,10 +131,11 @@ fn take_turns<K: Keeper, B: Worker, M: Mark>(
     }
 }
 
-/// Has the worker of a run take its turn, and reports what it told. Where memory is refused to the
-/// worker, there is trouble.
-fn turn_once<K: Keeper, B: Worker, M: Mark>(
+/// Has the worker of a run take its turn, once the gate was passed, and reports what it told. Where memory
+/// is refused to the worker, there is trouble.
+fn turn_once<K: Keeper, B: Worker, M: Mark, G: Gate>(
     stand: &mut Stand<K, B, M>,
+    gate: &G,
     ticket: Ticket<M>,
     mut seat: Seated<B>,
     signal: &Signal,
@@ -127,6 +147,7 @@ fn turn_once<K: Keeper, B: Worker, M: Mark>(
     ensures turned { IsTurned B.kind_of ticket result stand.old stand.new }
     ensures cause { TurnCause result (K.store stand.old.table.keeper).faults (K.store stand.new.table.keeper).faults }
 {
+    pass_turn(&ticket, gate);
     match turn(stand.alloc, &mut seat, &ticket, signal) {
         Ok(told) => stand.end_turn(ticket, seat, told),
         Err(_) => {
@@ -134,6 +155,15 @@ fn turn_once<K: Keeper, B: Worker, M: Mark>(
             After::Stopped(Trouble::Memory)
         }
     }
+}
+
+/// Passes the gate before the turn of a run that its ticket is for.
+fn pass_turn<M: Mark, G: Gate>(ticket: &Ticket<M>, gate: &G) {
+    gate.at(Point::Turn {
+        run: ticket.task().run,
+        seq: ticket.seq(),
+        k: ticket.k(),
+    });
 }
 
 /// Has the worker of a run take its turn, whose signal is never raised.

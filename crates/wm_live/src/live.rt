@@ -3,10 +3,11 @@ ghost use Rattle.std.specs.Prelude.{◌≡◌, [], None, IfOk, IfErr, Ok, Err};
 ghost use Rattle.wm_live.specs.Asking.{MayAsk};
 ghost use Rattle.wm_live.specs.Drained.{IsCutShort, IsExecuted, IsToldAndDrained};
 ghost use Rattle.wm_live.specs.Live.{IsAnswered, IsAskedAndAnswered, IsAskedAndEnded, IsEndFor, IsEndOf, IsInterrupted, IsOpened, IsOpenedInTrouble, LiveCause};
-ghost use Rattle.wm_live.specs.Rest.{IsAtRest, IsIdle};
+ghost use Rattle.wm_live.specs.Rest.{IsAtRest};
 ghost use Rattle.wm_machine.specs.Outcome.{IsLegalLine};
 ghost use Rattle.wm_machine.specs.Quiet.{IsQuiet};
 ghost use Rattle.wm_machine.specs.Valid.{Valid};
+ghost use Rattle.wm_seating.specs.Idle.{IsIdle};
 ghost use Rattle.wm_table.specs.Table.{TroubleCause};
 
 use crate::asked::asked;
@@ -64,6 +65,7 @@ impl<K: Keeper, B: Worker, M: Mark> Live<K, B, M> {
         requires bench { IsIdle B.kind_of table bench }
         ensures opened { IfOk result (IsOpened table) }
         ensures err { IfErr result (IsOpenedInTrouble K.store table) }
+        ensures steady { IfOk result (λ live. (K.store live.table.keeper).faults ≡ (K.store table.keeper).faults) }
         ensures cause { IfErr result (λ end. LiveCause K.store table.keeper end) }
         ensures given { IfErr result (IsEndFor M.inputs K.store) }
     {
@@ -88,8 +90,10 @@ impl<K: Keeper, B: Worker, M: Mark> Live<K, B, M> {
         clock: &mut C,
     ) -> Result<(Live<K, B, M>, LiveReply), LiveEnd<K, B>>
         requires { MayAsk ask (C.answers clock.old) }
+        ensures pace { C.pace clock.new ≡ C.pace clock.old }
         ensures ok { IfOk result (λ next. IsAskedAndAnswered line ask (C.answers clock.old) (C.answers clock.new) next.1 self next.0) }
         ensures err { IfErr result (IsAskedAndEnded K.store line ask (C.answers clock.old) (C.answers clock.new) self) }
+        ensures steady { IfOk result (λ next. (K.store next.0.table.keeper).faults ≡ (K.store self.table.keeper).faults) }
         ensures cause { IfErr result (λ end. LiveCause K.store self.table.keeper end) }
         ensures given { IfErr result (IsEndFor M.inputs K.store) }
     {
@@ -108,6 +112,7 @@ impl<K: Keeper, B: Worker, M: Mark> Live<K, B, M> {
         requires { IsLegalLine self.table.state command }
         ensures ok { IfOk result (λ next. IsAnswered line (Ok command) next.1 self next.0) }
         ensures err { IfErr result (IsInterrupted K.store line (Ok command) self) }
+        ensures steady { IfOk result (λ next. (K.store next.0.table.keeper).faults ≡ (K.store self.table.keeper).faults) }
         ensures cause { IfErr result (λ end. LiveCause K.store self.table.keeper end) }
         ensures given { IfErr result (IsEndFor M.inputs K.store) }
     {
@@ -126,6 +131,7 @@ impl<K: Keeper, B: Worker, M: Mark> Live<K, B, M> {
     ) -> Result<(Live<K, B, M>, LiveReply), LiveEnd<K, B>>
         ensures ok { IfOk result (λ next. IsAnswered line (Err answer) next.1 self next.0) }
         ensures err { IfErr result (IsInterrupted K.store line (Err answer) self) }
+        ensures steady { IfOk result (λ next. (K.store next.0.table.keeper).faults ≡ (K.store self.table.keeper).faults) }
         ensures cause { IfErr result (λ end. LiveCause K.store self.table.keeper end) }
         ensures given { IfErr result (IsEndFor M.inputs K.store) }
     {

@@ -9,4 +9,4 @@ returns-in-Ok-clause-advanced g c =
 
 pub returns-in-Err-clause-advanced : goal.returns-in-Err-clause-advanced
 returns-in-Err-clause-advanced g c =
-    stopped-then c.in-Err.trouble c.args.stand.now c.claim.new.self c.drive.new.stand c.in-Run.ensures.claimed.drained c.in-Err.ensures.driven
+    stopped-then g.B.Worker.kind_of c.in-Err.trouble c.args.stand.now c.claim.new.self c.drive.new.stand c.in-Run.ensures.claimed.drained c.in-Err.ensures.driven

@@ -50,4 +50,4 @@ returns-in-Over-clause-driven g c =
 
 pub returns-in-Stopped-clause-driven : goal.returns-in-Stopped-clause-driven
 returns-in-Stopped-clause-driven g c =
-    stopped-then c.in-Stopped.trouble c.args.stand.now c.turns.stand c.turn_once.new.stand c.turns.invariant.drained c.in-Stopped.ensures.turned
+    stopped-then g.B.Worker.kind_of c.in-Stopped.trouble c.args.stand.now c.turns.stand c.turn_once.new.stand c.turns.invariant.drained c.in-Stopped.ensures.turned

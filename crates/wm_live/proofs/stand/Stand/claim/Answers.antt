@@ -11,7 +11,7 @@ returns-in-Err-clause-claimed g c =
     let old : StandState g.row.K.Denot g.row.B.Denot = record { table = i.table; places = i.bench; text = i.text.items } in
     rw (← c.self.view_is)
     (stopped-rest g.K.Keeper.store g.B.Worker.kind_of c.in-Err.trouble old (record old { table = c.claim.new.self }) (rw (← c.self.view_is) at c.requires)
-    c.in-Err.ensures.err refl c.in-Err.ensures.roll)
+    c.in-Err.ensures.err refl c.in-Err.ensures.roll refl)
 
 -- ---- a run began
 

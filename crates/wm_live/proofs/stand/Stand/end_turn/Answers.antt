@@ -60,4 +60,5 @@ returns-in-Refused-clause-turned g c =
     let refused = c.in-Refused in
     rw (← c.self.view_is, c.put_back-in-Refused.ensures)
     (stopped-back g.K.Keeper.store g.B.Worker.kind_of c.args.ticket refused.ticket c.args.seat refused.trouble old (record old { table = c.turn.new.self })
-    (rw (← c.self.view_is) at c.requires.under_way) refused.ensures.answer.same_ticket refused.ensures.answer.untouched refl refused.ensures.roll)
+    (rw (← c.self.view_is) at c.requires.under_way) c.requires.number c.requires.kind refused.ensures.answer.same_ticket refused.ensures.answer.untouched
+    refl refl refused.ensures.roll)

@@ -1,5 +1,5 @@
 use Rattle.std.proofs.Common.{◌≡◌}
-use Rattle.wm_live.proofs.drive.drain.Given as goal
+use Rattle.wm_live.proofs.drive.drain_at.Given as goal
 use Rattle.wm_live.specs.Drained.{HasDrained}
 use Rattle.wm_live.specs.Rest.{IsAtRest}
 use Rattle.wm_machine.specs.Waiting.{left_to_drain}

@@ -1,7 +1,7 @@
 use Rattle.std.proofs.Common.{refl, sym, ◌∙◌, subst}
 use Rattle.wm_live.proofs.DrainSteps.{drained-nothing, drained-then, stopped-then}
 use Rattle.wm_live.specs.Drained.{HasSettled}
-use Rattle.wm_live.proofs.drive.drain.Goals as goal
+use Rattle.wm_live.proofs.drive.drain_at.Goals as goal
 
 pub starts-init : goal.starts-init
 starts-init g c = record { rest = record { replay = c.replays.ensures; idle = c.requires }; drained = drained-nothing c.args.stand.now; same = refl }
@@ -28,4 +28,4 @@ returns-in-Nothing-clause-drained g c =
 
 pub returns-in-Stopped-clause-drained : goal.returns-in-Stopped-clause-drained
 returns-in-Stopped-clause-drained g c =
-    stopped-then c.in-Stopped.trouble c.args.stand.now c.starts.stand c.drive_first.new.stand c.starts.invariant.drained c.in-Stopped.ensures.advanced
+    stopped-then g.B.Worker.kind_of c.in-Stopped.trouble c.args.stand.now c.starts.stand c.drive_first.new.stand c.starts.invariant.drained c.in-Stopped.ensures.advanced
