@@ -31,6 +31,8 @@ impl Clock for Reading {
 
     ghost answers = { λ reading. replicate reading.count reading.moment };
 
+    ghost pace = { λ reading. reading.moment };
+
     fn now(&mut self) -> u64 {
         self.count += 1;
         self.moment

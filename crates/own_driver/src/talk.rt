@@ -1,7 +1,6 @@
 //! The talk: a line is read, asked and answered, and then the next one.
 ghost use Rattle.std.specs.Prelude.{[], IfOk};
 ghost use Rattle.wm_live.specs.Asking.{MayAsk};
-ghost use Rattle.wm_machine.specs.Outcome.{IsAskable};
 
 use crate::clock::Reading;
 use crate::lines::Lines;
@@ -12,8 +11,8 @@ use wm_cli::Status;
 use wm_io::{Sink, Source, WriteFault, write_front};
 use wm_keeper::Keeper;
 use wm_live::Live;
-use wm_machine::Command;
-use wm_script::{Limit, command_of, first_line};
+use wm_live_program::ask_of;
+use wm_script::{Limit, first_line};
 use wm_table::{Mark, Trouble};
 use wm_worker::Worker;
 
@@ -52,17 +51,17 @@ fn answer<R: Clock, W: Sink, K: Keeper + Drop, B: Worker + Drop, M: Mark>(
     sink: &mut W,
 ) -> Result<Live<K, B, M>, Status> {
     let live = ask(rt, live, NO_LINE, Ask::Tick, sink)?;
-    match command_in(alloc, line) {
-        Ok(command) => ask(rt, live, number, Ask::Line(command), sink),
+    match ask_in(alloc, line) {
+        Ok(asked) => ask(rt, live, number, asked, sink),
         Err(_) => Err(closed(live, Status::Memory)),
     }
 }
 
-/// The command of a line, which may be asked.
-fn command_in(alloc: Global, line: &[u8]) -> Result<Command, AllocError>
-    ensures { IfOk result IsAskable }
+/// The ask of a line, which may be asked of a clock that was never asked before.
+fn ask_in(alloc: Global, line: &[u8]) -> Result<Ask, AllocError>
+    ensures { IfOk result (λ asked. MayAsk asked []) }
 {
-    command_of(alloc, line)
+    ask_of(alloc, line)
 }
 
 /// Asks, with a reading of the system's clock, and writes what that puts behind the text.

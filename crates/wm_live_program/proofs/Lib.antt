@@ -1,0 +1,4 @@
+pub mod AnsweredAsks
+pub mod Askable
+pub mod LiveEnds
+pub mod LiveRuns

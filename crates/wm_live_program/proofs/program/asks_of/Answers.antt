@@ -1,0 +1,27 @@
+-- The asks are those of the script, and the limit that what was read passes is the script's.
+use Rattle.std.proofs.Common.{◌≡◌, Some, None, rules}
+use Rattle.wm_cli.proofs.ScriptLimits.{read_whole, same_limit}
+use Rattle.wm_script.specs.Limits.{first_limit}
+use Rattle.wm_live_program.proofs.program.asks_of.Goals as goal
+
+pub returns-in-Ok-read_asks-clause-asks : goal.returns-in-Ok-read_asks-clause-asks
+returns-in-Ok-read_asks-clause-asks g c =
+    let left = g.S.Source.left in
+    let script = c.in-Ok.script.items in
+    let within : first_limit script ≡ None = rw c.deref.ensures.value at c.in-Ok-read_asks.ensures.within in
+    record {
+      bytes = script;
+      told = read_whole (left c.args.source.now) (left c.read_script.new.source) script c.in-Ok.ensures.bytes within;
+      holds = (rw c.deref.ensures.value at c.in-Ok-read_asks.ensures.asks, within);
+    }
+
+pub returns-in-Err-TooLong-clause-status : goal.returns-in-Err-TooLong-clause-status
+returns-in-Err-TooLong-clause-status g c =
+    let left = g.S.Source.left in
+    let passed = rw c.in-Err-TooLong.field-0-is at c.in-Err-TooLong.ensures.fault in
+    let is : first_limit c.in-Ok.script.items ≡ Some c.in-Err-TooLong.limit = rw c.deref.ensures.value at passed in
+    record {
+      no_fault = search rules;
+      too_long =
+          same_limit (left c.args.source.now) (left c.read_script.new.source) c.in-Ok.script.items (Some c.in-Err-TooLong.limit) c.in-Ok.ensures.bytes is;
+    }
