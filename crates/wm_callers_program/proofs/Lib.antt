@@ -1,0 +1,10 @@
+pub mod CallEnds
+pub mod CallRuns
+pub mod Dealing
+pub mod Flags
+pub mod Histories
+pub mod LogWrites
+pub mod Making
+pub mod Pairing
+pub mod Servings
+pub mod Settlings

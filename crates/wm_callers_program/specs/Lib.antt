@@ -1,0 +1,9 @@
+pub mod Calls
+pub mod Drained
+pub mod Ended
+pub mod Ending
+pub mod Lines
+pub mod LogTexts
+pub mod Made
+pub mod Run
+pub mod Serving
