@@ -4,6 +4,8 @@ ghost use Rattle.wm_outcome.specs.Outcomes.{code_of, text_of};
 
 use std::alloc::{AllocError, Global};
 use wm_audit_program::{Checked, Exported};
+use wm_callers_program::CallersEnd;
+use wm_live_program::{LiveEnded, LiveNotBegun};
 use wm_session::Ended;
 use wm_worker::Worker;
 
@@ -16,6 +18,12 @@ pub enum Outcome<K, W, B = Box<dyn Worker + Send>> {
     Export(Exported<K, W, B>),
     /// The check of an audit, by `check`.
     Check(Checked<K, W>),
+    /// A test driver that was asked the lines of a script, by `live`.
+    Live(LiveEnded<K, W, B>),
+    /// One whose table wasn't begun.
+    LiveNotBegun(LiveNotBegun<K, W, B>),
+    /// Callers on threads of their own, by `callers`.
+    Callers(CallersEnd<K, W, B>),
 }
 
 impl<K, W, B> Outcome<K, W, B> {
@@ -27,6 +35,9 @@ impl<K, W, B> Outcome<K, W, B> {
             Outcome::Run(ended) => ended.status.code(),
             Outcome::Export(exported) => exported.status.code(),
             Outcome::Check(checked) => checked.status.code(),
+            Outcome::Live(ended) => ended.status.code(),
+            Outcome::LiveNotBegun(back) => back.status.code(),
+            Outcome::Callers(called) => called.ended.status.code(),
         }
     }
 
@@ -38,6 +49,9 @@ impl<K, W, B> Outcome<K, W, B> {
             Outcome::Run(ended) => ended.status.text(alloc),
             Outcome::Export(exported) => exported.status.text(alloc),
             Outcome::Check(checked) => String::from_str(alloc, checked.status.text()),
+            Outcome::Live(ended) => ended.status.text(alloc),
+            Outcome::LiveNotBegun(back) => back.status.text(alloc),
+            Outcome::Callers(called) => called.ended.status.text(alloc),
         }
     }
 }

@@ -3,7 +3,7 @@ ghost use Rattle.std.specs.Prelude.{◌≡◌, ◌∷◌, ◌≤◌, codes, map,
 ghost use Rattle.wm_bench.specs.Places.{most_hands};
 ghost use Rattle.wm_cli.specs.Run.{reads_of};
 ghost use Rattle.wm_outcome.specs.Asked.{IsAsked};
-ghost use Rattle.wm_outcome.specs.Outcomes.{IsOutcome};
+ghost use Rattle.wm_outcome.specs.Outcomes.{live_outcome, IsOutcome};
 ghost use Rattle.wm_session.specs.Tells.{tells_of};
 
 use crate::outcome::Outcome;
@@ -12,9 +12,11 @@ use std::sync::Wait;
 use std::thread::Threads;
 use wm_audit_program::{check_source, export_run};
 use wm_bench::Hand;
+use wm_callers_program::run_callers;
 use wm_cli::run;
 use wm_io::{Sink, Source};
 use wm_keeper::Keeper;
+use wm_live_program::{LiveEnded, LiveNotBegun, run_live};
 use wm_pool::Gate;
 use wm_worker::Worker;
 
@@ -27,6 +29,10 @@ pub(crate) enum Asked<'w> {
     Export(&'w [String]),
     /// A check, with those after it.
     Check(&'w [String]),
+    /// A test driver, with those after it.
+    Live(&'w [String]),
+    /// Callers, with those after it.
+    Callers(&'w [String]),
 }
 
 /// What the words ask for.
@@ -39,13 +45,28 @@ fn asked_by(words: &[String]) -> Asked<'_>
     match first.as_str() {
         "export" => Asked::Export(others),
         "check" => Asked::Check(others),
+        "live" => Asked::Live(others),
+        "callers" => Asked::Callers(others),
         _ => Asked::Run,
     }
 }
 
+/// The outcome of a test driver, whether its table was begun or wasn't.
+fn live_outcome<K, W, B>(
+    came: Result<LiveEnded<K, W, B>, LiveNotBegun<K, W, B>>,
+) -> Outcome<K, W, B>
+    ensures { result ≡ live_outcome came }
+{
+    match came {
+        Ok(ended) => Outcome::Live(ended),
+        Err(back) => Outcome::LiveNotBegun(back),
+    }
+}
+
 /// Does all that the program does: with the first word `export` it exports what a run with the other
-/// words does, with the first word `check` it checks the audit that the source has left, and else it is a
-/// run with these words. The workers are at most 10,000. What is promised stands in `IsOutcome`, by the
+/// words does, with the first word `check` it checks the audit that the source has left, with the first
+/// word `live` it asks a test driver the lines of a script, with the first word `callers` it has callers
+/// call them, and else it is a run with these words. The workers are at most 10,000. What is promised stands in `IsOutcome`, by the
 /// first word. With threads, that the call returns isn't promised.
 pub fn program<
     R: Threads + Wait + Sync,
@@ -74,5 +95,9 @@ pub fn program<
             rt, alloc, others, hands, source, sink, keeper, gate,
         )),
         Asked::Check(others) => Outcome::Check(check_source(alloc, others, source, sink, keeper)),
+        Asked::Live(others) => live_outcome(run_live(alloc, others, hands, source, sink, keeper)),
+        Asked::Callers(others) => Outcome::Callers(run_callers(
+            rt, alloc, others, hands, source, sink, keeper, gate,
+        )),
     }
 }
