@@ -1,6 +1,7 @@
 //! The audit of a case: the log of its run is exported, and checked.
 
-use crate::outcome::{keeper_of, source_of, tell_line};
+use crate::ends::tell_line;
+use crate::outcome::{keeper_of, source_of};
 use crate::part::{Failing, Part};
 use std::alloc::{AllocError, Global};
 use std::sync::Wait;

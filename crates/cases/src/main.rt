@@ -8,7 +8,7 @@
 #![tactic(auto)]
 
 mod audit;
-mod event;
+mod ends;
 mod holds;
 mod outcome;
 mod part;

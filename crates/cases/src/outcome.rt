@@ -3,20 +3,18 @@ ghost use Rattle.std.specs.Prelude.{◌≤◌, vec_len};
 ghost use Rattle.wm_bench.specs.Places.{most_hands};
 
 use crate::audit::tell_audit;
-use crate::event::event_words;
+use crate::ends::{End, tell_bytes, tell_end};
 use crate::holds::Holds;
 use crate::part::{Failing, Part};
-use crate::row::row_text;
 use std::alloc::{AllocError, Global};
 use std::sync::Wait;
 use std::thread::Threads;
-use wm_audit_program::{Checked, Exported};
 use wm_bench::Hand;
 use wm_cli::Ended;
 use wm_collections::Replica;
 use wm_io::{MemorySink, MemorySource};
 use wm_keeper::{Change, Keeper, MemoryKeeper, Row, SureKeeper};
-use wm_machine::Event;
+use wm_live_program::{LiveEnded, LiveNotBegun};
 use wm_outcome::{Outcome, program};
 use wm_program::stock_hands;
 use wm_worker::Worker;
@@ -99,6 +97,25 @@ fn tell_run_of<R: Threads + Wait + Sync, B: Worker + Send>(
     requires few_hands { vec_len hands ≤ most_hands }
 {
     told.push_str(heading(alloc, part, failing)?.as_str())?;
+    let (outcome, missed) = outcome_of(rt, alloc, part, failing, store, hands)?;
+    let text = told_of(alloc, &outcome, missed, part.brief);
+    let keeper = keeper_in(outcome);
+    told.push_str(text?.as_str())?;
+    Ok(SureKeeper::new(keeper.into_rows()))
+}
+
+/// What the words of a part come to on these rows, with these calls failing and these workers, and whether
+/// a thread that was held was let go before what it waited for had come.
+fn outcome_of<R: Threads + Wait + Sync, B: Worker + Send>(
+    rt: &R,
+    alloc: Global,
+    part: &Part,
+    failing: &Failing,
+    store: &mut SureKeeper,
+    hands: Vec<Hand<B>>,
+) -> Result<(Outcome<MemoryKeeper, MemorySink, B>, bool), AllocError>
+    requires few_hands { vec_len hands ≤ most_hands }
+{
     let mut source = source_of(alloc, part, failing)?;
     let sink = MemorySink::new(part.moves, Vec::from_slice(alloc, &failing.sink)?);
     let keeper = keeper_of(alloc, store, failing)?;
@@ -113,38 +130,94 @@ fn tell_run_of<R: Threads + Wait + Sync, B: Worker + Send>(
         keeper,
         &holds,
     );
-    if holds.missed() {
-        told.push_str("missed\n")?;
-    }
-    let keeper = tell_outcome(alloc, told, outcome, part.brief)?;
-    Ok(SureKeeper::new(keeper.into_rows()))
+    Ok((outcome, holds.missed()))
 }
 
-/// Tells what the words came to, and gives the keeper back.
+/// What is told of what the words came to.
+fn told_of<B: Worker>(
+    alloc: Global,
+    outcome: &Outcome<MemoryKeeper, MemorySink, B>,
+    missed: bool,
+    brief: bool,
+) -> Result<String, AllocError> {
+    let mut told = String::new(alloc);
+    if missed {
+        told.push_str("missed\n")?;
+    }
+    told.push_str(status_line(alloc, outcome)?.as_str())?;
+    tell_outcome(alloc, &mut told, outcome, brief)?;
+    Ok(told)
+}
+
+/// Tells an outcome, below its status.
 fn tell_outcome<B: Worker>(
     alloc: Global,
     told: &mut String,
-    outcome: Outcome<MemoryKeeper, MemorySink, B>,
+    outcome: &Outcome<MemoryKeeper, MemorySink, B>,
     brief: bool,
-) -> Result<MemoryKeeper, AllocError> {
-    told.push_str(status_line(alloc, &outcome)?.as_str())?;
+) -> Result<(), AllocError> {
+    let end = match outcome {
+        Outcome::Run(ended) => end_of(ended, &[], ended.sink.bytes()),
+        Outcome::Export(exported) => end_of(&exported.ended, &[], exported.sink.bytes()),
+        Outcome::Check(checked) => return tell_bytes(alloc, told, checked.sink.bytes()),
+        Outcome::Live(ended) => end_of_live(ended),
+        Outcome::LiveNotBegun(unbegun) => end_unbegun(unbegun),
+        Outcome::Callers(called) => {
+            end_of(&called.ended, &called.callers, called.ended.sink.bytes())
+        }
+    };
+    tell_end(alloc, told, &end, brief)
+}
+
+/// What is told of a run, whose first events these callers called, and of what was written.
+fn end_of<'a, W, B>(
+    ended: &'a Ended<MemoryKeeper, W, B>,
+    callers: &'a [u32],
+    written: &'a [u8],
+) -> End<'a, B> {
+    End {
+        began: ended.began,
+        log: ended.log.as_slice(),
+        callers,
+        hands: &ended.hands,
+        keeper: &ended.keeper,
+        written,
+    }
+}
+
+/// What is told of a test driver.
+fn end_of_live<B>(ended: &LiveEnded<MemoryKeeper, MemorySink, B>) -> End<'_, B> {
+    End {
+        began: true,
+        log: ended.end.table.log.as_slice(),
+        callers: &[],
+        hands: &ended.end.hands,
+        keeper: &ended.end.table.keeper,
+        written: ended.sink.bytes(),
+    }
+}
+
+/// What is told of a test driver that wasn't begun.
+fn end_unbegun<B>(unbegun: &LiveNotBegun<MemoryKeeper, MemorySink, B>) -> End<'_, B> {
+    End {
+        began: false,
+        log: &[],
+        callers: &[],
+        hands: &unbegun.hands,
+        keeper: &unbegun.keeper,
+        written: unbegun.sink.bytes(),
+    }
+}
+
+/// The keeper that an outcome hands back.
+fn keeper_in<W: Drop, B: Drop>(outcome: Outcome<MemoryKeeper, W, B>) -> MemoryKeeper {
     match outcome {
-        Outcome::Run(ended) => {
-            tell_ended(alloc, told, &ended, brief)?;
-            tell_bytes(alloc, told, ended.sink.bytes())?;
-            Ok(ended.keeper)
-        }
-        Outcome::Export(exported) => {
-            let Exported { ended, sink, .. } = exported;
-            tell_ended(alloc, told, &ended, brief)?;
-            tell_bytes(alloc, told, sink.bytes())?;
-            Ok(ended.keeper)
-        }
-        Outcome::Check(checked) => {
-            let Checked { keeper, sink, .. } = checked;
-            tell_bytes(alloc, told, sink.bytes())?;
-            Ok(keeper)
-        }
+        Outcome::Run(ended) => ended.keeper,
+        Outcome::Export(exported) => exported.ended.keeper,
+        Outcome::Check(checked) => checked.keeper,
+        Outcome::Live(ended) => ended.end.table.keeper,
+        Outcome::LiveNotBegun(unbegun) => unbegun.keeper,
+        Outcome::Callers(called) => called.ended.keeper,
     }
 }
 
@@ -185,91 +258,6 @@ pub fn keeper_of(
     }
 }
 
-/// Tells of how a run ended whether the table was begun, and unless it is to be brief its log and its
-/// rows.
-fn tell_ended<W, B: Worker>(
-    alloc: Global,
-    told: &mut String,
-    ended: &Ended<MemoryKeeper, W, B>,
-    brief: bool,
-) -> Result<(), AllocError> {
-    told.push_str(if ended.began {
-        "begun\n"
-    } else {
-        "not begun\n"
-    })?;
-    if brief {
-        Ok(())
-    } else {
-        tell_log_and_rows(alloc, told, ended)
-    }
-}
-
-/// Tells the events of a log, the classes that have no worker any more, and the rows kept.
-fn tell_log_and_rows<W, B: Worker>(
-    alloc: Global,
-    told: &mut String,
-    ended: &Ended<MemoryKeeper, W, B>,
-) -> Result<(), AllocError> {
-    let log = ended.log.as_slice();
-    tell_events(alloc, told, log, false)?;
-    tell_events(alloc, told, log, true)?;
-    tell_gone(told, &ended.hands)?;
-    for row in ended.keeper.rows() {
-        let text = row_text(alloc, row)?;
-        tell_line(told, "row ", text.as_str())?;
-    }
-    Ok(())
-}
-
-/// Tells the events of a log that are late reports, or those that aren't. Of events with the same words
-/// one after another the first alone is told, with their number.
-fn tell_events(
-    alloc: Global,
-    told: &mut String,
-    log: &[Event],
-    late: bool,
-) -> Result<(), AllocError> {
-    let mut words = String::new(alloc);
-    let mut times: u64 = 0;
-    for event in log {
-        if matches!(event, Event::Late { .. }) != late {
-            continue;
-        }
-        let next = event_words(alloc, event)?;
-        if next != words {
-            tell_event(alloc, told, words.as_str(), times)?;
-            words = next;
-            times = 0;
-        }
-        times = times.saturating_add(1);
-    }
-    tell_event(alloc, told, words.as_str(), times)
-}
-
-/// Tells an event that came so many times.
-fn tell_event(alloc: Global, told: &mut String, words: &str, times: u64) -> Result<(), AllocError> {
-    match times {
-        0 => Ok(()),
-        1 => tell_line(told, "event ", words),
-        _ => tell_line(
-            told,
-            "event ",
-            format!(in alloc; "{words}, {times} times")?.as_str(),
-        ),
-    }
-}
-
-/// Tells the classes of the program's workers of which none came back.
-fn tell_gone<B: Worker>(told: &mut String, hands: &[Hand<B>]) -> Result<(), AllocError> {
-    for class in ["Echo", "Sum", "FailUntil", "RetryUntil", "Count", "Wait"] {
-        if !hands.iter().any(|hand| hand.class.as_str() == class) {
-            tell_line(told, "gone ", class)?;
-        }
-    }
-    Ok(())
-}
-
 /// What the words came to: the status with its code, and its text where it has one.
 fn status_line<K, W, B>(alloc: Global, outcome: &Outcome<K, W, B>) -> Result<String, AllocError> {
     let name = status_name(alloc, outcome)?;
@@ -288,24 +276,8 @@ fn status_name<K, W, B>(alloc: Global, outcome: &Outcome<K, W, B>) -> Result<Str
         Outcome::Run(ended) => format!(in alloc; "{:?}", ended.status),
         Outcome::Export(exported) => format!(in alloc; "{:?}", exported.status),
         Outcome::Check(checked) => format!(in alloc; "{:?}", checked.status),
+        Outcome::Live(ended) => format!(in alloc; "{:?}", ended.status),
+        Outcome::LiveNotBegun(unbegun) => format!(in alloc; "{:?}", unbegun.status),
+        Outcome::Callers(called) => format!(in alloc; "{:?}", called.ended.status),
     }
-}
-
-/// Tells one line.
-pub fn tell_line(told: &mut String, begins: &str, text: &str) -> Result<(), AllocError> {
-    told.push_str(begins)?;
-    told.push_str(text)?;
-    told.push('\n')
-}
-
-/// Tells the bytes written, each line after `|`, and what is left without a line feed after `>`.
-fn tell_bytes(alloc: Global, told: &mut String, bytes: &[u8]) -> Result<(), AllocError> {
-    for line in bytes.split_inclusive(|byte| *byte == b'\n') {
-        let text = String::from_utf8_lossy(alloc, line)?;
-        match text.as_str().strip_suffix('\n') {
-            Some(text) => tell_line(told, "| ", text)?,
-            None => tell_line(told, "> ", text.as_str())?,
-        }
-    }
-    Ok(())
 }

@@ -1,14 +1,11 @@
 //! Tests of a book whose runs the test drives itself, of whole runs, also over a large input and with
-//! worker threads that a gate of the test holds, of how a program ends, and of callers at a desk, a
-//! module a subject.
+//! worker threads that a gate of the test holds, and of how a program ends, a module a subject.
 //!
 //! It is otherwise empty. What whole runs do with the program's own workers, worked cases show.
 #![tactic(auto)]
 
 #[cfg(test)]
 mod beside;
-#[cfg(test)]
-mod callers;
 #[cfg(test)]
 mod diaries;
 #[cfg(test)]

@@ -1,6 +1,6 @@
-//! The events of a log in words.
+//! The events of a log in words, as cases tell them.
 
-use case_files::names::{backoff_policy_name, flags};
+use crate::names::{backoff_policy_name, flags};
 use std::alloc::{AllocError, Global};
 use uuid::Uuid;
 use wm_collections::Text;

@@ -1,6 +1,6 @@
 use Rattle.wm_keeper.specs.Memory.{store_of}
 use Rattle.wm_callers.specs.Openings.{inputs_of}
-use Rattle.run_tests.proofs.callers.calls_on.Given as goal
+use Rattle.callers_tests.proofs.desk.calls_on.Given as goal
 
 -- the mark of the desk is what it is opened with
 abbrev pub ghosts-calls_over : goal.ghosts-calls_over

@@ -1,6 +1,6 @@
 use Rattle.std.proofs.Common.{Some, false, []}
 use Rattle.wm_table.specs.Inputs.{no_inputs}
-use Rattle.run_tests.proofs.callers.calls.Given as goal
+use Rattle.callers_tests.proofs.desk.calls.Given as goal
 
 -- the mark of the table is an empty store that tells its rows, with this roll
 abbrev pub ghosts-calls_on : goal.ghosts-calls_on

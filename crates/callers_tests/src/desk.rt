@@ -1,8 +1,8 @@
 //! Calls of two callers, of which one meets a fault of the keeper.
 ghost use Rattle.std.specs.Prelude.{◌≡◌, ◌≤◌, false, [], length, vec_capacity, IfOk, IsSome};
-ghost use Rattle.wm_callers.specs.Calls.{IsForDesk};
 ghost use Rattle.wm_callers.specs.Closing.{fresh_passes, IsBefore};
-ghost use Rattle.wm_callers.specs.Idle.{IsIdle};
+ghost use Rattle.wm_callers.specs.ForDesk.{IsForDesk};
+ghost use Rattle.wm_seating.specs.Idle.{IsIdle};
 ghost use Rattle.wm_callers.specs.Openings.{inputs_of};
 ghost use Rattle.wm_collections.specs.Lists.{AllLater};
 ghost use Rattle.wm_keeper.specs.Memory.{store_of};
@@ -35,13 +35,13 @@ enum Came {
     NoMemory,
 }
 
-/// An enqueue of one work of class Echo.
-fn enqueue(alloc: Global) -> Result<Command, AllocError>
+/// An enqueue of one work of class Echo, with this id.
+pub fn enqueue(alloc: Global, id: u128) -> Result<Command, AllocError>
     ensures askable { IfOk result IsAskable }
     ensures fits { IfOk result IsForDesk }
 {
     let class = String::from_str(alloc, "Echo")?;
-    let request = within(Builder::one_time(alloc, Uuid::from_u128(1), class).build())?;
+    let request = within(Builder::one_time(alloc, Uuid::from_u128(id), class).build())?;
     let after = Items::new(alloc);
     let works = one(alloc, Node { request, after })?;
     Ok(Command::Enqueue {
@@ -124,7 +124,7 @@ fn call_both<K: Keeper, B: Worker, M: Mark, J: DeskMark, R: Wait>(
 }
 
 /// How many events a desk has in the end, and whose calls they are.
-fn closed<K: Keeper + Drop, B: Worker, M: Mark, J: DeskMark>(
+pub fn closed<K: Keeper + Drop, B: Worker, M: Mark, J: DeskMark>(
     desk: Desk<K, B, M, J>,
     passes: Vec<Pass<J>>,
 ) -> (usize, Vec<u32>)
@@ -244,7 +244,7 @@ fn calls<R: Wait>(
     let Ok(bench) = Bench::<Echo>::new(alloc, Vec::new(alloc)) else {
         return Err(AllocError);
     };
-    let command = enqueue(alloc)?;
+    let command = enqueue(alloc, 1)?;
     calls_on::<Echo, Brand, R>(rt, alloc, failing, opening, roll, bench, command)
 }
 

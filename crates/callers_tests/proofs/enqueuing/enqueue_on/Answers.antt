@@ -1,6 +1,6 @@
 use Rattle.std.proofs.Common.{refl, sym, ap, ◌∙◌, inl, inr}
-use Rattle.wm_callers.proofs.IdleCalls.{idle-begun}
-use Rattle.run_tests.proofs.callers.calls_on.Goals as goal
+use Rattle.wm_seating.proofs.IdleTables.{idle-begun}
+use Rattle.callers_tests.proofs.enqueuing.enqueue_on.Goals as goal
 
 -- a keeper in memory tells its rows, as the mark has it, and no name before it was loaded
 pub begin-requires-clause-given_store : goal.begin-requires-clause-given_store
