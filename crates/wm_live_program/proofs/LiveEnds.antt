@@ -135,6 +135,7 @@ module _ {K W B : Type 0} (tells : Tells K W B) (step : ℕ) (asks : List Ask) (
       → IfErr came (IsUntouched tells hands keeper sink)
   untouched_loaded (Ok ended) is = tt
   untouched_loaded (Err back) is = record {
+    at_opening = is.at_opening;
     rows = IsAtMost-then (tells.store keeper).rows (tells.store loaded).rows (tells.store back.keeper).rows load.kept.rows is.rows;
     sink_is = is.sink_is;
     hands_back = is.hands_back;

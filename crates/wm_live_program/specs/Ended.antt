@@ -1,5 +1,5 @@
 -- How a test driver ends whose asks were read, and what comes back where none was opened.
-use Rattle.std.specs.Prelude.{◌≡◌, ℕ, ℤ, Bool, false, List, Option, Some, None, Result, Ok, Err, IfOk, IfErr, Vec}
+use Rattle.std.specs.Prelude.{◌≡◌, ◌⊎◌, ℕ, ℤ, Bool, true, false, List, Option, Some, None, Result, Ok, Err, IfOk, IfErr, Vec}
 use Rattle.std.specs.declared.alloc.Global.{Global}
 use Rattle.wm_asks.specs.declared.ask.Ask.{Ask}
 use Rattle.wm_bench.specs.declared.hand.Hand.{Hand}
@@ -64,11 +64,13 @@ pub record HasEnded {K W B : Type 0} (tells : Tells K W B) (step : ℕ) (asks : 
 
 -- ---- where none was
 
--- the rows held are as they were, nothing was written, and the workers come back
+-- the rows held are as they were, nothing was written, and the workers come back; the commit of the opening is said to have been refused only where the
+-- keeper failed or memory was refused
 pub record IsUntouched {K W B : Type 0} (tells : Tells K W B) (hands : List (Hand B)) (keeper : K) (sink : W) (back : LiveNotBegun K W B) : Type 0 where
   pub rows : IsAtMost (tells.store keeper).rows (tells.store back.keeper).rows
   pub sink_is : back.sink ≡ sink
   pub hands_back : back.hands.items ≡ hands
+  pub at_opening : back.at_opening ≡ true → (back.status ≡ status.KeeperFault) ⊎ (back.status ≡ status.Memory)
 
 -- ---- statuses
 
@@ -83,7 +85,7 @@ abbrev pub IsStatusOf : {K W B : Type 0} → Result (LiveEnded K W B) (LiveNotBe
 IsStatusOf (Ok ended) = IsSessionStatus ended.status
 IsStatusOf (Err back) = IsUnbegunStatus back.status
 
--- with which statuses a driver ends whose table was begun, and with which nothing is begun
+-- with which statuses nothing is begun, and with which a driver ends whose table was begun
 abbrev pub IsNotBegunStatus : Status → Type 0
 IsNotBegunStatus status.Done = ⊥
 IsNotBegunStatus status.SinkFault = ⊥

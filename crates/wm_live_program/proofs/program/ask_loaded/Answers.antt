@@ -26,5 +26,5 @@ returns-in-Err g c =
     let unbegun = c.in-Err.ensures.unbegun in
     live-unbegun tells c.args.step c.args.asks.items c.args.hands.items (tells.store c.args.keeper).name (Some rows) c.args.keeper c.args.sink
     (record { status = refused.status; at_opening = refused.at_opening; keeper = refused.keeper; sink = c.args.sink; hands = refused.hands })
-    (record { rows = unbegun.rows_kept; sink_is = refl; hands_back = unbegun.hands_back })
+    (record { rows = unbegun.rows_kept; sink_is = refl; hands_back = unbegun.hands_back; at_opening = unbegun.at_opening })
     (early-unbegun refused.status rows (tells.store c.args.keeper).faults (tells.store refused.keeper).faults unbegun.cause) unbegun.tells_on.goes_on

@@ -1,4 +1,4 @@
-use Rattle.std.proofs.Common.{Some, Vec, Global, sym, ◌∙◌, ap, subst}
+use Rattle.std.proofs.Common.{◌≡◌, true, false, Some, Vec, Global, sym, ◌∙◌, ap, subst}
 use Rattle.wm_cli.proofs.RunEnds.{EarlyCause, EarlyCause-keeper}
 use Rattle.wm_keeper.proofs.Stores.{GoesOn-loaded}
 use Rattle.wm_keeper.specs.Store.{told_before, GoesOn, IsAtMost}
@@ -20,6 +20,7 @@ returns-in-Err g c =
       rows = subst (λ keeper. IsAtMost before.rows (tells.store keeper).rows) (sym its.keeper_is) c.load.ensures.kept.rows;
       sink_is = its.sink_is;
       hands_back = ap (λ v. v.items) its.hands_are;
+      at_opening = λ is. let clash : false ≡ true = sym its.at_opening ∙ is in absurd (cc);
     })
     (subst (λ keeper. EarlyCause back.status before.faults (tells.store keeper).faults held) (sym its.keeper_is)
     (subst (λ why. EarlyCause why before.faults loaded.faults held) (sym (its.status_is ∙ c.from-status.ensures))
