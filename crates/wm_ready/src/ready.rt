@@ -1,10 +1,10 @@
 //! The entries of works that may start.
-ghost use Rattle.std.specs.Prelude.{◌≡◌, ◌&&◌, ◌||◌, ◌≤◌, false, true, not, IfSome, MatchOption, OnErr, OnOk, [], ◌<◌};
+ghost use Rattle.std.specs.Prelude.{◌≡◌, ◌&&◌, ◌||◌, ◌≤◌, false, true, not, MatchOption, OnErr, OnOk, [], ◌<◌};
 ghost use Rattle.wm_ready.specs.Entries.{has, is_later, is_same, is_startable, Entry, IsFirstMoment, IsFirstNumber, NonePasses};
-ghost use Rattle.wm_ready.specs.Keys.{entries_of, moment_of, AreKeys, AreParts};
+ghost use Rattle.wm_ready.specs.Keys.{entries_of, AreKeys, AreParts};
 ghost use Rattle.wm_ready.specs.Puts.{entry, IsDropped, IsPut};
 
-use crate::keys::{Key, Part, first_of, least};
+use crate::keys::{Key, Part, Place, comes_first, first_of, is_first, least};
 use std::alloc::{AllocError, Global};
 use std::collections::{BTreeMap, BTreeSet};
 use std::marker::Model;
@@ -15,9 +15,9 @@ use std::marker::Model;
 #[derive(Debug, Drop)]
 pub struct Ready {
     keys: BTreeSet<Key>,
-    /// The parts that have keys, each with a moment that none of them is due before, so that what isn't
-    /// due or met, or is busy, is passed by a look at its part.
-    parts: BTreeMap<Part, u64>,
+    /// The parts that have keys, each with the place of its first one, so that the first of all is found
+    /// by a look at the parts.
+    parts: BTreeMap<Part, Place>,
 }
 
 impl Model for Ready {
@@ -36,7 +36,7 @@ impl Model for Ready {
 /// whose class isn't busy.
 fn moment_after(
     keys: &BTreeSet<Key>,
-    parts: &BTreeMap<Part, u64>,
+    parts: &BTreeMap<Part, Place>,
     now: u64,
     met: u128,
     busy: &[u32],
@@ -50,17 +50,6 @@ fn moment_after(
     match least(keys, parts, now + 1, u64::MAX, met, busy) {
         Some(key) => Some(key.2),
         None => None,
-    }
-}
-
-/// The moment that is kept for a part, or this one, where it is before that or none is kept.
-fn least_with(parts: &BTreeMap<Part, u64>, part: &Part, due: u64) -> u64
-    ensures due { result ≤ due }
-    ensures kept { IfSome (moment_of parts.now part.now) (λ moment. result ≤ moment) }
-{
-    match parts.get(part) {
-        Some(moment) => due.min(*moment),
-        None => due,
     }
 }
 
@@ -81,11 +70,18 @@ impl Ready {
         ensures ok { OnOk result (IsPut (entry due seq sig class) self.old self.new) }
         ensures err { OnErr result (self.new ≡ self.old) }
     {
-        let part = (class, sig);
-        let moment = least_with(&self.parts, &part, due);
-        self.parts.insert(part, moment)?;
+        let (part, place) = ((class, sig), (due, seq));
         self.keys.insert((class, sig, due, seq))?;
-        Ok(())
+        if !comes_first(&self.parts, &part, place) {
+            return Ok(());
+        }
+        match self.parts.insert(part, place) {
+            Ok(_before) => Ok(()),
+            Err(_refused) => {
+                self.keys.remove(&(class, sig, due, seq));
+                Err(AllocError)
+            }
+        }
     }
 
     /// Takes an entry away, where it is there. It takes no memory.
@@ -94,10 +90,13 @@ impl Ready {
     {
         let part = (class, sig);
         self.keys.remove(&(class, sig, due, seq));
+        if !is_first(&self.parts, &part, (due, seq)) {
+            return;
+        }
         match first_of(&self.keys, &part, 0) {
             Some(first) => {
                 // the part is there, so it takes no memory
-                let _kept = self.parts.insert(part, first.2);
+                let _kept = self.parts.insert(part, (first.2, first.3));
             }
             None => {
                 self.parts.remove(&part);
