@@ -3,3 +3,4 @@ pub mod DataRead
 pub mod Entries
 pub mod InType
 pub mod Size
+pub mod Tokens

@@ -5,7 +5,9 @@ ghost use Rattle.serde_json.specs.Find.{as_bool, as_str};
 ghost use Rattle.serde_json.specs.View.{view};
 ghost use Rattle.wm_data.specs.DataJson.{list_of, whole};
 ghost use Rattle.wm_data.specs.DataRead.{list_in, whole_of};
+ghost use Rattle.wm_data.specs.Tokens.{Appends, tokens_of};
 
+use json::Writer;
 use serde_json::{Value, push};
 use std::alloc::{AllocError, Global};
 use wm_collections::{Items, Text};
@@ -21,6 +23,10 @@ pub(crate) trait Element: Drop {
     fn to_json(&self, alloc: Global) -> Result<Value, AllocError>
         ensures { IfOk result (λ value. view value ≡ form self.now) };
 
+    /// Writes it after what a writer has.
+    fn write(&self, writer: &mut Writer) -> Result<(), AllocError>
+        ensures { Appends result writer.old writer.new (tokens_of (form self.now)) };
+
     fn from_json(alloc: Global, json: &Value) -> Result<Option<Self>, AllocError>
         ensures { IfOk result (λ element. element ≡ reading (view json.now)) };
 }
@@ -32,6 +38,10 @@ impl Element for bool {
 
     fn to_json(&self, _alloc: Global) -> Result<Value, AllocError> {
         Ok(Value::from(*self))
+    }
+
+    fn write(&self, writer: &mut Writer) -> Result<(), AllocError> {
+        writer.boolean(*self)
     }
 
     fn from_json(_alloc: Global, json: &Value) -> Result<Option<bool>, AllocError> {
@@ -48,6 +58,10 @@ impl Element for i8 {
         Ok(Value::from(*self))
     }
 
+    fn write(&self, writer: &mut Writer) -> Result<(), AllocError> {
+        writer.i64(i64::from(*self))
+    }
+
     fn from_json(_alloc: Global, json: &Value) -> Result<Option<i8>, AllocError> {
         Ok(json.as_i64().and_then(|number| i8::try_from(number).ok()))
     }
@@ -60,6 +74,10 @@ impl Element for i32 {
 
     fn to_json(&self, _alloc: Global) -> Result<Value, AllocError> {
         Ok(Value::from(*self))
+    }
+
+    fn write(&self, writer: &mut Writer) -> Result<(), AllocError> {
+        writer.i64(i64::from(*self))
     }
 
     fn from_json(_alloc: Global, json: &Value) -> Result<Option<i32>, AllocError> {
@@ -76,6 +94,10 @@ impl Element for i64 {
         Ok(Value::from(*self))
     }
 
+    fn write(&self, writer: &mut Writer) -> Result<(), AllocError> {
+        writer.i64(*self)
+    }
+
     fn from_json(_alloc: Global, json: &Value) -> Result<Option<i64>, AllocError> {
         Ok(json.as_i64())
     }
@@ -88,6 +110,10 @@ impl Element for Text {
 
     fn to_json(&self, alloc: Global) -> Result<Value, AllocError> {
         Value::try_from_str(alloc, self.as_str())
+    }
+
+    fn write(&self, writer: &mut Writer) -> Result<(), AllocError> {
+        writer.string(self.as_str())
     }
 
     fn from_json(alloc: Global, json: &Value) -> Result<Option<Text>, AllocError> {
@@ -110,6 +136,20 @@ pub(crate) fn list_to_json<T: Element>(
         push(&mut values, element.to_json(alloc)?)?;
     }
     Ok(Value::Array(values))
+}
+
+/// Writes a list after what a writer has.
+pub(crate) fn write_list<T: Element>(
+    writer: &mut Writer,
+    elements: &Items<T>,
+) -> Result<(), AllocError>
+    ensures { Appends result writer.old writer.new (tokens_of (list_of T.form elements.now)) }
+{
+    writer.begin_array()?;
+    for element in elements.as_slice() {
+        element.write(writer)?;
+    }
+    writer.end_array()
 }
 
 /// The list that a JSON value is, where each item is an element.
