@@ -19,12 +19,9 @@ use std::test::Fail;
 use uuid::Uuid;
 use wm_chain::batch_of;
 use wm_collections::{Items, Text, both, one};
-use wm_machine::{Phase, Record, Refusal};
+use wm_machine::{NUMBERS_END, Phase, Record, Refusal};
 use wm_request::{Batch, Builder, Node, Request, has_id};
 use wm_unique::{GroupPlan, check};
-
-/// The number after the greatest that a work has.
-pub const NUMBERS_END: u64 = 1 << 53;
 
 /// The most records that a state has.
 pub const MAX_WORKS: u64 = 100_000;

@@ -6,9 +6,7 @@ ghost use Rattle.wm_machine.specs.Built.{AreAsked};
 ghost use Rattle.wm_steps.specs.Nodes.{nodes_of};
 ghost use Rattle.wm_request.specs.Requests.{IsRequest, IsShortText};
 
-use crate::checks::{
-    MAX_WORKS, NEW, NUMBERS_END, SPENT, TOO_MANY, Told, name, periodic, records, told,
-};
+use crate::checks::{MAX_WORKS, NEW, SPENT, TOO_MANY, Told, name, periodic, records, told};
 use crate::unique::request;
 use std::alloc::{AllocError, Global};
 use std::process::Abort;
@@ -17,7 +15,7 @@ use wm_collections::{Items, both, one};
 use wm_commands::execute;
 use wm_conditions::Conditions;
 use wm_graph::Graph;
-use wm_machine::{Command, Event, Policy, Record, Reply, State, UniqueName};
+use wm_machine::{Command, Event, NUMBERS_END, Policy, Record, Reply, State, UniqueName};
 use wm_request::{Batch, Node, Request};
 use wm_steps::View;
 

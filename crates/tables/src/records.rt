@@ -1,8 +1,5 @@
 //! How one record changes where a run of its work begins, ends, is stopped, or can't begin, where it is
 //! closed and where it becomes free, of `wm_lifecycle`, and the row of a record, of `wm_rows`.
-ghost use Rattle.std.specs.Prelude.{◌≡◌, true, ◌^◌, ◌<◌, All, IfSome};
-ghost use Rattle.wm_machine.specs.Limits.{FitsRow};
-
 use crate::names::{how_named, phase_name, phase_named};
 use case_files::fields::{
     RowFault, both, count, data, field, flag, has_only, list, name, number, number_if, text,
@@ -19,7 +16,7 @@ use wm_keeper::Row;
 use wm_lifecycle::{closed, ended, freed, not_started, started, stopped, timed_out};
 use wm_machine::{End, How, Phase, Record};
 use wm_request::Request;
-use wm_rows::to_row;
+use wm_rows::{fits_row, to_row};
 
 /// The numbers of a record, and its phase.
 #[derive(Clone, Copy)]
@@ -183,38 +180,6 @@ fn change_told(alloc: Global, work: &Record) -> Result<Value, AllocError> {
     told.data("output", &work.output);
     told.data("progress", &work.progress);
     told.into_value()
-}
-
-/// The number after the greatest that a row has.
-const NUMBERS_END: u64 = 1 << 53;
-
-/// Whether numbers are within their limits.
-fn are_within(numbers: &[u64]) -> bool
-    ensures { result ≡ true → All (λ number. number < 2 ^ 53) numbers.now }
-{
-    numbers.iter().all(|number| *number < NUMBERS_END)
-}
-
-/// Whether a moment, where there is one, is within its limits.
-fn is_within(moment: Option<u64>) -> bool
-    ensures { result ≡ true → IfSome moment (λ moment. moment < 2 ^ 53) }
-{
-    match moment {
-        Some(moment) => moment < NUMBERS_END,
-        None => true,
-    }
-}
-
-/// Whether the numbers of a record are within their limits.
-fn fits_row(work: &Record) -> bool
-    ensures { result ≡ true → FitsRow work.now }
-{
-    work.seq < NUMBERS_END
-        && work.generation < NUMBERS_END
-        && work.enqueued_at < NUMBERS_END
-        && is_within(work.override_at)
-        && work.finished_at < NUMBERS_END
-        && are_within(work.prior.as_slice())
 }
 
 /// The row of a record, whose numbers are within their limits.

@@ -2,8 +2,10 @@
 ghost use Rattle.std.specs.Prelude.{◌≡◌, ◌++◌, ◌<◌, ◌^◌, ℕ, List, [], ◌∷◌, length};
 ghost use Rattle.wm_asks.specs.Clocks.{stepped};
 
+use wm_machine::NUMBERS_END;
+
 /// The greatest moment that a line may set, in milliseconds.
-pub const LAST_MOMENT: u64 = 9_007_199_254_740_991;
+pub const LAST_MOMENT: u64 = NUMBERS_END - 1;
 
 /// What tells moments. A contract sees the list of the answers that it has given, and its pace.
 pub trait Clock {

@@ -18,7 +18,7 @@ pub mod state;
 pub use command::{Command, LineFault, Policy, Target, UniqueName};
 pub use event::{Cause, End, Event};
 pub use instances::{has_room, idle_in, is_idle, is_live};
-pub use numbers::{index_numbered, work_numbered};
+pub use numbers::{NUMBERS_END, index_numbered, work_numbered};
 pub use record::{How, Phase, Record, Shown};
 pub use reply::{Applied, Counts, Refusal, Reply, WorkInfo};
 pub use state::{Instance, Run, State, WorkQuery};

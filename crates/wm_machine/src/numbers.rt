@@ -1,4 +1,4 @@
-//! Finding a record by its number, among records in ascending number.
+//! The limit of numbers, and finding a record by its number, among records in ascending number.
 ghost use Rattle.std.specs.Option.{option_copied};
 ghost use Rattle.std.specs.Prelude.{◌≡◌, ◌<◌, length, slice_get, None, MatchOption};
 ghost use Rattle.wm_collections.specs.Lists.{AllLater};
@@ -6,6 +6,10 @@ ghost use Rattle.wm_machine.specs.Input.{work_numbered};
 ghost use Rattle.wm_machine.specs.Valid.{IsBefore};
 
 use crate::record::Record;
+
+/// The number after the greatest that a work, a generation, a moment or a row may have, 2^53: up to it
+/// JSON readers of other languages keep whole numbers exact.
+pub const NUMBERS_END: u64 = 1 << 53;
 
 /// The index of the record of this number.
 pub fn index_numbered(works: &[Record], number: u64) -> Option<usize>

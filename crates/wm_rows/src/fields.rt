@@ -9,7 +9,7 @@ use std::alloc::{AllocError, Global};
 use wm_collections::Items;
 use wm_conditions::{Constraints, Network};
 use wm_data::Merger;
-use wm_machine::{How, Phase};
+use wm_machine::{How, NUMBERS_END, Phase};
 use wm_request::MAX_DELAY;
 use wm_schedule::{BackoffPolicy, Period};
 
@@ -23,7 +23,7 @@ pub(crate) enum Form {
 }
 
 /// The greatest number of a work, and the greatest generation and moment.
-pub(crate) const GREATEST: u64 = (1 << 53) - 1;
+pub(crate) const GREATEST: u64 = NUMBERS_END - 1;
 
 /// The least period and flex interval, in milliseconds.
 const LEAST_PERIOD: u64 = 900_000;

@@ -6,6 +6,7 @@
 mod checking;
 mod fault;
 mod fields;
+mod fitting;
 pub mod laws;
 mod reading;
 pub mod rows;
@@ -14,6 +15,7 @@ mod texts;
 
 pub use checking::{check_all, read_after};
 pub use fault::RowFault;
+pub use fitting::fits_row;
 pub use reading::from_row;
 pub use rows::{have_one_row, is_same, to_row};
 pub use sound::Before;

@@ -9,10 +9,8 @@ use serde_json::Value;
 use std::alloc::Global;
 use uuid::Uuid;
 use wm_collections::Text;
+use wm_machine::NUMBERS_END;
 use wm_request::MAX_TEXT_BYTES;
-
-/// The number after the greatest that a line may hold.
-const NUMBERS_END: u64 = 1 << 53;
 
 /// A truth value; false where there is none.
 #[tactic(auto, unfolding(crate::specs::Values::flag_at))]

@@ -15,14 +15,11 @@ ghost use Rattle.wm_unique.specs.Plans.{AreNumbersOf, grouped, is_named_by, numb
 use crate::plans::GroupPlan;
 use uuid::Uuid;
 use wm_collections::is_among;
-use wm_machine::{Record, Refusal, work_numbered};
+use wm_machine::{NUMBERS_END, Record, Refusal, work_numbered};
 use wm_request::{Batch, Node, has_work};
 
 /// The most records that a state has.
 const MAX_WORKS: usize = 100_000;
-
-/// The number after the greatest that a work has.
-const NUMBERS_END: u64 = 1 << 53;
 
 /// The most prerequisites that a work has.
 const MAX_PREREQUISITES: usize = 100;
