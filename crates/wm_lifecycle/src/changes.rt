@@ -9,14 +9,14 @@ ghost use Rattle.wm_machine.specs.Updated.{next_moment, one_update_more, updated
 use std::alloc::{AllocError, Global};
 use wm_collections::{Replica, both};
 use wm_data::Data;
-use wm_machine::{End, How, Phase, Record};
+use wm_machine::{End, How, NUMBERS_END, Phase, Record};
 use wm_request::{NextRun, Request};
 
 /// Attempts and periods are counted up to this number.
 const MAX_COUNT: u32 = 1_000_000;
 
 /// Updates are counted up to this number, 2^53 - 1.
-const LAST_GENERATION: u64 = 9_007_199_254_740_991;
+const LAST_GENERATION: u64 = NUMBERS_END - 1;
 
 /// The record of a work whose run begins: one attempt more, without progress.
 pub fn started(alloc: Global, work: &Record) -> Result<Record, AllocError>
@@ -140,7 +140,7 @@ fn left_of(renewed: bool, before: Option<u64>) -> Option<u64>
 }
 
 /// One more than a number of updates, where it may rise.
-fn one_update_more(generation: u64) -> u64
+pub fn one_update_more(generation: u64) -> u64
     ensures { result ≡ one_update_more generation }
 {
     generation.saturating_add(1).min(LAST_GENERATION)

@@ -11,7 +11,8 @@ mod instances;
 mod runs;
 
 pub use changes::{
-    closed, ended, freed, next_moment, not_started, started, stopped, timed_out, updated,
+    closed, ended, freed, next_moment, not_started, one_update_more, started, stopped, timed_out,
+    updated,
 };
 pub use instances::{retire_each, set_out};
-pub use runs::{remove_run, renew_run, stop_runs, turn_run};
+pub use runs::{remove_run, renew_run, run_on, stop_runs, turn_run};

@@ -1,13 +1,33 @@
-//! The changes of the runs of a state: a turn, a stop, a renewal, and the end of one.
+//! The changes of the runs of a state: the next one, a turn, a stop, a renewal, and the end of one.
 ghost use Rattle.std.specs.Prelude.{◌≡◌, ◌≤◌};
 ghost use Rattle.std.specs.List.{AllByRecursion};
 ghost use Rattle.wm_collections.specs.Lists.{is_among};
-ghost use Rattle.wm_machine.specs.Runs.{other_runs, with_stopped};
+ghost use Rattle.wm_machine.specs.Runs.{one_attempt_more, other_runs, run_on, with_stopped};
 ghost use Rattle.wm_machine.specs.Turns.{with_turned};
 ghost use Rattle.wm_machine.specs.Updated.{is_run_of, with_renewed};
 
 use wm_collections::is_among;
-use wm_machine::Run;
+use wm_data::Data;
+use wm_machine::{Instance, Record, Run, State};
+
+/// The next run, which is this attempt of a work on an instance, with this input. It takes no memory.
+pub fn run_on(state: &State, work: &Record, attempt: u32, instance: &Instance, input: Data) -> Run
+    requires { attempt ≡ one_attempt_more work.now.attempt }
+    ensures { result ≡ run_on state.entry.now work.entry.now instance.entry.now input }
+{
+    Run {
+        run: state.next_run,
+        seq: work.seq,
+        attempt,
+        input,
+        kind: instance.kind,
+        instance: instance.number,
+        constraints: work.request.constraints(),
+        turn: 0,
+        current: true,
+        renewed: false,
+    }
+}
 
 /// Has the run of this number at its next turn. It takes no memory.
 pub fn turn_run(runs: &mut [Run], number: u64)

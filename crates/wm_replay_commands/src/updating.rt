@@ -9,14 +9,12 @@ ghost use Rattle.wm_machine.specs.declared.state.State.{State};
 use std::alloc::{AllocError, Global};
 use uuid::Uuid;
 use wm_collections::Replica;
+use wm_lifecycle::one_update_more;
 use wm_machine::{Applied, Phase, Record, Refusal, Reply, Run, State};
 use wm_replay_runs::changing::{Change, change_items};
 use wm_replay_runs::work_changes::{WorkChange, change_work};
 use wm_request::{NextRun, Request};
 use wm_schedule::Period;
-
-/// Updates are counted up to this number, 2^53 - 1.
-const LAST_GENERATION: u64 = 9_007_199_254_740_991;
 
 /// The command that updates the work with a request's id. Its current run is renewed where the
 /// request sets or clears the moment of its next one. A finished work is left as it is; one that isn't
@@ -131,13 +129,6 @@ fn is_same_kind(one: Option<Period>, other: Option<Period>) -> bool
     ensures { result ≡ is_same_kind one other }
 {
     one.is_some() == other.is_some()
-}
-
-/// One more than a number of updates, where it may rise.
-fn one_update_more(generation: u64) -> u64
-    ensures { result ≡ one_update_more generation }
-{
-    generation.saturating_add(1).min(LAST_GENERATION)
 }
 
 /// When an update of work in this phase counts.

@@ -3,7 +3,7 @@ ghost use Rattle.std.specs.Prelude.{◌≡◌, ◌↔◌, ◌<◌, if◌then◌e
 ghost use Rattle.wm_replay_runs.specs.Starts.{begun, IsNamed, IsStartBy, StartsNone};
 ghost use Rattle.wm_machine.specs.First.{first_of, idle_instance};
 ghost use Rattle.wm_machine.specs.Input.{input_of};
-ghost use Rattle.wm_machine.specs.Runs.{one_attempt_more, run_on, start_refusal};
+ghost use Rattle.wm_machine.specs.Runs.{one_attempt_more, start_refusal};
 ghost use Rattle.wm_machine.specs.Step.{after, IsStartFailure, Legal};
 ghost use Rattle.wm_machine.specs.Valid.{AreNumberedInOrder, Valid};
 ghost use Rattle.wm_machine.specs.declared.event.Event.TheVariants as event;
@@ -14,7 +14,7 @@ use crate::work_changes::{Started, change_work};
 use std::alloc::{AllocError, Global};
 use wm_collections::{at, both};
 use wm_data::Data;
-use wm_lifecycle::{set_out, started};
+use wm_lifecycle::{run_on, set_out, started};
 use wm_machine::{Cause, Instance, Record, Run, State, idle_in, is_live};
 use wm_query::first_index;
 
@@ -148,25 +148,6 @@ fn next_attempt(alloc: Global, work: &Record) -> Result<u32, AllocError>
 {
     let started = started(alloc, work)?;
     Ok(started.attempt)
-}
-
-/// The next run, which is this attempt of a work on an instance, with this input.
-fn run_on(state: &State, work: &Record, attempt: u32, instance: &Instance, input: Data) -> Run
-    requires { attempt ≡ one_attempt_more work.now.attempt }
-    ensures { result ≡ run_on state.entry.now work.entry.now instance.entry.now input }
-{
-    Run {
-        run: state.next_run,
-        seq: work.seq,
-        attempt,
-        input,
-        kind: instance.kind,
-        instance: instance.number,
-        constraints: work.request.constraints(),
-        turn: 0,
-        current: true,
-        renewed: false,
-    }
 }
 
 /// That the work of this number can't start for this cause. It is legal where the work is first, and

@@ -3,7 +3,7 @@ ghost use Rattle.std.specs.Prelude.{◌≡◌, ◌<◌, length, slice_get, Ok, S
 ghost use Rattle.wm_graph.specs.Nodes.{HasNode};
 ghost use Rattle.wm_machine.specs.First.{first_of, idle_instance};
 ghost use Rattle.wm_machine.specs.Input.{input_of};
-ghost use Rattle.wm_machine.specs.Runs.{one_attempt_more, run_on, start_refusal};
+ghost use Rattle.wm_machine.specs.Runs.{start_refusal};
 ghost use Rattle.wm_runs.specs.Builds.{IsClaiming, IsFirstAt};
 ghost use Rattle.wm_runs.specs.Reached.{replaced_by_no_start};
 ghost use Rattle.wm_steps.specs.Nodes.{nodes_of};
@@ -13,8 +13,8 @@ use crate::reach::{not_started_reach, replaced_by};
 use std::alloc::{AllocError, Global};
 use wm_collections::{Items, Replica, both, copied};
 use wm_data::Data;
-use wm_lifecycle::{not_started, started};
-use wm_machine::{Cause, Event, Instance, Record, Run, State, idle_in};
+use wm_lifecycle::{not_started, run_on, started};
+use wm_machine::{Cause, Event, Instance, Record, Run, idle_in};
 use wm_steps::{Replacement, RunChange, StepChange, View};
 
 /// What becomes of the work that is first.
@@ -136,25 +136,6 @@ fn replaced_by_no_start(
     let itself = not_started(alloc, work, view.state.now)?;
     let (itself, reach) = both(itself, not_started_reach(view, work))?;
     replaced_by(alloc, view, &itself, &reach)
-}
-
-/// The next run, which is this attempt of a work on an instance, with this input.
-fn run_on(state: &State, work: &Record, attempt: u32, instance: &Instance, input: Data) -> Run
-    requires { attempt ≡ one_attempt_more work.now.attempt }
-    ensures { result ≡ run_on state.entry.now work.entry.now instance.entry.now input }
-{
-    Run {
-        run: state.next_run,
-        seq: work.seq,
-        attempt,
-        input,
-        kind: instance.kind,
-        instance: instance.number,
-        constraints: work.request.constraints(),
-        turn: 0,
-        current: true,
-        renewed: false,
-    }
 }
 
 /// The event by which a run begins, and what is claimed by it.
