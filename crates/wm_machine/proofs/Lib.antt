@@ -2,6 +2,7 @@ pub mod Cancels
 pub mod Changes
 pub mod Closings
 pub mod Commands
+pub mod Counting
 pub mod Descendants
 pub mod DiaryLogs
 pub mod Drains

@@ -1,4 +1,7 @@
 //! What is answered to a command, with what is told of works.
+ghost use Rattle.std.specs.Prelude.{◌≡◌, ◌+◌, ◌<◌, if◌then◌else◌};
+ghost use Rattle.wm_machine.specs.Queried.{is_state};
+
 use crate::command::LineFault;
 use crate::record::Shown;
 use std::alloc::{AllocError, Global};
@@ -58,6 +61,59 @@ pub struct Counts {
     pub blocked: u64,
     pub cancelled: u64,
     pub attempts: u64,
+}
+
+impl Counts {
+    /// The counts of no works.
+    pub fn none() -> Counts
+        ensures { result ≡ record {
+          enqueued = 0;
+          running = 0;
+          succeeded = 0;
+          failed = 0;
+          blocked = 0;
+          cancelled = 0;
+          attempts = 0;
+        } }
+    {
+        Counts {
+            enqueued: 0,
+            running: 0,
+            succeeded: 0,
+            failed: 0,
+            blocked: 0,
+            cancelled: 0,
+            attempts: 0,
+        }
+    }
+
+    /// Counts a work in this shown state, after fewer than 100,000 others; not its attempts.
+    pub fn count(&mut self, state: Shown)
+        requires few { self.old.enqueued + self.old.running + self.old.succeeded + self.old.failed
+            + self.old.blocked + self.old.cancelled < 100000 }
+        ensures enqueued { self.new.enqueued ≡ self.old.enqueued
+            + (if is_state Shown.Enqueued state then 1 else 0) }
+        ensures running { self.new.running ≡ self.old.running
+            + (if is_state Shown.Running state then 1 else 0) }
+        ensures succeeded { self.new.succeeded ≡ self.old.succeeded
+            + (if is_state Shown.Succeeded state then 1 else 0) }
+        ensures failed { self.new.failed ≡ self.old.failed
+            + (if is_state Shown.Failed state then 1 else 0) }
+        ensures blocked { self.new.blocked ≡ self.old.blocked
+            + (if is_state Shown.Blocked state then 1 else 0) }
+        ensures cancelled { self.new.cancelled ≡ self.old.cancelled
+            + (if is_state Shown.Cancelled state then 1 else 0) }
+        ensures attempts { self.new.attempts ≡ self.old.attempts }
+    {
+        match state {
+            Shown::Enqueued => self.enqueued += 1,
+            Shown::Running => self.running += 1,
+            Shown::Succeeded => self.succeeded += 1,
+            Shown::Failed => self.failed += 1,
+            Shown::Blocked => self.blocked += 1,
+            Shown::Cancelled => self.cancelled += 1,
+        }
+    }
 }
 
 /// Why a command was refused, with the value that shows it.

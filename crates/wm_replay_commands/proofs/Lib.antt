@@ -1,4 +1,3 @@
 pub mod CancelCounts
 pub mod Commands
-pub mod Counting
 pub mod ToldWorks

@@ -1,3 +1,2 @@
 pub mod Cancels
-pub mod Counted
 pub mod Updates

@@ -1,4 +1,3 @@
-pub mod Counting
 pub mod Executions
 pub mod FoundAnswers
 pub mod FoundNumbers

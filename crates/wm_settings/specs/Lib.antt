@@ -1,4 +1,3 @@
 pub mod Builds
-pub mod Counted
 pub mod Told
 pub mod WorkSets

@@ -1,7 +1,7 @@
 use Rattle.std.proofs.Common.{◌≡◌, List, rules, ap, ◌∙◌}
 use Rattle.wm_machine.specs.declared.record.Record.{Record}
-use Rattle.wm_replay_commands.proofs.Counting.{counts-all}
-use Rattle.wm_replay_commands.specs.Counted.{counts_among}
+use Rattle.wm_machine.proofs.Counting.{counts-all}
+use Rattle.wm_machine.specs.Summarized.{counts_among}
 use Rattle.wm_replay_commands.proofs.counts.counts_of.Goals as goal
 
 pub returns : goal.returns

@@ -1,6 +1,6 @@
 use Rattle.std.proofs.Common.{take, ◌∙◌}
-use Rattle.wm_settings.proofs.Counting.{counts-whole, same_counts}
-use Rattle.wm_settings.specs.Counted.{counts_among}
+use Rattle.wm_machine.proofs.Counting.{counts-whole, same_counts}
+use Rattle.wm_machine.specs.Summarized.{counts_among}
 use Rattle.wm_settings.proofs.counts.counts_among.Goals as goal
 
 pub returns : goal.returns

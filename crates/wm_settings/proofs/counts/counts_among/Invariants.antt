@@ -2,7 +2,7 @@
 use Rattle.std.proofs.Common.{◌≡◌, ◌+◌, ◌*◌, ◌≤◌, map, take}
 use Rattle.std.specs.List.{sum}
 use Rattle.wm_machine.specs.declared.record.Shown.TheVariants as shown
-use Rattle.wm_settings.specs.Counted.{count_shown}
+use Rattle.wm_machine.specs.Summarized.{count_shown}
 use Rattle.wm_settings.proofs.counts.counts_among.Given as goal
 
 abbrev pub invariant-loop-work : goal.invariant-loop-work

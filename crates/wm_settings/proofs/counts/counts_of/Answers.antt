@@ -1,5 +1,5 @@
 use Rattle.std.proofs.Common.{◌≡◌, rules, ◌∙◌}
-use Rattle.wm_settings.proofs.Counting.{counts-all}
+use Rattle.wm_machine.proofs.Counting.{counts-all}
 use Rattle.wm_settings.proofs.FoundAnswers.{all-there}
 use Rattle.wm_steps.proofs.Views.{reached-view}
 use Rattle.wm_settings.proofs.counts.counts_of.Goals as goal

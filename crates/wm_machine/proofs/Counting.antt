@@ -1,11 +1,10 @@
 -- Counting the works in each shown state.
 use Rattle.std.proofs.Common.{◌≡◌, ℕ, ◌≤◌, List, length, take, ap}
 use Rattle.std.proofs.lemmas.List.{take_all}
-use Rattle.wm_machine.specs.Summarized.{counts_of}
+use Rattle.wm_machine.specs.Summarized.{counts_among, counts_of}
 use Rattle.wm_machine.specs.declared.record.Record.{Record}
 use Rattle.wm_machine.specs.declared.reply.Counts.{Counts}
 use Rattle.wm_machine.specs.declared.state.State.{State}
-use Rattle.wm_replay_commands.specs.Counted.{counts_among}
 
 -- counts that agree in each
 pub same_counts : (one other : Counts) → one.enqueued ≡ other.enqueued → one.running ≡ other.running → one.succeeded ≡ other.succeeded
