@@ -1,5 +1,5 @@
 -- The state that the rows of an audit open to.
-use Rattle.std.proofs.Common.{◌≡◌, ℕ, suc, ◌+◌, max, ◌≤◌, List, [], ◌∷◌, ◌++◌, length, map, nat_le, Option, Some, None, IfSome, option_and_then, Result, Ok, Err, refl, sym, ap, ◌∙◌, subst, leb-true}
+use Rattle.std.proofs.Common.{◌≡◌, ℕ, suc, ◌+◌, ◌≤◌, List, [], ◌∷◌, ◌++◌, length, map, nat_le, Option, Some, None, IfSome, option_and_then, Result, Ok, Err, refl, sym, ap, ◌∙◌, subst, leb-true}
 use Rattle.std.specs.List.{AllByRecursion}
 use Rattle.std.specs.Prelude.{codes}
 use Rattle.std.specs.Result.{result_ok}
@@ -105,10 +105,6 @@ pub of_rows-works : (works : List Record) → AreOfRows works → AreWorks (next
 of_rows-works works sound = checked_works sound.0 works sound.1
 
 -- ---- the state
-
-pub next_number-reopened : (works : List Record) → next_number (map reopened works) ≡ next_number works
-next_number-reopened [] = refl
-next_number-reopened (work ∷ works) = ap (max (work.seq + 1)) (next_number-reopened works)
 
 pub opened-by : (rows : List Row) (works : List Record) (hands : List Instance) → AreFresh hands → checked rows ≡ Ok works
     → Opened rows hands (opening_state (map reopened works) hands)

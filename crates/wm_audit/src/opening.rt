@@ -1,14 +1,13 @@
 //! The state that an audit begins with.
 ghost use Rattle.std.specs.Prelude.{◌≡◌, map};
 ghost use Rattle.wm_audit.specs.Happened.{AreOfRows};
-ghost use Rattle.wm_machine.specs.Opened.{next_number, opening_state, reopened};
-ghost use Rattle.wm_machine.specs.Valid.{AreWorks};
+ghost use Rattle.wm_machine.specs.Opened.{opening_state, reopened};
 
 use std::alloc::Global;
 use wm_collections::Items;
-use wm_conditions::Conditions;
 use wm_data::Data;
 use wm_machine::{Instance, Phase, Record, State};
+use wm_opening::opening_state;
 
 /// The state that the records of sound rows open to, with these instances: work that was running waits
 /// again, and nothing else of it changes.
@@ -16,29 +15,7 @@ pub(crate) fn opened(alloc: Global, works: Items<Record>, instances: Items<Insta
     requires { AreOfRows works }
     ensures { result ≡ opening_state (map reopened works) instances }
 {
-    let next = next_number(works.as_slice());
-    State {
-        works: reopened(works),
-        conditions: Conditions::OPENING,
-        now: 0,
-        runs: Items::new(alloc),
-        instances,
-        next,
-        next_run: 1,
-        observers: Items::new(alloc),
-        hushed: false,
-    }
-}
-
-/// The number above that of the last of these records, which stand in order, or 1.
-fn next_number(works: &[Record]) -> u64
-    requires { AreWorks (next_number works.now) works.now }
-    ensures { result ≡ next_number works.now }
-{
-    match works.last() {
-        Some(last) => last.seq + 1,
-        None => 1,
-    }
+    opening_state(alloc, reopened(works), instances)
 }
 
 /// The records, where those whose work was running wait again.

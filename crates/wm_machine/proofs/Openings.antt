@@ -90,13 +90,17 @@ none_runs (phase.Done how) is = absurd cc
 
 -- ---- the state
 
+-- works of which those that were running wait again
+pub works-reopened : (stored : List Record) → AreWorks (next_number stored) stored → AreWorks (next_number (map reopened stored)) (map reopened stored)
+works-reopened stored sound =
+    subst (λ n. AreWorks n (map reopened stored)) (sym (next_number-reopened stored))
+    (AreWorks-changed (next_number stored) stored reopened sound (IsChange-reopened (next_number stored) stored sound))
+
 pub reached-opened : (rows : List Row) (instances : List Instance) (first : State) → Opened rows instances first → Valid first
 reached-opened rows instances first opened =
     let stored = opened.stored in
-    let works = map reopened stored in
     subst Valid (sym opened.state) (record {
-      works = subst (λ n. AreWorks n works) (sym (next_number-reopened stored))
-          (AreWorks-changed (next_number stored) stored reopened opened.sound (IsChange-reopened (next_number stored) stored opened.sound));
+      works = works-reopened stored opened.sound;
       runs = record {
         running = All-map _ reopened stored (λ work is running. absurd (none_runs work.phase running)) opened.sound.records;
         each = tt;

@@ -9,4 +9,4 @@ mod nodes;
 pub mod opening;
 mod running;
 
-pub use opening::{Opening, open};
+pub use opening::{Opening, open, opening_state};

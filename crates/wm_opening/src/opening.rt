@@ -80,8 +80,8 @@ fn states_of(
     both(first, view)
 }
 
-/// The opening state of these records, which stand in order.
-fn opening_state(alloc: Global, works: Items<Record>, instances: Items<Instance>) -> State
+/// The opening state of these records, which stand in order. It takes no memory.
+pub fn opening_state(alloc: Global, works: Items<Record>, instances: Items<Instance>) -> State
     requires { AreWorks (next_number works) works }
     ensures { result ≡ opening_state works instances }
 {

@@ -1,5 +1,6 @@
 //! What a run hands back.
-ghost use Rattle.std.specs.Prelude.{false};
+ghost use Rattle.std.specs.Prelude.{◌≡◌, [], false};
+ghost use Rattle.wm_machine.specs.Opened.{opening_state};
 ghost use Rattle.wm_session.specs.Ended.{IsUnbegun};
 
 use crate::status::Status;
@@ -7,7 +8,7 @@ use std::alloc::Global;
 use wm_bench::Hand;
 use wm_collections::Items;
 use wm_machine::{Event, State};
-use wm_table::opening_state;
+use wm_opening::opening_state;
 use wm_worker::Worker;
 
 /// What a run hands back.
@@ -62,12 +63,19 @@ impl<K, W, B> Ended<K, W, B> {
             status,
             began: false,
             at_opening,
-            first: opening_state(alloc, Items::new(alloc)),
+            first: empty_state(alloc),
             log: Items::new(alloc),
-            last: opening_state(alloc, Items::new(alloc)),
+            last: empty_state(alloc),
             keeper,
             sink,
             hands,
         }
     }
+}
+
+/// The state that an empty store opens to, without workers.
+fn empty_state(alloc: Global) -> State
+    ensures { result ≡ opening_state [] [] }
+{
+    opening_state(alloc, Items::new(alloc), Items::new(alloc))
 }
