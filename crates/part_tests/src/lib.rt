@@ -1,6 +1,6 @@
 //! Tests of single calls of the crates that the table stands on, as far as no table of plain values
-//! has them, a module a subject: lists and copies, the graph, keepers, streams, workers and the
-//! bench, and the roll; and what the tests of the crates above have too: workers that tell diaries, their
+//! has them, a module a subject: lists and copies, the graph, the index, ready works, keepers, streams,
+//! workers and the bench, and the roll; and what the tests of the crates above have too: workers that tell diaries, their
 //! hands, Data, and requests within their limits.
 #![tactic(auto)]
 
@@ -14,7 +14,11 @@ pub mod diarist;
 mod graph;
 pub mod hands;
 #[cfg(test)]
+mod index;
+#[cfg(test)]
 mod keepers;
+#[cfg(test)]
+mod ready;
 pub mod requests;
 #[cfg(test)]
 mod roll;

@@ -6,7 +6,5 @@
 
 mod draws;
 pub mod generated;
-#[cfg(test)]
-mod tests;
 
 pub use generated::generate;

@@ -1,4 +1,3 @@
 pub mod Entries
 pub mod Groups
-pub mod Two
 pub mod Works

@@ -8,8 +8,6 @@ mod group;
 mod groups;
 pub mod index;
 mod tagging;
-#[cfg(test)]
-mod tests;
 mod work;
 
 pub use index::Index;

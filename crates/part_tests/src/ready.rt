@@ -1,7 +1,7 @@
 //! Which entry is the first one, and when the next one is due.
-use crate::ready::Ready;
 use std::alloc::{AllocError, Global};
 use std::test::Fail;
+use wm_ready::Ready;
 
 /// Three entries: two are due at 5, and one of another class at 3.
 fn three_entries(alloc: Global) -> Result<Ready, AllocError> {

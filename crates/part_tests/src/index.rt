@@ -1,13 +1,13 @@
 //! What an index finds, after each of its calls.
 ghost use Rattle.std.specs.Prelude.{◌≡◌, IfOk, OnOk};
-ghost use Rattle.wm_index.specs.Two.{two_works, with_third};
+ghost use Rattle.part_tests.specs.Two.{two_works, with_third};
 
-use crate::index::Index;
 use std::alloc::{AllocError, Global};
 use std::process::Abort;
 use std::test::Fail;
 use uuid::Uuid;
 use wm_collections::Text;
+use wm_index::Index;
 
 /// A list of one text.
 fn one(alloc: Global, text: &str) -> Result<Vec<Text>, AllocError> {

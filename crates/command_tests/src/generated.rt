@@ -1,12 +1,11 @@
-//! What is drawn after a seed, and what it gives, against values that were reckoned apart.
-use crate::draws::Draws;
-use crate::generated::generate;
+//! What a seed gives, against values that were reckoned apart.
 use std::alloc::{AllocError, Global};
 use std::test::Fail;
 use uuid::Uuid;
 use wm_collections::Items;
 use wm_conditions::signature;
 use wm_data::{Data, Value};
+use wm_generator::generate;
 use wm_machine::Command;
 use wm_request::{Node, Request};
 
@@ -54,15 +53,6 @@ fn has_first_group(commands: &[Command]) -> bool {
 fn one_group(alloc: Global) -> Result<(usize, bool), AllocError> {
     let commands: Items<Command> = generate(alloc, 1, 1)?;
     Ok((commands.len(), has_first_group(commands.as_slice())))
-}
-
-#[test]
-fn draws_after_one(rt: HostRuntime) -> Result<(), Fail> {
-    let mut draws = Draws { number: 1 };
-    let constraints = draws.constraints();
-    assert_eq!(rt; draws.number, 7_806_831_264_735_756_412);
-    assert_eq!(rt; signature(&constraints), 54);
-    Ok(())
 }
 
 #[test]
