@@ -12,7 +12,7 @@ use Rattle.wm_graph.specs.Marks.{unmet}
 use Rattle.wm_graph.specs.Nodes.{NodeFields}
 use Rattle.wm_machine.proofs.Runnings.{WorksAscend, WorksAscend-in_order}
 use Rattle.wm_machine.proofs.Steps.{Valid-after}
-use Rattle.wm_machine.specs.First.{is_waiting}
+use Rattle.wm_machine.specs.First.{all_met, is_waiting}
 use Rattle.wm_machine.specs.Input.{work_numbered}
 use Rattle.wm_machine.specs.Valid.{ArePriorSound, Valid}
 use Rattle.wm_machine.specs.declared.record.Record.{Record}
@@ -74,57 +74,37 @@ and-not false b e = refl
 
 -- ---- decisions
 
--- an entry that was one's, or comes as another's, is left just where it is the other's, which is free
-two : (ready is_old waits is_new met : Bool)
-    → (((ready && is_old) || (waits && is_new)) && ((not is_old || ((waits && met) && is_new)) && (not is_new || ((waits && met) && is_new)))) ≡ ((waits && met) && is_new)
-two true true true true true = refl
-two true true true true false = refl
-two true true true false true = refl
-two true true true false false = refl
-two true true false true true = refl
-two true true false true false = refl
-two true true false false true = refl
-two true true false false false = refl
-two true false true true true = refl
-two true false true true false = refl
-two true false true false true = refl
-two true false true false false = refl
-two true false false true true = refl
-two true false false true false = refl
-two true false false false true = refl
-two true false false false false = refl
-two false true true true true = refl
-two false true true true false = refl
-two false true true false true = refl
-two false true true false false = refl
-two false true false true true = refl
-two false true false true false = refl
-two false true false false true = refl
-two false true false false false = refl
-two false false true true true = refl
-two false false true true false = refl
-two false false true false true = refl
-two false false true false false = refl
-two false false false true true = refl
-two false false false true false = refl
-two false false false false true = refl
-two false false false false false = refl
-
-gone : (ready is_old : Bool) → (((ready && is_old) || false) && ((not is_old || false) && true)) ≡ false
-gone true true = refl
-gone true false = refl
-gone false true = refl
-gone false false = refl
-
-come : (waits is_new met : Bool) → ((false || (waits && is_new)) && (true && (not is_new || ((waits && met) && is_new)))) ≡ ((waits && met) && is_new)
-come true true true = refl
-come true true false = refl
+-- an entry that comes as a work's is left just where the work is free
+come : (waits is_new met : Bool) → ((false || (waits && is_new)) && (true && (not (waits && is_new) || ((waits && met) && is_new)))) ≡ ((waits && met) && is_new)
+come false is_new met = refl
 come true false true = refl
 come true false false = refl
-come false true true = refl
-come false true false = refl
-come false false true = refl
-come false false false = refl
+come true true true = refl
+come true true false = refl
+
+-- also where it was another's, which waited
+two : (was met_old is_old waits is_new met : Bool)
+    → ((((was && met_old) && is_old) || (waits && is_new)) && ((not (was && is_old) || ((waits && met) && is_new)) && (not (waits && is_new) || ((waits && met) && is_new))))
+    ≡ ((waits && met) && is_new)
+two false met_old is_old waits is_new met = come waits is_new met
+two true true false waits is_new met = come waits is_new met
+two true false false waits is_new met = come waits is_new met
+two true true true false is_new met = refl
+two true true true true true true = refl
+two true true true true true false = refl
+two true true true true false true = refl
+two true true true true false false = refl
+two true false true false is_new met = refl
+two true false true true true true = refl
+two true false true true true false = refl
+two true false true true false true = refl
+two true false true true false false = refl
+
+gone : (was met is_old : Bool) → ((((was && met) && is_old) || false) && ((not (was && is_old) || false) && true)) ≡ false
+gone false met is_old = refl
+gone true true true = refl
+gone true true false = refl
+gone true false is_old = refl
 
 if-same : (b is : Bool) (names : List (List ℕ)) (entry : Entry) (work : Record) → is_same entry (entry_of names work) ≡ is
     → option_map_or (λ (new : Record). is_same entry (entry_of names new)) (cond b (Some work) None) false ≡ (b && is)
@@ -240,16 +220,16 @@ module _ (names : List (List ℕ)) (entry : Entry) where
       → ((option_map_or (is_entry_of names works entry) old false || option_map_or (is_waiting_as names entry) new false) && is_settled names nodes old new entry)
       ≡ option_map_or (is_entry_of names after entry) new false
   settle-move nodes works after None None free = refl
-  settle-move nodes works after (Some old) None free = gone (is_ready_in works old) (is old)
+  settle-move nodes works after (Some old) None free = gone (is_waiting old.phase) (all_met works old) (is old)
   settle-move nodes works after None (Some new) free =
       let met = eqb (unmet nodes new.seq) 0 in
-      ap (λ b. (false || (is_waiting new.phase && is new)) && (true && (not (is new) || b))) (if-same (is_waiting new.phase && met) (is new) names entry new refl)
+      ap (λ b. (false || (is_waiting new.phase && is new)) && (true && (not (is_waiting new.phase && is new) || b))) (if-same (is_waiting new.phase && met) (is new) names entry new refl)
       ∙ come (is_waiting new.phase) (is new) met ∙ ap (λ b. b && is new) free
   settle-move nodes works after (Some old) (Some new) free =
       let met = eqb (unmet nodes new.seq) 0 in
-      ap (λ b. ((is_ready_in works old && is old) || (is_waiting new.phase && is new)) && ((not (is old) || b) && (not (is new) || b)))
+      ap (λ b. ((is_ready_in works old && is old) || (is_waiting new.phase && is new)) && ((not (is_waiting old.phase && is old) || b) && (not (is_waiting new.phase && is new) || b)))
       (if-same (is_waiting new.phase && met) (is new) names entry new refl)
-      ∙ two (is_ready_in works old) (is old) (is_waiting new.phase) (is new) met ∙ ap (λ b. b && is new) free
+      ∙ two (is_waiting old.phase) (all_met works old) (is old) (is_waiting new.phase) (is new) met ∙ ap (λ b. b && is new) free
 
   -- and is undone
   undo-move : (nodes : List NodeFields) (works : List Record) (there : Bool) (number : ℕ) (old new : Option Record) → FreeIn nodes works old
@@ -258,23 +238,24 @@ module _ (names : List (List ℕ)) (entry : Entry) where
       → (there && undone_by nodes (record { number = number; old = old; new = new })) ≡ option_map_or (is_entry_of names works entry) old false
   undo-move nodes works there number old None free still others = and-true there ∙ others refl
   undo-move nodes works there number None (Some new) free still others =
-      elim (cases_Bool (is new)) as (λ _. (there && ((not (is new) || false) && true)) ≡ false) [
+      elim (cases_Bool (is_waiting_as names entry new)) as (λ _. (there && ((not (is_waiting_as names entry new) || false) && true)) ≡ false) [
         | inl e ↦ rw e (and-not there false refl)
-        | inr e ↦ (let gone = others (rw e (and-not (is_waiting new.phase) false refl)) in rw (gone) refl)
+        | inr e ↦ (let gone = others e in rw (gone) refl)
       ]
   undo-move nodes works there number (Some old) (Some new) free still others =
       let met = eqb (unmet nodes old.seq) 0 in
       let ready = is_ready_in works old && is old in
-      ap (λ b. there && ((not (is new) || b) && (not (is old) || b))) (if-same (is_waiting old.phase && met) (is old) names entry old refl ∙ ap (λ b. b && is old) free)
-      ∙ decide ready (is new) (is old) still (λ e. others (rw e (and-not (is_waiting new.phase) false refl))) (λ e. and-not (is_ready_in works old) (is old) e) where
-        decide : (ready is_new is_old : Bool) → (ready ≡ true → there ≡ true) → (is_new ≡ false → there ≡ ready) → (is_old ≡ false → ready ≡ false)
+      ap (λ b. there && ((not (is_waiting_as names entry new) || b) && (not (is_waiting_as names entry old) || b)))
+      (if-same (is_waiting old.phase && met) (is old) names entry old refl ∙ ap (λ b. b && is old) free)
+      ∙ decide ready (is_waiting_as names entry new) (is_waiting_as names entry old) still others where
+        decide : (ready is_new is_old : Bool) → (ready ≡ true → there ≡ true) → (is_new ≡ false → there ≡ ready)
             → (there && ((not is_new || ready) && (not is_old || ready))) ≡ ready
-        decide true true true one two three = rw (one refl) refl
-        decide true true false one two three = rw (one refl) refl
-        decide true false true one two three = rw (one refl) refl
-        decide true false false one two three = rw (one refl) refl
-        decide false true is_old one two three = and-not there false refl
-        decide false false is_old one two three = rw (two refl) refl
+        decide true true true one two = rw (one refl) refl
+        decide true true false one two = rw (one refl) refl
+        decide true false true one two = rw (one refl) refl
+        decide true false false one two = rw (one refl) refl
+        decide false true is_old one two = and-not there false refl
+        decide false false is_old one two = rw (two refl) refl
 
   -- ---- off its number
 
@@ -293,11 +274,13 @@ module _ (names : List (List ℕ)) (entry : Entry) where
   left-off : (number : ℕ) (nodes : List NodeFields) (old new : Option Record) → HasNumber number old → HasNumber number new → number ≢ entry.seq
       → is_settled names nodes old new entry ≡ true
   left-off number nodes None None one other differs = refl
-  left-off number nodes (Some old) None one other differs = let apart = is-apart old (λ e. differs (sym one ∙ e)) in rw apart refl
-  left-off number nodes None (Some new) one other differs = let apart = is-apart new (λ e. differs (sym other ∙ e)) in rw apart refl
+  left-off number nodes (Some old) None one other differs =
+      let apart : is_waiting_as names entry old ≡ false = comes-off number (Some old) one differs in rw apart refl
+  left-off number nodes None (Some new) one other differs =
+      let apart : is_waiting_as names entry new ≡ false = comes-off number (Some new) other differs in rw apart refl
   left-off number nodes (Some old) (Some new) one other differs =
-      let apart = is-apart old (λ e. differs (sym one ∙ e)) in
-      let also = is-apart new (λ e. differs (sym other ∙ e)) in
+      let apart : is_waiting_as names entry old ≡ false = comes-off number (Some old) one differs in
+      let also : is_waiting_as names entry new ≡ false = comes-off number (Some new) other differs in
       rw (apart, also) refl
 
   undone-off : (number : ℕ) (nodes : List NodeFields) (m : Move) → HasNumber number m.old → HasNumber number m.new → number ≢ entry.seq

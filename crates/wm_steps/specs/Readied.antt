@@ -76,9 +76,9 @@ comes names change entry =
 
 -- ---- after it
 
--- whether an entry isn't that of a work, or is that of another, where there is one
+-- whether an entry isn't that of a work which waits, or is that of another work, where there is one
 abbrev pub is_left : List (List ℕ) → Record → Option Record → Entry → Bool
-is_left names work other entry = not (is_same entry (entry_of names work)) || option_map_or (λ (new : Record). is_same entry (entry_of names new)) other false
+is_left names work other entry = not (is_waiting_as names entry work) || option_map_or (λ (new : Record). is_same entry (entry_of names new)) other false
 
 -- a work, where it waits and its node among these has no prerequisite that isn't marked
 abbrev pub if_free : List NodeFields → Record → Option Record

@@ -174,13 +174,17 @@ fn is_same_entry(classes: &[Text], one: &Record, other: &Record) -> bool
             == class_number(classes, other.request.class())
 }
 
-/// Drops the entry of a work, unless another one, where there is one, has the same.
+/// Drops the entry of a work that waits, unless another one, where there is one, has the same. A work
+/// that doesn't wait has none.
 fn leave(ready: &mut Ready, classes: &[Text], work: &Record, other: Option<&Record>)
     requires few { length classes.now ≤ 10000 }
     requires record { IsRecord work.now }
     requires other { IfSome (option_copied other) IsRecord }
     ensures { AreLeft (is_left classes.now work.now (option_copied other.entry)) ready.old ready.new }
 {
+    if !work.phase.is_waiting() {
+        return;
+    }
     if let Some(other) = other {
         if is_same_entry(classes, work, other) {
             return;
@@ -189,6 +193,18 @@ fn leave(ready: &mut Ready, classes: &[Text], work: &Record, other: Option<&Reco
     let class = class_number(classes, work.request.class());
     let constraints = work.request.constraints();
     ready.drop_entry(work.due(), work.seq, signature(&constraints), class);
+}
+
+/// Drops the entry of a work that waits, unless the work is free.
+fn leave_unfree(ready: &mut Ready, classes: &[Text], work: &Record, free: Option<&Record>)
+    requires few { length classes.now ≤ 10000 }
+    requires record { IsRecord work.now }
+    requires itself { IfSome (option_copied free) (λ one. one ≡ work.now) }
+    ensures { AreLeft (is_left classes.now work.now (option_copied free.entry)) ready.old ready.new }
+{
+    if free.is_none() {
+        leave(ready, classes, work, None);
+    }
 }
 
 /// The record at an index, where there is one.
@@ -201,7 +217,8 @@ fn place(works: &[Record], index: usize) -> Option<&Record>
 /// A work, where it waits and none of its prerequisites is unmet.
 fn if_free<'a>(graph: &Graph, work: &'a Record) -> Option<&'a Record>
     requires { HasNode graph.now work.now.seq }
-    ensures { option_copied result ≡ if_free graph.now work.now }
+    ensures free { option_copied result ≡ if_free graph.now work.now }
+    ensures itself { IfSome (option_copied result) (λ one. one ≡ work.now) }
 {
     if work.phase.is_waiting() && graph.unmet(work.seq) == 0 {
         Some(work)
@@ -233,7 +250,7 @@ fn settle(
         leave(ready, classes, old, free);
     }
     if let Some(new) = new {
-        leave(ready, classes, new, free);
+        leave_unfree(ready, classes, new, free);
     }
 }
 

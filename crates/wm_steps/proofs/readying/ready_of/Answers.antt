@@ -41,11 +41,11 @@ loop-work-preserved c =
           ap (λ (entries : List Entry). has entries entry) w.ready-is ∙ w.in_ok-put_waiting.ensures.ok entry
           ∙ ap (λ b. b || is_waiting_as names entry w.in-Some.free.now) (c.loop-work.invariant entry)
           ∙ ap (λ b. list_any (is_entry_of names works entry) (take i works) || b)
-          (free-is names entry nodes works work fits w.in-Some.free.now (sym (ap option_copied w.in-Some.is) ∙ c.if_free.ensures))
+          (free-is names entry nodes works work fits w.in-Some.free.now (sym (ap option_copied w.in-Some.is) ∙ c.if_free.ensures.free))
           ∙ sym (any-more (is_entry_of names works entry) works i work c.loop-work-test.true c.work-item.is)
       | in_default w ↦
           ap (λ (entries : List Entry). has entries entry) w.ready-is ∙ c.loop-work.invariant entry ∙ sym (or-false (list_any (is_entry_of names works entry) (take i works)))
           ∙ ap (λ b. list_any (is_entry_of names works entry) (take i works) || b)
-          (sym (not-free names entry nodes works work fits (sym (ap option_copied w.in_default.is) ∙ c.if_free.ensures)))
+          (sym (not-free names entry nodes works work fits (sym (ap option_copied w.in_default.is) ∙ c.if_free.ensures.free)))
           ∙ sym (any-more (is_entry_of names works entry) works i work c.loop-work-test.true c.work-item.is)
     ]
