@@ -2,23 +2,24 @@
 use Rattle.std.proofs.Common.{◌≡◌, ℕ, ◌<◌, ◌==◌, false, List, [], ◌∷◌, ◌++◌, append_assoc, length, map, take, refl, sym, ◌∙◌, ap, subst, arith}
 use Rattle.std.specs.List.{AllByRecursion, list_any}
 use Rattle.std.specs.Str.{bytes_eq}
-use Rattle.std.proofs.lemmas.Bool.{or_left}
+use Rattle.std.proofs.lemmas.Bool.{eq-eqb, false≢true, or_left}
 use Rattle.std.proofs.lemmas.List.{append-nil, map-append, take_all}
 use Rattle.std.proofs.lemmas.List.Folds.{list_any-append}
 use Rattle.wm_collections.specs.Lists.{AllLater, NumbersAscend}
-use Rattle.wm_collections.proofs.Lists.{All-map, All-weaker, All-with2, AllLater-back, AllLater-front, AllLater-map, AllLater-weaker, list_any_after, one_gives}
+use Rattle.wm_collections.proofs.Lists.{All-append, All-map, All-weaker, All-with2, AllLater-back, AllLater-front, AllLater-map, AllLater-weaker, list_any_after, one_gives}
 use Rattle.wm_index.specs.Entries.{has_seq, is_id, numbers_of, Entry}
 use Rattle.wm_keeper.specs.Keeper.{AreOfDifferentNumbers}
 use Rattle.wm_machine.proofs.Runnings.{WorksAscend}
 use Rattle.wm_machine.specs.Valid.{IsBefore}
 use Rattle.wm_machine.specs.declared.record.Record.{Record}
 use Rattle.wm_steps.proofs.EntryKept.{all-identifiable, dropped, each-with_changed, each-without, identified-all, new-each, untagged-front, whole-entries, whole_entry, with_changed-front, without-back, without-front, All-take, IsBeside, IsNewBefore}
+use Rattle.wm_steps.proofs.EntryLeft.{all-leaving, left-at, left-tagged, IsLeftAt}
 use Rattle.wm_steps.proofs.EntryLists.{across, entries-append, entries-each, entries-numbers, has-with_changed, missed-above, missed-below, other-bytes, settling-keeps, IsMissed}
 use Rattle.wm_steps.proofs.EntrySteps.{removed-entries, replaced-entries, told-entries}
 use Rattle.wm_steps.proofs.EntryUndone.{untagged-entries}
 use Rattle.wm_steps.proofs.ReplacedRecords.{keeps_number, All-seq}
 use Rattle.wm_steps.proofs.StepNodes.{nodes-told, place-there, puts-apart, AreApart}
-use Rattle.wm_steps.specs.Entries.{new_entry, prepared_entries, settling, tagging, with_changed, with_identified, with_untagged, without_entries, AreEntriesOf, AreIdentifiable, HaveEntries, IsBegun, IsBegunIn, IsFollowable, IsPrepared}
+use Rattle.wm_steps.specs.Entries.{new_entry, prepared_entries, settling, tagging, with_changed, with_identified, with_untagged, without_entries, AreEntriesOf, AreIdentifiable, AreLeaving, HaveEntries, IsBegun, IsBegunIn, IsFollowable, IsLeaving, IsPrepared}
 use Rattle.wm_steps.specs.Nodes.{is_there}
 use Rattle.wm_steps.specs.StepChanges as steps
 use Rattle.wm_steps.specs.StepChanges.{changed_works, put_replaced, put_work, remove_numbered, seqs_of, with_replaced, KeepsPlace}
@@ -80,6 +81,15 @@ module _ (works : List Record) (change : StepChange) (follows : IsFollowable wor
   pub replaced-there : (entries : List Entry) → AreEntriesOf works entries → HaveEntries change.replaced entries
   replaced-there entries are =
       All-weaker change.replaced (λ r keeps. has-there works entries r.work.seq are ∙ place-there works r.index r.work keeps) follows.replaced
+
+  -- those that leave the entries as they are
+  left-before : (entries : List Entry) → AreEntriesOf works entries
+      → AllByRecursion (λ r. IsLeaving works r → AllByRecursion (IsLeftAt r.work) entries) change.replaced
+  left-before entries are = All-weaker change.replaced (λ r keeps leaving. left-at works entries r.index r.work are ascend keeps leaving) follows.replaced
+
+  pub tagging-leaving : (entries : List Entry) → AreEntriesOf works entries → AreLeaving tagging works change.replaced entries
+  tagging-leaving entries are =
+      all-leaving tagging (λ work entry is. is.tagged) (λ work entry. refl) works change.replaced entries apart (left-before entries are)
 
   pub entries-ascend : (entries : List Entry) → AreEntriesOf works entries → NumbersAscend (numbers_of entries ++ seqs_of change.placed)
   entries-ascend entries are =
@@ -144,6 +154,17 @@ module _ (works : List Record) (change : StepChange) (follows : IsFollowable wor
         subst (AreEntriesOf (changed_works change works))
         (sym (ap (with_identified change.placed) front-left ∙ identified-all left change.placed beside new-before))
         (entries-append then change.placed left (map whole_entry change.placed) left-are (whole-entries change.placed))
+
+    pub settling-leaving : AreLeaving settling works change.replaced (prepared_entries change entries)
+    settling-leaving =
+        let new = map new_entry change.placed in
+        let missed = subst (λ placed. AllByRecursion (λ r. AllByRecursion (IsMissed r.work.seq) (map new_entry placed)) change.replaced) all-new
+        (replaced-missed (length change.placed)) in
+        all-leaving settling (λ work entry is. is.settled) settling-keeps works change.replaced (prepared_entries change entries) apart
+        (All-with2 change.replaced (λ r left miss leaving.
+        All-append (IsLeftAt r.work) (with_changed tagging change.replaced entries) new (left leaving)
+        (All-weaker new (λ entry off here. absurd (false≢true (sym off ∙ eq-eqb entry.seq r.work.seq here))) miss))
+        (left-tagged works change.replaced entries apart (left-before entries are)) missed)
 
     pub prepared-there : HaveEntries change.replaced (prepared_entries change entries)
     prepared-there =

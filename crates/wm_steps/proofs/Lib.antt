@@ -3,6 +3,7 @@ pub mod ByNumbers
 pub mod CoveredSteps
 pub mod EntryChanges
 pub mod EntryKept
+pub mod EntryLeft
 pub mod EntryLists
 pub mod EntrySteps
 pub mod EntryTags

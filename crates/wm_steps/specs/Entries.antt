@@ -1,5 +1,5 @@
 -- The records as the entries of an index, and what the index does in a step.
-use Rattle.std.specs.Prelude.{◌≡◌, ◌<◌, ℕ, List, [], ◌∷◌, ◌++◌, map, slice_get, take, true, Option, None, Some}
+use Rattle.std.specs.Prelude.{◌≡◌, ◌<◌, ◌||◌, ℕ, List, [], ◌∷◌, ◌++◌, map, not, slice_get, take, true, is_some, IsSomeAnd, Option, None, Some}
 use Rattle.std.specs.List.{AllByRecursion}
 use Rattle.wm_collections.specs.Lists.{AllLater, HasOne}
 use Rattle.wm_index.specs.Entries.{adding_tags, by_id, changed_at, has_seq, has_tag, has_unidentified, identified, keeping_tags, unnamed, without, Entry}
@@ -79,6 +79,23 @@ AreIdentifiable [] entries = Unit {0}
 AreIdentifiable (work ∷ works) entries =
     (has_unidentified entries work.seq ≡ true) × (by_id entries work.request.id ≡ None)
     × AreIdentifiable works (changed_at (identified work.request.id) work.seq entries)
+
+-- ---- what stays as it is
+
+-- a record leaves the entry of another as it is: it has its tags, and a unique name where that has one
+pub record LeavesEntry (old new : Record) : Type 0 where
+  pub tags : new.request.tags ≡ old.request.tags
+  pub name : (not (is_some old.name) || is_some new.name) ≡ true
+
+-- so does one that is put in the place of another
+abbrev pub IsLeaving : List Record → Replacement → Type 0
+IsLeaving works replaced = IsSomeAnd (slice_get works replaced.index) (λ old. LeavesEntry old replaced.work)
+
+-- those of these records that leave the entries of others change nothing, after any of the others
+abbrev pub AreLeaving : (Record → Entry → Entry) → List Record → List Replacement → List Entry → Type 0
+AreLeaving change works replaced entries =
+    AllByRecursion (λ r. IsLeaving works r → (count : ℕ)
+    → changed_at (change r.work) r.work.seq (with_changed change (take count replaced) entries) ≡ with_changed change (take count replaced) entries) replaced
 
 -- ---- where the rows can't be committed
 

@@ -2,15 +2,16 @@
 //! takes memory, and what goes is taken out after it. Where the commit fails, what has come is taken
 //! out again.
 ghost use Rattle.std.specs.Option.{option_copied};
-ghost use Rattle.std.specs.Prelude.{◌≡◌, ◌++◌, ℕ, map, slice_get, take, true, IfOk, OnErr, OnOk};
+ghost use Rattle.std.specs.Prelude.{◌≡◌, ◌++◌, ℕ, map, slice_get, take, true, IfOk, IsTrue, OnErr, OnOk};
 ghost use Rattle.wm_collections.specs.Lists.{AllLater, NumbersAscend};
 ghost use Rattle.wm_index.specs.Entries.{changed_at, has_seq, numbers_of, without};
 ghost use Rattle.wm_machine.specs.Valid.{IsBefore};
-ghost use Rattle.wm_steps.specs.Entries.{new_entry, prepared_entries, settling, tagging, untagged_by, with_changed, with_identified, with_untagged, without_entries, AreEntriesOf, AreIdentifiable, HaveEntries, IsBegun, IsBegunIn, IsFollowable, IsPrepared};
+ghost use Rattle.wm_steps.specs.Entries.{new_entry, prepared_entries, settling, tagging, untagged_by, with_changed, with_identified, with_untagged, without_entries, AreEntriesOf, AreIdentifiable, AreLeaving, HaveEntries, IsBegun, IsBegunIn, IsFollowable, IsLeaving, IsPrepared, LeavesEntry};
 ghost use Rattle.wm_steps.specs.StepChanges.{changed_works, seqs_of};
 
 use crate::change::{Replacement, StepChange};
 use std::alloc::{AllocError, Global};
+use wm_collections::Text;
 use wm_index::Index;
 use wm_machine::Record;
 
@@ -43,7 +44,7 @@ pub fn prepare_entries(
     ensures ok { OnOk result (index.new ≡ prepared_entries change.now index.old) }
     ensures err { OnErr result (AreEntriesOf works.now index.new) }
 {
-    if put_each(index, change).is_err() {
+    if put_each(index, works, change).is_err() {
         undo_entries(index, works, change);
         return Err(AllocError);
     }
@@ -67,33 +68,70 @@ pub fn settle_entries(index: &mut Index, works: &[Record], change: &StepChange)
     requires follows { IsFollowable works.now change.now }
     ensures { AreEntriesOf (changed_works change.now works.now) index.new }
 {
-    settle_each(index, change.replaced.as_slice());
+    settle_each(index, works, change.replaced.as_slice());
     drop_each(index, change.removed.as_slice());
     identify_each(index, change.placed.as_slice());
 }
 
 /// Puts the tags and the records in that come by a change. Where memory is refused, some are in.
-fn put_each(index: &mut Index, change: &StepChange) -> Result<(), AllocError>
+fn put_each(index: &mut Index, works: &[Record], change: &StepChange) -> Result<(), AllocError>
     requires there { HaveEntries change.now.replaced index.old }
+    requires leaving { AreLeaving tagging works.now change.now.replaced index.old }
     requires ascending { NumbersAscend (numbers_of index.old ++ seqs_of change.now.placed) }
     ensures ok { OnOk result (index.new ≡ prepared_entries change.now index.old) }
     ensures err { OnErr result (IsBegunIn index.old change.now index.new) }
 {
-    tag_each(index, change.replaced.as_slice())?;
+    tag_each(index, works, change.replaced.as_slice())?;
     add_each(index, change.placed.as_slice())
 }
 
+/// Whether two lists of tags are the same.
+fn are_same(own: &[Text], tags: &[Text]) -> bool
+    ensures { IsTrue result → own.now ≡ tags.now }
+{
+    own == tags
+}
+
+/// Whether a record that takes the place of another leaves the entry of that as it is.
+fn leaves_entry(old: &Record, new: &Record) -> bool
+    ensures { IsTrue result → LeavesEntry old.now new.now }
+{
+    (!old.name.is_some() || new.name.is_some())
+        && are_same(new.request.tags().as_slice(), old.request.tags().as_slice())
+}
+
+/// Whether a record that is put in the place of another leaves the entry of that as it is.
+fn is_leaving(works: &[Record], replaced: &Replacement) -> bool
+    ensures { IsTrue result → IsLeaving works.now replaced.now }
+{
+    match works.get(replaced.index) {
+        Some(old) => leaves_entry(old, &replaced.work),
+        None => false,
+    }
+}
+
 /// Gives the entries of records the tags of those. Where memory is refused, some have them.
-fn tag_each(index: &mut Index, replaced: &[Replacement]) -> Result<(), AllocError>
-    requires { HaveEntries replaced.now index.old }
+fn tag_each(index: &mut Index, works: &[Record], replaced: &[Replacement]) -> Result<(), AllocError>
+    requires there { HaveEntries replaced.now index.old }
+    requires leaving { AreLeaving tagging works.now replaced.now index.old }
     ensures ok { OnOk result (index.new ≡ with_changed tagging replaced.now index.old) }
     ensures err { OnErr result ((count : ℕ) × (index.new ≡ with_changed tagging (take count replaced.now) index.old)) }
 {
     for replacement in replaced {
-        let work = &replacement.work;
-        index.add_tags(work.seq, work.request.tags().as_slice())?;
+        if !is_leaving(works, replacement) {
+            tag_entry(index, &replacement.work)?;
+        }
     }
     Ok(())
+}
+
+/// Gives the entry of a record the tags of that. Where memory is refused, it has its own alone.
+fn tag_entry(index: &mut Index, work: &Record) -> Result<(), AllocError>
+    requires { has_seq index.old work.now.seq ≡ true }
+    ensures ok { OnOk result (index.new ≡ changed_at (tagging work.now) work.now.seq index.old) }
+    ensures err { OnErr result (index.new ≡ index.old) }
+{
+    index.add_tags(work.seq, work.request.tags().as_slice())
 }
 
 /// Adds new records, which have no id yet. Where memory is refused, some are there.
@@ -119,12 +157,15 @@ fn name_of(work: &Record) -> Option<&str>
 }
 
 /// Leaves the entries of records no other tags than these have, nor a unique name that they haven't.
-fn settle_each(index: &mut Index, replaced: &[Replacement])
-    requires { HaveEntries replaced.now index.old }
+fn settle_each(index: &mut Index, works: &[Record], replaced: &[Replacement])
+    requires there { HaveEntries replaced.now index.old }
+    requires leaving { AreLeaving settling works.now replaced.now index.old }
     ensures { index.new ≡ with_changed settling replaced.now index.old }
 {
     for replacement in replaced {
-        settle_entry(index, &replacement.work);
+        if !is_leaving(works, replacement) {
+            settle_entry(index, &replacement.work);
+        }
     }
 }
 

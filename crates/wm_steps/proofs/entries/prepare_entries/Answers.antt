@@ -1,10 +1,13 @@
 use Rattle.std.proofs.Common.{sym}
 use Rattle.wm_index.proofs.Founds.{err_given}
-use Rattle.wm_steps.proofs.EntryChanges.{entries-ascend, replaced-there}
+use Rattle.wm_steps.proofs.EntryChanges.{entries-ascend, replaced-there, tagging-leaving}
 use Rattle.wm_steps.proofs.entries.prepare_entries.Goals as goal
 
 pub put_each-requires-clause-there : goal.put_each-requires-clause-there
 put_each-requires-clause-there c = replaced-there c.args.works.now c.args.change.now c.requires.follows c.args.index.now c.requires.entries
+
+pub put_each-requires-clause-leaving : goal.put_each-requires-clause-leaving
+put_each-requires-clause-leaving c = tagging-leaving c.args.works.now c.args.change.now c.requires.follows c.args.index.now c.requires.entries
 
 pub put_each-requires-clause-ascending : goal.put_each-requires-clause-ascending
 put_each-requires-clause-ascending c = entries-ascend c.args.works.now c.args.change.now c.requires.follows c.args.index.now c.requires.entries

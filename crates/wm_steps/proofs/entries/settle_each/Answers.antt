@@ -1,8 +1,10 @@
-use Rattle.std.proofs.Common.{List, take, sym, ap, ◌∙◌}
+use Rattle.std.proofs.Common.{◌≡◌, ◌+◌, List, take, sym, ap, ◌∙◌}
 use Rattle.wm_index.specs.Entries.{changed_at, has_seq, Entry}
-use Rattle.wm_steps.specs.Entries.{settling}
+use Rattle.wm_steps.specs.Entries.{settling, with_changed}
+use Rattle.wm_steps.proofs.EntryLeft.{leaving-more}
 use Rattle.wm_steps.proofs.EntryLists.{at-there, has-with_changed, settling-keeps, with_changed-more}
 use Rattle.wm_steps.proofs.entries.settle_each.Goals as goal
+use Rattle.wm_steps.proofs.entries.settle_each.Goals.{then-not-is_leaving, else-not-is_leaving}
 
 pub settle_entry-requires : goal.settle_entry-requires
 settle_entry-requires c =
@@ -11,10 +13,19 @@ settle_entry-requires c =
     let r = c.replacement-item.result in
     ap (λ (entries : List Entry). has_seq entries r.work.seq) c.loop-replacement.invariant
     ∙ has-with_changed settling (take i replaced) c.args.index.now r.work.seq settling-keeps
-    ∙ at-there replaced i r c.args.index.now c.loop-replacement-test.true c.replacement-item.is c.requires
+    ∙ at-there replaced i r c.args.index.now c.loop-replacement-test.true c.replacement-item.is c.requires.there
 
 pub loop-replacement-preserved : goal.loop-replacement-preserved
 loop-replacement-preserved c =
+    let replaced = c.args.replaced.now in
+    let i = c.loop-replacement.replacement-index in
     let r = c.replacement-item.result in
-    c.settle_entry.ensures ∙ ap (changed_at (settling r.work) r.work.seq) c.loop-replacement.invariant
-    ∙ sym (with_changed-more settling c.args.replaced.now c.loop-replacement.replacement-index r c.args.index.now c.loop-replacement-test.true c.replacement-item.is)
+    elim c.if-not-is_leaving.branch as (λ _. c.if-not-is_leaving.index ≡ with_changed settling (take (i + 1) replaced) c.args.index.now) [
+      | then-not-is_leaving w ↦
+          w.index-is ∙ w.settle_entry.ensures ∙ ap (changed_at (settling r.work) r.work.seq) c.loop-replacement.invariant
+          ∙ sym (with_changed-more settling replaced i r c.args.index.now c.loop-replacement-test.true c.replacement-item.is)
+      | else-not-is_leaving w ↦
+          w.index-is ∙ c.loop-replacement.invariant
+          ∙ leaving-more settling c.args.works.now replaced i r c.args.index.now c.loop-replacement-test.true c.replacement-item.is c.requires.leaving
+          (c.is_leaving.ensures w.if-not-is_leaving.false)
+    ]

@@ -1,19 +1,26 @@
 use Rattle.std.proofs.Common.{◌≡◌, ℕ, List, sym, ap, subst, ◌∙◌}
 use Rattle.wm_index.specs.Entries.{Entry}
 use Rattle.wm_machine.specs.declared.record.Record.{Record}
-use Rattle.wm_steps.proofs.EntryChanges.{left-identifiable, prepared-there, settled-entries}
-use Rattle.wm_steps.specs.Entries.{prepared_entries, settling, with_changed, with_identified, without_entries, AreEntriesOf, AreIdentifiable, HaveEntries}
+use Rattle.wm_steps.proofs.EntryChanges.{left-identifiable, prepared-there, settled-entries, settling-leaving}
+use Rattle.wm_steps.specs.Entries.{prepared_entries, settling, with_changed, with_identified, without_entries, AreEntriesOf, AreIdentifiable, AreLeaving, HaveEntries}
 use Rattle.wm_steps.specs.StepChanges.{changed_works}
 use Rattle.wm_steps.specs.declared.change.Replacement.{Replacement}
 use Rattle.wm_steps.specs.declared.change.StepChange.{StepChange}
 use Rattle.wm_steps.proofs.entries.settle_entries.Goals as goal
 
-pub settle_each-requires : goal.settle_each-requires
-settle_each-requires c =
+pub settle_each-requires-clause-there : goal.settle_each-requires-clause-there
+settle_each-requires-clause-there c =
     let prepared = c.requires.prepared in
     subst (λ (replaced : List Replacement). HaveEntries replaced c.args.index.now) (sym c.as_slice.ensures)
     (subst (HaveEntries c.args.change.now.replaced) (sym prepared.are)
     (prepared-there c.args.works.now c.args.change.now c.requires.follows prepared.before prepared.were))
+
+pub settle_each-requires-clause-leaving : goal.settle_each-requires-clause-leaving
+settle_each-requires-clause-leaving c =
+    let prepared = c.requires.prepared in
+    subst (λ (replaced : List Replacement). AreLeaving settling c.args.works.now replaced c.args.index.now) (sym c.as_slice.ensures)
+    (subst (AreLeaving settling c.args.works.now c.args.change.now.replaced) (sym prepared.are)
+    (settling-leaving c.args.works.now c.args.change.now c.requires.follows prepared.before prepared.were))
 
 -- what is left of the entries before the ids come
 left-is : (index settled left before : List Entry) (change : StepChange) (replaced : List Replacement) (removed : List ℕ)
