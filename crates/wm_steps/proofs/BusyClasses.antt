@@ -2,7 +2,7 @@
 use Rattle.std.proofs.Common.{◌≡◌, ℕ, ◌+◌, ◌<◌, ◌&&◌, ◌||◌, Bool, true, false, not, cond, eqb, List, [], ◌∷◌, ◌++◌, get_or, length, map, take, is_some, refl, sym, ◌∙◌, ap, subst, arith, inl, inr}
 use Rattle.std.specs.List.{list_any, position_or_len}
 use Rattle.std.specs.Str.{bytes_eq}
-use Rattle.std.proofs.lemmas.Bool.{cases_Bool, cond_both, eq-eqb, false≢true, ne_eqb, or_left, or_right}
+use Rattle.std.proofs.lemmas.Bool.{cases_Bool, cond_both, eq-eqb, false≢true, ne_eqb, or_left, or_parts, or_right}
 use Rattle.std.proofs.lemmas.List.{append-nil, length-take-le, take_more}
 use Rattle.std.proofs.lemmas.Slice.Eq.{bytes_eq-Decides}
 use Rattle.std.proofs.lemmas.List.Folds.{list_any-append}
@@ -13,7 +13,7 @@ use Rattle.wm_machine.specs.Retired.{made_retired}
 use Rattle.wm_machine.specs.Runs.{made_out}
 use Rattle.wm_machine.specs.declared.state.Instance.{Instance}
 use Rattle.wm_machine.specs.declared.state.State.{State}
-use Rattle.wm_steps.specs.StepChanges.{changed_state, instances_by, retired_by}
+use Rattle.wm_steps.specs.StepChanges.{changed_state, instances_by, moves_instance, retired_by, retires, touches_instances}
 use Rattle.wm_steps.specs.declared.change.RunChange.{RunChange}
 use Rattle.wm_steps.specs.declared.change.RunChange.TheVariants.{Unchanged, Begin, Turn, End, Stop, Renew}
 use Rattle.wm_steps.specs.declared.change.SettingChange.{SettingChange}
@@ -163,3 +163,31 @@ named-set names set.Hush instances named = named
 
 pub step-named : (names : List (List ℕ)) (s : State) (change : StepChange) → AreNamed names s.instances → AreNamed names (changed_state change s).instances
 step-named names s change named = named-set names change.setting (instances_by change.run s.instances) (named-runs names change.run s.instances named)
+
+-- ---- a step that touches no instance
+
+runs-untouched : (run : RunChange) (instances : List Instance) → moves_instance run ≡ false → instances_by run instances ≡ instances
+runs-untouched Unchanged instances not = refl
+runs-untouched (Begin run) instances not = absurd cc
+runs-untouched (Turn run) instances not = refl
+runs-untouched (End run instance) instances not = absurd cc
+runs-untouched (Stop numbers) instances not = refl
+runs-untouched (Renew seq) instances not = refl
+
+set-untouched : (to : SettingChange) (instances : List Instance) → retires to ≡ false → retired_by to instances ≡ instances
+set-untouched set.Unchanged instances not = refl
+set-untouched (set.Moment at) instances not = refl
+set-untouched (set.Conditions conditions) instances not = refl
+set-untouched (set.Retire class) instances not = absurd cc
+set-untouched (set.Observe query) instances not = refl
+set-untouched set.Hush instances not = refl
+
+-- leaves the busy classes
+pub step-busy : (names : List (List ℕ)) (s t : State) (change : StepChange) (busy : List ℕ) → t ≡ changed_state change s → touches_instances change ≡ false
+    → AreBusy names s.instances busy → AreBusy names t.instances busy
+step-busy names s t change busy made untouched are =
+    let parts = or_parts (moves_instance change.run) (retires change.setting) untouched in
+    let same : t.instances ≡ s.instances =
+    ap (λ (u : State). u.instances) made ∙ set-untouched change.setting (instances_by change.run s.instances) parts.1
+    ∙ runs-untouched change.run s.instances parts.0 in
+    subst (λ instances. AreBusy names instances busy) (sym same) are

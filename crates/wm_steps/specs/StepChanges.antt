@@ -1,5 +1,5 @@
 -- What the change of a step makes of a state and of the rows held, and when it fits a state.
-use Rattle.std.specs.Prelude.{◌≡◌, ◌⊎◌, ℕ, ◌+◌, ◌^◌, ◌==◌, ◌≤◌, pos, Bool, true, false, not, List, [], ◌∷◌, ◌++◌, length, map, filter, slice_get, slice_set, Some, IsSomeAnd}
+use Rattle.std.specs.Prelude.{◌≡◌, ◌⊎◌, ℕ, ◌+◌, ◌^◌, ◌==◌, ◌≤◌, ◌||◌, pos, Bool, true, false, not, List, [], ◌∷◌, ◌++◌, length, map, filter, slice_get, slice_set, Some, IsSomeAnd}
 use Rattle.std.specs.List.{AllByRecursion}
 use Rattle.wm_conditions.specs.declared.conditions.Conditions.{Conditions}
 use Rattle.wm_keeper.specs.Keeper.{AreOfDifferentNumbers}
@@ -63,6 +63,12 @@ instances_by (End run instance) instances = with_out false instance instances
 instances_by (Stop numbers) instances = instances
 instances_by (Renew seq) instances = instances
 
+-- whether a run begins or is over, so that an instance is another one after it
+abbrev pub moves_instance : RunChange → Bool
+moves_instance (Begin run) = true
+moves_instance (End run instance) = true
+moves_instance _ = false
+
 -- the number after those of the runs
 abbrev pub next_run_by : RunChange → ℕ → ℕ
 next_run_by Unchanged next = next
@@ -90,6 +96,11 @@ hushed_by _ before = before
 abbrev pub retired_by : SettingChange → List Instance → List Instance
 retired_by (set.Retire class) instances = with_retired class instances
 retired_by _ instances = instances
+
+-- whether those of a class are
+abbrev pub retires : SettingChange → Bool
+retires (set.Retire class) = true
+retires _ = false
 
 -- the observers, with one more where that is set
 abbrev pub observers_by : SettingChange → List WorkQuery → List WorkQuery
@@ -124,6 +135,10 @@ changed_state change s = set_by change.setting (record s {
   next = s.next + length change.placed;
   next_run = next_run_by change.run s.next_run;
 })
+
+-- whether some instance may be another one after a change
+abbrev pub touches_instances : StepChange → Bool
+touches_instances change = moves_instance change.run || retires change.setting
 
 -- ---- the rows
 

@@ -1,6 +1,6 @@
 //! What a step is about to do.
 ghost use Rattle.std.specs.Prelude.{◌≡◌, IfOk};
-ghost use Rattle.wm_steps.specs.StepChanges.{keeping_row, placing, removing, replacing, replacing_all, setting, setting_with};
+ghost use Rattle.wm_steps.specs.StepChanges.{keeping_row, moves_instance, placing, removing, replacing, replacing_all, retires, setting, setting_with, touches_instances};
 
 use std::alloc::{AllocError, Global};
 use wm_collections::{Items, Text, both, one};
@@ -32,6 +32,15 @@ pub enum RunChange {
     Renew(u64),
 }
 
+impl RunChange {
+    /// Whether a run begins or is over, so that an instance is another one after it.
+    fn moves_instance(&self) -> bool
+        ensures { result ≡ moves_instance self.now }
+    {
+        matches!(self, RunChange::Begin(_) | RunChange::End { .. })
+    }
+}
+
 /// What is set in a step: the moment, the conditions, which instances are retired, an observer, or
 /// what is written.
 #[derive(Drop)]
@@ -48,6 +57,15 @@ pub enum SettingChange {
     Observe(WorkQuery),
     /// From now on only summaries are written.
     Hush,
+}
+
+impl SettingChange {
+    /// Whether the instances of a class are retired.
+    fn retires(&self) -> bool
+        ensures { result ≡ retires self.now }
+    {
+        matches!(self, SettingChange::Retire(_))
+    }
 }
 
 /// All that one step is about to do, with its memory taken.
@@ -70,6 +88,13 @@ pub struct StepChange {
 }
 
 impl StepChange {
+    /// Whether some instance may be another one after it.
+    pub fn touches_instances(&self) -> bool
+        ensures { result ≡ touches_instances self.now }
+    {
+        self.run.moves_instance() || self.setting.retires()
+    }
+
     /// A change of the log, and of what is set, if anything.
     pub fn setting(alloc: Global, to: SettingChange, event: Event) -> StepChange
         ensures { result ≡ setting to event }

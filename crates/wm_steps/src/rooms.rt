@@ -1,6 +1,6 @@
 //! The classes that have instances, by numbers, and which of them are busy: their works have to wait
 //! for an instance.
-ghost use Rattle.std.specs.Prelude.{◌≡◌, ◌≤◌, length, vec_capacity, IfOk};
+ghost use Rattle.std.specs.Prelude.{◌≡◌, ◌≤◌, false, length, vec_capacity, IfOk};
 ghost use Rattle.std.specs.List.{list_any, position};
 ghost use Rattle.std.specs.Str.{bytes_eq};
 ghost use Rattle.wm_steps.specs.Readied.{class_number, AreBusy, AreNamed};
@@ -48,6 +48,21 @@ fn is_named(classes: &[Text], class: &Text) -> bool
     ensures { result ≡ list_any (λ name. bytes_eq name class.now) classes.now }
 {
     classes.iter().any(|name| *name == *class)
+}
+
+/// Lists the numbers of the busy classes anew where instances were touched, since else they are those
+/// of these instances already. There is room for all classes. It takes no memory.
+pub fn relist_busy(busy: &mut Vec<u32>, classes: &[Text], instances: &[Instance], touched: bool)
+    requires few { length classes.now ≤ 10000 }
+    requires room { length classes.now ≤ vec_capacity busy.old }
+    requires named { AreNamed classes.now instances.now }
+    requires kept { touched ≡ false → AreBusy classes.now instances.now busy.old.items }
+    ensures busy { AreBusy classes.now instances.now busy.new.items }
+    ensures room { vec_capacity busy.new ≡ vec_capacity busy.old }
+{
+    if touched {
+        list_busy(busy, classes, instances);
+    }
 }
 
 /// Lists the numbers of the busy classes anew. There is room for all classes. It takes no memory.

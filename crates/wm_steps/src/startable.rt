@@ -1,12 +1,12 @@
 //! The works that are ready, by what they wait for, and how that follows a step.
-ghost use Rattle.std.specs.Prelude.{◌≡◌, ◌≤◌, length, vec_capacity, IfOk};
+ghost use Rattle.std.specs.Prelude.{◌≡◌, ◌≤◌, false, length, vec_capacity, IfOk};
 ghost use Rattle.wm_machine.specs.Valid.{Valid};
 ghost use Rattle.wm_steps.specs.Nodes.{nodes_of};
-ghost use Rattle.wm_steps.specs.Readied.{AreNamed};
+ghost use Rattle.wm_steps.specs.Readied.{AreBusy, AreNamed};
 ghost use Rattle.wm_steps.specs.Startables.{AreStartable, HaveRooms};
 
 use crate::readying::ready_of;
-use crate::rooms::{classes_of, list_busy};
+use crate::rooms::{classes_of, list_busy, relist_busy};
 use std::alloc::{AllocError, Global};
 use wm_collections::{Items, Text};
 use wm_conditions::Tracker;
@@ -49,20 +49,22 @@ impl Startable {
         })
     }
 
-    /// Takes over the instances and the conditions of a state, where none but the ready works are
-    /// right for it. It takes no memory.
-    pub fn follow(&mut self, state: &State)
+    /// Takes over the conditions of a state, and its instances where some of them were touched, where
+    /// none but the ready works are right for it. It takes no memory.
+    pub fn follow(&mut self, state: &State, touched: bool)
         requires few { length self.old.classes ≤ 10000 }
         requires room { length self.old.classes ≤ vec_capacity self.old.busy }
         requires named { AreNamed self.old.classes state.now.instances }
+        requires kept { touched ≡ false → AreBusy self.old.classes state.now.instances self.old.busy.items }
         ensures rooms { HaveRooms state.entry.now self.new }
         ensures ready { self.new.ready ≡ self.old.ready }
         ensures classes { self.new.classes ≡ self.old.classes }
     {
-        list_busy(
+        relist_busy(
             &mut self.busy,
             self.classes.as_slice(),
             state.instances.as_slice(),
+            touched,
         );
         self.tracker.update(state.conditions);
     }

@@ -397,9 +397,10 @@ pub fn carry_out<K: Keeper>(
                 &change,
             );
             view.covers.follow(lists.works.as_slice(), &change);
+            let touched = change.touches_instances();
             lists.change(alloc, &mut view.state, change);
             lists.put_back(&mut view.state, log);
-            view.startable.follow(&view.state);
+            view.startable.follow(&view.state, touched);
             Ok(())
         }
         Err(trouble) => {
@@ -432,5 +433,5 @@ pub fn carry_return(alloc: Global, view: &mut View, log: &mut Vec<Event>, number
     let mut lists = Lists::take(alloc, &mut view.state, log);
     lists.change(alloc, &mut view.state, change);
     lists.put_back(&mut view.state, log);
-    view.startable.follow(&view.state);
+    view.startable.follow(&view.state, true);
 }

@@ -8,7 +8,7 @@ use Rattle.wm_machine.specs.declared.state.State.{State}
 use Rattle.wm_index.specs.Entries.{Entry}
 use Rattle.wm_machine.specs.declared.record.Record.{Record}
 use Rattle.wm_ready.specs.Entries as ready
-use Rattle.wm_steps.proofs.BusyClasses.{step-named}
+use Rattle.wm_steps.proofs.BusyClasses.{step-busy, step-named}
 use Rattle.wm_collections.proofs.Lists.{All-stored, All-weaker}
 use Rattle.wm_steps.proofs.Moves.{placed-nodes, placed-records, replaced-nodes, replaced-records, told-nodes, told-records}
 use Rattle.wm_steps.proofs.Nodes.{node-stored}
@@ -285,6 +285,14 @@ follow-requires-in-Ok-clause-named g c =
     let made_is : c.put_back.new.state ≡ changed_state change s = search rules in
     subst (λ (t : State). AreNamed c.view.inside.startable.classes t.instances) (sym made_is)
     (step-named c.view.inside.startable.classes s change c.view.invariant.startable_are.rooms.named)
+
+pub follow-requires-in-Ok-clause-kept : goal.follow-requires-in-Ok-clause-kept
+follow-requires-in-Ok-clause-kept g c =
+    let s = c.view.inside.state in
+    let change = c.args.change in
+    let made_is : c.put_back.new.state ≡ changed_state change s = search rules in
+    λ untouched. step-busy c.view.inside.startable.classes s c.put_back.new.state change c.view.inside.startable.busy.items made_is
+    (sym c.touches_instances-touched.ensures ∙ untouched) c.view.invariant.startable_are.rooms.busy_are
 
 pub returns-in-Ok-clause-room : goal.returns-in-Ok-clause-room
 returns-in-Ok-clause-room g c =
