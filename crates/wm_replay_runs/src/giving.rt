@@ -156,10 +156,10 @@ fn is_output(end: &End) -> bool
 }
 
 /// Data is Data, by its type.
-fn is_data(data: &Data) -> bool
+fn is_data(given: &Data) -> bool
     ensures yes { result ≡ true }
-    ensures data { IsData data.entry.now }
+    ensures data { IsData given.entry.now }
 {
-    let _size = data.size();
+    let _size = given.size();
     true
 }
