@@ -18,7 +18,7 @@ pub front-roll : {K W B : Type 0} (store : K → Store) (kind_of : B → Kind) (
 front-roll {K} {W} {B} store kind_of front.Moved old new is = is.line.roll
 front-roll {K} {W} {B} store kind_of front.NotSettled old new is = ap (λ (b : BookState K W B). b.table.roll) is.book_is
 front-roll {K} {W} {B} store kind_of front.Ended old new is = ap (λ (b : BookState K W B). b.table.roll) is.book_is
-front-roll {K} {W} {B} store kind_of front.Stopped old new is = elim is.how [ inl none ↦ none.roll | inr line ↦ line.line.roll ]
+front-roll {K} {W} {B} store kind_of front.Stopped old new is = elim is.how [ inl none ↦ none.roll | inr line ↦ line.roll ]
 
 -- without the part of the only run it is empty
 pub only-part : (ticket : TicketState) (roll : List Part) → roll ≡ [] ++ ticket_part ticket ∷ [] → without ticket.task.run roll ≡ []

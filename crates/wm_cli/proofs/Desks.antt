@@ -20,7 +20,7 @@ pub roll-fronted : {K W B : Type 0} (store : K → Store) (kind_of : B → Kind)
 roll-fronted store kind_of front.Moved old new moved = moved.line.roll
 roll-fronted store kind_of front.NotSettled old new waits = ap (λ (book : BookState _ _ _). book.table.roll) waits.book_is
 roll-fronted store kind_of front.Ended old new ended = ap (λ (book : BookState _ _ _). book.table.roll) ended.book_is
-roll-fronted store kind_of front.Stopped old new stopped = elim stopped.how [ inl none ↦ none.roll | inr untold ↦ untold.line.roll ]
+roll-fronted store kind_of front.Stopped old new stopped = elim stopped.how [ inl none ↦ none.roll | inr line ↦ line.roll ]
 
 -- a run that goes on, or is asked again, has its worker, its instance and its number still
 module _ {K W B : Type 0} (M : Type 0) (store : K → Store) (kind_of : B → Kind) (ticket next : TicketState) (seat kept : Seat B) (old new : BookState K W B) where

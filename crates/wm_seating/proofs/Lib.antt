@@ -1,3 +1,5 @@
 pub mod IdleTables
 pub mod PlacesAndInstances
+pub mod PlacesChanged
 pub mod RetiredPlaces
+pub mod Seats

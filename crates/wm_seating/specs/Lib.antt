@@ -1,3 +1,4 @@
 pub mod Bench
 pub mod Hands
 pub mod Idle
+pub mod Seats

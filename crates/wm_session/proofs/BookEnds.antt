@@ -1,30 +1,11 @@
 -- What a book that is over hands back.
 use Rattle.std.proofs.Common.{◌≡◌, ℕ, ◌≤◌, List, [], ◌++◌, Option, Some, None, IsNone, IfSome, Result, Ok, Err, OnOk, IfErr, refl, sym, ◌∙◌, ap, subst, arith}
-use Rattle.std.proofs.Math.Nat.{le_trans}
-use Rattle.std.proofs.lemmas.List.{append-nil}
-use Rattle.wm_faults.specs.Faults.{Failed}
-use Rattle.wm_machine.specs.Log.{commands_of, AreNumberedFrom, HasPrefix}
-use Rattle.wm_texts.specs.Texts.{log_text}
-use Rattle.wm_machine.specs.declared.command.Command.{Command}
-use Rattle.wm_machine.specs.declared.event.Event.{Event}
-use Rattle.wm_machine.specs.declared.state.State.{State}
+use Rattle.wm_session.proofs.Words.{AreNumberedFrom, BookInvariant, BookState, Command, EndsBy, Event, Failed, HasCommands, HasPrefix, Inputs, IsGivenBut, IsSessionStatus, IsTextWritten, LinesInvariant, State, Status, Stop, StopCause, Tells, WriteCause, WriteFault, append-nil, commands_of, le_trans, log_text, pending_text, status_by_stop, stop_by_fault}
 use Rattle.wm_session.proofs.BookSteps.{LinesInvariant-front, failed_since}
 use Rattle.wm_session.proofs.WrittenTexts.{IsAppended-kept, IsPartAppended-kept}
-use Rattle.wm_session.specs.BookState.{BookState}
-use Rattle.wm_session.specs.Causes.{status_by_stop, stop_by_fault, EndsBy, StopCause}
-use Rattle.wm_session.specs.Ended.{HasCommands, IsSessionStatus, IsTextWritten}
-use Rattle.wm_table.specs.Inputs.{Inputs}
-use Rattle.wm_io.specs.Pending.{IsGivenBut}
-use Rattle.wm_session.specs.Invariant.{LinesInvariant, BookInvariant}
-use Rattle.wm_session.specs.Pending.{pending_text}
-use Rattle.wm_session.specs.Tells.{Tells}
-use Rattle.wm_io.specs.Writing.{WriteCause}
 use Rattle.wm_session.specs.declared.book.Stop.TheVariants as why
-use Rattle.wm_session.specs.declared.book.Stop.{Stop}
 use Rattle.wm_session.specs.declared.status.Status.TheVariants as status
-use Rattle.wm_session.specs.declared.status.Status.{Status}
 use Rattle.wm_io.specs.declared.writing.WriteFault.TheVariants as fault
-use Rattle.wm_io.specs.declared.writing.WriteFault.{WriteFault}
 
 done_is : (stop : Option Stop) (ended : Status) → IfSome stop (λ why. ended ≡ status_by_stop why) → ended ≡ status.Done → stop ≡ None
 done_is None ended is done = refl

@@ -1,26 +1,12 @@
 -- What a crash may leave of a book whose session goes on, stops or ends.
 use Rattle.std.proofs.Common.{◌≡◌, ℕ, ◌+◌, List, [], ◌∷◌, ◌++◌, append_assoc, length, Option, Some, None, Result, Ok, Err, refl, sym, ◌∙◌, ap, subst, inl, inr, arith}
-use Rattle.std.proofs.lemmas.List.{append-nil}
-use Rattle.std.specs.Prelude.{◌⊎◌}
-use Rattle.wm_keeper.specs.Store.{Store}
+use Rattle.wm_session.proofs.Words.{AreNumberedFrom, AreNumberedFrom-push, Command, EndImages, EndsBy, Event, HasPrefix, IsLine, IsNoLine, LeavesOneMore, LeavesOnly, MayComeNext, State, Status, Stop, StopImages, Store, Trouble, WouldLeave, WriteFault, append-nil, commands_of, commands_of-push, status_by_stop, stop_by_fault, stop_by_trouble, ◌⊎◌}
 use Rattle.wm_keeper.specs.declared.row.Row.{Row}
-use Rattle.wm_machine.proofs.Logs.{commands_of-push, AreNumberedFrom-push}
-use Rattle.wm_machine.specs.Log.{commands_of, AreNumberedFrom, HasPrefix}
 use Rattle.wm_machine.specs.Rows.{rows_of}
-use Rattle.wm_machine.specs.declared.command.Command.{Command}
-use Rattle.wm_machine.specs.declared.event.Event.{Event}
-use Rattle.wm_machine.specs.declared.event.Event.TheVariants as event
-use Rattle.wm_machine.specs.declared.state.State.{State}
 use Rattle.wm_session.proofs.BookEvents.{AreNumberedFrom-silent}
-use Rattle.wm_session.specs.Causes.{status_by_stop, stop_by_fault, stop_by_trouble, EndsBy}
-use Rattle.wm_session.specs.Images.{EndImages, LeavesOneMore, MayComeNext, StopImages}
-use Rattle.wm_session.specs.declared.book.Stop.{Stop}
+use Rattle.wm_machine.specs.declared.event.Event.TheVariants as event
 use Rattle.wm_session.specs.declared.book.Stop.TheVariants as stop
-use Rattle.wm_session.specs.declared.status.Status.{Status}
-use Rattle.wm_io.specs.declared.writing.WriteFault.{WriteFault}
 use Rattle.wm_io.specs.declared.writing.WriteFault.TheVariants as fault
-use Rattle.wm_table.specs.Images.{IsLine, IsNoLine, LeavesOnly, WouldLeave}
-use Rattle.wm_table.specs.declared.table.Trouble.{Trouble}
 use Rattle.wm_table.specs.declared.table.Trouble.TheVariants as trouble
 
 -- ---- which event may come next
@@ -61,13 +47,6 @@ module _ (lines : List Command) (s : State) (log : List Event) where
   -- while it goes on, the state's rows alone are left
   pub images-going : (why : Option Stop) (store : Store) → why ≡ None → StopImages why lines s log store → LeavesOnly (rows_of s) store
   images-going why store going images = subst (λ w. StopImages w lines s log store) going images
-
-  -- a session that stops for want of memory leaves no less
-  pub images-memory : (why : Option Stop) (store : Store) → StopImages why lines s log store → StopImages (Some stop.Memory) lines s log store
-  images-memory (Some stop.KeeperFault) store images = images
-  images-memory (Some stop.SinkFault) store images = λ image left. inl (images image left)
-  images-memory (Some stop.Memory) store images = images
-  images-memory None store images = λ image left. inl (images image left)
 
   -- the table had trouble, while an event that may come next may have been being committed
   pub images-refused : (why : Trouble) (may : Event → Type 0) (before now : Store) → ((e : Event) → may e → MayComeNext lines log e)

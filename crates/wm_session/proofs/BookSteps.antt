@@ -1,53 +1,12 @@
--- What a book keeps as it begins, where its table makes an event, told or not, and where no ticket is out.
-use Rattle.std.proofs.Common.{◌≡◌, ℕ, ◌+◌, ◌-◌, ◌^◌, ◌≤◌, min, List, [], ◌++◌, map, Option, Some, None, IsSome, Err, refl, sym, ◌∙◌, subst, arith, ◌<◌, ◌∷◌, length, ap, append_assoc, length-append, false}
-use Rattle.std.proofs.Math.Nat.{le-min, le_trans, min-le_left, min-le_right}
-use Rattle.wm_faults.specs.Faults.{Failed, HasCause}
-use Rattle.wm_keeper.specs.Store.{Store}
-use Rattle.wm_machine.specs.declared.command.Command.{Command}
-use Rattle.wm_machine.specs.declared.event.Event.{Event}
-use Rattle.wm_machine.specs.declared.state.Run.{Run}
-use Rattle.wm_machine.proofs.Logs.{Replay-push, commands_of-push, AreNumberedFrom-push}
-use Rattle.wm_machine.specs.Log.{HasPrefix, command_in, commands_of, AreNumberedFrom}
-use Rattle.wm_machine.specs.Replay.{Replay}
-use Rattle.wm_machine.specs.Valid.{Valid}
-use Rattle.wm_roll.specs.declared.part.Part.{Part}
-use Rattle.wm_session.proofs.BookRolls.{out-agrees, none_away, exact-by, seated-by, AreSeated, ArePlacedBy, IsRolledBy}
-use Rattle.wm_seating.specs.Bench.{is_away, is_out_on, instance_traits, place_traits, places_after, NoneAway}
-use Rattle.wm_session.specs.BookState.{BookState}
-use Rattle.wm_session.specs.Causes.{stop_by_trouble, StopCause}
-use Rattle.wm_session.specs.Pending.{TellCause, pending_text, IsTold}
-use Rattle.wm_session.specs.Invariant.{AwayInvariant, LinesInvariant, ListsExactly, RollInvariant, BookInvariant}
-use Rattle.wm_table.specs.Table.{is_keeper_fault, IsOneStep, IsUntouched, TroubleCause, TurnCause}
-use Rattle.wm_table.specs.TableState.{TableState, TicketState}
-use Rattle.wm_session.specs.declared.book.Stop.{Stop}
-use Rattle.wm_session.specs.declared.book.Stop.TheVariants as stop
-use Rattle.wm_table.specs.declared.table.Trouble.TheVariants as trouble
-use Rattle.wm_table.specs.declared.table.Trouble.{Trouble}
-use Rattle.wm_table.specs.declared.table.TurnAnswer.TheVariants as turn
-use Rattle.wm_worker.specs.Told.{Report}
-use Rattle.std.specs.List.{AllByRecursion}
-use Rattle.wm_texts.proofs.LogTexts.{log_text-last}
-use Rattle.wm_machine.proofs.Steps.{framed, Valid-after}
-use Rattle.wm_machine.specs.Frame.{frame_of}
-use Rattle.wm_machine.specs.Step.{role_of}
-use Rattle.wm_machine.specs.Outcome.{IsAskable}
-use Rattle.wm_texts.specs.Texts.{last_text, log_text}
-use Rattle.wm_machine.specs.declared.state.State.{State}
+-- What a book keeps where its table makes an event, told or not, and where no ticket is out.
+use Rattle.std.proofs.Common.{◌≡◌, ℕ, ◌+◌, ◌-◌, ◌^◌, ◌≤◌, min, List, [], ◌++◌, map, Option, Some, None, IsSome, Err, refl, sym, ◌∙◌, subst, arith, ◌<◌, ◌∷◌, length, ap, append_assoc, length-append}
+use Rattle.wm_session.proofs.Words.{AllByRecursion, AreNumberedFrom, ArePlacedBy, AreSeated, AwayInvariant, BookInvariant, BookState, Command, Event, Failed, HasCause, HasPrefix, Inputs, IsAskable, IsBetweenRuns, IsGivenBut, IsListed, IsOneStep, IsRolledBy, IsTold, IsUntouched, LinesInvariant, ListsExactly, Part, PendingState, Replay, Replay-push, Report, RollInvariant, Run, State, Stop, StopCause, Store, TableState, TellCause, Tells, TicketState, Trouble, TroubleCause, TurnCause, Valid, Valid-after, command_in, commands_of, commands_of-push, exact-by, frame_of, framed, is_away, is_keeper_fault, last_text, le-min, le_trans, log_text, log_text-last, min-le_left, min-le_right, none_away, out-agrees, part_of, pending_text, role_of, seated-by, stop_by_trouble}
 use Rattle.wm_session.proofs.BookEvents.{AreNumberedFrom-silent}
 use Rattle.wm_session.proofs.BookImages.{images-going, images-only}
-use Rattle.wm_session.proofs.WrittenTexts.{IsGivenBut-more, IsGivenBut-unwritten}
-use Rattle.wm_table.specs.Inputs.{Inputs}
-use Rattle.wm_io.specs.Pending.{IsGivenBut, PendingState, nothing}
-use Rattle.wm_session.specs.Tells.{Tells}
-use Rattle.wm_bench.specs.declared.place.Place.{Place}
-use Rattle.wm_machine.specs.Rows.{rows_of}
-use Rattle.wm_machine.specs.declared.reply.Reply.{Reply}
-use Rattle.wm_machine.specs.declared.event.Event.TheVariants as event
-use Rattle.wm_seating.proofs.PlacesAndInstances.{all_here}
-use Rattle.wm_table.specs.Images.{LeavesOnly}
-use Rattle.wm_roll.specs.Parts.{IsListed}
-use Rattle.wm_session.specs.BetweenRuns.{IsBetweenRuns}
-use Rattle.wm_table.specs.Parts.{part_of}
+use Rattle.wm_session.proofs.WrittenTexts.{IsGivenBut-more}
+use Rattle.wm_session.specs.declared.book.Stop.TheVariants as stop
+use Rattle.wm_table.specs.declared.table.Trouble.TheVariants as trouble
+use Rattle.wm_table.specs.declared.table.TurnAnswer.TheVariants as turn
 
 pub LinesInvariant-from : (status : Option Stop) (lines done left : List Command) → lines ≡ done ++ left → LinesInvariant status lines done left
 LinesInvariant-from None lines done left is = is
@@ -70,15 +29,9 @@ AwayInvariant-from status book valid exact same = record {
   listed = RollInvariant-from status book.table.state.runs book.table.roll exact;
 }
 
-RollInvariant-stopped : (status : Option Stop) (runs : List Run) (roll : List Part) → IsSome status → RollInvariant status runs roll
+pub RollInvariant-stopped : (status : Option Stop) (runs : List Run) (roll : List Part) → IsSome status → RollInvariant status runs roll
 RollInvariant-stopped (Some why) runs roll stopped = tt
 RollInvariant-stopped None runs roll stopped = absurd cc
-
--- where the session has stopped
-pub AwayInvariant-stopped : {K W B : Type 0} (status : Option Stop) (book : BookState K W B) → IsSome status
-    → map (λ place. is_away place.presence) book.places ≡ map (is_out_on book.table.roll) book.table.state.instances → AwayInvariant status book
-AwayInvariant-stopped status book stopped away =
-    record { away = away; listed = RollInvariant-stopped status book.table.state.runs book.table.roll stopped }
 
 -- ---- why a session stops
 
@@ -254,56 +207,7 @@ module _ {K W B : Type 0} {run : Inputs} {tells : Tells K W B} where
     no_fault = no_fault;
   }
 
--- a line was executed
-pub IsEvent-line : {K W B : Type 0} {run : Inputs} {tells : Tells K W B} {old new : BookState K W B} (command : Command) (reply : Reply)
-    → BookInvariant run tells old → old.status ≡ None → IsOneStep tells.store (event.Command (old.line + 1) command reply) old.table new.table
-    → old.left ≡ command ∷ new.left → new.line ≡ old.line + 1 → (tells.store new.table.keeper).faults ≡ (tells.store old.table.keeper).faults
-    → new.places ≡ places_after tells.kind_of command old.places → new.table.roll ≡ old.table.roll
-    → IsEvent tells (event.Command (old.line + 1) command reply) old new
-IsEvent-line {old = old} command reply kept going step next line no_fault places roll = record {
-  going = going;
-  step = step;
-  left = next;
-  line = line;
-  numbered = AreNumberedFrom-push 1 old.table.log (old.line + 1) command reply kept.numbered (ap (λ n. n + 1) kept.line ∙ omega arith);
-  placed = places;
-  rolled = roll;
-  no_fault = no_fault;
-}
-
--- ---- the begin
-
-pub BookInvariant-new : {K W B : Type 0} (run : Inputs) (tells : Tells K W B) (table : TableState K) (places : List (Place B)) (left : List Command)
-    (pending : PendingState) (sink : W)
-    → table.log ≡ [] → left ≡ run.lines → pending ≡ nothing → table.roll ≡ [] → table.state.runs ≡ []
-    → map (place_traits tells.kind_of) places ≡ map instance_traits table.state.instances → NoneAway places
-    → AllByRecursion (λ instance. instance.out ≡ false) table.state.instances → Valid table.state
-    → 0 + length left < 2 ^ 32 → AllByRecursion IsAskable left
-    → table.state ≡ table.first → tells.given sink ≡ run.written
-    → run.store.faults ≤ (tells.store table.keeper).faults → run.sink_faults ≤ tells.sink_faults sink
-    → (LeavesOnly run.rows run.store → LeavesOnly (rows_of table.state) (tells.store table.keeper))
-    → BookInvariant run tells
-    (record { table = table; places = places; left = left; line = 0; pending = pending; sink = sink; status = None })
-BookInvariant-new run tells table places left pending sink empty lines none none_out no_run workers idle all_in valid few askable begun written
-    keeper sink_later images =
-    record {
-      replay = subst (λ log. Replay table.first log table.state) (sym empty) begun;
-      valid = valid;
-      lines = sym lines ∙ ap (λ log. commands_of log ++ left) (sym empty);
-      askable = askable;
-      numbered = subst (AreNumberedFrom 1) (sym empty) tt;
-      line = ap (λ log. length (commands_of log)) (sym empty);
-      few_lines = few;
-      texts = rw (empty, none, written) (IsGivenBut-unwritten run.written []);
-      all_told = λ same. ap (λ (p : PendingState). p.untold) none;
-      workers = workers;
-      away = AwayInvariant-from None (record { table = table; places = places; left = left; line = 0; pending = pending; sink = sink; status = None })
-          valid (rw (none_out, no_run) (record { of_runs = tt; each = tt })) (all_here tells.kind_of places table.state.instances workers idle all_in);
-      keeper_later = keeper;
-      sink_later = sink_later;
-      cause = tt;
-      images = images;
-    }
+-- ---- no ticket is out
 
 -- there is no run whose part is on a roll without parts
 none_listed : (runs : List Run) → AllByRecursion (λ run. IsListed [] (part_of run)) runs → runs ≡ []

@@ -1,55 +1,10 @@
 -- A book whose session stops, or has stopped.
-use Rattle.std.proofs.Common.{◌≡◌, ℕ, ◌+◌, ◌^◌, ◌<◌, ◌≤◌, List, ◌∷◌, ◌++◌, length, map, false, true≢false, Option, Some, None, IsSome, IsSomeAnd, is_some, Result, Ok, Err, refl, sym, ◌∙◌, ap, subst, inl, inr, arith}
-use Rattle.std.proofs.lemmas.Option.{none-some}
-use Rattle.std.specs.List.{AllByRecursion}
-use Rattle.wm_bench.specs.Places.{changed_at, made_back}
-use Rattle.wm_bench.specs.Seat.{Seat}
-use Rattle.wm_bench.specs.declared.place.Place.{Place}
-use Rattle.wm_keeper.specs.Store.{Store}
-use Rattle.wm_machine.specs.Outcome.{IsAskable}
-use Rattle.wm_machine.specs.Log.{commands_of, AreNumberedFrom, HasPrefix}
-use Rattle.wm_texts.specs.Texts.{log_text}
-use Rattle.wm_machine.specs.Valid.{Valid}
-use Rattle.wm_machine.specs.declared.command.Command.{Command}
-use Rattle.wm_machine.specs.declared.event.Event.{Event}
-use Rattle.wm_machine.specs.declared.state.State.{State}
-use Rattle.wm_session.proofs.BookImages.{images-going, images-memory, images-refused, next-line, next-silent}
-use Rattle.wm_session.proofs.BookSteps.{AwayInvariant-stopped, LinesInvariant-front, Replay-same, StopCause-trouble, away_now, exact_now}
-use Rattle.wm_roll.specs.Parts.{without}
-use Rattle.wm_machine.specs.Runs.{run_numbered}
-use Rattle.wm_machine.specs.declared.state.Run.{Run}
-use Rattle.wm_runs.specs.Reports.{Counts, CountsIn}
-use Rattle.wm_table.specs.Parts.{WasOut}
-use Rattle.wm_seating.specs.Bench.{instance_traits, is_away, is_out_on}
-use Rattle.wm_faults.specs.Faults.{HasCause}
-use Rattle.std.specs.declared.alloc.AllocError.{AllocError}
-use Rattle.wm_session.proofs.BookRolls.{given_back, out-agrees}
+use Rattle.std.proofs.Common.{◌≡◌, ◌+◌, ◌^◌, ◌<◌, ◌≤◌, List, ◌∷◌, ◌++◌, length, map, false, true≢false, Option, Some, None, IsSome, IsSomeAnd, is_some, Result, Ok, Err, refl, sym, ◌∙◌, ap, subst, inl, inr, arith}
+use Rattle.wm_session.proofs.Words.{AllByRecursion, AllocError, AreNumberedFrom, BookInvariant, BookState, Command, Counts, CountsIn, Event, HasCause, HasPrefix, Inputs, IsAskable, IsLine, IsNoLine, IsOut, IsReturned, IsUntouched, IsUntouched-roll, IsUntouched-same, Kind, LeavesOnly, LinesInvariant, ListsExactly, MayComeNext, Place, Report, Run, Seat, State, Stop, StopCause, StopImages, Store, TableState, Tells, TicketState, Trouble, Valid, WasOut, changed_at, commands_of, given_back, instance_traits, is_away, is_keeper_fault, is_out_on, made_back, none-some, nothing, out-agrees, run_numbered, stop_by_trouble, without}
+use Rattle.wm_session.proofs.BookImages.{images-going, images-refused, next-line, next-silent}
+use Rattle.wm_session.proofs.BookSteps.{LinesInvariant-front, Replay-same, RollInvariant-stopped, StopCause-trouble, away_now, exact_now}
 use Rattle.wm_session.specs.Book as book
-use Rattle.wm_session.specs.BookState.{BookState}
-use Rattle.wm_session.specs.Causes.{stop_by_trouble, StopCause}
-use Rattle.wm_session.specs.Images.{MayComeNext, StopImages}
-use Rattle.wm_table.proofs.Claims.{IsUntouched-roll}
-use Rattle.wm_table.proofs.TableSteps.{IsUntouched-as, IsUntouched-same}
-use Rattle.wm_table.specs.Images.{IsLine, IsNoLine, LeavesOnly}
-use Rattle.wm_table.specs.Inputs.{Inputs}
-use Rattle.wm_io.specs.Pending.{nothing, IsGivenBut, PendingState}
-use Rattle.wm_session.specs.Invariant.{BookInvariant, LinesInvariant, ListsExactly}
-use Rattle.wm_session.specs.Pending.{pending_text}
-use Rattle.wm_session.specs.Tells.{Tells}
-use Rattle.wm_table.specs.Table.{is_keeper_fault, IsReturned, IsUntouched}
-use Rattle.wm_table.specs.TableState.{TableState, TicketState}
 use Rattle.wm_session.specs.declared.book.After.TheVariants as report
-use Rattle.wm_session.specs.declared.book.Stop.TheVariants as why
-use Rattle.wm_session.specs.declared.book.Stop.{Stop}
-use Rattle.wm_table.specs.declared.table.Trouble.{Trouble}
-use Rattle.wm_worker.specs.Told.{Report}
-use Rattle.wm_worker.specs.declared.kind.Kind.{Kind}
-
--- an untouched table has the same text, and the same is pending
-texts_untouched : {K : Type 0} (store : K → Store) (may : Event → Type 0) (before now : Option (List ℕ)) (old table : TableState K) (pending : PendingState)
-    → IsUntouched store may old table → IsGivenBut before now (log_text old.first old.log) (pending_text old pending)
-    → IsGivenBut before now (log_text table.first table.log) (pending_text table pending)
-texts_untouched store may before now old table pending same kept = rw (same.first, same.log) kept
 
 module _ {K W B : Type 0} {run : Inputs} {tells : Tells K W B} where
   -- the session stops where the table is as it was, but for its roll
@@ -72,7 +27,7 @@ module _ {K W B : Type 0} {run : Inputs} {tells : Tells K W B} where
         numbered = subst (AreNumberedFrom 1) (sym same.log) kept.numbered;
         line = kept.line ∙ ap (λ log. length (commands_of log)) (sym same.log);
         few_lines = omega arith;
-        texts = texts_untouched tells.store may run.written (tells.given old.sink) old.table table old.pending same kept.texts;
+        texts = rw (same.first, same.log) kept.texts;
         all_told = λ none. absurd (none-some why (sym none));
         workers = kept.workers ∙ ap (λ (s : State). map instance_traits s.instances) (sym same.state);
         away = record { away = away ∙ ap (λ (s : State). map (is_out_on table.roll) s.instances) (sym same.state); listed = tt };
@@ -81,15 +36,6 @@ module _ {K W B : Type 0} {run : Inputs} {tells : Tells K W B} where
         cause = cause;
         images = images;
       }
-
-  -- for want of memory
-  pub BookInvariant-memory : {old : BookState K W B} (table : TableState K) → BookInvariant run tells old → table ≡ old.table
-      → BookInvariant run tells (record old { table = table; status = Some why.Memory })
-  BookInvariant-memory {old = old} table kept same =
-      subst (λ t. BookInvariant run tells (record old { table = t; status = Some why.Memory })) (sym same)
-      (BookInvariant-stopped IsNoLine old.table old.left why.Memory kept (IsUntouched-same tells.store IsNoLine old.table old.table refl) kept.askable
-      (omega arith) (omega arith) tt
-      (λ settled. images-memory run.lines old.table.state old.table.log old.status (tells.store old.table.keeper) (kept.images settled)) kept.away.away)
 
   -- where the table had trouble, in an event that may come next
   BookInvariant-troubled : {old : BookState K W B} (may : Event → Type 0) (table : TableState K) (left : List Command) (why : Trouble) (stop : Stop)
@@ -158,7 +104,7 @@ module _ {K W B : Type 0} {run : Inputs} {tells : Tells K W B} where
         texts = kept.texts;
         all_told = kept.all_told;
         workers = back.0 ∙ kept.workers;
-        away = AwayInvariant-stopped old.status (record old { table = after; places = places }) stopped back.1;
+        away = record { away = back.1; listed = RollInvariant-stopped old.status old.table.state.runs after.roll stopped };
         keeper_later = kept.keeper_later;
         sink_later = kept.sink_later;
         cause = kept.cause;
@@ -185,29 +131,12 @@ going_on old new before now written = record { before = before; now = now; writt
 
 -- a line was executed
 pub IsFronted-told : {K W B : Type 0} {store : K → Store} {kind_of : B → Kind} {old new : BookState K W B} (status : Option Stop) → new.status ≡ status
-    → old.status ≡ None → book.MayCome old.left old.table.state → book.IsLineDone store kind_of old new → (new.status ≡ None → new.pending ≡ nothing)
+    → book.MayCome old.left old.table.state → book.IsLineDone store kind_of old new → (new.status ≡ None → new.pending ≡ nothing)
     → book.IsFronted store kind_of (book.front_told status) old new
-IsFronted-told {old = old} {new = new} None is before comes line written =
-    record { goes_on = going_on old new before is written; could_come = comes; line = line }
-IsFronted-told {old = old} {new = new} (Some why) is before comes line written =
-    record { status = stops new why is; stays = stays_going old new before; how = inr (record { before = before; line = line }) }
-
--- the next line wasn't executed
-pub IsFrontStopped-refused : {K W B : Type 0} (store : K → Store) (kind_of : B → Kind) (old : BookState K W B) (table : TableState K)
-    (places : List (Place B)) (left : List Command) (asked : Command) (stop : Stop)
-    → old.status ≡ None → old.left ≡ asked ∷ left → IsUntouched store (IsLine (old.line + 1) asked) old.table table → places ≡ old.places
-    → table.roll ≡ old.table.roll
-    → book.IsFrontStopped store kind_of old (record old { table = table; places = places; left = left; status = Some stop })
-IsFrontStopped-refused store kind_of old table places left asked stop going next same stay roll = record {
-  status = refl;
-  stays = stays_going old (record old { table = table; places = places; left = left; status = Some stop }) going;
-  how = inl (record {
-    table = IsUntouched-as store (IsLine (old.line + 1) asked) (book.IsNextLine old.line old.left) old.table table
-        (λ e is. subst (λ lines. book.IsNextLine old.line lines e) (sym next) is) same;
-    places = stay;
-    roll = roll;
-  });
-}
+IsFronted-told {old = old} {new = new} None is comes line written =
+    record { goes_on = going_on old new line.before is written; could_come = comes; line = line }
+IsFronted-told {old = old} {new = new} (Some why) is comes line written =
+    record { status = stops new why is; stays = stays_going old new line.before; how = inr line }
 
 -- ---- a report
 
@@ -216,36 +145,12 @@ counts-current : (found : Option Run) (told : Report) → IsSomeAnd found (λ ru
 counts-current None told counts stopped = counts
 counts-current (Some run) told counts stopped = true≢false (sym counts.current ∙ stopped)
 
--- a report that counts leaves no run that was stopped
-pub never_late : {K W B : Type 0} (store : K → Store) (ticket : TicketState) (told : Report) (old new : BookState K W B)
-    → CountsIn old.table.state ticket.task.run told → book.IsLateIfStopped store ticket old new
-never_late store ticket told old new counts going stopped =
-    absurd (counts-current (run_numbered ticket.task.run old.table.state.runs) told counts stopped)
-
--- the event of a run that was stopped is its return
-late_by_event : {K W B : Type 0} (store : K → Store) (ticket : TicketState) (told : Report) (old new : BookState K W B) → IsSome new.status
-    → book.IsMade (book.IsTurnMade store ticket told) old new → book.IsLateIfStopped store ticket old new
-late_by_event store ticket told old new stopped made = elim made.made [
-  | inl (inl returned) ↦
-      λ going was. (stopped, record { before = made.before; made = returned; left = made.left; no_more = made.no_more })
-  | inl (inr over) ↦ never_late store ticket told old new over.counts
-  | inr turned ↦ never_late store ticket told old new turned.1.counts
-]
+pub never_late : (ticket : TicketState) (told : Report) (s : State) → CountsIn s ticket.task.run told → IsOut s ticket.task.run false → ⊥
+never_late ticket told s counts = counts-current (run_numbered ticket.task.run s.runs) told counts
 
 module _ {K W B : Type 0} {store : K → Store} (kind_of : B → Kind) {ticket : TicketState} (seat : Seat B) {old new : BookState K W B}
     (out : WasOut old.table.state old.table.roll ticket) (roll : new.table.roll ≡ without ticket.task.run old.table.roll)
     (places : new.places ≡ changed_at (made_back kind_of seat.worker) seat.number old.places) where
-  -- the session has stopped since an event of the run was told
-  pub IsGivenBack-untold : (told : Report) → IsSome new.status → book.IsMade (book.IsTurnMade store ticket told) old new
-      → book.IsGivenBack store (book.IsTurnMade store ticket told) kind_of ticket seat old new
-  IsGivenBack-untold told stopped made = record {
-    how = inr (stopped, made);
-    late = late_by_event store ticket told old new stopped made;
-    out = out;
-    roll = roll;
-    places = places;
-  }
-
   -- the run is over by its report
   pub IsReported-over : (M : Type 0) (told : Report) (status : Option Stop) → new.status ≡ status → book.IsMade (book.IsLast store ticket told) old new
       → (new.status ≡ None → new.pending ≡ nothing)
@@ -253,8 +158,8 @@ module _ {K W B : Type 0} {store : K → Store} (kind_of : B → Kind) {ticket :
   IsReported-over M told None is made written =
       record { goes_on = going_on old new made.before is written; over = made; out = out; roll = roll; places = places }
   IsReported-over M told (Some why) is made written =
-      IsGivenBack-untold told (stops new why is)
-      (record { before = made.before; made = inl made.made; left = made.left; no_more = made.no_more })
+      let any : book.IsMade (book.IsTurnMade store ticket told) old new = record { before = made.before; made = inl made.made; left = made.left; no_more = made.no_more } in
+      record { how = inr (stops new why is, any); out = out; roll = roll; places = places }
 
   -- or by its return, where its worker was refused memory
   pub IsReported-late : (M : Type 0) (refused : AllocError) (status : Option Stop) → new.status ≡ status
@@ -262,25 +167,10 @@ module _ {K W B : Type 0} {store : K → Store} (kind_of : B → Kind) {ticket :
       → book.IsReported {M = M} store kind_of ticket seat (Err refused) (book.over_told status) old new
   IsReported-late M refused None is made written =
       record { goes_on = going_on old new made.before is written; over = made; out = out; roll = roll; places = places }
-  IsReported-late M refused (Some why) is made written = record {
-    how = inr (stops new why is, made);
-    late = λ going was. (stops new why is, made);
-    out = out;
-    roll = roll;
-    places = places;
-  }
+  IsReported-late M refused (Some why) is made written =
+      record { how = inr (stops new why is, made); out = out; roll = roll; places = places }
 
 -- ---- a ticket and its worker are put back
-
--- a session that has stopped stays so
-pub HasStopped-back : {K W B : Type 0} (store : K → Store) (kind_of : B → Kind) (ticket : TicketState) (seat : Seat B) (old new : BookState K W B)
-    → book.HasStopped store old new → book.HasStopped store old (book.with_back kind_of ticket seat new)
-HasStopped-back store kind_of ticket seat old new stopped = record {
-  status = stopped.status;
-  stays = λ was. let is = stopped.stays was in record { status = is.status; sink = is.sink; pending = is.pending };
-  table = IsUntouched-roll store IsNoLine old.table new.table (without ticket.task.run new.table.roll) stopped.table;
-  left = stopped.left;
-}
 
 -- one that had stopped before
 pub HasStopped-before : {K W B : Type 0} (store : K → Store) (old new : BookState K W B) → new.table ≡ old.table → new.left ≡ old.left → IsSome new.status
@@ -290,31 +180,35 @@ HasStopped-before store old new same left stopped stays =
 
 -- the run is off the roll, its worker is back, and no event of it was made
 pub IsGivenBack-stopped : {K W B : Type 0} {store : K → Store} (event : TableState K → TableState K → Type 0) (kind_of : B → Kind)
-    (ticket back : TicketState) (seat : Seat B) (old new : BookState K W B) → book.HasStopped store old new → back.task.run ≡ ticket.task.run
-    → without ticket.task.run new.table.roll ≡ without ticket.task.run old.table.roll → new.places ≡ old.places
-    → WasOut old.table.state old.table.roll ticket → book.IsLateIfStopped store ticket old (book.with_back kind_of back seat new)
+    (ticket back : TicketState) (seat : Seat B) (old new : BookState K W B) → book.HasStopped store old new → book.WasNotStopped ticket old
+    → back.task.run ≡ ticket.task.run → without ticket.task.run new.table.roll ≡ without ticket.task.run old.table.roll → new.places ≡ old.places
+    → WasOut old.table.state old.table.roll ticket
     → book.IsGivenBack store event kind_of ticket seat old (book.with_back kind_of back seat new)
-IsGivenBack-stopped {store = store} event kind_of ticket back seat old new stopped same roll places out late = record {
-  how = inl (HasStopped-back store kind_of back seat old new stopped);
-  late = late;
+IsGivenBack-stopped {store = store} event kind_of ticket back seat old new stopped never same roll places out = record {
+  how = inl (
+    record {
+      status = stopped.status;
+      stays = λ was. let is = stopped.stays was in record { status = is.status; sink = is.sink; pending = is.pending };
+      table = IsUntouched-roll store IsNoLine old.table new.table (without back.task.run new.table.roll) stopped.table;
+      left = stopped.left;
+    },
+    never,
+  );
   out = out;
   roll = ap (λ n. without n new.table.roll) same ∙ roll;
   places = ap (changed_at (made_back kind_of seat.worker) seat.number) places;
 }
 
-given_before : {K W B : Type 0} (store : K → Store) (event : TableState K → TableState K → Type 0) (kind_of : B → Kind) (ticket : TicketState)
-    (seat : Seat B) (old : BookState K W B) → IsSome old.status → WasOut old.table.state old.table.roll ticket
-    → book.IsGivenBack store event kind_of ticket seat old (book.with_back kind_of ticket seat old)
-given_before store event kind_of ticket seat old stopped out =
-    IsGivenBack-stopped event kind_of ticket ticket seat old old
-    (HasStopped-before store old old refl refl stopped (λ was. record { status = refl; sink = refl; pending = refl })) refl refl refl out
-    (λ going was. let is : IsSome {T = Stop} None = subst IsSome going stopped in absurd (cc))
-
 -- so it is where the session had stopped before, whatever was told or refused
-pub IsReported-before : {K W B : Type 0} (M : Type 0) (store : K → Store) (kind_of : B → Kind) (ticket : TicketState) (seat : Seat B)
-    (told : Result Report AllocError) (old : BookState K W B) → IsSome old.status → WasOut old.table.state old.table.roll ticket
-    → book.IsReported {M = M} store kind_of ticket seat told report.Stopped old (book.with_back kind_of ticket seat old)
-IsReported-before M store kind_of ticket seat (Ok told) old stopped out =
-    given_before store (book.IsTurnMade store ticket told) kind_of ticket seat old stopped out
-IsReported-before M store kind_of ticket seat (Err refused) old stopped out =
-    given_before store (IsReturned store ticket.task.run) kind_of ticket seat old stopped out
+module _ {K W B : Type 0} (M : Type 0) (store : K → Store) (kind_of : B → Kind) (ticket : TicketState) (seat : Seat B) where
+  given_before : (event : TableState K → TableState K → Type 0) (old : BookState K W B) → IsSome old.status
+      → WasOut old.table.state old.table.roll ticket → book.IsGivenBack store event kind_of ticket seat old (book.with_back kind_of ticket seat old)
+  given_before event old stopped out =
+      IsGivenBack-stopped event kind_of ticket ticket seat old old
+      (HasStopped-before store old old refl refl stopped (λ was. record { status = refl; sink = refl; pending = refl }))
+      (λ going was. let is : IsSome {T = Stop} None = subst IsSome going stopped in absurd (cc)) refl refl refl out
+
+  pub IsReported-before : (told : Result Report AllocError) (old : BookState K W B) → IsSome old.status → WasOut old.table.state old.table.roll ticket
+      → book.IsReported {M = M} store kind_of ticket seat told report.Stopped old (book.with_back kind_of ticket seat old)
+  IsReported-before (Ok told) = given_before (book.IsTurnMade store ticket told)
+  IsReported-before (Err refused) = given_before (IsReturned store ticket.task.run)

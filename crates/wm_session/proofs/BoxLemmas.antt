@@ -1,40 +1,9 @@
 -- What becomes of the workers, after more events.
-use Rattle.std.proofs.Common.{◌≡◌, ℕ, zero, suc, Bool, cond, eqb, List, [], ◌∷◌, ◌++◌, map, Option, Some, None, IsSome, IsSomeAnd, slice_get, inl, inr, refl, sym, ◌∙◌, ap, subst}
-use Rattle.std.proofs.lemmas.Bool.{eq-eqb, false≢true, ne_eqb}
-use Rattle.wm_bench.specs.Places.{changed_at, idle_at, idle_hands, idle_in, made_back, place_of, IsAwayAt, IsAwayIn}
-use Rattle.wm_bench.specs.Seat.{Seat}
-use Rattle.wm_bench.specs.declared.hand.Hand.{Hand}
-use Rattle.wm_bench.specs.declared.place.Place.{Place}
-use Rattle.wm_bench.specs.declared.place.Presence.{Presence}
-use Rattle.wm_bench.specs.declared.place.Presence.TheVariants.{Idle, Away, Gone}
-use Rattle.wm_collections.proofs.Lists.{HasOne-front, HasOne-last}
-use Rattle.wm_collections.specs.Lists.{HasOne}
-use Rattle.wm_keeper.specs.Store.{Store}
-use Rattle.wm_machine.specs.Diaries.{event_lines, log_lines, DiaryLine, IsDiaryWith, IsEntry}
+use Rattle.std.proofs.Common.{◌≡◌, ℕ, Bool, cond, eqb, List, [], ◌∷◌, ◌++◌, map, Option, Some, None, IsSome, IsSomeAnd, slice_get, inl, inr, refl, sym, ◌∙◌, ap, subst, ◌+◌}
+use Rattle.wm_session.proofs.Words.{Begun, BookState, Command, DiaryLine, EachAtPlace, Entry, Event, Frame, Gave, Hand, HasGoneOn, HasOne, HasOne-front, HasOne-last, IsAtBegin, IsBegun, IsBetweenRuns, IsBoxAfter, IsDiaryLater, IsDiaryWith, IsEntry, IsFinished, IsOfGiven, IsOneStep, IsOutOfGiven, IsStartOn, IsUnderWay, KeepBoxes, KeepBoxesOut, Kind, More, Place, Replay, Report, Seat, SignalState, Store, This, TicketState, changed_at, diary_with, elsewhere, eq-eqb, event_lines, false≢true, framed_end, idle_at, idle_at-back, idle_at-given, idle_at-taken, idle_hands, log_lines, made_back, ne_eqb, place_of, run_numbered}
+use Rattle.wm_session.proofs.DiaryLemmas.{IsDiaryLater-further, IsDiaryLater-same, IsDiaryWith-nothing, IsDiaryWith-silent, IsDiaryWith-written, lines_of, ticket-found}
 use Rattle.wm_machine.specs.Diaries as diary_line
-use Rattle.wm_machine.specs.Frame.{Frame}
-use Rattle.wm_machine.specs.Replay.{Replay}
-use Rattle.wm_machine.specs.Role.{This}
-use Rattle.wm_machine.specs.Runs.{run_numbered}
-use Rattle.wm_machine.specs.declared.command.Command.{Command}
-use Rattle.wm_machine.specs.declared.event.Event.{Event}
 use Rattle.wm_machine.specs.declared.event.Event.TheVariants as event
-use Rattle.wm_worker.specs.declared.kind.Kind.{Kind}
-use Rattle.wm_table.proofs.NoLines.{framed_end}
-use Rattle.wm_session.proofs.DiaryLemmas.{lines_of, ticket-found, IsDiaryLater-further, IsDiaryLater-same, IsDiaryWith-nothing, IsDiaryWith-silent, IsDiaryWith-written}
-use Rattle.wm_session.proofs.HandLemmas.{idle_at-back, idle_at-given, idle_at-taken}
-use Rattle.wm_session.specs.BetweenRuns.{IsAtBegin, IsBetweenRuns, IsOfGiven, KeepBoxes}
-use Rattle.wm_session.specs.Book.{IsBegun}
-use Rattle.wm_session.specs.BookState.{BookState}
-use Rattle.wm_session.specs.Boxes.{EachAtPlace, IsBoxAfter, IsDiaryLater, IsStartOn}
-use Rattle.wm_session.specs.Drive.{IsLastTurn, IsOtherTurn, IsOutOfGiven, IsUnderWay, KeepBoxesOut}
-use Rattle.wm_table.specs.Table.{IsOneStep}
-use Rattle.wm_table.specs.TableState.{TicketState}
-use Rattle.wm_worker.specs.Diary.{diary_with}
-use Rattle.wm_worker.specs.Signal.{SignalState}
-use Rattle.wm_worker.specs.declared.answer.Entry.{Entry}
-use Rattle.wm_worker.specs.declared.answer.Entry.TheVariants.{Begun, Gave}
-use Rattle.wm_worker.specs.declared.answer.Given.TheVariants.{More}
 
 -- a session that has stopped early doesn't go on
 pub no_longer : {T P : Type 0} (status : Option T) → IsSome status → status ≡ None → P
@@ -43,20 +12,6 @@ no_longer status stopped going = absurd (false≢true (subst IsSome going stoppe
 pub IsSomeAnd-weaker : {T : Type 0} {P Q : T → Type 0} (found : Option T) → ((x : T) → P x → Q x) → IsSomeAnd found P → IsSomeAnd found Q
 IsSomeAnd-weaker None step is = is
 IsSomeAnd-weaker (Some x) step is = step x is
-
-away_idle : {B : Type 0} (kind : Kind) (worker : B) (presence : Presence B) → IsAwayIn kind presence → idle_in presence ≡ Some worker → ⊥
-away_idle kind worker (Idle other) away idle = away
-away_idle kind worker (Away its retired) away idle = cc
-away_idle kind worker (Gone its) away idle = away
-
--- a worker that is idle isn't where one is away
-elsewhere : {B : Type 0} (kind : Kind) (worker : B) (at number : ℕ) (places : List (Place B)) → IsAwayAt at kind places → idle_at number places ≡ Some worker
-    → number ≡ at → ⊥
-elsewhere kind worker at number [] away idle same = away
-elsewhere kind worker zero zero (place ∷ places) away idle same = away_idle kind worker place.presence away idle
-elsewhere kind worker zero (suc number) (place ∷ places) away idle same = cc
-elsewhere kind worker (suc at) zero (place ∷ places) away idle same = cc
-elsewhere kind worker (suc at) (suc number) (place ∷ places) away idle same = elsewhere kind worker at number places away idle (cc)
 
 -- what holds of each worker at its place
 pub AtPlace-weaker : {B : Type 0} {fact other : ℕ → B → B → Type 0} (given : List (Hand B)) (places : List (Place B))
@@ -220,61 +175,62 @@ KeepBoxesOut-later diary_of number has owes given book later keep = record {
 }
 
 -- a run goes on, and its worker has written down what it gave
-pub KeepBoxes-turned : {K W B : Type 0} {store : K → Store} {kind_of : B → Kind} {diary_of : B → Option (List Entry)}
-    {ticket next : TicketState} {worker : B} {seat : Seat B} {old new : BookState K W B} (given : List (Hand B))
-    → IsUnderWay kind_of ticket old → IsOtherTurn store kind_of diary_of ticket worker next seat old new
+pub KeepBoxes-turned : {K W B : Type 0} {store : K → Store} {kind_of : B → Kind} (diary_of : B → Option (List Entry)) {ticket next : TicketState}
+    (worker kept : B) {told : Report} {old new : BookState K W B} (given : List (Hand B))
+    → IsUnderWay kind_of ticket old → (on : HasGoneOn store ticket told next old.table new.table) → old.status ≡ None → new.places ≡ old.places
+    → next ≡ record ticket { k = ticket.k + 1 }
+    → diary_of kept ≡ diary_with (Gave ticket.task.run ticket.k (More on.progress) ∷ []) (diary_of worker)
     → KeepBoxesOut diary_of ticket.instance (diary_of worker) (diary_of worker) given old
-    → KeepBoxesOut diary_of next.instance (diary_of seat.worker) (diary_of seat.worker) given new
-KeepBoxes-turned {kind_of = kind_of} {diary_of = diary_of} {ticket = ticket} {next = next} {worker = worker} {seat = seat} {old = old} {new = new} given
-    under_way turned keep =
+    → KeepBoxesOut diary_of next.instance (diary_of kept) (diary_of kept) given new
+KeepBoxes-turned diary_of {ticket = ticket} worker kept {old = old} {new = new} given under_way on before places next_is diary keep =
     let at = ticket.instance in
     let number = ticket.task.run in
-    let gave = More turned.progress in
+    let gave = More on.progress in
     let line = diary_line.Gave number ticket.k (This gave) in
     let written = Gave number ticket.k gave in
-    let report = turned.step.legal.report in
+    let report = on.step.legal.report in
     let of_run = ticket-found ticket under_way.ticket_in report.is_running in
-    let goes = λ (going : new.status ≡ None). turned.goes_on.before in
+    let goes = λ (going : new.status ≡ None). before in
     let lines = λ (n : ℕ). lines_of ticket (This gave) (run_numbered number old.table.state.runs) report.run n report.is_running of_run in
-    rw (ap (λ (t : TicketState). t.instance) turned.next_is) (record {
+    rw (ap (λ (t : TicketState). t.instance) next_is) (record {
       others = λ n other idle.
-          let before = rw turned.places at idle in
-          others-written diary_of given old new at line written under_way.replay turned.step goes lines (gave, refl, refl) n other
-          (elsewhere ticket.kind other at n old.places under_way.away before) (keep.others n other before);
+          let was = rw places at idle in
+          others-written diary_of given old new at line written under_way.replay on.step goes lines (gave, refl, refl) n other
+          (elsewhere ticket.kind other at n old.places under_way.away was) (keep.others n other was);
       own = IsSomeAnd-weaker (slice_get given at)
-          (λ hand out. subst (λ owes. IsOutOfGiven diary_of (diary_of seat.worker) owes new at hand.worker) (sym turned.diary)
-          (own-written diary_of given old new at line written under_way.replay turned.step goes lines (gave, refl, refl) (diary_of seat.worker)
-          (diary_of worker) hand (HasOne-front (IsStartOn at) old.table.log _ out.started)
-          (IsDiaryLater-further (diary_of hand.worker) (diary_of worker) (diary_of seat.worker) out.diary (written ∷ [], turned.diary)) out.told))
+          (λ hand out. subst (λ owes. IsOutOfGiven diary_of (diary_of kept) owes new at hand.worker) (sym diary)
+          (own-written diary_of given old new at line written under_way.replay on.step goes lines (gave, refl, refl) (diary_of kept) (diary_of worker) hand
+          (HasOne-front (IsStartOn at) old.table.log _ out.started)
+          (IsDiaryLater-further (diary_of hand.worker) (diary_of worker) (diary_of kept) out.diary (written ∷ [], diary)) out.told))
           keep.own;
     })
 
 -- a run is over, and its worker has written down what it gave
-pub KeepBoxes-last : {K W B : Type 0} {store : K → Store} {kind_of : B → Kind} {diary_of : B → Option (List Entry)} {ticket : TicketState}
-    {worker : B} {old new : BookState K W B} (given : List (Hand B))
-    → IsUnderWay kind_of ticket old → IsLastTurn store kind_of diary_of ticket worker old new
+pub KeepBoxes-last : {K W B : Type 0} {store : K → Store} {kind_of : B → Kind} (diary_of : B → Option (List Entry)) {ticket : TicketState}
+    (worker back : B) {told : Report} {old : BookState K W B} (new : BookState K W B) (given : List (Hand B))
+    → IsUnderWay kind_of ticket old → old.status ≡ None → (last : IsFinished store ticket.task.run told old.table new.table)
+    → new.places ≡ changed_at (made_back kind_of back) ticket.instance old.places
+    → diary_of back ≡ diary_with (Gave ticket.task.run ticket.k last.gave ∷ []) (diary_of worker)
     → KeepBoxesOut diary_of ticket.instance (diary_of worker) (diary_of worker) given old → KeepBoxes diary_of given new
-KeepBoxes-last {kind_of = kind_of} {diary_of = diary_of} {ticket = ticket} {worker = worker} {old = old} {new = new} given under_way last
-    keep =
+KeepBoxes-last {kind_of = kind_of} diary_of {ticket = ticket} worker back {old = old} new given under_way before last places diary keep =
     let s = old.table.state in
     let at = ticket.instance in
     let number = ticket.task.run in
-    let told = last.reported in
-    let line = diary_line.Gave number ticket.k told in
+    let line = diary_line.Gave number ticket.k last.reported in
     let written = Gave number ticket.k last.gave in
-    let ended = framed_end s number told last.ending last.ends last.step.legal in
+    let ended = framed_end s number last.reported last.ending last.ends last.step.legal in
     let of_run = ticket-found ticket under_way.ticket_in ended.is_running in
-    let goes = λ (going : new.status ≡ None). last.before in
-    let lines = λ (n : ℕ). ap (λ (f : Frame). f.lines n) ended.frame_is ∙ lines_of ticket told (Some ended.run) ended.run n refl of_run in
+    let goes = λ (going : new.status ≡ None). before in
+    let lines = λ (n : ℕ). ap (λ (f : Frame). f.lines n) ended.frame_is ∙ lines_of ticket last.reported (Some ended.run) ended.run n refl of_run in
     let entry : IsEntry line written = (last.gave, last.has_given, refl) in
-    KeepBoxes-back diary_of given old new kind_of last.back at last.places
+    KeepBoxes-back diary_of given old new kind_of back at places
     (λ n other idle.
     others-written diary_of given old new at line written under_way.replay last.step goes lines entry n other
     (elsewhere ticket.kind other at n old.places under_way.away idle) (keep.others n other idle))
     (IsSomeAnd-weaker (slice_get given at)
-    (λ hand out. of_given-back diary_of (diary_of worker) (diary_with (written ∷ []) (diary_of worker)) at hand.worker last.back
+    (λ hand out. of_given-back diary_of (diary_of worker) (diary_with (written ∷ []) (diary_of worker)) at hand.worker back
     (own-written diary_of given old new at line written under_way.replay last.step goes lines entry (diary_of worker) (diary_of worker) hand
-    (HasOne-front (IsStartOn at) old.table.log _ out.started) out.diary out.told) (written ∷ [], last.diary) (λ going. last.diary))
+    (HasOne-front (IsStartOn at) old.table.log _ out.started) out.diary out.told) (written ∷ [], diary) (λ going. diary))
     keep.own)
 
 -- the session has stopped early, and each run that had started on an instance still has

@@ -1,18 +1,8 @@
 -- One diary, after more events.
 use Rattle.std.proofs.Common.{◌≡◌, ℕ, cond, eqb, List, [], ◌∷◌, ◌++◌, Option, Some, None, IsSomeAnd, refl, sym, ◌∙◌, ap, subst, append_assoc}
-use Rattle.std.proofs.lemmas.List.{append-nil}
+use Rattle.wm_session.proofs.Words.{AreEntries, DiaryLine, Entry, Event, IsDiaryLater, IsDiaryWith, IsEntry, Replay, Reported, Run, State, TicketState, append-nil, diary_with, event_lines, given_lines, log_lines, ticket_of}
 use Rattle.wm_machine.proofs.DiaryLogs.{log_lines-push}
-use Rattle.wm_machine.specs.Diaries.{event_lines, given_lines, log_lines, AreEntries, DiaryLine, IsDiaryWith, IsEntry}
 use Rattle.wm_machine.specs.Diaries as diary_line
-use Rattle.wm_machine.specs.Replay.{Replay}
-use Rattle.wm_machine.specs.Role.{Reported}
-use Rattle.wm_machine.specs.declared.event.Event.{Event}
-use Rattle.wm_machine.specs.declared.state.Run.{Run}
-use Rattle.wm_machine.specs.declared.state.State.{State}
-use Rattle.wm_session.specs.Boxes.{IsDiaryLater}
-use Rattle.wm_table.specs.TableState.{TicketState, ticket_of}
-use Rattle.wm_worker.specs.Diary.{diary_with}
-use Rattle.wm_worker.specs.declared.answer.Entry.{Entry}
 
 -- ---- as the log tells it
 

@@ -1,13 +1,8 @@
 -- Why a session ends as it does, by the trouble of its table or its last write.
 use Rattle.std.proofs.Common.{◌≡◌, ℕ, Option, Some, None, Result, Ok, Err, OnOk, refl}
-use Rattle.wm_faults.specs.Faults.{Failed}
-use Rattle.wm_io.specs.Writing.{WriteCause}
-use Rattle.wm_io.specs.declared.writing.WriteFault.{WriteFault}
+use Rattle.wm_session.proofs.Words.{Failed, IsSessionStatus, Trouble, WriteCause, WriteFault, ended_by}
 use Rattle.wm_io.specs.declared.writing.WriteFault.TheVariants as fault
-use Rattle.wm_session.specs.Causes.{ended_by}
-use Rattle.wm_session.specs.Ended.{IsSessionStatus}
 use Rattle.wm_session.specs.declared.status.Status.TheVariants as status
-use Rattle.wm_table.specs.declared.table.Trouble.{Trouble}
 use Rattle.wm_table.specs.declared.table.Trouble.TheVariants as trouble
 
 -- it is done only where no trouble was met, and all was written

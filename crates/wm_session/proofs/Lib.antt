@@ -3,13 +3,12 @@ pub mod BookEnds
 pub mod BookEvents
 pub mod BookImages
 pub mod BookReports
-pub mod BookRolls
 pub mod BookSteps
 pub mod BookStops
 pub mod BoxLemmas
 pub mod DiaryLemmas
 pub mod Endings
 pub mod HandLemmas
-pub mod NextLines
 pub mod SerialLemmas
+pub mod Words
 pub mod WrittenTexts

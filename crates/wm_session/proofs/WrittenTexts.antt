@@ -1,12 +1,8 @@
 -- The text that a sink was given, and what of it is pending.
 use Rattle.std.proofs.Common.{◌≡◌, ℕ, List, [], ◌++◌, length, take, drop, Option, Result, Ok, Err, OnOk, refl, sym, ◌∙◌, ap, subst, append_assoc}
+use Rattle.wm_session.proofs.Words.{IsAppended, IsGivenBut, IsPartAppended, WriteFault, append-nil, take-append-drop}
 use Rattle.std.proofs.Math.Seq.{take-length}
-use Rattle.std.proofs.lemmas.List.{append-nil, take-append-drop}
-use Rattle.wm_io.specs.Pending.{IsGivenBut}
 use Rattle.wm_io.proofs.AppendedTexts.{IsAppended-append, IsAppended-nothing}
-use Rattle.wm_io.specs.Writing.{IsAppended}
-use Rattle.wm_io.specs.declared.writing.WriteFault.{WriteFault}
-use Rattle.wm_session.specs.Ended.{IsPartAppended}
 
 -- nothing was written, and everything is pending
 pub IsGivenBut-unwritten : (before : Option (List ℕ)) (pending : List ℕ) → IsGivenBut before before pending pending

@@ -83,8 +83,9 @@ SettlesNext (asked ∷ lines) = asked ≡ command.Settle
 abbrev pub MayCome : List Command → State → Type 0
 MayCome lines s = SettlesNext lines → IsQuiet s
 
--- the next line was executed, in one step, which leaves the roll, and a class that it retires is retired on the bench
+-- while the session went on the next line was executed, in one step, which leaves the roll, and a class that it retires is retired on the bench
 pub record IsLineDone {K W B : Type 0} (store : K → Store) (kind_of : B → Kind) (old new : BookState K W B) : Type 0 where
+  pub before : old.status ≡ None
   pub command : Command
   pub reply : Reply
   pub next : old.left ≡ command ∷ new.left
@@ -104,14 +105,8 @@ IsNextLine line [] e = ⊥
 IsNextLine line (asked ∷ lines) e = IsLine (line + 1) asked e
 
 -- a line is left, but it settles, and there is something left to do
-pub record MustWait (lines : List Command) (s : State) : Type 0 where
-  pub some_left : lines ≢ []
-  pub not_yet : MayCome lines s → ⊥
-
--- a line was executed, and the session stopped while its reply was told
-pub record IsLineUntold {K W B : Type 0} (store : K → Store) (kind_of : B → Kind) (old new : BookState K W B) : Type 0 where
-  pub before : old.status ≡ None
-  pub line : IsLineDone store kind_of old new
+abbrev pub MustWait : List Command → State → Type 0
+MustWait lines s = (lines ≢ []) × (MayCome lines s → ⊥)
 
 -- no line was executed, though the next one may have been being committed
 pub record IsNoLineDone {K W B : Type 0} (store : K → Store) (old new : BookState K W B) : Type 0 where
@@ -123,7 +118,7 @@ pub record IsNoLineDone {K W B : Type 0} (store : K → Store) (old new : BookSt
 pub record IsFrontStopped {K W B : Type 0} (store : K → Store) (kind_of : B → Kind) (old new : BookState K W B) : Type 0 where
   pub status : IsSome new.status
   pub stays : IsSome old.status → StaysStopped old new
-  pub how : IsNoLineDone store old new ⊎ IsLineUntold store kind_of old new
+  pub how : IsNoLineDone store old new ⊎ IsLineDone store kind_of old new
 
 -- Moved where a line was executed; NotSettled where one is left that can't come yet; Ended where none is left; Stopped where the
 -- session has stopped early
@@ -229,17 +224,15 @@ pub record IsAskedAgain {K W B : Type 0} (ticket same : TicketState) (seat kept 
   pub seat_is : kept ≡ seat
   pub book_is : new ≡ old
 
--- a run that was stopped is over, where the session went on until its report came
-abbrev pub IsLateIfStopped : {K W B : Type 0} → (K → Store) → TicketState → BookState K W B → BookState K W B → Type 0
-IsLateIfStopped store ticket old new =
-    old.status ≡ None → IsOut old.table.state ticket.task.run false → IsSome new.status × IsMade (IsReturned store ticket.task.run) old new
+-- a run wasn't stopped, as far as the session went on until its report came
+abbrev pub WasNotStopped : {K W B : Type 0} → TicketState → BookState K W B → Type 0
+WasNotStopped ticket old = old.status ≡ None → IsOut old.table.state ticket.task.run false → ⊥
 
--- the session has stopped early without an event of the run, or with such a one, which for a run that was stopped is its return, or had stopped
--- before; the run is off the roll, and its worker is back
+-- the session has stopped early, or had before, without an event of the run, which wasn't stopped, or with such a one, which for a run that was
+-- stopped is its return; the run is off the roll, and its worker is back
 pub record IsGivenBack {K W B : Type 0} (store : K → Store) (event : TableState K → TableState K → Type 0) (kind_of : B → Kind)
     (ticket : TicketState) (seat : Seat B) (old new : BookState K W B) : Type 0 where
-  pub how : StopsAfter store event old new
-  pub late : IsLateIfStopped store ticket old new
+  pub how : (HasStopped store old new × WasNotStopped ticket old) ⊎ (IsSome new.status × IsMade event old new)
   pub out : WasOut old.table.state old.table.roll ticket
   pub roll : new.table.roll ≡ without ticket.task.run old.table.roll
   pub places : new.places ≡ changed_at (made_back kind_of seat.worker) seat.number old.places

@@ -8,15 +8,14 @@ use Rattle.wm_texts.specs.Texts.{log_text}
 use Rattle.wm_machine.specs.Valid.{Valid}
 use Rattle.wm_machine.specs.declared.command.Command.{Command}
 use Rattle.wm_machine.specs.declared.state.Run.{Run}
-use Rattle.wm_roll.specs.Parts.{IsListed}
 use Rattle.wm_roll.specs.declared.part.Part.{Part}
 use Rattle.wm_seating.specs.Bench.{instance_traits, is_away, is_out_on, place_traits}
+use Rattle.wm_seating.specs.Seats.{ListsExactly}
 use Rattle.wm_session.specs.BookState.{BookState}
 use Rattle.wm_session.specs.Causes.{StopCause}
 use Rattle.wm_session.specs.Images.{StopImages}
 use Rattle.wm_table.specs.Images.{LeavesOnly}
 use Rattle.wm_table.specs.Inputs.{Inputs}
-use Rattle.wm_table.specs.Parts.{part_of, AreOut}
 use Rattle.wm_io.specs.Pending.{IsGivenBut}
 use Rattle.wm_session.specs.Pending.{pending_text}
 use Rattle.wm_session.specs.Tells.{Tells}
@@ -27,11 +26,6 @@ use Rattle.wm_session.specs.declared.book.Stop.{Stop}
 abbrev pub LinesInvariant : Option Stop → List Command → List Command → List Command → Type 0
 LinesInvariant None lines done left = lines ≡ done ++ left
 LinesInvariant (Some why) lines done left = HasPrefix lines done
-
--- the roll lists exactly these runs: each part is that of one, and the part of each is listed
-pub record ListsExactly (runs : List Run) (roll : List Part) : Type 0 where
-  pub of_runs : AreOut runs roll
-  pub each : AllByRecursion (λ run. IsListed roll (part_of run)) runs
 
 -- while a session goes on, the roll lists exactly the runs of the state
 abbrev pub RollInvariant : Option Stop → List Run → List Part → Type 0

@@ -208,7 +208,7 @@ fn turn_once<K: Keeper, W: Sink, B: Worker, M: Mark, G: Gate>(
     requires number { seat.number ≡ ticket.instance }
     requires kind { B.kind_of seat.worker ≡ ticket.kind }
     requires signal_is { signal.now ≡ record { run = ticket.task.run; never = true } }
-    ensures { IsTurned K.store B.kind_of B.diary_of ticket seat.worker result book.old book.new }
+    ensures { IsTurned B.kind_of B.diary_of ticket seat.worker result book.old book.new }
 {
     pass_turn(&ticket, gate);
     let told = turn(alloc, &mut seat, &ticket, signal);

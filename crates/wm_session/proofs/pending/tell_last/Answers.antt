@@ -1,10 +1,6 @@
 use Rattle.std.proofs.Common.{ℕ, Some, Err, subst, sym}
-use Rattle.std.proofs.lemmas.Option.{none-some}
-use Rattle.wm_io.specs.Writing.{WriteCause}
-use Rattle.wm_io.specs.declared.writing.WriteFault.{WriteFault}
+use Rattle.wm_session.proofs.Words.{TellCause, WriteCause, WriteFault, none-some, stop_by_fault}
 use Rattle.wm_io.specs.declared.writing.WriteFault.TheVariants as fault
-use Rattle.wm_session.specs.Causes.{stop_by_fault}
-use Rattle.wm_session.specs.Pending.{TellCause}
 use Rattle.wm_session.proofs.pending.tell_last.Goals as goal
 
 told_by : (why : WriteFault) (before now : ℕ) → WriteCause {T = Unit {0}} (Err why) before now → TellCause (Some (stop_by_fault why)) before now

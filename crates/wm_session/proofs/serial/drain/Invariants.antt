@@ -1,8 +1,5 @@
 use Rattle.std.proofs.Common.{◌≡◌, List}
-use Rattle.wm_machine.specs.Waiting.{left_to_drain}
-use Rattle.wm_bench.specs.declared.hand.Hand.{Hand}
-use Rattle.wm_machine.specs.declared.command.Command.{Command}
-use Rattle.wm_session.specs.BetweenRuns.{GoesInOrder, IsBetweenRuns, KeepBoxes}
+use Rattle.wm_session.proofs.Words.{Command, GoesInOrder, Hand, IsBetweenRuns, KeepBoxes, left_to_drain}
 use Rattle.wm_session.proofs.serial.drain.Given as goal
 
 -- the book is at rest again after each start

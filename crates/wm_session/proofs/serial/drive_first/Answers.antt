@@ -1,8 +1,10 @@
 use Rattle.std.proofs.Common.{refl}
-use Rattle.wm_session.proofs.BoxLemmas.{KeepBoxes-begun, KeepBoxes-silent}
-use Rattle.wm_session.proofs.SerialLemmas.{GoesInOrder-claimed, GoesInOrder-halted, IsBetweenRuns-failed, IsBetweenRuns-halted, IsUnderWay-begun, KeepBoxes-halted, left-halted, status-halted}
+use Rattle.wm_session.proofs.BookSteps.{Replay-step}
+use Rattle.wm_session.proofs.BoxLemmas.{KeepBoxes-begun, KeepBoxes-silent, KeepBoxes-stopped}
+use Rattle.wm_session.proofs.SerialLemmas.{GoesInOrder-claimed, IsBetweenRuns-halted, IsHalted-claim, IsUnderWay-begun, failed_none, rest_again}
 use Rattle.wm_table.specs.declared.table.Claim.TheVariants as claim
 use Rattle.wm_session.proofs.serial.drive_first.Goals as goal
+use Rattle.wm_machine.specs.declared.event.Event.TheVariants as event
 
 pub drive-requires-clause-under_way : goal.drive-requires-clause-under_way
 drive-requires-clause-under_way g c = IsUnderWay-begun c.requires c.in-Run.ensures
@@ -19,7 +21,13 @@ returns-in-Run-clause-boxes g c given keep =
     c.drive.ensures.boxes given (KeepBoxes-begun g.B.Worker.diary_of given c.requires c.in-Run.ensures keep)
 
 pub returns-in-Failed-clause-rest : goal.returns-in-Failed-clause-rest
-returns-in-Failed-clause-rest g c = IsBetweenRuns-failed c.requires c.in-Failed.ensures
+returns-in-Failed-clause-rest g c =
+    let failed = c.in-Failed.ensures in
+    let store = g.K.Keeper.store in
+    let old = c.args.book.now in
+    let new = c.claim_alone.new.self in
+    rest_again c.requires (Replay-step store (event.StartFailed failed.seq failed.cause) old.table new.table c.requires.replay failed.step)
+    (λ going. failed_none store old new c.requires failed.goes_on.before failed.seq failed.cause failed.step) failed.roll failed.places
 
 pub returns-in-Failed-clause-order : goal.returns-in-Failed-clause-order
 returns-in-Failed-clause-order g c =
@@ -34,19 +42,20 @@ returns-in-Failed-clause-boxes g c given =
     (λ going. failed.goes_on.before) (λ going number. refl) (λ number worker idle. rw failed.places at idle)
 
 pub returns-in-Stopped-clause-rest : goal.returns-in-Stopped-clause-rest
-returns-in-Stopped-clause-rest g c =
-    IsBetweenRuns-halted g.K.Keeper.store c.args.book.now c.claim_alone.new.self c.requires c.in-Stopped.ensures
+returns-in-Stopped-clause-rest g c = IsBetweenRuns-halted c.requires c.in-Stopped.ensures
 
 pub returns-in-Stopped-clause-left : goal.returns-in-Stopped-clause-left
-returns-in-Stopped-clause-left g c = left-halted g.K.Keeper.store c.args.book.now c.claim_alone.new.self c.in-Stopped.ensures
+returns-in-Stopped-clause-left g c = (IsHalted-claim c.requires c.in-Stopped.ensures).left
 
 pub returns-in-Stopped-clause-stopped : goal.returns-in-Stopped-clause-stopped
-returns-in-Stopped-clause-stopped g c is = status-halted g.K.Keeper.store c.args.book.now c.claim_alone.new.self c.in-Stopped.ensures
+returns-in-Stopped-clause-stopped g c is = (IsHalted-claim c.requires c.in-Stopped.ensures).status
 
 pub returns-in-Stopped-clause-order : goal.returns-in-Stopped-clause-order
-returns-in-Stopped-clause-order g c =
-    GoesInOrder-halted g.K.Keeper.store c.args.book.now c.claim_alone.new.self c.requires c.in-Stopped.ensures
+returns-in-Stopped-clause-order g c = (IsHalted-claim c.requires c.in-Stopped.ensures).order
 
 pub returns-in-Stopped-clause-boxes : goal.returns-in-Stopped-clause-boxes
 returns-in-Stopped-clause-boxes g c given =
-    KeepBoxes-halted g.K.Keeper.store c.args.book.now c.claim_alone.new.self g.B.Worker.diary_of given c.in-Stopped.ensures
+    let stopped = c.in-Stopped.ensures in
+    let halted = IsHalted-claim c.requires stopped in
+    KeepBoxes-stopped g.B.Worker.diary_of given c.args.book.now c.claim_alone.new.self halted.status halted.starts
+    (λ number worker idle. rw stopped.places at idle)

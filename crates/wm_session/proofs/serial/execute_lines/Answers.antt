@@ -1,13 +1,11 @@
 use Rattle.std.proofs.Common.{inl, inr, refl, sym, ◌∙◌, ap, subst}
-use Rattle.std.proofs.lemmas.Bool.{false≢true}
-use Rattle.wm_machine.specs.Serial.{drains_first}
-use Rattle.wm_session.proofs.BoxLemmas.{no_longer, KeepBoxes-silent}
-use Rattle.wm_session.proofs.NextLines.{drains-settles}
-use Rattle.wm_session.proofs.SerialLemmas.{GoesInOrder-line, GoesInOrder-ready, idle_at-line, IsBetweenRuns-front, IsBetweenRuns-line, IsReady-front, IsReady-quiet, KeepBoxes-front}
-use Rattle.wm_session.specs.Book.{IsFronted}
+use Rattle.wm_session.proofs.Words.{IsFronted, drains_first, false≢true}
+use Rattle.wm_session.proofs.BookEvents.{drains-settles}
+use Rattle.wm_session.proofs.BoxLemmas.{KeepBoxes-silent, no_longer}
+use Rattle.wm_session.proofs.SerialLemmas.{GoesInOrder-line, GoesInOrder-ready, IsBetweenRuns-front, IsBetweenRuns-line, IsReady-front, IsReady-quiet, KeepBoxes-front, idle_at-line}
+use Rattle.wm_session.proofs.serial.execute_lines.Goals.{else-drains_first, then-drains_first}
 use Rattle.wm_session.specs.declared.book.Front.TheVariants as front
 use Rattle.wm_session.proofs.serial.execute_lines.Goals as goal
-use Rattle.wm_session.proofs.serial.execute_lines.Goals.{then-drains_first, else-drains_first}
 
 pub lines-init : goal.lines-init
 lines-init g c =
@@ -32,7 +30,7 @@ lines-init g c =
     ]
 
 pub drain-requires-in-Moved : goal.drain-requires-in-Moved
-drain-requires-in-Moved g c = let moved = c.in-Moved.ensures in IsBetweenRuns-line c.lines.invariant.rest moved.goes_on.before moved.line
+drain-requires-in-Moved g c = let moved = c.in-Moved.ensures in IsBetweenRuns-line c.lines.invariant.rest moved.line
 
 pub lines-preserved : goal.lines-preserved
 lines-preserved g c =
@@ -45,7 +43,7 @@ lines-preserved g c =
       quiet = λ going drains. drained.quiet going;
       order = λ lines ready.
           IsReady-quiet lines new drained.quiet
-          (drained.order lines (GoesInOrder-line kept.rest lines moved.goes_on.before moved.line (kept.order lines ready)));
+          (drained.order lines (GoesInOrder-line kept.rest lines moved.line (kept.order lines ready)));
       boxes = λ given keep. drained.boxes given
           (KeepBoxes-silent g.B.Worker.diary_of given c.lines.book c.front_step.new.self kept.rest.replay moved.line.step
           (λ going. moved.goes_on.before) (λ going number. refl) (idle_at-line kept.rest moved.line) (kept.boxes given keep));
@@ -84,4 +82,4 @@ returns-in-Ended g c =
 pub unreachable-requires : goal.unreachable-requires
 unreachable-requires g c =
     let is = c.in-NotSettled.ensures in
-    absurd (is.why.not_yet (λ settles. c.lines.invariant.quiet is.going (drains-settles c.lines.book.left settles)))
+    absurd (is.why.1 (λ settles. c.lines.invariant.quiet is.going (drains-settles c.lines.book.left settles)))

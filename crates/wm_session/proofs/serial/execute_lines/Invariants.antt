@@ -1,9 +1,5 @@
 use Rattle.std.proofs.Common.{◌≡◌, true, List, None, length}
-use Rattle.wm_machine.specs.Quiet.{IsQuiet}
-use Rattle.wm_machine.specs.Serial.{drains_first}
-use Rattle.wm_bench.specs.declared.hand.Hand.{Hand}
-use Rattle.wm_machine.specs.declared.command.Command.{Command}
-use Rattle.wm_session.specs.BetweenRuns.{IsBetweenRuns, IsReady, KeepBoxes}
+use Rattle.wm_session.proofs.Words.{Command, Hand, IsBetweenRuns, IsQuiet, IsReady, KeepBoxes, drains_first}
 use Rattle.wm_session.proofs.serial.execute_lines.Given as goal
 
 -- the book is at rest before each line, which may come where the log was in order, and nothing is left to do where no line is left, or

@@ -1,12 +1,8 @@
 use Rattle.std.proofs.Common.{subst, sym}
-use Rattle.std.specs.List.{AllByRecursion}
-use Rattle.wm_bench.specs.Places.{idle_hands}
-use Rattle.wm_machine.specs.Outcome.{IsAskable}
-use Rattle.wm_machine.specs.Serial.{AreInOrder}
+use Rattle.wm_session.proofs.Words.{AllByRecursion, AreInOrder, HasTold, IsAskable, IsBoxAfter, idle_hands}
 use Rattle.wm_session.proofs.BoxLemmas.{AtPlace-weaker, KeepBoxes-begin}
 use Rattle.wm_session.proofs.HandLemmas.{AreHandsBack-all, EachBack-all}
 use Rattle.wm_session.proofs.SerialLemmas.{IsReady-begin, IsSerialRun-order}
-use Rattle.wm_session.specs.Boxes.{HasTold, IsBoxAfter}
 use Rattle.wm_session.proofs.serial.run_serial.Goals as goal
 
 pub returns-clause-end : goal.returns-clause-end

@@ -1,6 +1,5 @@
 use Rattle.std.proofs.Common.{◌≡◌, ◌-◌, true}
-use Rattle.wm_session.specs.BookState.{BookState}
-use Rattle.wm_session.specs.Drive.{IsDriven, IsUnderWay}
+use Rattle.wm_session.proofs.Words.{BookState, IsDriven, IsUnderWay}
 use Rattle.wm_session.proofs.serial.take_turns.Given as goal
 
 -- the run is under way, and what drives it to its end from here has driven it from the first turn on

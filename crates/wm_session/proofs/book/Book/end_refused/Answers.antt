@@ -1,13 +1,11 @@
 use Rattle.std.proofs.Common.{◌≡◌, None, ap, refl, subst, sym}
-use Rattle.wm_roll.specs.Parts.{without}
-use Rattle.wm_session.proofs.BookReports.{HasLeft-late, IsEvent-over, IsMade-over}
-use Rattle.wm_session.proofs.BookRolls.{away-out}
-use Rattle.wm_session.proofs.BookSteps.{BookInvariant-made}
-use Rattle.wm_session.proofs.BookStops.{stays_going, BookInvariant-memory, HasStopped-before, IsGivenBack-stopped, IsReported-late}
-use Rattle.wm_table.specs.Parts.{WasOut}
-use Rattle.wm_table.specs.Table.{IsReturned}
-use Rattle.wm_table.specs.TableState.{TableState, TicketState}
+use Rattle.wm_session.proofs.Words.{IsNoLine, IsReturned, IsUntouched-same, TableState, TicketState, WasOut, away-out, without}
+use Rattle.wm_session.proofs.BookReports.{HasLeft-late, IsEvent-over}
+use Rattle.wm_session.proofs.BookSteps.{BookInvariant-made, exact_now}
+use Rattle.wm_session.proofs.BookStops.{BookInvariant-refused, HasStopped-before, IsGivenBack-stopped, IsReported-late, stays_going}
 use Rattle.wm_session.proofs.book.Book.end_refused.Goals as goal
+use Rattle.wm_table.specs.declared.table.Trouble.TheVariants as trouble
+use Rattle.wm_session.specs.declared.book.Stop.TheVariants as why
 
 -- ---- the run was stopped
 
@@ -40,7 +38,12 @@ returns-in-Ok g c =
     late.out late.roll in
     rw (← c.self.view_is, c.over_told.ensures)
     (IsReported-late g.B.Worker.kind_of c.args.seat late.out late.roll c.give.ensures g.row.M.Denot _ c.tell_last-self-inside.result refl
-    (IsMade-over c.args.ticket (subst (λ book. book.status ≡ None) (sym c.self.view_is) c.requires.going) left refl) c.tell_last-self-inside.ensures.all)
+    (record {
+      before = subst (λ book. book.status ≡ None) (sym c.self.view_is) c.requires.going;
+      made = left.made;
+      left = refl;
+      no_more = left.no_more;
+    }) c.tell_last-self-inside.ensures.all)
 
 -- ---- it wasn't
 
@@ -51,7 +54,12 @@ was_out before now ticket back table_is ticket_is out =
     subst (WasOut before.state before.roll) ticket_is (subst (λ (t : TableState _). WasOut t.state t.roll back) table_is out)
 
 pub invariant_of-self-in-Err : goal.invariant_of-self-in-Err
-invariant_of-self-in-Err g c = BookInvariant-memory c.late.new.self c.self.invariant c.in-Err.ensures.same
+invariant_of-self-in-Err g c =
+    let store = g.K.Keeper.store in
+    let same = c.in-Err.ensures.same in
+    let going = subst (λ book. book.status ≡ None) (sym c.self.view_is) c.requires.going in
+    BookInvariant-refused c.late.new.self trouble.Memory why.Memory c.self.invariant going (IsUntouched-same store IsNoLine _ _ same)
+    (ap (λ (t : TableState _). (store t.keeper).faults) same) refl (rw same (exact_now _ going c.self.invariant.away))
 
 pub returns-in-Err : goal.returns-in-Err
 returns-in-Err g c =
@@ -59,7 +67,6 @@ returns-in-Err g c =
     let going = subst (λ book. book.status ≡ None) (sym c.self.view_is) c.requires.going in
     rw (← c.self.view_is, c.put_back.ensures.book)
     (IsGivenBack-stopped _ _ c.args.ticket c.in-Err.ticket c.args.seat _ _
-    (HasStopped-before _ _ _ same.same refl refl (stays_going _ _ going))
+    (HasStopped-before _ _ _ same.same refl refl (stays_going _ _ going)) (λ before stopped. same.goes_on stopped)
     (ap (λ (t : TicketState). t.task.run) same.same_ticket) (ap (λ (t : TableState _). without c.args.ticket.task.run t.roll) same.same) refl
-    (was_out c.self.inside.table c.late.new.self c.args.ticket c.in-Err.ticket same.same same.same_ticket c.put_back.ensures.out)
-    (λ before stopped. absurd (same.goes_on stopped)))
+    (was_out c.self.inside.table c.late.new.self c.args.ticket c.in-Err.ticket same.same same.same_ticket c.put_back.ensures.out))

@@ -1,11 +1,9 @@
-use Rattle.std.proofs.Common.{◌≡◌, None, ap, refl, subst, sym, ◌∙◌}
+use Rattle.std.proofs.Common.{◌≡◌, None, ap, refl, subst, sym, ◌∙◌, inr}
+use Rattle.wm_session.proofs.Words.{HasGoneOn-roll, TicketState, away-out, exact-given_again, taken_again, without}
+use Rattle.wm_session.proofs.BookReports.{HasLeft-by, IsEvent-over, IsEvent-turned, next_alike, no_more-turned}
+use Rattle.wm_session.proofs.BookSteps.{BookInvariant-made, HasCause-turn, exact_now}
+use Rattle.wm_session.proofs.BookStops.{BookInvariant-refused, IsGivenBack-stopped, IsReported-over, is_going, never_late, stays_going}
 use Rattle.wm_machine.specs.declared.event.Event.TheVariants as event
-use Rattle.wm_roll.specs.Parts.{without}
-use Rattle.wm_session.proofs.BookSteps.{HasCause-turn, exact_now, BookInvariant-made}
-use Rattle.wm_session.proofs.BookReports.{exact-given_again, next_alike, HasLeft-by, IsEvent-over, IsEvent-turned, IsGivenBack-cut, IsMade-over, IsTurnTold-made}
-use Rattle.wm_session.proofs.BookRolls.{away-out, taken_again}
-use Rattle.wm_session.proofs.BookStops.{is_going, never_late, stays_going, BookInvariant-refused, IsGivenBack-stopped, IsReported-over}
-use Rattle.wm_table.specs.TableState.{TicketState}
 use Rattle.wm_session.proofs.book.Book.end_turn.Goals as goal
 
 -- ---- the run goes on
@@ -32,18 +30,50 @@ put_back-requires g c =
 
 pub returns-else-is_some : goal.returns-else-is_some
 returns-else-is_some g c =
+    let i = c.self.inside in
     let on = c.in-Go.ensures in
+    let ticket = c.args.ticket in
     let goes = is_going c.tell_last-self-inside.result c.if-is_some.ensures in
-    rw (← c.self.view_is)
-    (IsTurnTold-made c.args.ticket c.in-Go.next c.args.seat c.args.told c.self.invariant
-    (subst (λ book. book.status ≡ None) (sym c.self.view_is) c.requires.going) on.answer on.out on.roll refl refl goes (c.tell_last-self-inside.ensures.all goes))
+    let alike = next_alike g.K.Keeper.store i.table c.turn.new.self ticket c.in-Go.next c.args.told on.out.stands on.answer in
+    rw (← c.self.view_is) (record {
+      goes_on = record {
+        before = subst (λ book. book.status ≡ None) (sym c.self.view_is) c.requires.going;
+        now = goes;
+        written = c.tell_last-self-inside.ensures.all goes;
+      };
+      turn = on.answer;
+      instance = alike.0;
+      kind = alike.1;
+      seat_is = refl;
+      out = on.out;
+      roll = on.roll;
+      places = refl;
+      left = refl;
+      no_more = no_more-turned g.K.Keeper.store ticket c.in-Go.next c.args.told i.table c.turn.new.self c.self.invariant.valid on.answer;
+    })
 
 pub returns-then-is_some : goal.returns-then-is_some
 returns-then-is_some g c =
+    let i = c.self.inside in
     let on = c.in-Go.ensures in
-    rw (← c.self.view_is, c.put_back.ensures.book)
-    (IsGivenBack-cut c.args.ticket c.in-Go.next c.args.seat c.args.told c.self.invariant
-    (subst (λ book. book.status ≡ None) (sym c.self.view_is) c.requires.going) on.answer on.out on.roll refl refl (sym c.if-is_some.ensures))
+    let ticket = c.args.ticket in
+    let next = c.in-Go.next in
+    let now = c.turn.new.self in
+    let store = g.K.Keeper.store in
+    rw (← c.self.view_is, c.put_back.ensures.book) (record {
+      how = inr (
+        sym c.if-is_some.ensures,
+        record {
+          before = subst (λ book. book.status ≡ None) (sym c.self.view_is) c.requires.going;
+          made = inr (next, HasGoneOn-roll store ticket next c.args.told i.table now (without next.task.run now.roll) on.answer);
+          left = refl;
+          no_more = no_more-turned store ticket next c.args.told i.table now c.self.invariant.valid on.answer;
+        },
+      );
+      out = on.out;
+      roll = (λ j. without (on.answer.same_run j) (on.roll j)) ∙ taken_again ticket i.table.roll;
+      places = refl;
+    })
 
 -- ---- the run is over
 
@@ -74,7 +104,12 @@ returns-in-Finished g c =
     (record { answer_is = c.turn.ensures.answer; out = c.turn.ensures.out; roll = c.turn.ensures.roll; cause = c.turn.ensures.cause }) in
     rw (← c.self.view_is, c.over_told.ensures)
     (IsReported-over g.B.Worker.kind_of c.args.seat left.out left.roll c.give.ensures g.row.M.Denot c.args.told c.tell_last-self-inside-in-Finished.result refl
-    (IsMade-over c.args.ticket (subst (λ book. book.status ≡ None) (sym c.self.view_is) c.requires.going) left refl) c.tell_last-self-inside-in-Finished.ensures.all)
+    (record {
+      before = subst (λ book. book.status ≡ None) (sym c.self.view_is) c.requires.going;
+      made = left.made;
+      left = refl;
+      no_more = left.no_more;
+    }) c.tell_last-self-inside-in-Finished.ensures.all)
 
 -- ---- the table had trouble
 
@@ -106,6 +141,6 @@ returns-in-Refused g c =
     let going = subst (λ book. book.status ≡ None) (sym c.self.view_is) c.requires.going in
     rw (← c.self.view_is, c.put_back-in-Refused.ensures.book)
     (IsGivenBack-stopped _ _ ticket refused.ticket c.args.seat _ _
-    (record { status = refl; stays = stays_going _ _ going; table = answer.untouched; left = refl })
+    (record { status = refl; stays = stays_going _ _ going; table = answer.untouched; left = refl }) (λ before. never_late ticket c.args.told i.table.state answer.counts)
     (ap (λ (t : TicketState). t.task.run) answer.same_ticket) (ap (without ticket.task.run) refused.ensures.roll ∙ taken_again ticket i.table.roll) refl
-    refused.ensures.out (never_late _ ticket c.args.told _ _ answer.counts))
+    refused.ensures.out)

@@ -1,8 +1,7 @@
 use Rattle.std.proofs.Common.{◌≡◌, [], None, refl, sym, subst}
+use Rattle.wm_session.proofs.Words.{StopCause, pending_text}
 use Rattle.wm_session.proofs.BookEnds.{HasCommands-kept, IsSessionStatus-ends, IsTextWritten-kept, keeper_fault-ends, sink_fault-ends}
 use Rattle.wm_session.proofs.BookImages.{images-ended}
-use Rattle.wm_session.specs.Causes.{StopCause}
-use Rattle.wm_session.specs.Pending.{pending_text}
 use Rattle.wm_session.proofs.book.Book.finish.Goals as goal
 
 pub returns-clause-session : goal.returns-clause-session

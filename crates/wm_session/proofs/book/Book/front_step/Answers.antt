@@ -1,11 +1,9 @@
-use Rattle.std.proofs.Common.{◌≡◌, ◌≢◌, ◌+◌, [], ◌∷◌, rules, sym, subst, refl}
-use Rattle.std.specs.List.{AllByRecursion}
+use Rattle.std.proofs.Common.{◌≡◌, ◌≢◌, ◌+◌, [], ◌∷◌, rules, sym, subst, refl, ◌∙◌, length, inl, ap}
+use Rattle.wm_session.proofs.Words.{AllByRecursion, AreNumberedFrom-push, IsAskable, IsLine, IsNextLine, IsUntouched-as, MayCome, SettlesNext, add_comm, commands_of}
 use Rattle.wm_machine.proofs.Commands.{legal_line-asked}
-use Rattle.wm_machine.specs.Outcome.{IsAskable}
+use Rattle.wm_session.proofs.BookSteps.{BookInvariant-made, HasCause-trouble}
+use Rattle.wm_session.proofs.BookStops.{BookInvariant-line_refused, IsFronted-told, stays_going}
 use Rattle.wm_machine.specs.declared.event.Event.TheVariants as event
-use Rattle.wm_session.specs.Book.{MayCome, SettlesNext}
-use Rattle.wm_session.proofs.BookSteps.{IsEvent-line, HasCause-trouble, BookInvariant-made}
-use Rattle.wm_session.proofs.BookStops.{BookInvariant-line_refused, IsFronted-told, IsFrontStopped-refused}
 use Rattle.wm_session.proofs.book.Book.front_step.Goals as goal
 
 -- the next line is legal: where it settles there is nothing left to do
@@ -22,8 +20,18 @@ execute-requires g c =
 pub invariant_of-self-2 : goal.invariant_of-self-2
 invariant_of-self-2 g c =
     let done = c.in_default-execute.ensures in
-    BookInvariant-made (event.Command (c.self.inside.line + 1) c.in-Some.command done.ok.0) c.self.invariant
-    (IsEvent-line c.in-Some.command done.ok.0 c.self.invariant (search rules) done.ok.1 c.in-Some.ensures.items refl done.cause done.places done.roll)
+    let i = c.self.inside in
+    let kept = c.self.invariant in
+    BookInvariant-made (event.Command (i.line + 1) c.in-Some.command done.ok.0) kept (record {
+      going = search rules;
+      step = done.ok.1;
+      left = c.in-Some.ensures.items;
+      line = refl;
+      numbered = AreNumberedFrom-push 1 i.table.log (i.line + 1) c.in-Some.command done.ok.0 kept.numbered (ap (λ n. n + 1) kept.line ∙ add_comm (length (commands_of i.table.log)) 1);
+      placed = done.places;
+      rolled = done.roll;
+      no_fault = done.cause;
+    })
     c.tell_last-self-inside.ensures
 
 pub returns : goal.returns
@@ -33,7 +41,8 @@ returns g c =
     let may : left ≢ [] → MayCome left c.self.inside.table.state = search rules in
     let items : left ≡ c.in-Some.command ∷ c.pop_front.new.self.items = c.in-Some.ensures.items in
     rw (← c.self.view_is, c.front_told.ensures)
-    (IsFronted-told c.tell_last-self-inside.result refl (search rules) (may (λ none. absurd cc)) (record {
+    (IsFronted-told c.tell_last-self-inside.result refl (may (λ none. absurd cc)) (record {
+      before = search rules;
       command = c.in-Some.command;
       reply = done.ok.0;
       next = c.in-Some.ensures.items;
@@ -58,8 +67,13 @@ pub returns-in-Err : goal.returns-in-Err
 returns-in-Err g c =
     let i = c.self.inside in
     let refused = c.in-Err.ensures in
-    rw (← c.self.view_is)
-    (IsFrontStopped-refused g.K.Keeper.store g.B.Worker.kind_of
-    (record { table = i.table; places = i.bench; left = i.left.items; line = i.line; pending = i.pending; sink = i.sink; status = i.status })
-    c.execute.new.table c.execute.new.bench c.pop_front.new.self.items c.in-Some.command c.from.result (search rules) c.in-Some.ensures.items refused.err
-    refused.places_err refused.roll)
+    rw (← c.self.view_is) (record {
+      status = refl;
+      stays = stays_going _ _ (search rules);
+      how = inl (record {
+        table = IsUntouched-as g.K.Keeper.store (IsLine (i.line + 1) c.in-Some.command) (IsNextLine i.line i.left.items) i.table c.execute.new.table
+            (λ e is. subst (λ lines. IsNextLine i.line lines e) (sym c.in-Some.ensures.items) is) refused.err;
+        places = refused.places_err;
+        roll = refused.roll;
+      });
+    })

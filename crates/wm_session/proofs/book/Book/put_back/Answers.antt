@@ -1,4 +1,4 @@
-use Rattle.wm_session.proofs.BookRolls.{away-out}
+use Rattle.wm_seating.proofs.Seats.{away-out}
 use Rattle.wm_session.proofs.BookStops.{BookInvariant-put_back}
 use Rattle.wm_session.proofs.book.Book.put_back.Goals as goal
 

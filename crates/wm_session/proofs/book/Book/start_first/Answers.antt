@@ -1,13 +1,12 @@
-use Rattle.std.proofs.Common.{◌≡◌, ℕ, Option, None, refl, sym, ap, subst, ◌∙◌}
-use Rattle.wm_machine.specs.declared.event.Event.TheVariants as event
-use Rattle.wm_session.proofs.BookClaims.{claimed_idle, start_of, started_kind, IsBegun-told, IsClaimed-failed, IsClaimStopped-back, IsEvent-failed, IsStarted, IsStarted-by, IsTaken-at}
-use Rattle.wm_session.proofs.BookSteps.{HasCause-trouble, exact_now, BookInvariant-made}
-use Rattle.wm_session.proofs.BookStops.{is_going, BookInvariant-refused}
-use Rattle.wm_table.specs.declared.table.Claim.{Claim}
-use Rattle.wm_session.specs.BookState.{BookState}
-use Rattle.wm_session.specs.Tells.{tells_of}
-use Rattle.wm_session.proofs.book.Book.start_first.Goals as goal
+use Rattle.std.proofs.Common.{◌≡◌, ℕ, Option, None, refl, sym, ap, subst, ◌∙◌, ◌++◌, ◌∷◌, []}
+use Rattle.wm_session.proofs.Words.{BookState, Claim, IsTaken-at, IsTicketIn, State, TicketState, after, run_numbered, tells_of, ticket_part}
+use Rattle.wm_session.proofs.BookClaims.{IsClaimStopped-back, IsClaimed-failed, IsStarted, claimed_idle, fewer_after, start_of, started_kind}
+use Rattle.wm_session.proofs.BookSteps.{BookInvariant-made, HasCause-trouble, IsEvent-silent, exact_now}
+use Rattle.wm_session.proofs.BookStops.{BookInvariant-refused, is_going}
+use Rattle.wm_session.proofs.BoxLemmas.{IsSomeAnd-weaker}
 use Rattle.wm_session.proofs.book.Book.start_first.Goals.{After-tell_last-self-inside}
+use Rattle.wm_machine.specs.declared.event.Event.TheVariants as event
+use Rattle.wm_session.proofs.book.Book.start_first.Goals as goal
 
 pub unreachable-requires : goal.unreachable-requires
 unreachable-requires g c =
@@ -28,12 +27,22 @@ begun : (g : _) (c : After-tell_last-self-inside g) →
     (record old { table = c.claim.new.self; places = c.take.new.self; pending = told.new.pending; sink = told.new.sink; status = told.result })
 begun g c =
     let ticket = c.in-Run.ticket in
+    let start = start_of ticket in
+    let s = c.self.inside.table.state in
     let run = rw (c.in-Ok-Some.field-0-is, c.in-Run.is) at c.in-Ok-Some.ensures.ok in
     let roll = rw (c.in-Ok-Some.field-0-is, c.in-Run.is) at c.in-Ok-Some.ensures.roll in
     let taken = IsTaken-at ticket c.instance.result c.in-Some.seat c.instance.ensures c.in-Some.ensures.seat c.in-Some.ensures.taken in
-    let told = c.tell_last-self-inside in
-    IsStarted-by ticket c.in-Some.seat c.claim.new.self c.take.new.self told.new.pending told.new.sink told.result c.self.invariant
-    (subst (λ book. book.status ≡ None) (sym c.self.view_is) c.requires.going) run.step run.ticket_in roll taken c.in-Ok-Some.ensures.cause
+    let there : IsTicketIn (after s start) ticket = subst (λ (t : State). IsTicketIn t ticket) run.step.state run.ticket_in in
+    record {
+      made = IsEvent-silent start c.self.invariant (subst (λ book. book.status ≡ None) (sym c.self.view_is) c.requires.going) run.step refl refl refl
+          c.in-Ok-Some.ensures.cause (c.in-Some.seat.worker, taken.worker, taken.places_are)
+          (IsSomeAnd-weaker (run_numbered ticket.task.run (after s start).runs)
+          (λ run is. roll ∙ ap (λ (t : TicketState). c.self.inside.table.roll ++ ticket_part t ∷ []) is) there);
+      ticket_in = run.ticket_in;
+      roll = roll;
+      taken = taken;
+      left = refl;
+    }
 
 pub invariant_of-self-then-is_some : goal.invariant_of-self-then-is_some
 invariant_of-self-then-is_some g c =
@@ -68,8 +77,19 @@ returns-else-is_some g c =
     ap (λ book. book.table.state.next_run) (sym c.self.view_is) ∙ sym started.made.step.legal.run_is in
     let signal_is = ap (λ (n : ℕ). record { run = n; never = c.args.signal.never }) (c.requires.signal ∙ next) in
     let goes = is_going c.tell_last-self-inside.result c.if-is_some.ensures in
-    rw (← c.self.view_is)
-    (IsBegun-told c.args.signal.never ticket c.in-Some.seat c.args.signal c.self.invariant started signal_is goes (c.tell_last-self-inside.ensures.all goes))
+    rw (← c.self.view_is) (record {
+      goes_on = record { before = started.made.going; now = goes; written = c.tell_last-self-inside.ensures.all goes };
+      step = started.made.step;
+      ticket_in = started.ticket_in;
+      roll = started.roll;
+      number = started.taken.number;
+      kind = started_kind ticket c.in-Some.seat c.self.invariant started;
+      worker = started.taken.worker;
+      places = started.taken.places_are;
+      signal_is = signal_is;
+      left = refl;
+      fewer = fewer_after ticket c.in-Some.seat c.self.invariant started;
+    })
 
 -- ---- a work couldn't start
 
@@ -79,8 +99,8 @@ invariant_of-self-in-Failed g c =
     let step = rw (c.in-Ok-Some.field-0-is, failed.is) at c.in-Ok-Some.ensures.ok in
     let roll = rw (c.in-Ok-Some.field-0-is, failed.is) at c.in-Ok-Some.ensures.roll in
     BookInvariant-made (event.StartFailed failed.seq failed.cause) c.self.invariant
-    (IsEvent-failed failed.seq failed.cause c.self.invariant (subst (λ book. book.status ≡ None) (sym c.self.view_is) c.requires.going) step roll refl refl
-    refl c.in-Ok-Some.ensures.cause) c.tell_last-self-inside-in-Failed.ensures
+    (IsEvent-silent (event.StartFailed failed.seq failed.cause) c.self.invariant
+    (subst (λ book. book.status ≡ None) (sym c.self.view_is) c.requires.going) step refl refl refl c.in-Ok-Some.ensures.cause refl roll) c.tell_last-self-inside-in-Failed.ensures
 
 pub returns-in-Failed : goal.returns-in-Failed
 returns-in-Failed g c =
@@ -89,8 +109,8 @@ returns-in-Failed g c =
     let roll = rw (c.in-Ok-Some.field-0-is, failed.is) at c.in-Ok-Some.ensures.roll in
     rw (← c.self.view_is, c.failed_told.ensures)
     (IsClaimed-failed g.row.M.Denot c.args.signal.never failed.seq failed.cause c.tell_last-self-inside-in-Failed.result refl c.self.invariant
-    (IsEvent-failed failed.seq failed.cause c.self.invariant (subst (λ book. book.status ≡ None) (sym c.self.view_is) c.requires.going) step roll refl refl
-    refl c.in-Ok-Some.ensures.cause) refl c.tell_last-self-inside-in-Failed.ensures.all)
+    (IsEvent-silent (event.StartFailed failed.seq failed.cause) c.self.invariant
+    (subst (λ book. book.status ≡ None) (sym c.self.view_is) c.requires.going) step refl refl refl c.in-Ok-Some.ensures.cause refl roll) refl c.tell_last-self-inside-in-Failed.ensures.all)
 
 -- ---- the table had trouble
 

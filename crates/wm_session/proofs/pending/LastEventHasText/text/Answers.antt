@@ -1,11 +1,5 @@
 use Rattle.std.proofs.Common.{◌≡◌, List, [], ◌∷◌, None, refl, sym, ◌∙◌}
-use Rattle.std.proofs.lemmas.Option.{none-some}
-use Rattle.wm_collections.specs.Lists.{last_of}
-use Rattle.wm_machine.specs.Step.{after}
-use Rattle.wm_machine.specs.declared.event.Event.{Event}
-use Rattle.wm_machine.specs.declared.state.State.{State}
-use Rattle.wm_texts.proofs.LogTexts.{last_text-is}
-use Rattle.wm_texts.specs.Texts.{last_text}
+use Rattle.wm_session.proofs.Words.{Event, State, after, last_of, last_text, last_text-is, none-some}
 use Rattle.wm_session.proofs.pending.LastEventHasText.text.Goals as goal
 
 -- without an event there is no text

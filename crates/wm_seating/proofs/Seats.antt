@@ -1,4 +1,4 @@
--- The roll and the places of a book beside its runs: who is out, and what an event makes of them by its role.
+-- The roll and the places beside the runs of a state: who is out, and what an event makes of them by its role.
 use Rattle.std.proofs.Common.{◌≡◌, ◌≢◌, ℕ, zero, suc, ◌+◌, ◌<◌, ◌≤◌, Bool, true, false, cond, not, eqb, List, [], ◌∷◌, ◌++◌, map, Option, Some, None, IsSomeAnd, refl, sym, ◌∙◌, ap, subst, inl, inr, arith}
 use Rattle.std.proofs.lemmas.Bool.{cases_Bool, eq-eqb, eqb-true, ne_eqb, true≢false}
 use Rattle.std.specs.List.{list_any, AllByRecursion}
@@ -11,6 +11,7 @@ use Rattle.wm_collections.specs.Lists.{HasOne}
 use Rattle.wm_machine.proofs.Runnings.{found_or_apart, found_valid, IsFoundOrApart}
 use Rattle.wm_machine.proofs.Turns.{turned_at, turned_both}
 use Rattle.wm_machine.specs.Frame.{Frame, instances_after, IsFramed}
+use Rattle.wm_machine.specs.Role.{Role}
 use Rattle.wm_machine.specs.Runs.{other_runs, run_numbered, with_out}
 use Rattle.wm_machine.specs.Valid.{AreNumberedInOrder, IsInstanceOf, Valid}
 use Rattle.wm_machine.specs.declared.state.Instance.{Instance}
@@ -20,17 +21,16 @@ use Rattle.wm_roll.proofs.Strikings.{listed-without}
 use Rattle.wm_roll.specs.Parts.{is_of, without, IsListed}
 use Rattle.wm_roll.specs.declared.part.Part.{Part}
 use Rattle.wm_runs.proofs.RunLookups.{found-numbered, run_numbered-push}
-use Rattle.wm_seating.proofs.PlacesAndInstances.{away-changed, here-back, run-from, traits-back, away-taken, traits-given, traits-taken, traits-with_out}
+use Rattle.wm_seating.proofs.PlacesAndInstances.{away-changed, here-back, run-from, traits-back, away-taken, traits-given, traits-taken, traits-with_out, kind-of_run}
+use Rattle.wm_seating.proofs.RetiredPlaces.{away-after, workers-after}
 use Rattle.wm_seating.specs.Bench.{instance_traits, is_away, is_out_on, kind_at, place_traits, Traits, places_after}
-use Rattle.wm_session.specs.Invariant.{ListsExactly}
+use Rattle.wm_seating.specs.Seats.{ListsExactly}
 use Rattle.wm_table.proofs.Parts.{none-without, part-same, out-framed}
-use Rattle.wm_table.specs.Parts.{part_of, ticket_part, IsItOrApart, WasOut, AreOut}
+use Rattle.wm_table.specs.Parts.{part_of, ticket_part, IsItOrApart, WasOut, AreOut, Stands}
 use Rattle.wm_table.specs.Rolls.{given_again}
-use Rattle.wm_table.specs.TableState.{TicketState}
+use Rattle.wm_table.specs.TableState.{TicketState, ticket_of}
 use Rattle.wm_worker.specs.declared.kind.Kind.{Kind}
 use Rattle.wm_machine.specs.Role as role
-use Rattle.wm_machine.specs.Role.{Role}
-use Rattle.wm_seating.proofs.RetiredPlaces.{away-after, workers-after}
 
 -- ---- who is out
 
@@ -392,3 +392,58 @@ module _ {B : Type 0} (kind_of : B → Kind) (s : State) (f : Frame) (places now
   seated-by (role.Ends number reported) is placed =
       seated-back number is.run is.is_running (ap (λ (f : Frame). f.instances) is.frame_is) placed
   seated-by (role.Returns number) is placed = seated-back number is.run is.is_running (ap (λ (f : Frame). f.instances) is.frame_is) placed
+
+-- ---- a run that is over
+
+-- an event of this role is the end of the run of this number
+abbrev pub IsEndOf : ℕ → Role → Type 0
+IsEndOf number (role.Ends run reported) = run ≡ number
+IsEndOf number (role.Returns run) = run ≡ number
+IsEndOf number _ = ⊥
+
+-- its worker is back, and its part off the roll
+pub placed-end : {B : Type 0} (kind_of : B → Kind) (number : ℕ) (r : Role) (s : State) (places now : List (Place B)) → IsEndOf number r
+    → IsBackOf kind_of number s places now → ArePlacedBy kind_of r s places now
+placed-end kind_of number (role.Ends run reported) s places now ends back = subst (λ n. IsBackOf kind_of n s places now) (sym ends) back
+placed-end kind_of number (role.Returns run) s places now ends back = subst (λ n. IsBackOf kind_of n s places now) (sym ends) back
+placed-end kind_of number _ s places now ends back = absurd ends
+
+pub rolled-end : (number : ℕ) (r : Role) (s : State) (f : Frame) (roll now : List Part) → IsEndOf number r → now ≡ without number roll → IsRolledBy r s f roll now
+rolled-end number (role.Ends run reported) s f roll now ends off = off ∙ ap (λ n. without n roll) (sym ends)
+rolled-end number (role.Returns run) s f roll now ends off = off ∙ ap (λ n. without n roll) (sym ends)
+rolled-end number _ s f roll now ends off = absurd ends
+
+-- ---- a ticket
+
+-- the worker at the place of a ticket's instance is of the ticket's kind
+pub ticket_kind : {B : Type 0} (kind_of : B → Kind) (worker : B) (s : State) (ticket : TicketState) (found : Option Run) (places : List (Place B)) → Valid s
+    → map (place_traits kind_of) places ≡ map instance_traits s.instances → run_numbered ticket.task.run s.runs ≡ found
+    → IsSomeAnd found (λ run. ticket ≡ ticket_of run) → idle_at ticket.instance places ≡ Some worker → kind_of worker ≡ ticket.kind
+ticket_kind kind_of worker s ticket None places valid same is stands idle = absurd stands
+ticket_kind kind_of worker s ticket (Some run) places valid same is stands idle =
+    let here : run.instance ≡ 0 + ticket.instance = ap (λ (t : TicketState). t.instance) (sym stands) ∙ omega arith in
+    kind-of_run kind_of worker run ticket.instance 0 places s.instances valid.instances.numbered same
+    (found_valid s ticket.task.run run valid is).instance here idle
+    ∙ ap (λ (t : TicketState). t.kind) (sym stands)
+
+-- the part of a run that stands is its ticket's
+pub part_standing : (s : State) (ticket : TicketState) (run : Run) → run_numbered ticket.task.run s.runs ≡ Some run → Stands s ticket
+    → part_of run ≡ ticket_part ticket
+part_standing s ticket run found stands =
+    let number = found-numbered ticket.task.run s.runs run found in
+    let stood = subst (λ (o : Option Run). IsSomeAnd o (λ run. (run.instance ≡ ticket.instance) × (run.kind ≡ ticket.kind))) found stands in
+    λ i. record { run = number i; instance = stood.0 i; kind = stood.1 i }
+
+exact_by : (s : State) (roll : List Part) (ticket : TicketState) (found : Option Run) → Valid s → run_numbered ticket.task.run s.runs ≡ found
+    → IsSomeAnd found (λ run. (run.instance ≡ ticket.instance) × (run.kind ≡ ticket.kind)) → Stands s ticket → ListsExactly s.runs roll
+    → ListsExactly s.runs (given_again (ticket_part ticket) roll)
+exact_by s roll ticket None valid is some stands exact = absurd some
+exact_by s roll ticket (Some run) valid is some stands exact =
+    subst (λ (part : Part). ListsExactly s.runs (given_again part roll)) (part_standing s ticket run is stands)
+    (exact-again ticket.task.run run s roll valid is exact)
+
+-- the roll lists exactly the runs once a ticket's part was given again
+pub exact-given_again : (s : State) (roll : List Part) (ticket : TicketState) → Valid s → Stands s ticket → ListsExactly s.runs roll
+    → ListsExactly s.runs (given_again (ticket_part ticket) roll)
+exact-given_again s roll ticket valid stands exact =
+    exact_by s roll ticket (run_numbered ticket.task.run s.runs) valid refl stands stands exact
