@@ -29,7 +29,7 @@ use Rattle.wm_machine.specs.declared.state.State.{State}
 use Rattle.wm_steps.proofs.ManyRows.{after_change, replaced-all, KeepNodes}
 use Rattle.wm_steps.proofs.Nodes.{open_not_succeeded}
 use Rattle.wm_steps.proofs.ReachedNodes.{reached_any-test}
-use Rattle.wm_steps.proofs.Tests.{eqb-swap}
+use Rattle.wm_graph.proofs.Tests.{eq-swap}
 use Rattle.wm_steps.specs.Nodes.{nodes_of, reached_from}
 use Rattle.wm_steps.specs.Replacements.{MayReplace}
 use Rattle.wm_steps.specs.Replacements.{at_index, or_same, replacements}
@@ -285,7 +285,7 @@ without-stays [] works = sym (filter-all (stays []) works (λ work. refl))
 without-stays (number ∷ numbers) works =
     without-stays numbers (other_works number works) ∙ filter_both (λ work. not (eqb work.seq number)) (stays numbers) works
     ∙ filter-same (λ work. not (eqb work.seq number) && stays numbers work) (stays (number ∷ numbers)) works (All-any works
-    (λ work. ap (λ b. not b && stays numbers work) (eqb-swap work.seq number) ∙ not-or (eqb number work.seq) (is_among numbers work.seq)))
+    (λ work. ap (λ b. not b && stays numbers work) (eq-swap work.seq number) ∙ not-or (eqb number work.seq) (is_among numbers work.seq)))
 
 -- the records that take the place of others and the numbers of those that are removed make it so
 pub cleared-in_place : (clearing : Clearing) (works : List Record)

@@ -14,9 +14,10 @@ ghost use Rattle.wm_unique.specs.Plans.{numbered_passes, AreNumbersOf};
 
 use std::alloc::{AllocError, Global};
 use wm_collections::{Items, Replica, merged};
+use wm_graph::Numbers;
 use wm_lifecycle::closed;
 use wm_machine::{How, Phase, Record, Run};
-use wm_steps::{Numbers, Replacement, View};
+use wm_steps::{Replacement, View};
 
 /// Which records change where works are cancelled and others are let go, by their numbers.
 #[derive(Drop)]

@@ -14,10 +14,11 @@ use std::alloc::{AllocError, Global};
 use uuid::Uuid;
 use wm_collections::{Items, Replica, Text};
 use wm_data::Data;
+use wm_graph::Numbers;
 use wm_lifecycle::next_moment;
 use wm_machine::{How, Phase, Record};
 use wm_request::{Node, Request};
-use wm_steps::{Numbers, View};
+use wm_steps::View;
 
 /// The records of new works, for which there are numbers, once the records are cleared. Under a name
 /// each that names no other comes after the works of these numbers.

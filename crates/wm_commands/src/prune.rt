@@ -9,9 +9,10 @@ ghost use Rattle.wm_steps.specs.Nodes.{is_there};
 use crate::clearing::is_needed_then;
 use std::alloc::{AllocError, Global};
 use wm_collections::{Items, both};
+use wm_graph::Numbers;
 use wm_machine::{Command, Record, Reply};
 use wm_settings::event_of;
-use wm_steps::{Numbers, StepChange, View};
+use wm_steps::{StepChange, View};
 
 /// What a prune comes to.
 pub fn execute(alloc: Global, view: &View, line: u32, force: bool) -> Result<StepChange, AllocError>

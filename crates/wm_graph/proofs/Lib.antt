@@ -9,6 +9,7 @@ pub mod Frees
 pub mod Graphs
 pub mod Joined
 pub mod Leaves
+pub mod ListedNumbers
 pub mod Lowered
 pub mod Placed
 pub mod Reaches

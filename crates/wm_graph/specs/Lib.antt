@@ -6,3 +6,4 @@ pub mod Kept
 pub mod Leaves
 pub mod Marks
 pub mod Nodes
+pub mod Numbers

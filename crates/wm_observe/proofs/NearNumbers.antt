@@ -21,7 +21,8 @@ use Rattle.wm_observe.specs.Compared.{may_differ}
 use Rattle.wm_observe.specs.Near.{is_near, is_near_any, is_near_replaced, HaveDiffering, IsWith}
 use Rattle.wm_steps.proofs.Lookups.{stored-at}
 use Rattle.wm_steps.proofs.ReplacedRecords.{keeps_number, told_keep, KeepsNumber}
-use Rattle.wm_steps.proofs.Tests.{among-kept, any-or, any-swap, eqb-swap}
+use Rattle.wm_graph.proofs.Tests.{eq-swap}
+use Rattle.wm_steps.proofs.Tests.{among-kept, any-or, any-swap}
 use Rattle.wm_steps.specs.Nodes.{is_there, node_of, nodes_of}
 use Rattle.wm_steps.specs.StepChanges.{seqs_of, Fits}
 use Rattle.wm_steps.specs.Touched.{touches}
@@ -146,7 +147,7 @@ among-turned : (touched prior : List ℕ) → list_any (λ one. is_among prior o
 among-turned touched prior =
     any-swap (λ one number. eqb number one) touched prior
     ∙ list_any-agree (λ number. list_any (λ one. eqb number one) touched) (is_among touched) prior
-    (All-any prior (λ number. list_any-agree (λ one. eqb number one) (λ one. eqb one number) touched (All-any touched (λ one. eqb-swap number one))))
+    (All-any prior (λ number. list_any-agree (λ one. eqb number one) (λ one. eqb one number) touched (All-any touched (λ one. eq-swap number one))))
 
 near-any : (works : List Record) (touched : List ℕ) (work : Record) → IsAskedAlone works work → AllByRecursion (λ one. is_there works one ≡ true) touched
     → is_near_any works touched work.seq ≡ (is_among touched work.seq || list_any (is_among touched) work.prior)

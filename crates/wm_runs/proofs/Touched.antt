@@ -18,8 +18,8 @@ use Rattle.wm_steps.specs.Replacements.{by_numbers, replacement_of}
 use Rattle.wm_runs.specs.Reached.{change_by, numbers_of, others, reached_by, replaced_by}
 use Rattle.wm_runs.specs.declared.reach.Reach.{Reach}
 use Rattle.wm_runs.specs.declared.reach.Reach.TheVariants as reach
-use Rattle.wm_steps.proofs.Tests.{eqb-swap}
-use Rattle.wm_steps.specs.Numbers.{RiseFrom}
+use Rattle.wm_graph.proofs.Tests.{eq-swap}
+use Rattle.wm_graph.specs.Numbers.{RiseFrom}
 use Rattle.wm_steps.specs.declared.change.Replacement.{Replacement}
 
 -- ---- the record of one number
@@ -86,7 +86,7 @@ changes-touched : (itself : Record) (to : Reach) (work : Record) → is_among (i
     → change_by itself to work ≡ None
 changes-touched itself to work none =
     let parts = or_parts (eqb itself.seq work.seq) (is_among (others itself.seq (numbers_of to)) work.seq) none in
-    let other : eqb work.seq itself.seq ≡ false = eqb-swap work.seq itself.seq ∙ parts.0 in
+    let other : eqb work.seq itself.seq ≡ false = eq-swap work.seq itself.seq ∙ parts.0 in
     rw other (unreached to work (sym (among-others itself.seq work.seq (numbers_of to) other) ∙ parts.1))
 
 pub touched-replaced : (itself : Record) (to : Reach) (works : List Record) → AllLater IsBefore works → RiseFrom itself.seq (numbers_of to)

@@ -14,7 +14,6 @@ pub mod IdNumbers
 pub mod IndexedEntries
 pub mod KeptRows
 pub mod LastMembers
-pub mod ListedNumbers
 pub mod Lookups
 pub mod ManyRows
 pub mod Marks

@@ -8,7 +8,7 @@ use Rattle.std.proofs.lemmas.List.Folds.{list_all-append, list_any-append}
 use Rattle.wm_collections.specs.Lists.{HasOne}
 use Rattle.wm_ready.specs.Entries.{has, is_same, Entry}
 use Rattle.wm_ready.specs.Puts.{IsPut}
-use Rattle.wm_steps.proofs.Tests.{eqb-swap}
+use Rattle.wm_graph.proofs.Tests.{eq-swap}
 use Rattle.wm_steps.specs.Readied.{ArePut, AreLeft, IsPutSome}
 
 -- ---- Bools
@@ -36,7 +36,7 @@ or-from true b e = refl
 or-from false b e = absurd cc
 
 pub same-swap : (one other : Entry) → is_same one other ≡ is_same other one
-same-swap one other = rw (eqb-swap one.due other.due, eqb-swap one.seq other.seq, eqb-swap one.sig other.sig, eqb-swap one.class other.class) refl
+same-swap one other = rw (eq-swap one.due other.due, eq-swap one.seq other.seq, eq-swap one.sig other.sig, eq-swap one.class other.class) refl
 
 -- ---- one by one
 

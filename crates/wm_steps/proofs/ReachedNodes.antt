@@ -12,7 +12,8 @@ use Rattle.wm_graph.specs.Nodes.{NodeFields}
 use Rattle.wm_machine.specs.Closed.{descendants, is_open, is_reached}
 use Rattle.wm_machine.specs.declared.record.Record.{Record}
 use Rattle.wm_steps.proofs.Nodes.{there-each}
-use Rattle.wm_steps.proofs.Tests.{any-and, any-or, any-swap, any-under, eqb-swap, none-any}
+use Rattle.wm_graph.proofs.Tests.{any-and, eq-swap}
+use Rattle.wm_steps.proofs.Tests.{any-or, any-swap, any-under, none-any}
 use Rattle.wm_steps.specs.Nodes.{is_there, node_of, nodes_of, reached_from}
 
 -- ---- what any of several works reaches
@@ -38,7 +39,7 @@ any_descendant seqs (work ∷ earlier) number =
     let each = λ (seq : ℕ). descendants seq earlier in
     let joins = λ (seq : ℕ). eqb work.seq seq || list_any (is_among (each seq)) work.prior in
     let itself : list_any (λ seq. eqb work.seq seq) seqs ≡ is_among seqs work.seq =
-    list_any-agree (λ seq. eqb work.seq seq) (λ seq. eqb seq work.seq) seqs (All-any seqs (λ seq. eqb-swap work.seq seq)) in
+    list_any-agree (λ seq. eqb work.seq seq) (λ seq. eqb seq work.seq) seqs (All-any seqs (λ seq. eq-swap work.seq seq)) in
     let prior : list_any (λ seq. list_any (is_among (each seq)) work.prior) seqs ≡ list_any (is_among all) work.prior =
     any-swap (λ seq. is_among (each seq)) seqs work.prior ∙ list_any-agree (λ prior. list_any (λ seq. is_among (each seq) prior) seqs) (is_among all) work.prior
     (All-any work.prior (λ prior. sym (any_descendant seqs earlier prior))) in

@@ -15,7 +15,7 @@ use Rattle.wm_machine.specs.Valid.{Valid}
 use Rattle.wm_machine.specs.declared.record.Record.{Record}
 use Rattle.wm_machine.specs.declared.state.State.{State}
 use Rattle.wm_steps.proofs.ReplacedRecords.{keeps_number, next-above, seqs-replaced, still_keep, told_keep, All-seq, KeepsNumber, WorksAscend-replaced, WorksAscend-set}
-use Rattle.wm_steps.proofs.Tests.{eqb-swap}
+use Rattle.wm_graph.proofs.Tests.{eq-swap}
 use Rattle.wm_steps.specs.StepChanges.{changed_state, other_works, seqs_of, with_replaced, without, Fits}
 use Rattle.wm_steps.specs.declared.change.Replacement.{Replacement}
 use Rattle.wm_steps.specs.declared.change.StepChange.{StepChange}
@@ -114,7 +114,7 @@ others-stay : (number : ℕ) (numbers : List ℕ) (works : List Record)
 others-stay number numbers [] = refl
 others-stay number numbers (work ∷ works) =
     let rest = others-stay number numbers works in
-    let swap = eqb-swap number work.seq in
+    let swap = eq-swap number work.seq in
     elim (cases_Bool (eqb work.seq number)) [
       | inl e ↦ let here : eqb number work.seq ≡ true = swap ∙ e in rw (e, here) rest
       | inr e ↦

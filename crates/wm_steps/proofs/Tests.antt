@@ -5,25 +5,12 @@ use Rattle.std.proofs.lemmas.Bool.{and_right, cases_Bool, eq-eqb, eqb-false, eqb
 use Rattle.wm_collections.specs.Lists.{is_among}
 use Rattle.wm_collections.proofs.Lists.{All-any, list_any-agree, list_any-kept}
 
-pub eqb-swap : (m n : ℕ) → eqb m n ≡ eqb n m
-eqb-swap m n = elim (cases_Bool (eqb m n)) [
-  | inl e ↦ e ∙ sym (eq-eqb n m (sym (eqb-true m n e)))
-  | inr e ↦ e ∙ sym (ne_eqb n m (λ same. absurd (eqb-false m n e (sym same))))
-]
-
 or-swap : (a b c d : Bool) → ((a || b) || (c || d)) ≡ ((a || c) || (b || d))
 or-swap true b c d = refl
 or-swap false true true d = refl
 or-swap false true false d = refl
 or-swap false false true d = refl
 or-swap false false false d = refl
-
-and-over : (a b c : Bool) → ((a && c) || (b && c)) ≡ ((a || b) && c)
-and-over true true true = refl
-and-over true true false = refl
-and-over true false true = refl
-and-over true false false = refl
-and-over false b c = refl
 
 and-out : (a b c : Bool) → ((a && b) || (a && c)) ≡ (a && (b || c))
 and-out true b c = refl
@@ -35,10 +22,6 @@ any-or test other [] = refl
 any-or test other (x ∷ xs) = ap (λ b. (test x || other x) || b) (any-or test other xs) ∙ or-swap (test x) (other x) (list_any test xs) (list_any other xs)
 
 -- a test beside one that is the same for all
-pub any-and : {T : Type 0} (test : T → Bool) (b : Bool) (xs : List T) → list_any (λ x. test x && b) xs ≡ (list_any test xs && b)
-any-and test b [] = refl
-any-and test b (x ∷ xs) = ap (λ rest. (test x && b) || rest) (any-and test b xs) ∙ and-over (test x) (list_any test xs) b
-
 pub any-under : {T : Type 0} (test : T → Bool) (b : Bool) (xs : List T) → list_any (λ x. b && test x) xs ≡ (b && list_any test xs)
 any-under test b [] = sym (and_right b false refl)
 any-under test b (x ∷ xs) = ap (λ rest. (b && test x) || rest) (any-under test b xs) ∙ and-out b (test x) (list_any test xs)

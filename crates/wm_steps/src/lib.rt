@@ -10,12 +10,10 @@ pub mod covers;
 pub mod entries;
 pub mod follow;
 pub mod laws;
-pub mod numbers;
 pub mod readying;
 pub mod rooms;
 pub mod startable;
 pub mod view;
 
 pub use change::{Replacement, RunChange, SettingChange, StepChange};
-pub use numbers::{Numbers, is_listed};
 pub use view::View;

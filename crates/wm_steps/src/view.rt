@@ -16,20 +16,19 @@ ghost use Rattle.wm_machine.specs.declared.record.Record.{Record};
 ghost use Rattle.wm_machine.specs.Valid.{Valid};
 ghost use Rattle.wm_steps.specs.Covers.{AreLast, IsMark};
 ghost use Rattle.wm_steps.specs.Nodes.{nodes_of, reached_from, IsUnmarked};
-ghost use Rattle.wm_steps.specs.Numbers.{Ascend, RiseFrom};
+ghost use Rattle.wm_graph.specs.Numbers.{Ascend, RiseFrom};
 ghost use Rattle.wm_steps.specs.Readied.{IsFirstOf};
 ghost use Rattle.wm_steps.specs.Readiness.{is_ready_in};
 ghost use Rattle.wm_steps.specs.Wakes.{IsWakeOf};
 
 use crate::covers::Covers;
 use crate::entries::index_of;
-use crate::numbers::{Numbers, is_listed, numbers_from};
 use crate::startable::Startable;
 use std::alloc::{AllocError, Global};
 use std::marker::Model;
 use uuid::Uuid;
 use wm_collections::{Items, Text, at, both};
-use wm_graph::Graph;
+use wm_graph::{Graph, Numbers, is_listed, numbers_from};
 use wm_index::Index;
 use wm_machine::{
     Command, Policy, Record, Run, Shown, State, UniqueName, index_numbered, work_numbered,

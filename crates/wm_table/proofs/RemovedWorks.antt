@@ -6,7 +6,7 @@ use Rattle.wm_collections.specs.Lists.{is_among}
 use Rattle.wm_commands.proofs.Clearings.{without-stays}
 use Rattle.wm_commands.specs.Cleared.{stays}
 use Rattle.wm_machine.specs.declared.record.Record.{Record}
-use Rattle.wm_steps.proofs.ListedNumbers.{sorted-among}
+use Rattle.wm_graph.proofs.ListedNumbers.{sorted-among}
 use Rattle.wm_steps.specs.StepChanges.{without}
 
 -- in whichever order their numbers stand

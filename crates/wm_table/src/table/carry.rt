@@ -9,7 +9,7 @@ ghost use Rattle.wm_machine.specs.Limits.{FitsRow};
 ghost use Rattle.wm_machine.specs.Rows.{rows_of};
 ghost use Rattle.wm_machine.specs.Valid.{AreNumberedInOrder, IsRecord};
 ghost use Rattle.wm_steps.specs.Entries.{prepared_entries, AreEntriesOf, IsFollowable};
-ghost use Rattle.wm_steps.specs.Numbers.{Ascend};
+ghost use Rattle.wm_graph.specs.Numbers.{Ascend};
 ghost use Rattle.wm_steps.specs.Readied.{comes, ArePut, IsPutSome};
 ghost use Rattle.wm_steps.specs.StepChanges.{changed_state, instances_by, new_observers, next_run_by, observers_by, row_changes, runs_by, set_by, with_replaced, without, IsStepOf};
 ghost use Rattle.wm_machine.specs.declared.event.Event.TheVariants as event;
@@ -24,7 +24,7 @@ use crate::table::row_changes::row_changes;
 use std::alloc::{AllocError, Global};
 use std::mem;
 use wm_collections::{Items, Text};
-use wm_graph::Graph;
+use wm_graph::{Graph, is_listed};
 use wm_index::Index;
 use wm_keeper::{Change, Keeper};
 use wm_lifecycle::{remove_run, renew_run, retire_each, set_out, stop_runs, turn_run};
@@ -34,7 +34,7 @@ use wm_runs::returned;
 use wm_steps::entries::{prepare_entries, settle_entries, undo_entries};
 use wm_steps::follow::{add_nodes, change_nodes};
 use wm_steps::readying::{prepare_ready, settle_ready, undo_ready};
-use wm_steps::{Replacement, RunChange, SettingChange, StepChange, View, is_listed};
+use wm_steps::{Replacement, RunChange, SettingChange, StepChange, View};
 
 /// The lists that a step adds to, while their room counts.
 #[derive(Drop)]

@@ -2,7 +2,7 @@ use Rattle.std.proofs.Common.{◌≡◌, filter, take_all, sym, ◌∙◌, ap, s
 use Rattle.wm_commands.proofs.ClearedNumbers.{numbers-ascend, removed-numbered}
 use Rattle.wm_commands.specs.Cleared.{is_removable_then, is_removed, removed_by}
 use Rattle.wm_steps.proofs.Views.{reached-view}
-use Rattle.wm_steps.specs.Numbers.{Ascend}
+use Rattle.wm_graph.specs.Numbers.{Ascend}
 use Rattle.wm_unique.specs.Plans.{numbered_passes}
 use Rattle.wm_commands.proofs.clearing.removed_by.Goals as goal
 

@@ -3,7 +3,7 @@ use Rattle.wm_machine.specs.Ends.{ended}
 use Rattle.wm_runs.proofs.Reaching.{ended-same}
 use Rattle.wm_runs.proofs.Touched.{same-rise}
 use Rattle.wm_runs.specs.Reached.{numbers_of}
-use Rattle.wm_steps.specs.Numbers.{RiseFrom}
+use Rattle.wm_graph.specs.Numbers.{RiseFrom}
 use Rattle.wm_runs.proofs.finishing.replaced_by_end.Goals as goal
 
 pub replaced_by-requires : goal.replaced_by-requires

@@ -3,7 +3,7 @@ use Rattle.wm_machine.specs.Ends.{not_started}
 use Rattle.wm_runs.proofs.Reaching.{not_started-same}
 use Rattle.wm_runs.proofs.Touched.{same-rise}
 use Rattle.wm_runs.specs.Reached.{numbers_of}
-use Rattle.wm_steps.specs.Numbers.{RiseFrom}
+use Rattle.wm_graph.specs.Numbers.{RiseFrom}
 use Rattle.wm_runs.proofs.starting.replaced_by_no_start.Goals as goal
 
 pub replaced_by-requires : goal.replaced_by-requires

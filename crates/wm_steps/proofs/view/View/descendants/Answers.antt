@@ -1,10 +1,10 @@
 use Rattle.std.proofs.Common.{List, [], ◌∷◌, sym, ◌∙◌, ap, subst}
 use Rattle.wm_graph.specs.Nodes.{HasNode, NodeFields}
 use Rattle.wm_machine.specs.declared.state.State.{State}
-use Rattle.wm_steps.proofs.ListedNumbers.{rising-ascend}
+use Rattle.wm_graph.proofs.ListedNumbers.{rising-ascend}
 use Rattle.wm_steps.proofs.Rising.{descendants-rise}
 use Rattle.wm_steps.specs.Nodes.{nodes_of, reached_from}
-use Rattle.wm_steps.specs.Numbers.{Ascend, RiseFrom}
+use Rattle.wm_graph.specs.Numbers.{Ascend, RiseFrom}
 use Rattle.wm_steps.proofs.view.View.descendants.Goals as goal
 
 pub descendants-requires : goal.descendants-requires

@@ -1,8 +1,8 @@
 use Rattle.std.proofs.Common.{sym, ◌∙◌, ap, subst}
 use Rattle.wm_machine.specs.declared.state.State.{State}
-use Rattle.wm_steps.proofs.ListedNumbers.{rising-ascend}
+use Rattle.wm_graph.proofs.ListedNumbers.{rising-ascend}
 use Rattle.wm_steps.specs.Nodes.{nodes_of, reached_from}
-use Rattle.wm_steps.specs.Numbers.{Ascend}
+use Rattle.wm_graph.specs.Numbers.{Ascend}
 use Rattle.wm_steps.proofs.view.View.descendants_of.Goals as goal
 
 pub of-requires : goal.of-requires

@@ -1,5 +1,5 @@
 use Rattle.wm_steps.proofs.LastMembers.{last-ascend, leaves-among, leaves-past, mark-first}
-use Rattle.wm_steps.proofs.ListedNumbers.{rising-ascend}
+use Rattle.wm_graph.proofs.ListedNumbers.{rising-ascend}
 use Rattle.wm_steps.proofs.Views.{reached-view}
 use Rattle.wm_steps.proofs.view.View.first_uncovered.Goals as goal
 

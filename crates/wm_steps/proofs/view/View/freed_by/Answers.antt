@@ -2,10 +2,10 @@ use Rattle.std.proofs.Common.{List, sym, ◌∙◌, ap, subst}
 use Rattle.wm_graph.specs.Marks.{freed_by}
 use Rattle.wm_graph.specs.Nodes.{NodeFields}
 use Rattle.wm_machine.specs.declared.state.State.{State}
-use Rattle.wm_steps.proofs.ListedNumbers.{rising-ascend}
+use Rattle.wm_graph.proofs.ListedNumbers.{rising-ascend}
 use Rattle.wm_steps.proofs.Rising.{freed-rise}
 use Rattle.wm_steps.specs.Nodes.{nodes_of, IsUnmarked}
-use Rattle.wm_steps.specs.Numbers.{Ascend, RiseFrom}
+use Rattle.wm_graph.specs.Numbers.{Ascend, RiseFrom}
 use Rattle.wm_steps.proofs.view.View.freed_by.Goals as goal
 
 pub frees-requires-clause-node : goal.frees-requires-clause-node

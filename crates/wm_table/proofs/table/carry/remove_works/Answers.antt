@@ -1,7 +1,7 @@
 use Rattle.std.proofs.Common.{◌≡◌, ℕ, not, List, filter, length, rules, ◌∙◌, ap}
 use Rattle.wm_collections.specs.Lists.{is_among}
 use Rattle.wm_machine.specs.declared.record.Record.{Record}
-use Rattle.wm_steps.proofs.ListedNumbers.{sorted-ascend}
+use Rattle.wm_graph.proofs.ListedNumbers.{sorted-ascend}
 use Rattle.wm_steps.specs.StepChanges.{without}
 use Rattle.wm_table.proofs.RemovedWorks.{none-removed, removed-sorted}
 use Rattle.wm_table.proofs.table.carry.remove_works.Goals as goal

@@ -1,13 +1,13 @@
 //! Numbers that ascend: whether one is among them, and those from one on.
 ghost use Rattle.std.specs.Prelude.{◌≡◌, [], filter, nat_lt, not};
 ghost use Rattle.wm_collections.specs.Lists.{is_among, NumbersAscend};
-ghost use Rattle.wm_steps.specs.Numbers.{Ascend};
+ghost use Rattle.wm_graph.specs.Numbers.{Ascend};
 
 use std::alloc::Global;
 use std::marker::Model;
 use wm_collections::Items;
 
-/// Numbers of works, ascending. A contract sees them as their list.
+/// Numbers, as those of works, ascending. A contract sees them as their list.
 #[derive(Drop)]
 pub struct Numbers {
     numbers: Items<u64>,
@@ -15,7 +15,7 @@ pub struct Numbers {
 
 impl Model for Numbers {
     ghost use Rattle.std.specs.Prelude.{ℕ, List};
-    ghost use Rattle.wm_steps.specs.Numbers.{Ascend};
+    ghost use Rattle.wm_graph.specs.Numbers.{Ascend};
 
     ghost Value = { List ℕ };
 

@@ -1,8 +1,8 @@
 use Rattle.std.proofs.Common.{◌-◌, ◌≤◌, arith, drop, length, ltb, rules, ◌∙◌}
 use Rattle.std.proofs.lemmas.List.{length-drop, take_all}
 use Rattle.std.proofs.lemmas.List.Sorted.{IsPartitionPoint-from_clause}
-use Rattle.wm_steps.proofs.ListedNumbers.{from-place, rising-parted}
-use Rattle.wm_steps.proofs.numbers.numbers_from.Goals as goal
+use Rattle.wm_graph.proofs.ListedNumbers.{from-place, rising-parted}
+use Rattle.wm_graph.proofs.numbers.numbers_from.Goals as goal
 
 pub returns : goal.returns
 returns c =

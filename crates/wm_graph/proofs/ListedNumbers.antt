@@ -8,7 +8,7 @@ use Rattle.std.proofs.lemmas.List.Elements.{recursion_from_All, All-from_all_wit
 use Rattle.std.proofs.lemmas.List.Sorted.{searched, IsNonDecreasingBy-from_default, IsNonDecreasingBy-from_sort, IsPartitionedBy-ltb, list_any-IsPermutation}
 use Rattle.wm_collections.specs.Lists.{AllLater, is_among}
 use Rattle.wm_collections.proofs.Lists.{All-weaker, AllLater-weaker, filter-each}
-use Rattle.wm_steps.specs.Numbers.{Ascend}
+use Rattle.wm_graph.specs.Numbers.{Ascend}
 
 -- ---- by their places
 
