@@ -1,22 +1,22 @@
 //! A line beside a run.
-ghost use Rattle.std.specs.Prelude.{◌≡◌, ◌≤◌, ◌<◌, ◌^◌, [], length, vec_len, IfOk, IfSome};
+ghost use Rattle.std.specs.Prelude.{◌≡◌, ◌≤◌, ◌<◌, ◌^◌, [], length, vec_len, IfOk};
 ghost use Rattle.std.specs.List.{AllByRecursion};
 ghost use Rattle.wm_bench.specs.Places.{most_hands};
+ghost use Rattle.wm_cli.specs.Setup.{IsSetUp};
 ghost use Rattle.wm_machine.specs.Outcome.{IsAskable};
 ghost use Rattle.wm_roll.specs.Parts.{without};
 ghost use Rattle.wm_session.specs.BetweenRuns.{IsAtBegin};
-ghost use Rattle.wm_seating.specs.Hands.{instances_from};
-ghost use Rattle.wm_session.specs.Tells.{tells_of, AreInputs};
+ghost use Rattle.wm_session.specs.Tells.{tells_of};
 
 use std::alloc::{AllocError, Global};
 use std::marker::Brand;
 use std::test::Fail;
 use wm_bench::{Hand, Seated};
-use wm_cli::{instances_of, open_book};
+use wm_cli::{Setup, instances_of, open_book};
 use wm_collections::{Items, Text};
 use wm_io::{Sink, StdSink};
-use wm_keeper::{Keeper, MemoryKeeper, Row};
-use wm_machine::{Command, Instance};
+use wm_keeper::{Keeper, MemoryKeeper};
+use wm_machine::Command;
 use wm_pool::OpenGate;
 use wm_roll::Roll;
 use wm_script::read_lines;
@@ -137,24 +137,11 @@ fn fronts<K: Keeper + Drop, W: Sink + Drop, B: Worker, M: Mark>(
 /// is what the run is given.
 fn fronts_over<K: Keeper + Drop, W: Sink + Drop, B: Worker, M: Mark>(
     alloc: Global,
-    rows: Vec<Row>,
-    instances: Items<Instance>,
-    roll: Roll,
-    commands: Items<Command>,
-    hands: Vec<Hand<B>>,
-    sink: W,
-    keeper: K,
+    setup: Setup<K, W, B>,
 ) -> Option<Beside>
-    requires inputs { AreInputs (tells_of K.store W.given W.faults B.kind_of B.diary_of) M.inputs
-        keeper rows.items instances commands sink roll.table_id }
-    requires roll { roll.parts ≡ [] }
-    requires instances { instances ≡ instances_from B.kind_of 0 hands.items }
-    requires rows { IfSome (K.store keeper).rows (λ held. rows.items ≡ held) }
-    requires few_hands { vec_len hands ≤ most_hands }
-    requires askable { AllByRecursion IsAskable commands }
-    requires few { length commands < 2 ^ 32 }
+    requires { IsSetUp (tells_of K.store W.given W.faults B.kind_of B.diary_of) M.inputs setup }
 {
-    match open_book::<W, K, B, M>(alloc, rows, instances, roll, commands, hands, sink, keeper) {
+    match open_book::<W, K, B, M>(alloc, setup) {
         Ok(book) => Some(fronts(alloc, book)),
         Err(ended) => {
             drop(ended);
@@ -180,7 +167,16 @@ fn fronts_with<K: Keeper + Drop, W: Sink + Drop, B: Worker>(
     };
     let instances = instances_of(alloc, &hands)?;
     let roll = Roll::new(alloc)?;
-    Ok(fronts_over::<K, W, B, Brand>(alloc, rows, instances, roll, commands, hands, sink, keeper))
+    let setup = Setup {
+        rows,
+        instances,
+        roll,
+        commands,
+        hands,
+        sink,
+        keeper,
+    };
+    Ok(fronts_over::<K, W, B, Brand>(alloc, setup))
 }
 
 /// A worker of class Echo.

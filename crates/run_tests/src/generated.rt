@@ -1,21 +1,21 @@
 //! A serial run over a large input that a seed gives.
-ghost use Rattle.std.specs.Prelude.{◌≡◌, ◌≤◌, ◌<◌, ◌^◌, [], length, vec_len, IfSome};
+ghost use Rattle.std.specs.Prelude.{◌≡◌, ◌≤◌, ◌<◌, ◌^◌, length, vec_len};
 ghost use Rattle.std.specs.List.{AllByRecursion};
 ghost use Rattle.wm_bench.specs.Places.{most_hands};
+ghost use Rattle.wm_cli.specs.Setup.{IsSetUp};
 ghost use Rattle.wm_machine.specs.Outcome.{IsAskable};
-ghost use Rattle.wm_seating.specs.Hands.{instances_from};
-ghost use Rattle.wm_session.specs.Tells.{tells_of, AreInputs};
+ghost use Rattle.wm_session.specs.Tells.{tells_of};
 
 use std::alloc::{AllocError, Global};
 use std::marker::Brand;
 use std::test::Fail;
 use wm_bench::Hand;
-use wm_cli::{Ended, Status, instances_of, open_book};
+use wm_cli::{Ended, Setup, Status, instances_of, open_book};
 use wm_collections::{Items, both};
 use wm_generator::generate;
 use wm_io::{Sink, StdSink};
-use wm_keeper::{Keeper, Row, SureKeeper};
-use wm_machine::{Command, Instance};
+use wm_keeper::{Keeper, SureKeeper};
+use wm_machine::Command;
 use wm_pool::OpenGate;
 use wm_program::stock_hands;
 use wm_roll::Roll;
@@ -32,24 +32,11 @@ fn status_of<K: Drop, W: Drop, B: Drop>(ended: Ended<K, W, B>) -> Status {
 /// is given.
 fn serial_over<K: Keeper + Drop, W: Sink + Drop, B: Worker, M: Mark>(
     alloc: Global,
-    rows: Vec<Row>,
-    instances: Items<Instance>,
-    roll: Roll,
-    commands: Items<Command>,
-    hands: Vec<Hand<B>>,
-    sink: W,
-    keeper: K,
+    setup: Setup<K, W, B>,
 ) -> Status
-    requires inputs { AreInputs (tells_of K.store W.given W.faults B.kind_of B.diary_of) M.inputs
-        keeper rows.items instances commands sink roll.table_id }
-    requires roll { roll.parts ≡ [] }
-    requires instances { instances ≡ instances_from B.kind_of 0 hands.items }
-    requires rows { IfSome (K.store keeper).rows (λ held. rows.items ≡ held) }
-    requires few_hands { vec_len hands ≤ most_hands }
-    requires askable { AllByRecursion IsAskable commands }
-    requires few { length commands < 2 ^ 32 }
+    requires { IsSetUp (tells_of K.store W.given W.faults B.kind_of B.diary_of) M.inputs setup }
 {
-    match open_book::<W, K, B, M>(alloc, rows, instances, roll, commands, hands, sink, keeper) {
+    match open_book::<W, K, B, M>(alloc, setup) {
         Ok(book) => status_of(run_serial(alloc, book, &OpenGate)),
         Err(ended) => status_of(ended),
     }
@@ -72,7 +59,16 @@ fn serial_with<K: Keeper + Drop, W: Sink + Drop, B: Worker>(
     };
     let instances = instances_of(alloc, &hands)?;
     let roll = Roll::new(alloc)?;
-    Ok(serial_over::<K, W, B, Brand>(alloc, rows, instances, roll, commands, hands, sink, keeper))
+    let setup = Setup {
+        rows,
+        instances,
+        roll,
+        commands,
+        hands,
+        sink,
+        keeper,
+    };
+    Ok(serial_over::<K, W, B, Brand>(alloc, setup))
 }
 
 /// How a serial run ends of what seed 1 gives with 10,000 groups, over a keeper in memory, and what it

@@ -7,4 +7,5 @@ pub mod Lines
 pub mod Reading
 pub mod Run
 pub mod Script
+pub mod Setup
 pub mod Taken

@@ -1,14 +1,15 @@
 //! How a run begins: the book of the rows that were loaded, or how the run ends without one.
-ghost use Rattle.std.specs.Prelude.{◌≡◌, ◌≤◌, ◌<◌, ◌^◌, [], length, map, vec_len, Some, IfErr, IfOk, IfSome, OnOk};
+ghost use Rattle.std.specs.Prelude.{◌≡◌, ◌≤◌, ◌<◌, ◌^◌, [], length, vec_len, Some, IfErr, IfOk, OnOk};
 ghost use Rattle.std.specs.List.{AllByRecursion};
-ghost use Rattle.wm_bench.specs.Places.{idle_hands, most_hands, place_of};
+ghost use Rattle.wm_bench.specs.Places.{idle_hands, most_hands};
 ghost use Rattle.wm_cli.specs.Benched.{AreBenched, HasJustBegun, IsEndedBeforeLines};
 ghost use Rattle.wm_cli.specs.Ended.{IsEndedAtOnce, IsRunEnd};
+ghost use Rattle.wm_cli.specs.Setup.{IsSetUp};
 ghost use Rattle.wm_machine.specs.Outcome.{IsAskable};
 ghost use Rattle.wm_rows.specs.Sound.{AreSound};
 ghost use Rattle.wm_session.specs.BetweenRuns.{IsAtBegin};
 ghost use Rattle.wm_seating.specs.Hands.{instances_from};
-ghost use Rattle.wm_session.specs.Tells.{tells_of, AreInputs};
+ghost use Rattle.wm_session.specs.Tells.{tells_of};
 
 use std::alloc::{AllocFailed, Global};
 use wm_bench::{Bench, Hand};
@@ -21,36 +22,51 @@ use wm_session::{Book, Ended, Status};
 use wm_table::{Mark, Table, TableEnd};
 use wm_worker::Worker;
 
-/// Opens the rows that were loaded, with the instances of these workers, and makes the book that the
+/// What a run begins with, once its store was loaded.
+pub struct Setup<K, W, B> {
+    /// The rows that the keeper loaded.
+    pub rows: Vec<Row>,
+    /// The instances of the workers, numbered from 0 in order.
+    pub instances: Items<Instance>,
+    /// The roll of the tickets that will be out. None is yet.
+    pub roll: Roll,
+    /// The commands of the run, a line each.
+    pub commands: Items<Command>,
+    /// The workers, at most 10,000.
+    pub hands: Vec<Hand<B>>,
+    /// What replies and notes are written to.
+    pub sink: W,
+    /// What has loaded the rows, and keeps those of the run.
+    pub keeper: K,
+}
+
+/// Opens the rows that were loaded, with the instances of the workers, and makes the book that the
 /// commands are executed in. The mark is what the run is given. Where there is no book, it says how
 /// the run ends: with `KeeperFault` or `BadStore` where the rows couldn't be opened, or with `Memory`.
 pub fn open_book<W: Sink, K: Keeper, B: Worker, M: Mark>(
     alloc: Global,
-    rows: Vec<Row>,
-    instances: Items<Instance>,
-    roll: Roll,
-    commands: Items<Command>,
-    hands: Vec<Hand<B>>,
-    sink: W,
-    keeper: K,
+    setup: Setup<K, W, B>,
 ) -> Result<Book<K, W, B, M>, Ended<K, W, B>>
-    requires inputs { AreInputs (tells_of K.store W.given W.faults B.kind_of B.diary_of) M.inputs
-        keeper rows.items instances commands sink roll.table_id }
-    requires roll { roll.parts ≡ [] }
-    requires instances { instances ≡ instances_from B.kind_of 0 hands.items }
-    requires rows { IfSome (K.store keeper).rows (λ held. rows.items ≡ held) }
-    requires few_hands { vec_len hands ≤ most_hands }
-    requires askable { AllByRecursion IsAskable commands }
-    requires few { length commands < 2 ^ 32 }
+    requires { IsSetUp (tells_of K.store W.given W.faults B.kind_of B.diary_of) M.inputs setup }
     // The book has all of the commands before it, and the workers at their places.
-    ensures begins { IfOk result (IsAtBegin commands) }
-    ensures workers { IfOk result (λ book. idle_hands book.places ≡ hands.items) }
-    ensures sound { OnOk result (AreSound rows.items) }
+    ensures begins { IfOk result (IsAtBegin setup.commands) }
+    ensures workers { IfOk result (λ book. idle_hands book.places ≡ setup.hands.items) }
+    ensures sound { OnOk result (AreSound setup.rows.items) }
     // Without a book the run is over.
     ensures ended { IfErr result (IsRunEnd
         (tells_of K.store W.given W.faults B.kind_of B.diary_of)
-        0 commands hands.items (K.store keeper).name (Some rows.items) (Some rows.items) keeper sink) }
+        0 setup.commands setup.hands.items (K.store setup.keeper).name
+        (Some setup.rows.items) (Some setup.rows.items) setup.keeper setup.sink) }
 {
+    let Setup {
+        rows,
+        instances,
+        roll,
+        commands,
+        hands,
+        sink,
+        keeper,
+    } = setup;
     match Table::begin(alloc, keeper, rows, instances, roll) {
         Ok(table) => book_of_table(alloc, table, commands, hands, sink),
         Err(refused) => {

@@ -4,7 +4,7 @@
 //! script, then loads the store, and executes the script's commands one after another, driving the
 //! workers that it is given. Its contract is the promise of the program, `IsRun` of `specs/Run.antt`.
 //! [`read_script`] reads a script from its source, and [`read_commands`] its commands. [`open_book`]
-//! begins a run over rows that were loaded, and [`run_pool`] drives its workers in threads, over a
+//! begins a run with a [`Setup`], over rows that were loaded, and [`run_pool`] drives its workers in threads, over a
 //! [`Book`](wm_session::Book) behind a lock.
 #![tactic(auto)]
 
@@ -16,7 +16,7 @@ mod program;
 mod script;
 mod work;
 
-pub use beginning::open_book;
+pub use beginning::{Setup, open_book};
 pub use instances::{instances_and_roll, instances_of};
 pub use pool::run_pool;
 pub use program::run;

@@ -1,5 +1,5 @@
 //! The top call: all that the program does, with its contract.
-ghost use Rattle.std.specs.Prelude.{◌≡◌, ◌+◌, ◌≤◌, ◌<◌, ◌^◌, ℕ, [], length, map, vec_len, None, Some, Err, IfOk, IfErr, IfSome, OnOk, string_bytes};
+ghost use Rattle.std.specs.Prelude.{◌≡◌, ◌+◌, ◌≤◌, ◌<◌, ◌^◌, ℕ, length, map, vec_len, None, Some, Err, IfOk, IfErr, IfSome, OnOk, string_bytes};
 ghost use Rattle.std.specs.List.{AllByRecursion};
 ghost use Rattle.wm_bench.specs.Places.{idle_hands, most_hands};
 ghost use Rattle.wm_cli.specs.Ended.{ForScript, IsRunEnd};
@@ -7,18 +7,17 @@ ghost use Rattle.wm_cli.specs.Lines.{lines_of};
 ghost use Rattle.wm_cli.specs.Reading.{IsReadStatus};
 ghost use Rattle.wm_cli.specs.Run.{reads_of, IsRun};
 ghost use Rattle.wm_cli.specs.Script.{IsTakenWithin};
+ghost use Rattle.wm_cli.specs.Setup.{IsSetUp};
 ghost use Rattle.wm_words.specs.Run.{options_of};
 ghost use Rattle.wm_faults.specs.Faults.{Failed};
 ghost use Rattle.wm_keeper.specs.Store.{told_before};
-ghost use Rattle.wm_keeper.specs.declared.row.Row.{Row};
 ghost use Rattle.wm_machine.specs.Outcome.{IsAskable};
 ghost use Rattle.wm_script.specs.Limits.{first_limit, most_script_bytes};
 ghost use Rattle.wm_session.specs.BetweenRuns.{IsAtBegin};
 ghost use Rattle.wm_session.specs.Ended.{IsBookEnd, IsSerialEnd};
-ghost use Rattle.wm_seating.specs.Hands.{instances_from};
-ghost use Rattle.wm_session.specs.Tells.{tells_of, AreInputs};
+ghost use Rattle.wm_session.specs.Tells.{tells_of};
 
-use crate::beginning::open_book;
+use crate::beginning::{Setup, open_book};
 use crate::instances::instances_and_roll;
 use crate::pool::run_pool;
 use crate::script::read_commands;
@@ -30,10 +29,9 @@ use wm_bench::Hand;
 use wm_collections::Items;
 use wm_generator::generate;
 use wm_io::{Sink, Source};
-use wm_keeper::{Keeper, Row};
-use wm_machine::{Command, Instance};
+use wm_keeper::Keeper;
+use wm_machine::Command;
 use wm_pool::Gate;
-use wm_roll::Roll;
 use wm_session::{Book, Ended, Status, run_serial};
 use wm_table::Mark;
 use wm_words::{Origin, options_of};
@@ -116,11 +114,20 @@ fn run_commands<
         return Ended::before_begin(crew.alloc, Status::Memory, keeper, sink, hands);
     };
     let (instances, roll) = begun;
-    run_loaded::<W, K, B, Brand, R, G>(crew, rows, instances, roll, commands, hands, sink, keeper)
+    let setup = Setup {
+        rows,
+        instances,
+        roll,
+        commands,
+        hands,
+        sink,
+        keeper,
+    };
+    run_loaded::<W, K, B, Brand, R, G>(crew, setup)
 }
 
-/// Opens the rows that were loaded, and executes the commands on them, with these workers. The mark
-/// is what the run is given.
+/// Opens the rows that were loaded, and executes the commands on them, with the workers. The mark is
+/// what the run is given.
 fn run_loaded<
     W: Sink + Send,
     K: Keeper + Send,
@@ -128,31 +135,13 @@ fn run_loaded<
     M: Mark + Send + Sync,
     R: Threads + Wait + Sync,
     G: Gate + Sync,
->(
-    crew: &Crew<'_, R, G>,
-    rows: Vec<Row>,
-    instances: Items<Instance>,
-    roll: Roll,
-    commands: Items<Command>,
-    hands: Vec<Hand<B>>,
-    sink: W,
-    keeper: K,
-) -> Ended<K, W, B>
-    requires inputs { AreInputs (tells_of K.store W.given W.faults B.kind_of B.diary_of) M.inputs
-        keeper rows.items instances commands sink roll.table_id }
-    requires roll { roll.parts ≡ [] }
-    requires instances { instances ≡ instances_from B.kind_of 0 hands.items }
-    requires rows { IfSome (K.store keeper).rows (λ held. rows.items ≡ held) }
-    requires few_hands { vec_len hands ≤ most_hands }
-    requires askable { AllByRecursion IsAskable commands }
-    requires few { length commands < 2 ^ 32 }
+>(crew: &Crew<'_, R, G>, setup: Setup<K, W, B>) -> Ended<K, W, B>
+    requires { IsSetUp (tells_of K.store W.given W.faults B.kind_of B.diary_of) M.inputs setup }
     ensures { IsRunEnd (tells_of K.store W.given W.faults B.kind_of B.diary_of)
-        crew.now.workers commands hands.items (K.store keeper).name (Some rows.items) (Some rows.items)
-        keeper sink result }
+        crew.now.workers setup.commands setup.hands.items (K.store setup.keeper).name
+        (Some setup.rows.items) (Some setup.rows.items) setup.keeper setup.sink result }
 {
-    match open_book::<W, K, B, M>(
-        crew.alloc, rows, instances, roll, commands, hands, sink, keeper,
-    ) {
+    match open_book::<W, K, B, M>(crew.alloc, setup) {
         Ok(book) => run_book(crew, book),
         Err(ended) => ended,
     }

@@ -5,6 +5,6 @@ use Rattle.run_tests.proofs.beside.fronts_with.Given as goal
 abbrev pub ghosts-fronts_over : goal.ghosts-fronts_over
 ghosts-fronts_over g a =
     record {
-      inputs = inputs_of (tells_of g.K.Keeper.store g.W.Sink.given g.W.Sink.faults g.B.Worker.kind_of g.B.Worker.diary_of) a.keeper a.rows.items
-          a.instances a.commands a.sink a.roll.table_id;
+      inputs = inputs_of (tells_of g.K.Keeper.store g.W.Sink.given g.W.Sink.faults g.B.Worker.kind_of g.B.Worker.diary_of) a.setup.keeper a.setup.rows.items
+          a.setup.instances a.setup.commands a.setup.sink a.setup.roll.table_id;
     }

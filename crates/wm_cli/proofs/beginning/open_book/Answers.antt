@@ -11,13 +11,13 @@ use Rattle.wm_cli.proofs.beginning.open_book.Goals as goal
 
 pub begin-requires-clause-instances : goal.begin-requires-clause-instances
 begin-requires-clause-instances g c =
-    let few : length c.args.hands.items ≤ most_hands = search rules in
-    subst AreFresh (sym c.requires.instances) (AreFresh-instances_from g.B.Worker.kind_of c.args.hands.items few)
+    let few : length c.args.setup.hands.items ≤ most_hands = search rules in
+    subst AreFresh (sym c.requires.instances) (AreFresh-instances_from g.B.Worker.kind_of c.args.setup.hands.items few)
 
 pub begin-requires-clause-given_store : goal.begin-requires-clause-given_store
 begin-requires-clause-given_store g c =
     let given = c.requires.inputs in
-    TellsOn-same g.M.Mark.inputs.store (g.K.Keeper.store c.args.keeper) given.told (λ image left. (given.images image).0 left) given.lost given.name
+    TellsOn-same g.M.Mark.inputs.store (g.K.Keeper.store c.args.setup.keeper) given.told (λ image left. (given.images image).0 left) given.lost given.name
 
 pub book_of_table-requires-clause-begun : goal.book_of_table-requires-clause-begun
 book_of_table-requires-clause-begun g c =
@@ -28,13 +28,13 @@ book_of_table-requires-clause-begun g c =
     record {
       sound = subst AreSound given.rows_are begun.sound;
       opened = subst (λ rows. Opened rows run.instances table.first) given.rows_are
-          (subst (λ instances. Opened c.args.rows.items instances table.first) given.instances_are begun.opened);
+          (subst (λ instances. Opened c.args.setup.rows.items instances table.first) given.instances_are begun.opened);
       state = begun.state;
       log = begun.log;
       roll = begun.roll;
       rows = begun.held;
-      tells_on = TellsOn-then run.store (g.K.Keeper.store c.args.keeper) (g.K.Keeper.store table.keeper)
-          (TellsOn-same run.store (g.K.Keeper.store c.args.keeper) given.told (λ image left. (given.images image).0 left) given.lost given.name) begun.tells_on;
+      tells_on = TellsOn-then run.store (g.K.Keeper.store c.args.setup.keeper) (g.K.Keeper.store table.keeper)
+          (TellsOn-same run.store (g.K.Keeper.store c.args.setup.keeper) given.told (λ image left. (given.images image).0 left) given.lost given.name) begun.tells_on;
       no_fault = begun.cause ∙ given.faults;
       images = λ only. begun.images (λ image left. only image ((given.images image).0 left) ∙ sym given.rows_are);
     }
@@ -44,23 +44,23 @@ returns-in-Ok-clause-ended g c =
     let tells = tells_of g.K.Keeper.store g.W.Sink.given g.W.Sink.faults g.B.Worker.kind_of g.B.Worker.diary_of in
     let given = c.requires.inputs in
     rw given.rows_are
-    (IsRunEnd-early tells g.M.Mark.inputs c.args.commands c.args.hands.items c.args.keeper c.args.sink c.book_of_table.result
+    (IsRunEnd-early tells g.M.Mark.inputs c.args.setup.commands c.args.setup.hands.items c.args.setup.keeper c.args.setup.sink c.book_of_table.result
     c.book_of_table.ensures.ended given c.requires.instances (subst AreSound given.rows_are c.in-Ok.ensures.sound))
 
 pub returns-in-Err-clause-ended : goal.returns-in-Err-clause-ended
 returns-in-Err-clause-ended g c =
     let tells = tells_of g.K.Keeper.store g.W.Sink.given g.W.Sink.faults g.B.Worker.kind_of g.B.Worker.diary_of in
     let refused = c.in-Err.refused in
-    let rows = c.args.rows.items in
-    let before = (tells.store c.args.keeper).faults in
+    let rows = c.args.setup.rows.items in
+    let before = (tells.store c.args.setup.keeper).faults in
     let now = (tells.store refused.0).faults in
-    IsRunEnd-unbegun tells 0 c.args.commands c.from-status.result c.is_at_commit-at_opening.result c.args.hands (tells.store c.args.keeper).name (Some rows) (Some rows) c.args.keeper refused.0
-    c.args.sink
+    IsRunEnd-unbegun tells 0 c.args.setup.commands c.from-status.result c.is_at_commit-at_opening.result c.args.setup.hands (tells.store c.args.setup.keeper).name (Some rows) (Some rows) c.args.setup.keeper refused.0
+    c.args.setup.sink
     c.unbegun.result c.unbegun.ensures c.requires.askable c.in-Err.ensures.kept
     (subst (λ why. EarlyCause why before now (Some rows)) (sym c.from-status.ensures)
-    (EarlyCause-begin tells.store c.args.keeper rows refused c.in-Err.ensures.bad c.in-Err.ensures.cause))
+    (EarlyCause-begin tells.store c.args.setup.keeper rows refused c.in-Err.ensures.bad c.in-Err.ensures.cause))
     (λ opening. rw c.from-status.ensures (at_opening-begin refused.1 (sym c.is_at_commit-at_opening.ensures ∙ opening)))
     (λ alone.
     rw (c.is_at_commit-at_opening.ensures, ← c.requires.instances)
-    (unbegun-opened tells.store rows c.args.instances c.args.keeper refused c.in-Err.ensures.images_err alone))
+    (unbegun-opened tells.store rows c.args.setup.instances c.args.setup.keeper refused c.in-Err.ensures.images_err alone))
     c.in-Err.ensures.tells_on_err.goes_on

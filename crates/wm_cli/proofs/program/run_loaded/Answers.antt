@@ -11,7 +11,7 @@ returns-in-Ok g c =
     let given = c.requires.inputs in
     let run = g.M.Mark.inputs in
     rw given.rows_are
-    (IsRunEnd-begun tells run c.args.crew.now.workers c.args.commands c.args.hands.items c.args.keeper c.args.sink c.run_book.result
+    (IsRunEnd-begun tells run c.args.crew.now.workers c.args.setup.commands c.args.setup.hands.items c.args.setup.keeper c.args.setup.sink c.run_book.result
     c.run_book.ensures.end
     (λ alone. subst (λ hands. IsSerialEnd tells run hands c.run_book.result) c.in-Ok.ensures.workers (c.run_book.ensures.serial alone))
     given c.requires.instances (subst AreSound given.rows_are c.in-Ok.ensures.sound))
@@ -19,6 +19,6 @@ returns-in-Ok g c =
 pub returns-in-Err : goal.returns-in-Err
 returns-in-Err g c =
     let tells = tells_of g.K.Keeper.store g.W.Sink.given g.W.Sink.faults g.B.Worker.kind_of g.B.Worker.diary_of in
-    let rows = c.args.rows.items in
-    IsRunEnd-threads tells c.args.crew.now.workers c.args.commands c.args.hands.items (tells.store c.args.keeper).name (Some rows) (Some rows)
-    c.args.keeper c.args.sink c.in-Err.ended c.in-Err.ensures.ended
+    let rows = c.args.setup.rows.items in
+    IsRunEnd-threads tells c.args.crew.now.workers c.args.setup.commands c.args.setup.hands.items (tells.store c.args.setup.keeper).name (Some rows) (Some rows)
+    c.args.setup.keeper c.args.setup.sink c.in-Err.ended c.in-Err.ensures.ended
