@@ -23,8 +23,8 @@ use wm_worker::Worker;
 /// How often a thread asks for the lock before it sleeps until the lock is free.
 const TRIES: u32 = 10;
 
-/// How often it pauses in between, so long that whoever has the lock takes several turns: a turn that
-/// follows one of another thread finds nothing of the desk in its processor's memory.
+/// How often it pauses in between, some half a millisecond, in which whoever has the lock takes many
+/// turns: one that follows a turn of another thread finds nothing of the desk in its processor's memory.
 const PAUSES: u32 = 10_000;
 
 /// What the threads of a run share: the desk behind its lock, and what they wait for.
