@@ -1,19 +1,17 @@
 //! A drain: all that is startable is started and driven to its end, one work after another.
-ghost use Rattle.std.specs.Prelude.{◌≡◌, true, IfOk, IsSome};
+ghost use Rattle.std.specs.Prelude.{◌≡◌, true};
 ghost use Rattle.wm_live.specs.Drained.{AdvanceCause, IsAdvanced, IsDrained, IsDriven, IsTurned, TurnCause};
 ghost use Rattle.wm_live.specs.Rest.{IsAtRest, IsUnderWay};
 ghost use Rattle.wm_seating.specs.Idle.{IsIdle};
 ghost use Rattle.wm_table.specs.Table.{TroubleCause};
-ghost use Rattle.wm_worker.specs.Answers.{given_of};
-ghost use Rattle.wm_worker.specs.Told.{IsReportOf};
 
 use crate::stand::{After, Job, Stand};
-use std::alloc::{AllocError, Global};
 use wm_bench::Seated;
 use wm_keeper::Keeper;
-use wm_pool::{Gate, OpenGate, Point};
+use wm_pool::{Gate, OpenGate};
+use wm_seating::{pass_turn, turn};
 use wm_table::{Mark, Ticket, Trouble};
-use wm_worker::{Signal, Told, Worker};
+use wm_worker::{Signal, Worker};
 
 /// What became of the work that was first.
 #[derive(Clone, Copy, Debug, PartialEq, Eq)]
@@ -155,29 +153,4 @@ fn turn_once<K: Keeper, B: Worker, M: Mark, G: Gate>(
             After::Stopped(Trouble::Memory)
         }
     }
-}
-
-/// Passes the gate before the turn of a run that its ticket is for.
-fn pass_turn<M: Mark, G: Gate>(ticket: &Ticket<M>, gate: &G) {
-    gate.at(Point::Turn {
-        run: ticket.task().run,
-        seq: ticket.seq(),
-        k: ticket.k(),
-    });
-}
-
-/// Has the worker of a run take its turn, whose signal is never raised.
-fn turn<B: Worker, M: Mark>(
-    alloc: Global,
-    seat: &mut Seated<B>,
-    ticket: &Ticket<M>,
-    signal: &Signal,
-) -> Result<Told, AllocError>
-    requires { signal.now ≡ record { run = ticket.now.task.run; never = true } }
-    ensures number { seat.new.number ≡ seat.old.number }
-    ensures kind { B.kind_of seat.new.worker ≡ B.kind_of seat.old.worker }
-    ensures told { IfOk result (IsReportOf (B.kind_of seat.old.worker) ticket.now.task ticket.now.k) }
-    ensures given { IfOk result (λ told. IsSome (given_of told.answer)) }
-{
-    seat.turn(alloc, ticket.task(), ticket.k(), signal)
 }

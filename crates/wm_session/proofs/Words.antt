@@ -48,12 +48,13 @@ pub use Rattle.wm_seating.proofs.PlacesChanged.{IsAwayAt-taken, IsTaken, IsTaken
 pub use Rattle.wm_seating.proofs.Seats.{ArePlacedBy, AreSeated, IsEndOf, IsRolledBy, away-out, exact-by, exact-given_again, given_back, none_away, out-agrees, part_standing, placed-end, rolled-end, seated-by, taken_again, ticket_kind, without-new}
 pub use Rattle.wm_seating.specs.Bench.{NoneAway, Traits, instance_traits, is_away, is_out_on, place_traits}
 pub use Rattle.wm_seating.specs.Seats.{ListsExactly}
+pub use Rattle.wm_seating.specs.Turning.{HasWritten}
 pub use Rattle.wm_session.specs.BetweenRuns.{GoesInOrder, IsAtBegin, IsBetweenRuns, IsInOrder, IsOfGiven, IsReady, KeepBoxes}
 pub use Rattle.wm_session.specs.Book.{HasClaimed, IsBegun, IsClaimStopped, IsFrontStopped, IsFronted, IsGivenBack, IsLast, IsLineDone, IsNextLine, IsReported, MayCome, SettlesNext, StopsAfter}
 pub use Rattle.wm_session.specs.BookState.{BookState}
 pub use Rattle.wm_session.specs.Boxes.{EachAtPlace, EachBack, HasTold, IsBoxAfter, IsDiaryLater, IsStartOn}
 pub use Rattle.wm_session.specs.Causes.{EndsBy, StopCause, ended_by, status_by_stop, stop_by_fault, stop_by_trouble}
-pub use Rattle.wm_session.specs.Drive.{GoesOnWith, HasWritten, IsDriven, IsOutOfGiven, IsUnderWay, KeepBoxesOut}
+pub use Rattle.wm_session.specs.Drive.{GoesOnWith, IsDriven, IsOutOfGiven, IsUnderWay, KeepBoxesOut}
 pub use Rattle.wm_session.specs.Ended.{AreHandsBack, HasCommands, IsPartAppended, IsSerialRun, IsSessionStatus, IsTextWritten, kept_numbers}
 pub use Rattle.wm_session.specs.Images.{EndImages, LeavesOneMore, MayComeNext, StopImages}
 pub use Rattle.wm_session.specs.Invariant.{AwayInvariant, BookInvariant, LinesInvariant, RollInvariant}

@@ -1,6 +1,5 @@
 -- What driving a run to its end does.
-use Rattle.std.specs.Prelude.{◌≡◌, ℕ, ◌+◌, ◌<◌, ◌≤◌, true, List, [], slice_get, Option, Some, None, IsSomeAnd, Result, Ok, Err}
-use Rattle.std.specs.declared.alloc.AllocError.{AllocError}
+use Rattle.std.specs.Prelude.{◌≡◌, ℕ, ◌+◌, ◌<◌, ◌≤◌, true, List, [], slice_get, Option, Some, None, IsSomeAnd}
 use Rattle.wm_bench.specs.Places.{changed_at, made_back, IsAwayAt}
 use Rattle.wm_bench.specs.Seat.{Seat}
 use Rattle.wm_bench.specs.declared.hand.Hand.{Hand}
@@ -18,8 +17,6 @@ use Rattle.wm_roll.specs.Parts.{without}
 use Rattle.wm_runs.specs.Reports.{IsOut}
 use Rattle.wm_table.specs.Table.{IsTicketIn}
 use Rattle.wm_table.specs.TableState.{TicketState}
-use Rattle.wm_worker.specs.Diary.{diary_with, turn_entries}
-use Rattle.wm_worker.specs.Told.{Report}
 use Rattle.wm_worker.specs.declared.answer.Entry.{Entry}
 use Rattle.wm_worker.specs.declared.kind.Kind.{Kind}
 
@@ -50,11 +47,6 @@ pub record KeepBoxesOut {K W B : Type 0} (diary_of : B → Option (List Entry)) 
     (book : BookState K W B) : Type 0 where
   pub others : KeepBoxes diary_of given book
   pub own : IsSomeAnd (slice_get given number) (λ hand. IsOutOfGiven diary_of has owes book number hand.worker)
-
--- what a worker has written down once it has told this, or was refused memory
-abbrev pub HasWritten : {B : Type 0} → (B → Option (List Entry)) → TicketState → B → B → Result Report AllocError → Type 0
-HasWritten diary_of ticket worker now (Ok told) = diary_of now ≡ diary_with (turn_entries ticket.task.run ticket.k told.answer) (diary_of worker)
-HasWritten diary_of ticket worker now (Err refused) = diary_of now ≡ diary_of worker
 
 -- ---- all turns
 

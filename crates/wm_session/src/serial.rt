@@ -1,5 +1,5 @@
 //! The serial run: the lines one after another, and after each of them all that may start.
-ghost use Rattle.std.specs.Prelude.{◌≡◌, ◌<◌, ◌∷◌, [], List, None, IsSome, true, IfOk};
+ghost use Rattle.std.specs.Prelude.{◌≡◌, ◌<◌, ◌∷◌, [], List, None, IsSome, true};
 ghost use Rattle.std.specs.List.{AllByRecursion};
 ghost use Rattle.wm_bench.specs.Places.{idle_hands};
 ghost use Rattle.wm_bench.specs.declared.hand.Hand.{Hand};
@@ -7,24 +7,23 @@ ghost use Rattle.wm_machine.specs.Outcome.{IsAskable};
 ghost use Rattle.wm_machine.specs.Quiet.{IsQuiet};
 ghost use Rattle.wm_machine.specs.Waiting.{left_to_drain};
 ghost use Rattle.wm_machine.specs.declared.command.Command.{Command};
-ghost use Rattle.wm_session.specs.Drive.{HasWritten, IsDriven, IsTurned, IsUnderWay};
+ghost use Rattle.wm_session.specs.Drive.{IsDriven, IsTurned, IsUnderWay};
 ghost use Rattle.wm_session.specs.Ended.{IsBookEnd, IsSerialEnd};
 ghost use Rattle.wm_session.specs.BetweenRuns.{GoesInOrder, IsAtBegin, IsBetweenRuns, IsReady, KeepBoxes};
 ghost use Rattle.wm_session.specs.Tells.{tells_of};
-ghost use Rattle.wm_worker.specs.Answers.{given_of};
 ghost use Rattle.wm_worker.specs.Diary.{diary_with};
-ghost use Rattle.wm_worker.specs.Told.{IsReportOf};
 ghost use Rattle.wm_worker.specs.declared.answer.Entry.TheVariants.{Begun};
 
 use crate::book::{After, Book, Front, Job};
 use crate::ended::Ended;
-use std::alloc::{AllocError, Global};
+use std::alloc::Global;
 use wm_bench::Seated;
 use wm_io::Sink;
 use wm_keeper::Keeper;
 use wm_pool::{Gate, Point};
+use wm_seating::{pass_turn, turn};
 use wm_table::{Mark, Ticket};
-use wm_worker::{Signal, Told, Worker};
+use wm_worker::{Signal, Worker};
 
 /// What became of the work that was first.
 #[derive(Clone, Copy, Debug, PartialEq, Eq)]
@@ -217,30 +216,4 @@ fn turn_once<K: Keeper, W: Sink, B: Worker, M: Mark, G: Gate>(
         After::Over | After::Stopped => None,
         After::Again(..) => unreachable!(),
     }
-}
-
-/// Passes the gate before the turn of a run that its ticket is for.
-fn pass_turn<M: Mark, G: Gate>(ticket: &Ticket<M>, gate: &G) {
-    gate.at(Point::Turn {
-        run: ticket.task().run,
-        seq: ticket.seq(),
-        k: ticket.k(),
-    });
-}
-
-/// Has the worker of a run take its turn, whose signal is never raised.
-fn turn<B: Worker, M: Mark>(
-    alloc: Global,
-    seat: &mut Seated<B>,
-    ticket: &Ticket<M>,
-    signal: &Signal,
-) -> Result<Told, AllocError>
-    requires { signal.now ≡ record { run = ticket.now.task.run; never = true } }
-    ensures number { seat.new.number ≡ seat.old.number }
-    ensures kind { B.kind_of seat.new.worker ≡ B.kind_of seat.old.worker }
-    ensures told { IfOk result (IsReportOf (B.kind_of seat.old.worker) ticket.now.task ticket.now.k) }
-    ensures given { IfOk result (λ told. IsSome (given_of told.answer)) }
-    ensures written { HasWritten B.diary_of ticket.now seat.old.worker seat.new.worker result }
-{
-    seat.turn(alloc, ticket.task(), ticket.k(), signal)
 }
