@@ -5,4 +5,3 @@ pub mod FoundRecords
 pub mod Lives
 pub mod RunSteps
 pub mod Stands
-pub mod Taken

@@ -1,50 +1,40 @@
 -- A run that begins, goes on and ends in a stand.
-use Rattle.std.proofs.Common.{◌≡◌, ℕ, ◌+◌, ◌≤◌, true, false, List, [], ◌∷◌, ◌++◌, length, map, Option, Some, refl, sym, ◌∙◌, ap, subst, arith}
-use Rattle.std.proofs.lemmas.Bool.{eq-eqb}
+use Rattle.std.proofs.Common.{◌≡◌, ℕ, ◌+◌, true, false, List, [], ◌∷◌, ◌++◌, map, Some, refl, sym, ◌∙◌, ap, subst}
 use Rattle.wm_bench.specs.Places.{changed_at, idle_at, made_away, made_back, IsAwayAt}
 use Rattle.wm_bench.specs.Seat.{Seat}
 use Rattle.wm_bench.specs.declared.place.Place.{Place}
-use Rattle.wm_data.specs.declared.data.DataEntry.{DataEntry}
 use Rattle.wm_keeper.specs.Store.{Store}
-use Rattle.wm_live.proofs.Taken.{length-turned, other_runs-turned, taken_again, ticket-found, ticket_kind, without-new, IsAwayAt-taken, NoneAway-back}
 use Rattle.wm_live.specs.Rest.{AreBack, IsAtRest, IsUnderWay}
 use Rattle.wm_live.specs.StandState.{StandState}
-use Rattle.wm_machine.proofs.Logs.{Replay-push}
 use Rattle.wm_machine.proofs.Starts.{after_start}
 use Rattle.wm_machine.proofs.Steps.{Valid-after}
 use Rattle.wm_machine.proofs.Turns.{after_turn}
 use Rattle.wm_machine.specs.Frame.{Frame}
-use Rattle.wm_machine.specs.Replay.{Replay}
 use Rattle.wm_machine.specs.Role as role
 use Rattle.wm_machine.specs.Role.{Reported}
-use Rattle.wm_machine.specs.Runs.{other_runs, run_on, with_out}
+use Rattle.wm_machine.specs.Runs.{with_out}
 use Rattle.wm_machine.specs.Step.{role_of}
-use Rattle.wm_machine.specs.Turns.{with_turned}
 use Rattle.wm_machine.specs.declared.event.Cause.{Cause}
 use Rattle.wm_machine.specs.declared.event.Event.{Event}
-use Rattle.wm_machine.specs.declared.state.Run.{Run}
 use Rattle.wm_machine.specs.declared.state.State.{State}
 use Rattle.wm_machine.specs.Valid.{Valid}
 use Rattle.wm_machine.specs.declared.event.Event.TheVariants as event
 use Rattle.wm_roll.specs.Parts.{without}
-use Rattle.wm_roll.specs.declared.part.Part.{Part}
 use Rattle.wm_seating.proofs.PlacesAndInstances.{traits-back, traits-taken, traits-with_out}
+use Rattle.wm_seating.proofs.PlacesChanged.{IsAwayAt-taken, NoneAway-back}
+use Rattle.wm_seating.proofs.Seats.{ticket_kind}
+use Rattle.wm_seating.proofs.Turnings.{Replay-step, alone-turned, alone_out-turned, current-turned, few-turned, next_turn, only-begun, runs-ended}
 use Rattle.wm_seating.specs.Bench.{instance_traits, place_traits, NoneAway}
 use Rattle.wm_seating.specs.Idle.{IsIdle}
 use Rattle.wm_table.proofs.NoLines.{framed_end}
 use Rattle.wm_table.specs.Parts.{ticket_part}
 use Rattle.wm_table.specs.Rolls.{given_again}
-use Rattle.wm_table.specs.Table.{IsOneStep, IsTicketIn}
+use Rattle.wm_table.specs.Table.{HasGoneOn, IsOneStep, IsTicketIn}
 use Rattle.wm_table.specs.TableState.{TableState, TicketState}
-use Rattle.wm_runs.specs.Reports.{IsOut}
+use Rattle.wm_worker.specs.Told.{Report}
 use Rattle.wm_worker.specs.declared.kind.Kind.{Kind}
 
 -- ---- one event
-
-pub Replay-step : {K : Type 0} (store : K → Store) (e : Event) (old new : TableState K) → Replay old.first old.log old.state
-    → IsOneStep store e old new → Replay new.first new.log new.state
-Replay-step store e old new replays step =
-    rw (step.first, step.appended, step.state) (Replay-push old.first old.log old.state e replays step.legal)
 
 pub Valid-step : {K : Type 0} (store : K → Store) (e : Event) (old new : TableState K) → Valid old.state → IsOneStep store e old new → Valid new.state
 Valid-step store e old new valid step = rw step.state (Valid-after old.state e valid step.legal)
@@ -78,24 +68,16 @@ module _ {K B : Type 0} (store : K → Store) (kind_of : B → Kind) (ticket : T
 
   pub under_way-begun : IsUnderWay kind_of ticket new
   under_way-begun =
-      let s = old.table.state in
-      let on = step.legal in
-      let task = ticket.task in
-      let its_run = run_on s on.work on.idle task.input in
-      let runs : new.table.state.runs ≡ its_run ∷ [] =
-      ap (λ (t : State). t.runs) (step.state ∙ after_start s task.run ticket.seq ticket.instance task.input on)
-      ∙ ap (λ (runs : List Run). runs ++ its_run ∷ []) rest.idle.no_run in
-      let number : s.next_run ≡ task.run = sym on.run_is in
+      let only = only-begun store ticket old.table new.table rest.idle.no_run rest.idle.none_out step roll in
       record {
         replay = Replay-step store _ old.table new.table rest.replay step;
         valid = Valid-step store _ old.table new.table rest.idle.valid step;
         workers = begun_workers;
         ticket_in = ticket_in;
-        current = rw (runs, eq-eqb s.next_run task.run number) refl;
-        few = subst (λ (runs : List Run). length runs ≤ 1) (sym runs) (omega arith);
-        alone = rw (runs, eq-eqb s.next_run task.run number) refl;
-        alone_out = ap (without task.run) (roll ∙ ap (λ (roll : List Part). roll ++ ticket_part ticket ∷ []) rest.idle.none_out)
-            ∙ without-new task.run [] (ticket_part ticket) refl tt;
+        current = only.current;
+        few = only.few;
+        alone = only.alone;
+        alone_out = only.alone_out;
         away = rw (places, ← begun_kind) (IsAwayAt-taken kind_of seat.worker ticket.instance old.places worker);
         others = λ back. rw places (NoneAway-back kind_of back ticket.instance old.places rest.idle.none_away);
       }
@@ -117,32 +99,22 @@ rest-failed store kind_of seq cause old new rest step roll places = record {
 
 -- ---- a run goes on
 
-pub under_way-turned : {K B : Type 0} (store : K → Store) (kind_of : B → Kind) (ticket next : TicketState) (progress : Option (List DataEntry)) (old new : StandState K B)
-    → IsUnderWay kind_of ticket old → IsOneStep store (event.Turn ticket.task.run progress) old.table new.table
-    → next ≡ record ticket { k = ticket.k + 1 } → IsTicketIn new.table.state next → IsOut new.table.state next.task.run true
+pub under_way-turned : {K B : Type 0} (store : K → Store) (kind_of : B → Kind) (ticket next : TicketState) (told : Report) (old new : StandState K B)
+    → IsUnderWay kind_of ticket old → HasGoneOn store ticket told next old.table new.table
     → new.table.roll ≡ given_again (ticket_part ticket) old.table.roll → new.places ≡ old.places → IsUnderWay kind_of next new
-under_way-turned store kind_of ticket next progress old new under_way step next_is ticket_in current roll places =
-    let s = old.table.state in
-    let number = ticket.task.run in
-    let of_run = ticket-found ticket under_way.ticket_in step.legal.report.is_running in
-    let is = step.state ∙ after_turn s number progress step.legal in
-    let runs : new.table.state.runs ≡ with_turned number s.runs =
-    ap (λ (t : State). t.runs) is ∙ ap (λ (t : TicketState). with_turned t.task.run s.runs) (sym of_run) in
+under_way-turned store kind_of ticket next told old new under_way on roll places =
+    let step = on.step in
+    let is = step.state ∙ after_turn old.table.state ticket.task.run on.progress step.legal in
+    let next_is = (next_turn store ticket next told old.table new.table on under_way.ticket_in).0 in
     record {
       replay = Replay-step store _ old.table new.table under_way.replay step;
       valid = Valid-step store _ old.table new.table under_way.valid step;
       workers = ap (map (place_traits kind_of)) places ∙ under_way.workers ∙ ap (λ (t : State). map instance_traits t.instances) (sym is);
-      ticket_in = ticket_in;
-      current = current;
-      few = subst (λ n. n ≤ 1) (sym (ap length runs ∙ length-turned number s.runs)) under_way.few;
-      alone = ap (λ (t : TicketState). other_runs t.task.run new.table.state.runs) next_is
-          ∙ ap (other_runs number) runs
-          ∙ other_runs-turned number s.runs
-          ∙ under_way.alone;
-      alone_out = ap (λ (t : TicketState). without t.task.run new.table.roll) next_is
-          ∙ ap (without number) roll
-          ∙ taken_again ticket old.table.roll
-          ∙ under_way.alone_out;
+      ticket_in = on.ticket_in;
+      current = current-turned store ticket next told old.table new.table on;
+      few = few-turned store ticket.task.run on.progress old.table new.table step under_way.few;
+      alone = alone-turned store ticket next told old.table new.table on ∙ under_way.alone;
+      alone_out = alone_out-turned store ticket next told old.table new.table on roll ∙ under_way.alone_out;
       away = subst (λ (t : TicketState). IsAwayAt t.instance t.kind new.places) (sym next_is) (rw places under_way.away);
       others = λ back. subst (λ (t : TicketState). NoneAway (changed_at (made_back kind_of back) t.instance new.places)) (sym next_is)
           (rw places (under_way.others back));
@@ -193,10 +165,7 @@ rest-ended store kind_of ticket back ending reported old new under_way ends step
             ∙ sym (traits-with_out false ended.run.instance s.instances)
             ∙ ap (map instance_traits) (sym instances);
         none_away = rw places (under_way.others back);
-        no_run = ap (λ (t : State). t.runs) step.state
-            ∙ ap (λ (f : Frame). f.runs) ended.frame_is
-            ∙ ap (λ (t : TicketState). other_runs t.task.run s.runs) (sym (ticket-found ticket under_way.ticket_in ended.is_running))
-            ∙ under_way.alone;
+        no_run = runs-ended store number reported ending old.table new.table ends step ∙ under_way.alone;
         none_out = roll ∙ under_way.alone_out;
       };
     }

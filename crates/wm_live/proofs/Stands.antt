@@ -1,5 +1,5 @@
 -- What a claim and a turn make of a stand, told or not.
-use Rattle.std.proofs.Common.{◌≡◌, ◌⊎◌, ℕ, ◌+◌, ◌==◌, ◌<◌, ◌≤◌, true, false, true≢false, List, [], ◌∷◌, ◌++◌, length, map, Option, Some, None, option_map, IsSomeAnd, refl, sym, ◌∙◌, ap, subst, inl, inr, arith}
+use Rattle.std.proofs.Common.{◌≡◌, ℕ, ◌+◌, ◌==◌, ◌<◌, ◌≤◌, true, false, List, [], ◌∷◌, ◌++◌, length, map, None, option_map, refl, sym, ◌∙◌, ap, subst, inl, inr, arith}
 use Rattle.std.proofs.lemmas.List.{append-nil}
 use Rattle.std.specs.List.{list_any, AllByRecursion}
 use Rattle.wm_bench.specs.Places.{changed_at, idle_at, made_back}
@@ -10,18 +10,13 @@ use Rattle.wm_keeper.specs.Store.{Store}
 use Rattle.wm_live.proofs.DrainFronts.{goes-nothing}
 use Rattle.wm_live.proofs.DrainSteps.{drained-step, drained-then, stopped-step, stopped-untouched}
 use Rattle.wm_live.proofs.RunSteps.{back-given, back-idle, begun_kind, rest-ended, rest-failed, under_way-begun, under_way-turned}
-use Rattle.wm_live.proofs.Taken.{taken_again, ticket-found, without-new, IsTaken}
 use Rattle.wm_live.specs.Drained.{HasAdvanced, HasBegun, HasEnded, HasStopped, HasTurned}
 use Rattle.wm_live.specs.Rest.{with_back, IsAtRest, IsUnderWay}
 use Rattle.wm_live.specs.StandState.{StandState}
 use Rattle.wm_machine.proofs.Firsts.{idle_instance-idle, idle_instance-stored}
-use Rattle.wm_machine.proofs.Starts.{after_start}
 use Rattle.wm_machine.proofs.Steps.{kept}
-use Rattle.wm_machine.proofs.Turns.{after_turn}
-use Rattle.wm_machine.specs.Runs.{run_numbered, run_on}
 use Rattle.wm_machine.specs.Serial.{IsTurnOf}
 use Rattle.wm_machine.specs.Step.{after, role_of}
-use Rattle.wm_machine.specs.Turns.{turned, with_turned}
 use Rattle.wm_machine.specs.declared.event.Cause.{Cause}
 use Rattle.wm_machine.specs.declared.event.Event.{Event}
 use Rattle.wm_machine.specs.declared.state.Instance.{Instance}
@@ -30,10 +25,11 @@ use Rattle.wm_machine.specs.declared.state.State.{State}
 use Rattle.wm_machine.specs.Waiting.{left_to_drain, LeavesOf}
 use Rattle.wm_machine.specs.declared.event.Event.TheVariants as event
 use Rattle.wm_roll.specs.Parts.{without}
-use Rattle.wm_roll.specs.declared.part.Part.{Part}
-use Rattle.wm_runs.proofs.RunLookups.{found-numbered, run_numbered-turned}
 use Rattle.wm_runs.specs.Reports.{IsOut}
 use Rattle.wm_seating.proofs.PlacesAndInstances.{all_here, idle_at-in, no_seat}
+use Rattle.wm_seating.proofs.PlacesChanged.{IsTaken}
+use Rattle.wm_seating.proofs.Seats.{taken_again}
+use Rattle.wm_seating.proofs.Turnings.{next_turn, not_stopped, IsOverAnswer}
 use Rattle.wm_seating.specs.Bench.{instance_traits, place_traits}
 use Rattle.wm_table.proofs.Claims.{IsOneStep-roll}
 use Rattle.wm_table.proofs.NoLines.{silent_end}
@@ -45,7 +41,6 @@ use Rattle.wm_table.specs.TableState.{TableState, TicketState}
 use Rattle.wm_table.specs.declared.table.Trouble.{Trouble}
 use Rattle.wm_table.specs.declared.table.Trouble.TheVariants.{Memory}
 use Rattle.wm_table.specs.declared.table.TurnAnswer.{TurnAnswer}
-use Rattle.wm_table.specs.declared.table.TurnAnswer.TheVariants as turn
 use Rattle.wm_texts.specs.Texts.{last_text}
 use Rattle.wm_worker.specs.Told.{Report}
 use Rattle.wm_worker.specs.declared.kind.Kind.{Kind}
@@ -115,18 +110,12 @@ module _ {K B : Type 0} (store : K → Store) (kind_of : B → Kind) (ticket : T
   -- its text found no memory, and its worker is back
   pub begun-untold : (trouble : Trouble) → trouble ≡ Memory → HasStopped kind_of trouble old (with_back kind_of ticket seat (claimed_with old.text))
   begun-untold trouble memory =
-      let s = old.table.state in
-      let on = claimed.step.legal in
-      let task = ticket.task in
+      let way = claimed_way old.text in
       let back = with_back kind_of ticket seat (claimed_with old.text) in
-      let runs : t.state.runs ≡ run_on s on.work on.idle task.input ∷ [] =
-      ap (λ (t : State). t.runs) (claimed.step.state ∙ after_start s task.run ticket.seq ticket.instance task.input on)
-      ∙ ap (λ (runs : List Run). runs ++ run_on s on.work on.idle task.input ∷ []) rest.idle.no_run in
-      stopped-step store old back (start_of ticket) rest.replay (IsOneStep-roll store old.table t (without task.run t.roll) (start_of ticket) claimed.step)
-      refl claimed_turn kind_of trouble memory refl (subst (λ (runs : List Run). length runs ≤ 1) (sym runs) (omega arith))
-      (ap (without task.run) (roll ∙ ap (λ (roll : List Part). roll ++ ticket_part ticket ∷ []) rest.idle.none_out)
-      ∙ without-new task.run [] (ticket_part ticket) refl tt)
-      (back-given kind_of ticket seat (claimed_with old.text) back.table back.places (claimed_way old.text) taken.number (claimed_kind old.text) refl refl)
+      stopped-step store old back (start_of ticket) rest.replay
+      (IsOneStep-roll store old.table t (without ticket.task.run t.roll) (start_of ticket) claimed.step) refl claimed_turn kind_of trouble memory refl
+      way.few way.alone_out
+      (back-given kind_of ticket seat (claimed_with old.text) back.table back.places way taken.number (claimed_kind old.text) refl refl)
 
 module _ {K B : Type 0} (store : K → Store) (kind_of : B → Kind) (old new : StandState K B) (seq : ℕ) (cause : Cause) (rest : IsAtRest kind_of old)
     (step : IsOneStep store (event.StartFailed seq cause) old.table new.table) (roll : new.table.roll ≡ old.table.roll)
@@ -157,42 +146,24 @@ module _ {K B : Type 0} (store : K → Store) (kind_of : B → Kind) (ticket nex
   turned_with text = record { table = t; places = old.places; text = text }
 
   -- the next ticket is at the next turn
-  turned_found : run_numbered next.task.run t.state.runs ≡ Some (turned on.step.legal.report.run)
-  turned_found =
-      let runs = old.table.state.runs in
-      let its = on.step.legal.report in
-      let now : t.state.runs ≡ with_turned ticket.task.run runs =
-      ap (λ (t : State). t.runs) (on.step.state ∙ after_turn old.table.state ticket.task.run on.progress on.step.legal)
-      ∙ ap (λ n. with_turned n runs) (found-numbered ticket.task.run runs its.run its.is_running) in
-      ap (λ n. run_numbered n t.state.runs) on.same_run
-      ∙ ap (run_numbered ticket.task.run) now
-      ∙ run_numbered-turned ticket.task.run runs its.run its.is_running
-
   turned_is : next ≡ record ticket { k = ticket.k + 1 }
-  turned_is =
-      let of_run = ticket-found ticket under_way.ticket_in on.step.legal.report.is_running in
-      ticket-found next on.ticket_in turned_found ∙ ap (λ (t : TicketState). record t { k = t.k + 1 }) (sym of_run)
+  turned_is = (next_turn store ticket next told old.table t on under_way.ticket_in).0
 
   pub turned_way : (text : List ℕ) → IsUnderWay kind_of next (turned_with text)
-  turned_way text =
-      under_way-turned store kind_of ticket next on.progress old (turned_with text) under_way on.step turned_is on.ticket_in
-      (subst (λ (o : Option Run). IsSomeAnd o (λ run. run.current ≡ true)) (sym turned_found) on.step.legal.report.is_current) roll refl
+  turned_way text = under_way-turned store kind_of ticket next told old (turned_with text) under_way on roll refl
 
   -- the run goes on, which was told
   pub turned-told : HasTurned kind_of ticket next seat old (turned_with (old.text ++ last_text t.first t.log))
   turned-told =
       let text = old.text ++ last_text t.first t.log in
       let e = event.Turn ticket.task.run on.progress in
-      let of_next = ticket-found next on.ticket_in turned_found in
-      let k_is : next.k ≡ on.step.legal.report.run.turn + 1 = ap (λ (t : TicketState). t.k) of_next in
-      let below : on.step.legal.report.run.turn < 999 = on.step.legal.turns_left in
       record {
         drained = drained-step store old (turned_with text) e under_way.replay on.step refl tt refl;
         under_way = turned_way text;
         number = number ∙ ap (λ (t : TicketState). t.instance) (sym turned_is);
         kind = kind ∙ ap (λ (t : TicketState). t.kind) (sym turned_is);
         next_is = turned_is;
-        turns_left = omega (arith, k_is, below);
+        turns_left = (next_turn store ticket next told old.table t on under_way.ticket_in).1;
         no_more = rw on.step.state (kept old.table.state e under_way.valid on.step.legal).left;
       }
 
@@ -206,15 +177,6 @@ module _ {K B : Type 0} (store : K → Store) (kind_of : B → Kind) (ticket nex
       way.few way.alone_out
       (back-given kind_of next seat (turned_with old.text) back.table back.places way (number ∙ ap (λ (t : TicketState). t.instance) (sym turned_is))
       (kind ∙ ap (λ (t : TicketState). t.kind) (sym turned_is)) refl refl)
-
--- an answer of the table by which a run is over
-abbrev IsOverAnswer : {M : Type 0} → TurnAnswer M → Type 0
-IsOverAnswer answer = (answer ≡ turn.Finished) ⊎ ((answer ≡ turn.TimedOut) ⊎ (answer ≡ turn.Late))
-
--- a current run wasn't stopped
-not_both : (found : Option Run) → IsSomeAnd found (λ run. run.current ≡ true) → IsSomeAnd found (λ run. run.current ≡ false) → ⊥
-not_both None current stopped = absurd current
-not_both (Some run) current stopped = true≢false (sym current ∙ stopped)
 
 -- the run of a ticket is over
 pub record IsOverBy {K : Type 0} (store : K → Store) (ticket : TicketState) (told : Report) (old new : TableState K) : Type 0 where
@@ -232,7 +194,7 @@ over-by {M = M} store ticket told old new current answer (inr (inl is)) answered
     record { finished = over.0.finished; roll = subst (λ (a : TurnAnswer M). IsRollTurned ticket a old.roll new.roll) is rolled }
 over-by {M = M} store ticket told old new current answer (inr (inr is)) answered rolled =
     let late = subst (λ (a : TurnAnswer M). IsTurnAnswer store ticket told a old new) is answered in
-    absurd (not_both (run_numbered ticket.task.run old.state.runs) current late.stopped)
+    absurd (not_stopped old.state ticket.task.run current late.stopped)
 
 module _ {K B : Type 0} (store : K → Store) (kind_of : B → Kind) (ticket : TicketState) (seat : Seat B) (told : Report) (old new : StandState K B)
     (under_way : IsUnderWay kind_of ticket old) (over : IsFinished store ticket.task.run told old.table new.table)

@@ -3,3 +3,4 @@ pub mod PlacesAndInstances
 pub mod PlacesChanged
 pub mod RetiredPlaces
 pub mod Seats
+pub mod Turnings

@@ -1,14 +1,12 @@
 -- A book after the end of a run, and after a turn by which it goes on.
-use Rattle.std.proofs.Common.{◌≡◌, ◌⊎◌, ◌≤◌, [], Option, Some, None, IsSomeAnd, refl, sym, ◌∙◌, ap, subst, inl, inr}
-use Rattle.wm_session.proofs.Words.{BookInvariant, BookState, Event, HasGoneOn, Inputs, IsAwayAt, IsEndOf, IsOneStep, IsReturned, IsTurnAnswer, IsTurnOver, LeavesOf, Part, Report, Run, Seat, Stands, State, Store, TableState, Tells, TicketState, TurnCause, Valid, WasOut, after, after_turn, away-out, changed_at, command_in, found-numbered, frame_of, kept_by, left_to_drain, made_back, part_of, part_standing, placed-end, role_of, rolled-end, run_numbered, run_numbered-turned, silent_end, ticket_part, turned, with_turned, without}
+use Rattle.std.proofs.Common.{◌≡◌, ◌≤◌, [], Option, None, IsSomeAnd, refl, sym, ◌∙◌, ap, subst, inl, inr}
+use Rattle.wm_session.proofs.Words.{BookInvariant, BookState, Event, HasGoneOn, Inputs, IsAwayAt, IsEndOf, IsOneStep, IsOverAnswer, IsReturned, IsTurnAnswer, IsTurnOver, LeavesOf, Part, Report, Run, Seat, Stands, Store, TableState, Tells, TicketState, TurnCause, Valid, WasOut, after, away-out, changed_at, command_in, frame_of, kept_by, left_to_drain, made_back, part_of, part_standing, placed-end, role_of, rolled-end, run_numbered, silent_end, ticket-found, ticket_part, turned_found, without}
 use Rattle.wm_session.proofs.BookSteps.{IsEvent, IsEvent-silent}
 use Rattle.wm_session.proofs.BoxLemmas.{IsSomeAnd-weaker}
-use Rattle.wm_session.proofs.DiaryLemmas.{ticket-found}
 use Rattle.wm_table.specs.Rolls.{IsRollTurned, WasOutWhereTaken, given_again}
 use Rattle.wm_table.specs.declared.table.TurnAnswer.{TurnAnswer}
 use Rattle.wm_machine.specs.declared.event.Event.TheVariants as event
 use Rattle.wm_session.specs.Book as book
-use Rattle.wm_table.specs.declared.table.TurnAnswer.TheVariants as turn
 
 -- ---- a run that is over
 
@@ -40,10 +38,6 @@ HasLeft-late store ticket event_is old new valid returned made out roll = record
   no_fault = ap (λ keeper. (store keeper).faults) returned.keeper;
   no_more = rw returned.step.state ((kept_by old.state (event.Late ticket.task.run) valid returned.step.legal).left);
 }
-
--- an answer of the table by which a run is over
-abbrev pub IsOverAnswer : {M : Type 0} → TurnAnswer M → Type 0
-IsOverAnswer answer = (answer ≡ turn.Finished) ⊎ ((answer ≡ turn.TimedOut) ⊎ (answer ≡ turn.Late))
 
 -- all that the table tells with its answer
 pub record IsAnswered {K M : Type 0} (store : K → Store) (ticket : TicketState) (told : Report) (old new : TableState K) (answer : TurnAnswer M)
@@ -90,16 +84,9 @@ module _ {K : Type 0} (store : K → Store) (ticket : TicketState) (told : Repor
 pub next_alike : {K : Type 0} (store : K → Store) (old new : TableState K) (ticket next : TicketState) (told : Report) → Stands old.state ticket
     → HasGoneOn store ticket told next old new → (next.instance ≡ ticket.instance) × (next.kind ≡ ticket.kind)
 next_alike store old new ticket next told stands on =
-    let runs = old.state.runs in
-    let number = ticket.task.run in
     let its = on.step.legal.report in
     let alike = subst (λ found. IsSomeAnd found (λ run. (run.instance ≡ ticket.instance) × (run.kind ≡ ticket.kind))) its.is_running stands in
-    let now : new.state.runs ≡ with_turned number runs =
-    ap (λ (t : State). t.runs) (on.step.state ∙ after_turn old.state number on.progress on.step.legal)
-    ∙ ap (λ n. with_turned n runs) (found-numbered number runs its.run its.is_running) in
-    let found : run_numbered next.task.run new.state.runs ≡ Some (turned its.run) =
-    ap (λ n. run_numbered n new.state.runs) on.same_run ∙ ap (run_numbered number) now ∙ run_numbered-turned number runs its.run its.is_running in
-    let of_next = ticket-found next on.ticket_in found in
+    let of_next = ticket-found next on.ticket_in (turned_found store ticket next told old new on) in
     (ap (λ (t : TicketState). t.instance) of_next ∙ alike.0, ap (λ (t : TicketState). t.kind) of_next ∙ alike.1)
 
 -- it leaves no more to drain

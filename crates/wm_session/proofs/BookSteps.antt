@@ -1,6 +1,6 @@
 -- What a book keeps where its table makes an event, told or not, and where no ticket is out.
 use Rattle.std.proofs.Common.{◌≡◌, ℕ, ◌+◌, ◌-◌, ◌^◌, ◌≤◌, min, List, [], ◌++◌, map, Option, Some, None, IsSome, Err, refl, sym, ◌∙◌, subst, arith, ◌<◌, ◌∷◌, length, ap, append_assoc, length-append}
-use Rattle.wm_session.proofs.Words.{AllByRecursion, AreNumberedFrom, ArePlacedBy, AreSeated, AwayInvariant, BookInvariant, BookState, Command, Event, Failed, HasCause, HasPrefix, Inputs, IsAskable, IsBetweenRuns, IsGivenBut, IsListed, IsOneStep, IsRolledBy, IsTold, IsUntouched, LinesInvariant, ListsExactly, Part, PendingState, Replay, Replay-push, Report, RollInvariant, Run, State, Stop, StopCause, Store, TableState, TellCause, Tells, TicketState, Trouble, TroubleCause, TurnCause, Valid, Valid-after, command_in, commands_of, commands_of-push, exact-by, frame_of, framed, is_away, is_keeper_fault, last_text, le-min, le_trans, log_text, log_text-last, min-le_left, min-le_right, none_away, out-agrees, part_of, pending_text, role_of, seated-by, stop_by_trouble}
+use Rattle.wm_session.proofs.Words.{AllByRecursion, AreNumberedFrom, ArePlacedBy, AreSeated, AwayInvariant, BookInvariant, BookState, Command, Event, Failed, HasCause, HasPrefix, Inputs, IsAskable, IsBetweenRuns, IsGivenBut, IsListed, IsOneStep, IsRolledBy, IsTold, IsUntouched, LinesInvariant, ListsExactly, Part, PendingState, Replay, Replay-step, Report, RollInvariant, Run, State, Stop, StopCause, Store, TableState, TellCause, Tells, TicketState, Trouble, TroubleCause, TurnCause, Valid, Valid-after, command_in, commands_of, commands_of-push, exact-by, frame_of, framed, is_away, is_keeper_fault, last_text, le-min, le_trans, log_text, log_text-last, min-le_left, min-le_right, none_away, out-agrees, part_of, pending_text, role_of, seated-by, stop_by_trouble}
 use Rattle.wm_session.proofs.BookEvents.{AreNumberedFrom-silent}
 use Rattle.wm_session.proofs.BookImages.{images-going, images-only}
 use Rattle.wm_session.proofs.WrittenTexts.{IsGivenBut-more}
@@ -80,12 +80,7 @@ StopCause-told (Some stop.KeeperFault) keeper keeper_now before now start never 
 
 -- ---- the table
 
--- the log replays with its new event
-pub Replay-step : {K : Type 0} (store : K → Store) (e : Event) (old new : TableState K) → Replay old.first old.log old.state
-    → IsOneStep store e old new → Replay new.first new.log new.state
-Replay-step store e old new replays step =
-    rw (step.first, step.appended, step.state) (Replay-push old.first old.log old.state e replays step.legal)
-
+-- the log replays as before
 pub Replay-same : {K : Type 0} (store : K → Store) {may : Event → Type 0} (old new : TableState K) → Replay old.first old.log old.state
     → IsUntouched store may old new → Replay new.first new.log new.state
 Replay-same store old new replays same = rw (same.first, same.log, same.state) replays

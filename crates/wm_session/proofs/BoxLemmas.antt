@@ -1,7 +1,7 @@
 -- What becomes of the workers, after more events.
 use Rattle.std.proofs.Common.{◌≡◌, ℕ, Bool, cond, eqb, List, [], ◌∷◌, ◌++◌, map, Option, Some, None, IsSome, IsSomeAnd, slice_get, inl, inr, refl, sym, ◌∙◌, ap, subst, ◌+◌}
-use Rattle.wm_session.proofs.Words.{Begun, BookState, Command, DiaryLine, EachAtPlace, Entry, Event, Frame, Gave, Hand, HasGoneOn, HasOne, HasOne-front, HasOne-last, IsAtBegin, IsBegun, IsBetweenRuns, IsBoxAfter, IsDiaryLater, IsDiaryWith, IsEntry, IsFinished, IsOfGiven, IsOneStep, IsOutOfGiven, IsStartOn, IsUnderWay, KeepBoxes, KeepBoxesOut, Kind, More, Place, Replay, Report, Seat, SignalState, Store, This, TicketState, changed_at, diary_with, elsewhere, eq-eqb, event_lines, false≢true, framed_end, idle_at, idle_at-back, idle_at-given, idle_at-taken, idle_hands, log_lines, made_back, ne_eqb, place_of, run_numbered}
-use Rattle.wm_session.proofs.DiaryLemmas.{IsDiaryLater-further, IsDiaryLater-same, IsDiaryWith-nothing, IsDiaryWith-silent, IsDiaryWith-written, lines_of, ticket-found}
+use Rattle.wm_session.proofs.Words.{Begun, BookState, Command, DiaryLine, EachAtPlace, Entry, Event, Frame, Gave, Hand, HasGoneOn, HasOne, HasOne-front, HasOne-last, IsAtBegin, IsBegun, IsBetweenRuns, IsBoxAfter, IsDiaryLater, IsDiaryWith, IsEntry, IsFinished, IsOfGiven, IsOneStep, IsOutOfGiven, IsStartOn, IsUnderWay, KeepBoxes, KeepBoxesOut, Kind, More, Place, Replay, Report, Seat, SignalState, Store, This, TicketState, changed_at, diary_with, elsewhere, eq-eqb, event_lines, false≢true, framed_end, idle_at, idle_at-back, idle_at-given, idle_at-taken, idle_hands, log_lines, made_back, ne_eqb, place_of, run_numbered, ticket-found}
+use Rattle.wm_session.proofs.DiaryLemmas.{IsDiaryLater-further, IsDiaryLater-same, IsDiaryWith-nothing, IsDiaryWith-silent, IsDiaryWith-written, lines_of}
 use Rattle.wm_machine.specs.Diaries as diary_line
 use Rattle.wm_machine.specs.declared.event.Event.TheVariants as event
 

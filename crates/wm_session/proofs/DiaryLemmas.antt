@@ -1,5 +1,5 @@
 -- One diary, after more events.
-use Rattle.std.proofs.Common.{◌≡◌, ℕ, cond, eqb, List, [], ◌∷◌, ◌++◌, Option, Some, None, IsSomeAnd, refl, sym, ◌∙◌, ap, subst, append_assoc}
+use Rattle.std.proofs.Common.{◌≡◌, ℕ, cond, eqb, List, [], ◌∷◌, ◌++◌, Option, Some, None, refl, sym, ◌∙◌, ap, subst, append_assoc}
 use Rattle.wm_session.proofs.Words.{AreEntries, DiaryLine, Entry, Event, IsDiaryLater, IsDiaryWith, IsEntry, Replay, Reported, Run, State, TicketState, append-nil, diary_with, event_lines, given_lines, log_lines, ticket_of}
 use Rattle.wm_machine.proofs.DiaryLogs.{log_lines-push}
 use Rattle.wm_machine.specs.Diaries as diary_line
@@ -45,11 +45,6 @@ module _ (number : ℕ) (first : State) (log : List Event) (s : State) (e : Even
       log_lines-push number first log s e replays ∙ ap (λ more. log_lines number first log ++ more) lines in
       subst (λ lines. IsDiaryWith lines before (diary_with (written ∷ []) now)) (sym more)
       (IsDiaryWith-push (log_lines number first log) line written before now is entry)
-
--- the run that a ticket is of is the one that is found
-pub ticket-found : (ticket : TicketState) {found : Option Run} {run : Run} → IsSomeAnd found (λ run. ticket ≡ ticket_of run) → found ≡ Some run
-    → ticket ≡ ticket_of run
-ticket-found ticket of_run is = subst (λ found. IsSomeAnd found (λ run. ticket ≡ ticket_of run)) is of_run
 
 -- what an event tells of the run of a ticket whose worker gave this
 pub lines_of : (ticket : TicketState) (told : Reported) (found : Option Run) (run : Run) (n : ℕ) → found ≡ Some run → ticket ≡ ticket_of run

@@ -1,14 +1,12 @@
 -- What the steps of a serial session make of its book.
-use Rattle.std.proofs.Common.{◌≡◌, ◌⊎◌, ℕ, ◌+◌, ◌<◌, ◌≤◌, Bool, true, false, List, [], ◌∷◌, ◌++◌, length, map, Option, Some, None, IsSome, IsSomeAnd, Result, Ok, Err, refl, sym, ◌∙◌, ap, subst, inl, inr, arith}
-use Rattle.wm_session.proofs.Words.{AllByRecursion, AllocError, AreInOrder, BookState, Cause, Claim, Command, DataEntry, Entry, Event, Frame, Gave, GoesInOrder, GoesOnWith, Hand, HasClaimed, HasCommands, HasOne, HasOne-front, HasWritten, IsAskable, IsAtBegin, IsAwayAt-taken, IsBegun, IsBetweenRuns, IsClaimAnswer, IsClaimStopped, IsDiaryLater, IsDriven, IsFrontStopped, IsGivenBack, IsInOrder, IsInTurn, IsLast, IsLineDone, IsOneStep, IsOut, IsQuiet, IsReady, IsReported, IsReturned, IsSerialRun, IsStartOn, IsTicketIn, IsTurnOf, IsUnderWay, IsUntouched, KeepBoxes, Kind, Legal, MayGoOn, More, NoneAway-back, Part, Replay, Report, Run, Seat, SignalState, State, Status, StopsAfter, Store, TableState, TicketState, Valid, after_turn, changed_at, commands_of, diary_with, drains_first, eq-eqb, framed, framed_end, idle_at, left_to_drain, made_back, option_to_list, other_runs, run_numbered, run_numbered-turned, run_on, taken_again, ticket_part, true≢false, turn_entries, turned, with_turned, without, without-new}
+use Rattle.std.proofs.Common.{◌≡◌, ◌⊎◌, ℕ, ◌+◌, ◌≤◌, Bool, true, List, [], ◌∷◌, ◌++◌, length, map, Option, Some, None, IsSome, Result, Ok, Err, refl, sym, ◌∙◌, ap, subst, inl, inr, arith}
+use Rattle.wm_session.proofs.Words.{AllByRecursion, AllocError, AreInOrder, BookState, Cause, Claim, Command, DataEntry, Entry, Event, Frame, Gave, GoesInOrder, GoesOnWith, Hand, HasClaimed, HasCommands, HasOne, HasOne-front, HasWritten, IsAskable, IsAtBegin, IsAwayAt-taken, IsBegun, IsBetweenRuns, IsClaimAnswer, IsClaimStopped, IsDiaryLater, IsDriven, IsFrontStopped, IsGivenBack, IsInOrder, IsInTurn, IsLast, IsLineDone, IsOneStep, IsQuiet, IsReady, IsReported, IsReturned, IsSerialRun, IsStartOn, IsTurnOf, IsUnderWay, IsUntouched, KeepBoxes, Kind, Legal, MayGoOn, More, NoneAway-back, Replay, Replay-step, Report, Seat, SignalState, State, Status, StopsAfter, Store, TableState, TicketState, Valid, alone-turned, alone_out-turned, changed_at, commands_of, current-turned, diary_with, drains_first, few-turned, framed, idle_at, left_to_drain, made_back, next_turn, not_stopped, only-begun, option_to_list, runs-ended, turn_entries, without}
 use Rattle.wm_machine.proofs.Serials.{AreInOrder-first, AreInOrder-nothing, AreInOrder-push, BeginsSerial-goes-on}
-use Rattle.wm_machine.proofs.Starts.{after_start}
 use Rattle.wm_seating.proofs.RetiredPlaces.{NoneAway-after, idle_at-after}
 use Rattle.wm_session.proofs.BookClaims.{claimed_step}
-use Rattle.wm_session.proofs.BookEvents.{length-turned, other_runs-turned}
-use Rattle.wm_session.proofs.BookSteps.{Replay-same, Replay-step, askable_left}
+use Rattle.wm_session.proofs.BookSteps.{Replay-same, askable_left}
 use Rattle.wm_session.proofs.BoxLemmas.{KeepBoxes-given_up, KeepBoxes-last, KeepBoxes-stopped, KeepBoxes-turned, no_longer}
-use Rattle.wm_session.proofs.DiaryLemmas.{IsDiaryLater-same, ticket-found}
+use Rattle.wm_session.proofs.DiaryLemmas.{IsDiaryLater-same}
 use Rattle.wm_session.specs.declared.book.After.{After}
 use Rattle.wm_worker.specs.Answers.{given_of}
 use Rattle.wm_worker.specs.declared.answer.Answer.{Answer}
@@ -105,23 +103,14 @@ module _ {K W B : Type 0} (store : K → Store) (old new : BookState K W B) (res
 pub IsUnderWay-begun : {K W B : Type 0} {store : K → Store} {kind_of : B → Kind} {never : Bool} {ticket : TicketState} {seat : Seat B} {signal : SignalState}
     {old new : BookState K W B} → IsBetweenRuns old → IsBegun store kind_of never ticket seat signal old new → IsUnderWay kind_of ticket new
 IsUnderWay-begun {store = store} {kind_of = kind_of} {ticket = ticket} {seat = seat} {old = old} {new = new} rest begun =
-    let task = ticket.task in
-    let start = event.Start task.run ticket.seq ticket.instance task.input in
-    let its = framed old.table.state start begun.step.legal in
-    let one = begun_alone store old new rest begun.goes_on.before task.run ticket.seq ticket.instance task.input begun.step in
-    let s = old.table.state in
-    let on = begun.step.legal in
-    let its_run = run_on s on.work on.idle task.input in
-    let runs : new.table.state.runs ≡ its_run ∷ [] =
-    ap (λ (t : State). t.runs) (begun.step.state ∙ after_start s task.run ticket.seq ticket.instance task.input on)
-    ∙ ap (λ (runs : List Run). runs ++ its_run ∷ []) (rest.no_run begun.goes_on.before) in
+    let start = event.Start ticket.task.run ticket.seq ticket.instance ticket.task.input in
+    let only = only-begun store ticket old.table new.table (rest.no_run begun.goes_on.before) rest.none_out begun.step begun.roll in
     record {
       replay = Replay-step store start old.table new.table rest.replay begun.step;
       ticket_in = begun.ticket_in;
-      current = rw (runs, eq-eqb s.next_run task.run (sym on.run_is)) refl;
-      alone = rw (one, eq-eqb its.run.run task.run (sym its.number_is)) refl;
-      alone_out = ap (without ticket.task.run) (begun.roll ∙ ap (λ (roll : List Part). roll ++ ticket_part ticket ∷ []) rest.none_out)
-          ∙ without-new ticket.task.run [] (ticket_part ticket) refl tt;
+      current = only.current;
+      alone = only.alone;
+      alone_out = only.alone_out;
       away = rw (begun.places, ← begun.kind) (IsAwayAt-taken kind_of seat.worker ticket.instance old.places begun.worker);
       others = λ back. rw begun.places (NoneAway-back kind_of back ticket.instance old.places rest.none_away);
     }
@@ -201,16 +190,6 @@ rest_back back under_way replays none roll places = record {
 abbrev HasTurned : {K : Type 0} → (K → Store) → TicketState → TableState K → TableState K → Type 0
 HasTurned store ticket old new = (progress : Option (List DataEntry)) × IsOneStep store (event.Turn ticket.task.run progress) old new
 
--- which comes in its turn
-turned_turn : {K W B : Type 0} (store : K → Store) (number : ℕ) (progress : Option (List DataEntry)) (old new : BookState K W B)
-    → IsOneStep store (event.Turn number progress) old.table new.table → length old.table.state.runs ≤ 1 → length new.table.state.runs ≤ 1
-turned_turn store number progress old new step few =
-    let s = old.table.state in
-    let run = step.legal.report.run in
-    let as_many : length new.table.state.runs ≡ length s.runs =
-    ap (λ (t : State). length t.runs) (step.state ∙ after_turn s number progress step.legal) ∙ length-turned run.run s.runs in
-    subst (λ n. n ≤ 1) (sym as_many) few
-
 -- the session has stopped early, without an event or as a turn was told
 driven_up : {K W B : Type 0} {store : K → Store} {kind_of : B → Kind} {ticket : TicketState} {old new : BookState K W B}
     (diary_of : B → Option (List Entry)) (has owes : Option (List Entry)) (back : B) → IsUnderWay kind_of ticket old
@@ -219,7 +198,7 @@ driven_up : {K W B : Type 0} {store : K → Store} {kind_of : B → Kind} {ticke
 driven_up {store = store} {kind_of = kind_of} {ticket = ticket} {old = old} {new = new} diary_of has owes back under_way later stops roll places =
     let halted =
     halted_by (HasTurned store ticket) under_way.replay
-    (λ is. (event.Turn ticket.task.run is.0, is.1, λ going few. (turned_turn store ticket.task.run is.0 old new is.1 few, tt))) stops in
+    (λ is. (event.Turn ticket.task.run is.0, is.1, λ going few. (few-turned store ticket.task.run is.0 old.table new.table is.1 few, tt))) stops in
     record {
       rest = rest_back back under_way halted.replay (no_longer new.status halted.status) roll places;
       left = halted.left;
@@ -229,14 +208,6 @@ driven_up {store = store} {kind_of = kind_of} {ticket = ticket} {old = old} {new
     }
 
 -- ---- a turn is reported
-
--- a run that is current wasn't stopped
-not_both : (found : Option Run) → IsSomeAnd found (λ run. run.current ≡ true) → IsSomeAnd found (λ run. run.current ≡ false) → ⊥
-not_both None current stopped = current
-not_both (Some run) current stopped = true≢false (sym current ∙ stopped)
-
-not_stopped : (s : State) (number : ℕ) → IsOut s number true → IsOut s number false → ⊥
-not_stopped s number current stopped = not_both (run_numbered number s.runs) current stopped
 
 module _ {K W B : Type 0} (store : K → Store) (kind_of : B → Kind) (diary_of : B → Option (List Entry)) (ticket : TicketState) (worker : B)
     (seat : Seat B) (number : seat.number ≡ ticket.instance) (old new : BookState K W B) (under_way : IsUnderWay kind_of ticket old) where
@@ -268,22 +239,15 @@ module _ {K W B : Type 0} (store : K → Store) (kind_of : B → Kind) (diary_of
   driven_last told (inl returned) before roll places left no_more written =
       absurd (not_stopped old.table.state ticket.task.run under_way.current returned.stopped)
   driven_last told (inr over) before roll places left no_more written =
-      let s = old.table.state in
-      let run = ticket.task.run in
       let last = over.finished in
-      let ended = framed_end s run last.reported last.ending last.ends last.step.legal in
-      let none : new.table.state.runs ≡ [] =
-      ap (λ (t : State). t.runs) last.step.state
-      ∙ ap (λ (f : Frame). f.runs) ended.frame_is
-      ∙ ap (λ (t : TicketState). other_runs t.task.run s.runs) (sym (ticket-found ticket under_way.ticket_in ended.is_running))
-      ∙ under_way.alone in
+      let none = runs-ended store ticket.task.run last.reported last.ending old.table new.table last.ends last.step ∙ under_way.alone in
       record {
         rest = rest_back seat.worker under_way (Replay-step store last.ending old.table new.table under_way.replay last.step) (λ going. none) roll
             (at_place places);
         left = left;
         no_more = no_more;
         order = λ lines. GoesInOrder-step store lines last.ending old new last.step (rw none (omega arith)) under_way.replay before
-            (subst (λ r. IsTurnOf r s) (sym last.ends) tt);
+            (subst (λ r. IsTurnOf r old.table.state) (sym last.ends) tt);
         boxes = λ given. KeepBoxes-last diary_of worker seat.worker new given under_way before last (at_place places)
             (wrote last.gave told.answer last.told_is written);
       }
@@ -327,31 +291,21 @@ module _ {K W B : Type 0} (store : K → Store) (kind_of : B → Kind) (diary_of
       → GoesOnWith kind_of diary_of ticket worker next kept old new
   GoesOnWith-reported M (Ok told) next kept kind done written =
       let on = done.turn in
-      let its = on.step.legal.report in
-      let s = old.table.state in
-      let of_run = ticket-found ticket under_way.ticket_in its.is_running in
-      let runs : new.table.state.runs ≡ with_turned ticket.task.run s.runs =
-      ap (λ (t : State). t.runs) (on.step.state ∙ after_turn s ticket.task.run on.progress on.step.legal)
-      ∙ ap (λ (t : TicketState). with_turned t.task.run s.runs) (sym of_run) in
-      let found : run_numbered ticket.task.run new.table.state.runs ≡ Some (turned its.run) =
-      ap (run_numbered ticket.task.run) runs ∙ run_numbered-turned ticket.task.run s.runs its.run its.is_running in
-      let of_next = ticket-found next on.ticket_in (ap (λ n. run_numbered n new.table.state.runs) on.same_run ∙ found) in
-      let next_is : next ≡ record ticket { k = ticket.k + 1 } = of_next ∙ ap (λ (t : TicketState). record t { k = t.k + 1 }) (sym of_run) in
-      let k_is : next.k ≡ its.run.turn + 1 = ap (λ (t : TicketState). t.k) of_next in
-      let below : its.run.turn < 999 = on.step.legal.turns_left in
+      let turn = next_turn store ticket next told old.table new.table on under_way.ticket_in in
+      let next_is = turn.0 in
       let diary = ap (λ (s : Seat B). diary_of s.worker) done.seat_is ∙ wrote (More on.progress) told.answer on.told_is written in
       record {
         next_is = next_is;
-        turns_left = omega arith;
-        under_way = subst (λ (t : TicketState). IsUnderWay kind_of t new) (sym next_is) (record {
+        turns_left = turn.1;
+        under_way = record {
           replay = Replay-step store (event.Turn ticket.task.run on.progress) old.table new.table under_way.replay on.step;
-          ticket_in = subst (IsTicketIn new.table.state) next_is on.ticket_in;
-          current = subst (λ (o : Option Run). IsSomeAnd o (λ run. run.current ≡ true)) (sym found) its.is_current;
-          alone = ap (other_runs ticket.task.run) runs ∙ other_runs-turned ticket.task.run s.runs ∙ under_way.alone;
-          alone_out = ap (without ticket.task.run) done.roll ∙ taken_again ticket old.table.roll ∙ under_way.alone_out;
-          away = rw done.places under_way.away;
-          others = λ back. rw done.places (under_way.others back);
-        });
+          ticket_in = on.ticket_in;
+          current = current-turned store ticket next told old.table new.table on;
+          alone = alone-turned store ticket next told old.table new.table on ∙ under_way.alone;
+          alone_out = alone_out-turned store ticket next told old.table new.table on done.roll ∙ under_way.alone_out;
+          away = rw (next_is, done.places) under_way.away;
+          others = λ back. rw (next_is, done.places) (under_way.others back);
+        };
         number = ap (λ (s : Seat B). s.number) done.seat_is ∙ number;
         kind = ap (λ (s : Seat B). kind_of s.worker) done.seat_is ∙ kind;
         further = λ last driven. record {
@@ -360,7 +314,7 @@ module _ {K W B : Type 0} (store : K → Store) (kind_of : B → Kind) (diary_of
           no_more = omega (arith, driven.no_more, done.no_more);
           order = λ lines goes. driven.order lines
               (GoesInOrder-step store lines (event.Turn ticket.task.run on.progress) old new on.step
-              (turned_turn store ticket.task.run on.progress old new on.step goes.order.few_runs) under_way.replay done.goes_on.before tt goes);
+              (few-turned store ticket.task.run on.progress old.table new.table on.step goes.order.few_runs) under_way.replay done.goes_on.before tt goes);
           boxes = λ given keep. driven.boxes given
               (KeepBoxes-turned diary_of worker kept.worker given under_way on done.goes_on.before done.places next_is diary keep);
         };

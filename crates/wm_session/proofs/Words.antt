@@ -1,7 +1,7 @@
 -- What the proofs of this crate speak of: the words of its own definitions, and of those below.
 pub use Rattle.std.proofs.Math.Nat.{add_comm, le-min, le_trans, min-le_left, min-le_right}
-pub use Rattle.std.proofs.lemmas.Bool.{cond_both, eq-eqb, false≢true, ne_eqb, true≢false}
-pub use Rattle.std.proofs.lemmas.List.{append-nil, length-map, take-append-drop}
+pub use Rattle.std.proofs.lemmas.Bool.{eq-eqb, false≢true, ne_eqb}
+pub use Rattle.std.proofs.lemmas.List.{append-nil, take-append-drop}
 pub use Rattle.std.proofs.lemmas.Option.{none-some}
 pub use Rattle.std.specs.List.{AllByRecursion}
 pub use Rattle.std.specs.Prelude.{option_to_list, ◌⊎◌}
@@ -18,9 +18,8 @@ pub use Rattle.wm_io.specs.Pending.{IsGivenBut, PendingState, nothing}
 pub use Rattle.wm_io.specs.Writing.{IsAppended, WriteCause}
 pub use Rattle.wm_io.specs.declared.writing.WriteFault.{WriteFault}
 pub use Rattle.wm_keeper.specs.Store.{Store}
-pub use Rattle.wm_machine.proofs.Logs.{AreNumberedFrom-push, Replay-push, commands_of-push}
+pub use Rattle.wm_machine.proofs.Logs.{AreNumberedFrom-push, commands_of-push}
 pub use Rattle.wm_machine.proofs.Steps.{Valid-after, framed, kept as kept_by}
-pub use Rattle.wm_machine.proofs.Turns.{after_turn}
 pub use Rattle.wm_machine.specs.Diaries.{AreEntries, DiaryLine, IsDiaryWith, IsEntry, event_lines, given_lines, log_lines}
 pub use Rattle.wm_machine.specs.Frame.{Frame, frame_of}
 pub use Rattle.wm_machine.specs.Log.{AreNumberedFrom, HasPrefix, command_in, commands_of}
@@ -28,10 +27,9 @@ pub use Rattle.wm_machine.specs.Outcome.{IsAskable}
 pub use Rattle.wm_machine.specs.Quiet.{IsQuiet}
 pub use Rattle.wm_machine.specs.Replay.{Replay}
 pub use Rattle.wm_machine.specs.Role.{Reported, This}
-pub use Rattle.wm_machine.specs.Runs.{other_runs, run_numbered, run_on}
+pub use Rattle.wm_machine.specs.Runs.{run_numbered}
 pub use Rattle.wm_machine.specs.Serial.{AreInOrder, IsInTurn, IsTurnOf, MayGoOn, drains_first}
 pub use Rattle.wm_machine.specs.Step.{Legal, after, role_of}
-pub use Rattle.wm_machine.specs.Turns.{turned, with_turned}
 pub use Rattle.wm_machine.specs.Valid.{AreNumberedInOrder, Valid}
 pub use Rattle.wm_machine.specs.Waiting.{LeavesOf, left_to_drain}
 pub use Rattle.wm_machine.specs.declared.command.Command.{Command}
@@ -41,11 +39,11 @@ pub use Rattle.wm_machine.specs.declared.state.Run.{Run}
 pub use Rattle.wm_machine.specs.declared.state.State.{State}
 pub use Rattle.wm_roll.specs.Parts.{IsListed, without}
 pub use Rattle.wm_roll.specs.declared.part.Part.{Part}
-pub use Rattle.wm_runs.proofs.RunLookups.{found-numbered, run_numbered-turned}
 pub use Rattle.wm_runs.specs.Reports.{Counts, CountsIn, IsOut}
 pub use Rattle.wm_seating.proofs.PlacesAndInstances.{all_here, idle_at-in, no_seat, traits-taken}
 pub use Rattle.wm_seating.proofs.PlacesChanged.{IsAwayAt-taken, IsTaken, IsTaken-at, NoneAway-back, elsewhere, hand_traits-places, idle_at-back, idle_at-given, idle_at-taken, places-back, stays}
 pub use Rattle.wm_seating.proofs.Seats.{ArePlacedBy, AreSeated, IsEndOf, IsRolledBy, away-out, exact-by, exact-given_again, given_back, none_away, out-agrees, part_standing, placed-end, rolled-end, seated-by, taken_again, ticket_kind, without-new}
+pub use Rattle.wm_seating.proofs.Turnings.{IsOverAnswer, Replay-step, alone-turned, alone_out-turned, current-turned, few-turned, next_turn, not_stopped, only-begun, runs-ended, ticket-found, turned_found}
 pub use Rattle.wm_seating.specs.Bench.{NoneAway, Traits, instance_traits, is_away, is_out_on, place_traits}
 pub use Rattle.wm_seating.specs.Seats.{ListsExactly}
 pub use Rattle.wm_seating.specs.Turning.{HasWritten}

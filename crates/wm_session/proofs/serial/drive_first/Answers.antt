@@ -1,5 +1,4 @@
 use Rattle.std.proofs.Common.{refl}
-use Rattle.wm_session.proofs.BookSteps.{Replay-step}
 use Rattle.wm_session.proofs.BoxLemmas.{KeepBoxes-begun, KeepBoxes-silent, KeepBoxes-stopped}
 use Rattle.wm_session.proofs.SerialLemmas.{GoesInOrder-claimed, IsBetweenRuns-halted, IsHalted-claim, IsUnderWay-begun, failed_none, rest_again}
 use Rattle.wm_table.specs.declared.table.Claim.TheVariants as claim

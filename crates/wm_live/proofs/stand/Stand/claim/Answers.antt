@@ -1,6 +1,6 @@
 use Rattle.std.proofs.Common.{◌++◌, refl}
 use Rattle.wm_live.proofs.Stands.{begun-told, begun-untold, claimed_idle, failed-told, failed-untold, stopped-rest}
-use Rattle.wm_live.proofs.Taken.{IsTaken-at}
+use Rattle.wm_seating.proofs.PlacesChanged.{IsTaken-at}
 use Rattle.wm_live.specs.StandState.{StandState}
 use Rattle.wm_texts.specs.Texts.{last_text}
 use Rattle.wm_live.proofs.stand.Stand.claim.Goals as goal
