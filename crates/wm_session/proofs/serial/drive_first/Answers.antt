@@ -1,4 +1,5 @@
 use Rattle.std.proofs.Common.{refl}
+use Rattle.wm_seating.proofs.Turnings.{Replay-step}
 use Rattle.wm_session.proofs.BoxLemmas.{KeepBoxes-begun, KeepBoxes-silent, KeepBoxes-stopped}
 use Rattle.wm_session.proofs.SerialLemmas.{GoesInOrder-claimed, IsBetweenRuns-halted, IsHalted-claim, IsUnderWay-begun, failed_none, rest_again}
 use Rattle.wm_table.specs.declared.table.Claim.TheVariants as claim
