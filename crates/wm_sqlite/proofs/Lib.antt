@@ -1,11 +1,13 @@
 mod ChangedRows
 mod Commits
 mod Counts
+mod Ended
 mod HeldRows
 mod HeldTables
 mod OpenBefore
 mod Reordered
 mod Rests
+mod StepsMade
 mod Tellings
 mod TextAnswers
 mod TextReadings

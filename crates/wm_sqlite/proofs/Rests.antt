@@ -7,7 +7,7 @@ use Rattle.sqlite.specs.declared.error.Error.{Error}
 use Rattle.sqlite_trees.specs.View.{doubt}
 use Rattle.sqlite_trees.specs.declared.store.Store.{Ghosts}
 use Rattle.sqlite_schema.specs.declared.schema.Schema.{Schema}
-use Rattle.std.proofs.Common.{◌≡◌, ◌≤◌, ℕ, Bool, true, false, List, Result, Ok, Err, IsTrue, IfOk, IfErr, OnOk, OnErr, refl, sym, ap, ◌∙◌, subst, inl, inr, true≢false, arith}
+use Rattle.std.proofs.Common.{◌≡◌, ◌≤◌, ℕ, Bool, true, false, List, Result, Ok, Err, IsTrue, IfOk, OnOk, OnErr, refl, sym, ap, ◌∙◌, subst, inl, inr, true≢false, arith}
 use Rattle.wm_keeper.specs.declared.row.Row.{Row}
 use Rattle.wm_sqlite.specs.Resting.{AreHeld, Holds, Rests, RestsStill, RestsWith}
 use Rattle.wm_sqlite.specs.Standing.{Stands, StandsWith}
@@ -39,15 +39,6 @@ pub by_answer : {T E P Q R : Type 0} (r : Result T E) → OnOk r P → OnErr r Q
 by_answer (Ok x) p q f g = f p
 by_answer (Err e) p q f g = g q
 
--- what is known of an answer as long as C holds
-pub on_ok_given : {T E C P Q : Type 0} (r : Result T E) → (C → OnOk r P) → ((C → P) → Q) → OnOk r Q
-on_ok_given (Ok x) p f = f p
-on_ok_given (Err e) p f = tt
-
-pub on_err_given : {T E C D P Q : Type 0} (r : Result T E) → (C → D → OnErr r P) → ((C → D → P) → Q) → OnErr r Q
-on_err_given (Ok x) p f = tt
-on_err_given (Err e) p f = f p
-
 pub on_ok_then : {T E P Q : Type 0} (r : Result T E) → OnOk r P → (P → Q) → OnOk r Q
 on_ok_then (Ok x) p f = f p
 on_ok_then (Err e) p f = tt
@@ -55,10 +46,6 @@ on_ok_then (Err e) p f = tt
 pub if_ok_then : {T E : Type 0} (P Q : T → Type 0) (r : Result T E) → IfOk r P → ((x : T) → P x → Q x) → IfOk r Q
 if_ok_then P Q (Ok x) p f = f x p
 if_ok_then P Q (Err e) p f = tt
-
-pub on_err_then : {T E Q : Type 0} (P : E → Type 0) (r : Result T E) → IfErr r P → ((e : E) → P e → Q) → OnErr r Q
-on_err_then P (Ok x) p f = tt
-on_err_then P (Err e) p f = f e p
 
 -- ---- a disk
 
@@ -103,13 +90,6 @@ module _ {A : Type 0} (g : Ghosts A) where
         },
         again,
       )
-
-  pub undoes-with : (spread : Spread) (rows : List Row) (first old new : Held A) → RestsWith g spread rows first
-      → (state g old).committed ≡ (state g first).committed → IsTrue (state g new).is_open → IsRolledBack (state g old) (state g new)
-      → RestsWith g spread rows new
-  undoes-with spread rows first old new with same up back =
-      let again = undoes both_schema first old new same up back with.rests in
-      record { rests = again.0; are_held = subst (λ (d : Database). AreHeld spread rows (tables_in d.trees)) (sym again.1) with.are_held }
 
   -- a commit that fails undoes its transaction
   pub fails-back : (old new : Held A) (e : Error) → (state g old).in_transaction ≡ true → FailsToCommit (state g old) (state g new) e

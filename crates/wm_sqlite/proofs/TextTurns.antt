@@ -18,7 +18,8 @@ use Rattle.wm_keeper.specs.declared.row.Row.{Row as Stored}
 use Rattle.wm_columns.specs.Values.{values_of}
 use Rattle.wm_sqlite.specs.Table.{both_schema, carried, cells, no_schema, work_schema}
 use Rattle.wm_sqlite.specs.Held.{tables_in, with_cells, AreNumbered, Tables}
-use Rattle.wm_sqlite.specs.Standing.{LeavesBase, ShowsTable, Stands, StandsWith}
+use Rattle.wm_sqlite.specs.Standing.{ShowsTable, Stands, StandsWith}
+use Rattle.wm_sqlite.specs.Steps.{LeavesBase, MakesFirst, MakesSecond, MakesTables, MakesWhere}
 use Rattle.wm_sqlite.specs.Texts.{create_text, create2_text, delete_text, delete2_text, insert_text, select_text, select2_text}
 use Rattle.wm_sqlite.proofs.TextAnswers.{shows, shows2, shows_same}
 use Rattle.wm_sqlite.proofs.TextRemovals.{removes, removes2}
@@ -100,40 +101,37 @@ module _ {A : Type 0} (g : Ghosts A) (old new : Held A) where
     refuses (Err e) runs = λ clean up base s.
         left-committed (state g old) (state g new) (refused (state g old) (state g new) sql params e (runs clean s.mode)) up ∙ s.origin
 
-  -- CREATE makes `work`, with no row
-  pub makes_first : (r : Result ℕ Error) → (IsTrue (state g old).in_transaction → ExecutesInside 0 create_text [] (state g old) (state g new) r)
-      → OnOk r ((base : Database) → Stands g no_schema base old → Stands g work_schema base new × ((state g new).now.trees 0 ≡ []))
+  -- CREATE makes `work`, with no row, and does nothing where it is
+  pub makes_first : (r : Result ℕ Error)
+      → (HasCleanDisk (state g new) → IsTrue (state g old).in_transaction → ExecutesInside 0 create_text [] (state g old) (state g new) r)
+      → OnOk r (MakesFirst g old new)
   makes_first (Err e) runs = tt
-  makes_first (Ok count) runs = λ base s.
-      let h = runs s.begun.mode in
-      let did = makes (state g old) (state g new) count s.schema_is h.0 in
-      (written work_schema no_schema base s h.1 did.0, did.1)
-
-  -- and does nothing where it is
-  pub keeps_first : (r : Result ℕ Error) → (IsTrue (state g old).in_transaction → ExecutesInside 0 create_text [] (state g old) (state g new) r)
-      → OnOk r ((base : Database) → Stands g work_schema base old
-      → Stands g work_schema base new × ((state g new).now.trees 0 ≡ (state g old).now.trees 0))
-  keeps_first (Err e) runs = tt
-  keeps_first (Ok count) runs = λ base s.
-      let same = makes_again (state g old) (state g new) count s.schema_is (runs s.begun.mode).0 in
-      (stays work_schema base s same, ap (λ (d : Database). d.trees 0) same.0.now_is)
+  makes_first (Ok count) runs = record {
+    made = λ clean base s.
+        let h = runs clean s.begun.mode in
+        let did = makes (state g old) (state g new) count s.schema_is h.0 in
+        (written work_schema no_schema base s h.1 did.0, did.1);
+    kept = λ clean base s.
+        let same = makes_again (state g old) (state g new) count s.schema_is (runs clean s.begun.mode).0 in
+        (stays work_schema base s same, ap (λ (d : Database). d.trees 0) same.0.now_is);
+  }
 
   -- the other CREATE makes `work2`, with no row
-  pub makes_second : (r : Result ℕ Error) → (IsTrue (state g old).in_transaction → ExecutesInside 0 create2_text [] (state g old) (state g new) r)
-      → OnOk r ((base : Database) → Stands g work_schema base old → StandsWith g base ((state g old).now.trees 0, []) new)
+  pub makes_second : (r : Result ℕ Error)
+      → (HasCleanDisk (state g new) → IsTrue (state g old).in_transaction → ExecutesInside 0 create2_text [] (state g old) (state g new) r)
+      → OnOk r (MakesSecond g old new)
   makes_second (Err e) runs = tt
-  makes_second (Ok count) runs = λ base s.
-      let h = runs s.begun.mode in
+  makes_second (Ok count) runs = λ clean base s.
+      let h = runs clean s.begun.mode in
       written-with work_schema base ((state g old).now.trees 0, []) s h.1 (makes2 (state g old) (state g new) count s.schema_is h.0)
 
   -- DELETE takes a number out of `work`
   pub deletes_first : (n : ℤ) (r : Result ℕ Error)
-      → (IsTrue (state g old).in_transaction → ExecutesInside 0 delete_text (Int n ∷ []) (state g old) (state g new) r)
-      → OnOk r ((base : Database) (tables : Tables) → StandsWith g base tables old → AreNumbered tables.0
-      → StandsWith g base (without_rowid n tables.0, tables.1) new)
+      → (HasCleanDisk (state g new) → IsTrue (state g old).in_transaction → ExecutesInside 0 delete_text (Int n ∷ []) (state g old) (state g new) r)
+      → OnOk r (MakesWhere g (λ tables. AreNumbered tables.0) (λ tables. (without_rowid n tables.0, tables.1)) old new)
   deletes_first n (Err e) runs = tt
-  deletes_first n (Ok count) runs = λ base tables s numbered.
-      let h = runs s.stands.begun.mode in
+  deletes_first n (Ok count) runs = λ clean base tables s numbered.
+      let h = runs clean s.stands.begun.mode in
       let did = removes_answer (state g old) (state g new) n count s.stands.schema_is h.0 in
       let first : (state g old).now.trees 0 ≡ tables.0 = ap (λ (t : Tables). t.0) s.tables_are in
       let second : (state g old).now.trees 1 ≡ tables.1 = ap (λ (t : Tables). t.1) s.tables_are in
@@ -143,12 +141,11 @@ module _ {A : Type 0} (g : Ghosts A) (old new : Held A) where
 
   -- the other takes it out of `work2`
   pub deletes_second : (n : ℤ) (r : Result ℕ Error)
-      → (IsTrue (state g old).in_transaction → ExecutesInside 0 delete2_text (Int n ∷ []) (state g old) (state g new) r)
-      → OnOk r ((base : Database) (tables : Tables) → StandsWith g base tables old → AreNumbered tables.1
-      → StandsWith g base (tables.0, without_rowid n tables.1) new)
+      → (HasCleanDisk (state g new) → IsTrue (state g old).in_transaction → ExecutesInside 0 delete2_text (Int n ∷ []) (state g old) (state g new) r)
+      → OnOk r (MakesWhere g (λ tables. AreNumbered tables.1) (λ tables. (tables.0, without_rowid n tables.1)) old new)
   deletes_second n (Err e) runs = tt
-  deletes_second n (Ok count) runs = λ base tables s numbered.
-      let h = runs s.stands.begun.mode in
+  deletes_second n (Ok count) runs = λ clean base tables s numbered.
+      let h = runs clean s.stands.begun.mode in
       let did = removes2_answer (state g old) (state g new) n count s.stands.schema_is h.0 in
       let first : (state g old).now.trees 0 ≡ tables.0 = ap (λ (t : Tables). t.0) s.tables_are in
       let second : (state g old).now.trees 1 ≡ tables.1 = ap (λ (t : Tables). t.1) s.tables_are in
@@ -158,23 +155,22 @@ module _ {A : Type 0} (g : Ghosts A) (old new : Held A) where
 
   -- INSERT puts a row into `work2`
   pub inserts : (row : Stored) (prior tags : List ℕ) (r : Result ℕ Error)
-      → (IsTrue (state g old).in_transaction → ExecutesInside 0 insert_text (values_of row prior tags) (state g old) (state g new) r)
-      → OnOk r ((base : Database) (tables : Tables) → StandsWith g base tables old
-      → StandsWith g base (with_cells (cells (values_of row prior tags)) tables) new)
+      → (HasCleanDisk (state g new) → IsTrue (state g old).in_transaction → ExecutesInside 0 insert_text (values_of row prior tags) (state g old) (state g new) r)
+      → OnOk r (MakesTables g (with_cells (cells (values_of row prior tags))) old new)
   inserts row prior tags (Err e) runs = tt
-  inserts row prior tags (Ok count) runs = λ base tables s.
-      let h = runs s.stands.begun.mode in
+  inserts row prior tags (Ok count) runs = λ clean base tables s.
+      let h = runs clean s.stands.begun.mode in
       let did = puts (state g old) (state g new) row prior tags count s.stands.schema_is h.0 in
       written-with both_schema base (with_cells (cells (values_of row prior tags)) tables) s.stands h.1
       (did.0, did.1 ∙ ap (with_cells (cells (values_of row prior tags))) s.tables_are)
 
   -- SELECT changes nothing
   pub selects : (text : List ℕ) (r : Result (Vec Row Global) Error) → IsPlain (understood both_schema text)
-      → IfOk r (λ rows. Shown text [] (state g old) (state g new) rows.items)
-      → OnOk r ((base : Database) (tables : Tables) → StandsWith g base tables old → StandsWith g base tables new)
+      → (HasCleanDisk (state g new) → IfOk r (λ rows. Shown text [] (state g old) (state g new) rows.items))
+      → OnOk r (MakesTables g (λ tables. tables) old new)
   selects text (Err e) plain shown = tt
-  selects text (Ok rows) plain shown = λ base tables s.
-      stays-with base tables s (shows_same (state g old) (state g new) text rows.items s.stands.schema_is plain shown)
+  selects text (Ok rows) plain shown = λ clean base tables s.
+      stays-with base tables s (shows_same (state g old) (state g new) text rows.items s.stands.schema_is plain (shown clean))
 
   -- and shows the rows of its table
   pub selects_first : (r : Result (Vec Row Global) Error) → IfOk r (λ rows. Shown select_text [] (state g old) (state g new) rows.items)

@@ -3,6 +3,7 @@ pub mod Refusals
 pub mod Resting
 pub mod Standing
 pub mod States
+pub mod Steps
 pub mod Table
 pub mod Texts
 pub mod Told

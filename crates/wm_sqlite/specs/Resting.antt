@@ -59,11 +59,6 @@ module _ {A : Type 0} (g : Ghosts A) where
     abbrev pub Makes : (List Row → List Row) → Held A → Held A → Type 0
     Makes change old new = HasCleanDisk (state g new) → (base : Database) (rows : List Row) → Holds base rows old → Holds base (change rows) new
 
-    -- it was refused, and leaves what the transaction began at
-    abbrev pub Leaves : Held A → Held A → Type 0
-    Leaves old new = HasCleanDisk (state g new) → IsTrue (state g new).is_open → (base : Database) (rows : List Row) → Holds base rows old
-        → (state g new).committed ≡ base
-
     -- no transaction is open, and the database has the two tables, with these rows, and nothing else
     pub record RestsWith (rows : List Row) (h : Held A) : Type 0 where
       pub rests : Rests both_schema h

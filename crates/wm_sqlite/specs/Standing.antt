@@ -1,7 +1,6 @@
 -- What a connection stands at while a transaction is open.
 use Rattle.sqlite.specs.Effect.{Database}
 use Rattle.sqlite.specs.Held.{Held, state}
-use Rattle.sqlite.specs.State.{HasCleanDisk}
 use Rattle.sqlite_schema.specs.declared.schema.Schema.{Schema}
 use Rattle.sqlite_trees.specs.declared.store.Store.{Ghosts}
 use Rattle.sqlite_value.specs.Order.{Row}
@@ -36,7 +35,3 @@ module _ {A : Type 0} (g : Ghosts A) where
   pub record StandsWith (base : Database) (tables : Tables) (h : Held A) : Type 0 where
     pub stands : Stands both_schema base h
     pub tables_are : tables_in (state g h).now.trees ≡ tables
-
-  -- a step was refused, and leaves what the transaction began at, as long as the disk returned what was written
-  abbrev pub LeavesBase : Held A → Held A → Type 0
-  LeavesBase old new = HasCleanDisk (state g new) → IsTrue (state g new).is_open → (base : Database) → HasBegun base old → (state g new).committed ≡ base

@@ -12,7 +12,7 @@ use Rattle.wm_keeper.specs.Store.{Store}
 use Rattle.wm_keeper.specs.declared.row.Row.{Row}
 use Rattle.wm_columns.specs.Values.{row_of}
 use Rattle.wm_sqlite.specs.Held.{all_rows, Differ, held_in, row_in, tables_in, told_rows, Tables}
-use Rattle.wm_sqlite.specs.Resting.{Rests, RestsWith}
+use Rattle.wm_sqlite.specs.Resting.{Rests, RestsWith, WasOpen}
 use Rattle.wm_sqlite.specs.Standing.{ShowsTables}
 use Rattle.wm_sqlite.specs.States.{SqliteState}
 use Rattle.wm_sqlite.specs.Table.{both_schema, no_schema, work_schema}
@@ -129,3 +129,9 @@ module _ {A : Type 0} (g : Ghosts A) where
   pub record AreThere (h : Held A) (held : List Row) : Type 0 where
     pub rests : Rests g both_schema h
     pub told : told_rows (map row_in (all_rows (tables_in (state g h).now.trees))) ≡ Some held
+
+  -- after a call that changes nothing of its rows a keeper knows what is there, and tells as it did
+  pub record StillTells (before now : Standing) (old new : Held A) : Type 0 where
+    pub knows : Knows now new
+    pub alike : TellsAlike (told_of before (state g old) 0) (told_of now (state g new) 0)
+    pub was_open : WasOpen g old new

@@ -1,14 +1,14 @@
 //! Changes of the tables, all or none.
 ghost use Rattle.sqlite.specs.Held.{state};
-ghost use Rattle.sqlite.specs.State.{HasCleanDisk, Survives};
+ghost use Rattle.sqlite.specs.State.{HasCleanDisk};
 ghost use Rattle.sqlite_trees.specs.Tree.{Trees};
 ghost use Rattle.std.specs.Prelude.{◌≡◌, ◌⊎◌, [], ◌∷◌, false, string_bytes, List, IsTrue, OnOk, OnErr};
 ghost use Rattle.wm_keeper.specs.Keeper.{put_row};
 ghost use Rattle.wm_keeper.specs.declared.row.Row.{Row};
 ghost use Rattle.wm_columns.specs.Values.{AreLists};
 ghost use Rattle.wm_sqlite.specs.Held.{added, all_rows, held_in, removed, tables_in, without, AreNumbered};
-ghost use Rattle.wm_sqlite.specs.Standing.{StandsWith};
-ghost use Rattle.wm_sqlite.specs.Resting.{with_changes, AreSpread, Leaves, Makes, RestsWith, WasOpen};
+ghost use Rattle.wm_sqlite.specs.Resting.{with_changes, AreSpread, Makes, RestsWith, WasOpen};
+ghost use Rattle.wm_sqlite.specs.Steps.{IsStep, MakesWhere};
 
 use crate::standing::Spread;
 use crate::statements::{check_open, delete_first, delete_second, insert_row};
@@ -55,11 +55,7 @@ fn make_changes<A: Alter>(
     spread: Spread,
     changes: &[Change],
 ) -> Result<(), Error>
-    ensures same_reference { transaction.new.conn.ghost_name ≡ transaction.old.conn.ghost_name }
-    ensures ok { OnOk result (Makes A.Store spread (with_changes changes.now) transaction.old.conn.now transaction.new.conn.now) }
-    ensures err { OnErr result (Leaves A.Store spread transaction.old.conn.now transaction.new.conn.now) }
-    ensures survives { Survives (state A.Store transaction.old.conn.now) (state A.Store transaction.new.conn.now) (λ _. ⊥) }
-    ensures was_open { WasOpen A.Store transaction.old.conn.now transaction.new.conn.now }
+    ensures step { IsStep A.Store (Makes A.Store spread (with_changes changes.now)) result transaction.old.conn transaction.new.conn }
     ensures opened { OnOk result (HasCleanDisk (state A.Store transaction.new.conn.now)
         → IsTrue (state A.Store transaction.old.conn.now).is_open) }
 {
@@ -74,11 +70,7 @@ fn remove_rows<A: Alter>(
     spread: Spread,
     changes: &[Change],
 ) -> Result<(), Error>
-    ensures same_reference { transaction.new.conn.ghost_name ≡ transaction.old.conn.ghost_name }
-    ensures ok { OnOk result (Makes A.Store spread (removed changes.now) transaction.old.conn.now transaction.new.conn.now) }
-    ensures err { OnErr result (Leaves A.Store spread transaction.old.conn.now transaction.new.conn.now) }
-    ensures survives { Survives (state A.Store transaction.old.conn.now) (state A.Store transaction.new.conn.now) (λ _. ⊥) }
-    ensures was_open { WasOpen A.Store transaction.old.conn.now transaction.new.conn.now }
+    ensures { IsStep A.Store (Makes A.Store spread (removed changes.now)) result transaction.old.conn transaction.new.conn }
 {
     for change in changes {
         remove_row(transaction, spread, change)?;
@@ -92,11 +84,7 @@ fn remove_row<A: Alter>(
     spread: Spread,
     change: &Change,
 ) -> Result<usize, Error>
-    ensures same_reference { transaction.new.conn.ghost_name ≡ transaction.old.conn.ghost_name }
-    ensures ok { OnOk result (Makes A.Store spread (removed (change.now ∷ [])) transaction.old.conn.now transaction.new.conn.now) }
-    ensures err { OnErr result (Leaves A.Store spread transaction.old.conn.now transaction.new.conn.now) }
-    ensures survives { Survives (state A.Store transaction.old.conn.now) (state A.Store transaction.new.conn.now) (λ _. ⊥) }
-    ensures was_open { WasOpen A.Store transaction.old.conn.now transaction.new.conn.now }
+    ensures { IsStep A.Store (Makes A.Store spread (removed (change.now ∷ []))) result transaction.old.conn transaction.new.conn }
 {
     match change {
         Change::Remove(seq) => delete_row(transaction, spread, seq),
@@ -111,11 +99,7 @@ fn put_rows<A: Alter>(
     spread: Spread,
     changes: &[Change],
 ) -> Result<(), Error>
-    ensures same_reference { transaction.new.conn.ghost_name ≡ transaction.old.conn.ghost_name }
-    ensures ok { OnOk result (Makes A.Store spread (added changes.now) transaction.old.conn.now transaction.new.conn.now) }
-    ensures err { OnErr result (Leaves A.Store spread transaction.old.conn.now transaction.new.conn.now) }
-    ensures survives { Survives (state A.Store transaction.old.conn.now) (state A.Store transaction.new.conn.now) (λ _. ⊥) }
-    ensures was_open { WasOpen A.Store transaction.old.conn.now transaction.new.conn.now }
+    ensures { IsStep A.Store (Makes A.Store spread (added changes.now)) result transaction.old.conn transaction.new.conn }
 {
     for change in changes {
         put_row(transaction, alloc, spread, change)?;
@@ -130,11 +114,7 @@ fn put_row<A: Alter>(
     spread: Spread,
     change: &Change,
 ) -> Result<usize, Error>
-    ensures same_reference { transaction.new.conn.ghost_name ≡ transaction.old.conn.ghost_name }
-    ensures ok { OnOk result (Makes A.Store spread (added (change.now ∷ [])) transaction.old.conn.now transaction.new.conn.now) }
-    ensures err { OnErr result (Leaves A.Store spread transaction.old.conn.now transaction.new.conn.now) }
-    ensures survives { Survives (state A.Store transaction.old.conn.now) (state A.Store transaction.new.conn.now) (λ _. ⊥) }
-    ensures was_open { WasOpen A.Store transaction.old.conn.now transaction.new.conn.now }
+    ensures { IsStep A.Store (Makes A.Store spread (added (change.now ∷ []))) result transaction.old.conn transaction.new.conn }
 {
     match change {
         Change::Put(row) => replace_row(transaction, alloc, spread, row),
@@ -149,11 +129,7 @@ fn replace_row<A: Alter>(
     spread: Spread,
     row: &Row,
 ) -> Result<usize, Error>
-    ensures same_reference { transaction.new.conn.ghost_name ≡ transaction.old.conn.ghost_name }
-    ensures ok { OnOk result (Makes A.Store spread (put_row row.now) transaction.old.conn.now transaction.new.conn.now) }
-    ensures err { OnErr result (Leaves A.Store spread transaction.old.conn.now transaction.new.conn.now) }
-    ensures survives { Survives (state A.Store transaction.old.conn.now) (state A.Store transaction.new.conn.now) (λ _. ⊥) }
-    ensures was_open { WasOpen A.Store transaction.old.conn.now transaction.new.conn.now }
+    ensures { IsStep A.Store (Makes A.Store spread (put_row row.now)) result transaction.old.conn transaction.new.conn }
 {
     let lists = list_columns(alloc, row)?;
     replace_stored(transaction, spread, row, &lists.prior, &lists.tags)
@@ -168,11 +144,7 @@ fn replace_stored<A: Alter>(
     tags: &String,
 ) -> Result<usize, Error>
     requires { AreLists row.now prior.now.items (string_bytes tags.now) }
-    ensures same_reference { transaction.new.conn.ghost_name ≡ transaction.old.conn.ghost_name }
-    ensures ok { OnOk result (Makes A.Store spread (put_row row.now) transaction.old.conn.now transaction.new.conn.now) }
-    ensures err { OnErr result (Leaves A.Store spread transaction.old.conn.now transaction.new.conn.now) }
-    ensures survives { Survives (state A.Store transaction.old.conn.now) (state A.Store transaction.new.conn.now) (λ _. ⊥) }
-    ensures was_open { WasOpen A.Store transaction.old.conn.now transaction.new.conn.now }
+    ensures { IsStep A.Store (Makes A.Store spread (put_row row.now)) result transaction.old.conn transaction.new.conn }
 {
     delete_row(transaction, spread, &row.seq)?;
     insert_row(transaction, row, prior, tags)
@@ -184,18 +156,7 @@ fn delete_row<A: Alter>(
     spread: Spread,
     seq: &i64,
 ) -> Result<usize, Error>
-    ensures same_reference { transaction.new.conn.ghost_name ≡ transaction.old.conn.ghost_name }
-    ensures ok { HasCleanDisk (state A.Store transaction.new.conn.now)
-        → OnOk result ((base : _) (tables : _) → StandsWith A.Store base tables transaction.old.conn.now
-        → AreNumbered tables.0 → AreNumbered tables.1 → AreSpread spread tables
-        → StandsWith A.Store base (without seq.now tables) transaction.new.conn.now) }
-    ensures err { HasCleanDisk (state A.Store transaction.new.conn.now)
-        → IsTrue (state A.Store transaction.new.conn.now).is_open
-        → OnErr result ((base : _) (tables : _) → StandsWith A.Store base tables transaction.old.conn.now
-        → AreNumbered tables.0
-        → (state A.Store transaction.new.conn.now).committed ≡ base) }
-    ensures survives { Survives (state A.Store transaction.old.conn.now) (state A.Store transaction.new.conn.now) (λ _. ⊥) }
-    ensures was_open { WasOpen A.Store transaction.old.conn.now transaction.new.conn.now }
+    ensures { IsStep A.Store (MakesWhere A.Store (λ tables. AreNumbered tables.0 × AreNumbered tables.1 × AreSpread spread tables) (without seq.now)) result transaction.old.conn transaction.new.conn }
 {
     match spread {
         Spread::Both => delete_both(transaction, seq),
@@ -205,18 +166,7 @@ fn delete_row<A: Alter>(
 
 /// Deletes the rows of this number from both tables.
 fn delete_both<A: Alter>(transaction: &mut Transaction<'_, A>, seq: &i64) -> Result<usize, Error>
-    ensures same_reference { transaction.new.conn.ghost_name ≡ transaction.old.conn.ghost_name }
-    ensures ok { HasCleanDisk (state A.Store transaction.new.conn.now)
-        → OnOk result ((base : _) (tables : _) → StandsWith A.Store base tables transaction.old.conn.now
-        → AreNumbered tables.0 → AreNumbered tables.1
-        → StandsWith A.Store base (without seq.now tables) transaction.new.conn.now) }
-    ensures err { HasCleanDisk (state A.Store transaction.new.conn.now)
-        → IsTrue (state A.Store transaction.new.conn.now).is_open
-        → OnErr result ((base : _) (tables : _) → StandsWith A.Store base tables transaction.old.conn.now
-        → AreNumbered tables.0
-        → (state A.Store transaction.new.conn.now).committed ≡ base) }
-    ensures survives { Survives (state A.Store transaction.old.conn.now) (state A.Store transaction.new.conn.now) (λ _. ⊥) }
-    ensures was_open { WasOpen A.Store transaction.old.conn.now transaction.new.conn.now }
+    ensures { IsStep A.Store (MakesWhere A.Store (λ tables. AreNumbered tables.0 × AreNumbered tables.1) (without seq.now)) result transaction.old.conn transaction.new.conn }
 {
     delete_first(transaction, seq)?;
     delete_second(transaction, seq)

@@ -6,7 +6,7 @@ ghost use Rattle.wm_keeper.specs.Keeper.{Ascends};
 ghost use Rattle.wm_sqlite.specs.Held.{tables_in, Differ};
 ghost use Rattle.wm_sqlite.specs.Resting.{WasOpen};
 ghost use Rattle.wm_sqlite.specs.Standing.{ShowsTables};
-ghost use Rattle.wm_sqlite.specs.Told.{rows_told, told_of, AreRead, AreShown, AreThere, IsLookedAt, IsMade, IsSeenAs, IsUnmade, Knows, TellsAlike};
+ghost use Rattle.wm_sqlite.specs.Told.{rows_told, AreRead, AreShown, AreThere, IsLookedAt, IsMade, IsSeenAs, IsUnmade, Knows, StillTells};
 
 use crate::form::{has_others, is_blank, is_of_both, is_of_work};
 use crate::refusal::{Refusal, refused};
@@ -44,10 +44,7 @@ pub(crate) fn read_rows<A: Alter>(
     standing: &mut Standing,
 ) -> Result<Vec<Row>, Refusal>
     requires knows { Knows A.Store standing.old connection.old }
-    ensures knows { Knows A.Store standing.new connection.new }
-    ensures alike { TellsAlike (told_of standing.old (state A.Store connection.old) 0)
-        (told_of standing.new (state A.Store connection.new) 0) }
-    ensures was_open { WasOpen A.Store connection.old connection.new }
+    ensures still { StillTells A.Store standing.old standing.new connection.old connection.new }
     ensures rows { HasCleanDisk (state A.Store connection.new) → IfOk result (λ rows.
         IfSome (rows_told standing.old (state A.Store connection.old)) (λ held. rows.items ≡ held)) }
     ensures looked { OnOk result (IsLookedAt standing.new) }
@@ -112,10 +109,7 @@ fn show_rows<A: Alter>(
     standing: &mut Standing,
 ) -> Result<Shown, Refusal>
     requires knows { Knows A.Store standing.old connection.old }
-    ensures knows { Knows A.Store standing.new connection.new }
-    ensures alike { TellsAlike (told_of standing.old (state A.Store connection.old) 0)
-        (told_of standing.new (state A.Store connection.new) 0) }
-    ensures was_open { WasOpen A.Store connection.old connection.new }
+    ensures still { StillTells A.Store standing.old standing.new connection.old connection.new }
     ensures told { HasCleanDisk (state A.Store connection.new) → IfOk result (λ shown.
         IfSome (rows_told standing.old (state A.Store connection.old)) (λ held. AreShown held shown.first.items shown.second.items)) }
     ensures shown { HasCleanDisk (state A.Store connection.new) → IfOk result (λ shown.
@@ -138,10 +132,7 @@ fn make_missing<A: Alter>(
     requires mode { connection.old.in_transaction ≡ false }
     requires knows { Knows A.Store standing.old connection.old }
     ensures mode { connection.new.in_transaction ≡ false }
-    ensures knows { Knows A.Store standing.new connection.new }
-    ensures alike { TellsAlike (told_of standing.old (state A.Store connection.old) 0)
-        (told_of standing.new (state A.Store connection.new) 0) }
-    ensures was_open { WasOpen A.Store connection.old connection.new }
+    ensures still { StillTells A.Store standing.old standing.new connection.old connection.new }
     ensures made { OnOk result (IsMade standing.new) }
     ensures there { HasCleanDisk (state A.Store connection.new) → OnOk result (
         IfSome (rows_told standing.old (state A.Store connection.old)) (AreThere A.Store connection.new)) }
@@ -164,10 +155,7 @@ fn complete<A: Alter>(
     requires knows { Knows A.Store standing.old connection.old }
     requires unmade { IsUnmade standing.old }
     ensures mode { connection.new.in_transaction ≡ false }
-    ensures knows { Knows A.Store standing.new connection.new }
-    ensures alike { TellsAlike (told_of standing.old (state A.Store connection.old) 0)
-        (told_of standing.new (state A.Store connection.new) 0) }
-    ensures was_open { WasOpen A.Store connection.old connection.new }
+    ensures still { StillTells A.Store standing.old standing.new connection.old connection.new }
     ensures made { OnOk result (standing.new ≡ Standing.Found) }
     ensures there { HasCleanDisk (state A.Store connection.new) → OnOk result (
         IfSome (rows_told standing.old (state A.Store connection.old)) (AreThere A.Store connection.new)) }

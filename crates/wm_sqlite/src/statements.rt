@@ -1,17 +1,16 @@
 //! The statements, each in a function of its own with one call of the database, inside a
 //! transaction.
 ghost use Rattle.sqlite.specs.Held.{state};
-ghost use Rattle.sqlite.specs.State.{HasCleanDisk, Survives};
+ghost use Rattle.sqlite.specs.State.{HasCleanDisk};
 ghost use Rattle.sqlite_value.specs.Value.{owned};
-ghost use Rattle.sqlite_trees.specs.Tree.{put_row, without_rowid};
+ghost use Rattle.sqlite_trees.specs.Tree.{without_rowid};
 ghost use Rattle.sqlite_value.specs.declared.value.Value.TheVariants.{Int};
-ghost use Rattle.std.specs.List.{AllByRecursion};
-ghost use Rattle.std.specs.Prelude.{◌≡◌, [], map, string_bytes, IsTrue, IfOk, OnOk, OnErr};
-ghost use Rattle.wm_sqlite.specs.Held.{tables_in, with_cells, AreNumbered};
-ghost use Rattle.wm_sqlite.specs.Resting.{WasOpen};
-ghost use Rattle.wm_sqlite.specs.Standing.{LeavesBase, ShowsTable, Stands, StandsWith};
+ghost use Rattle.std.specs.Prelude.{◌≡◌, [], map, string_bytes, IsTrue, IfOk, OnOk};
+ghost use Rattle.wm_sqlite.specs.Held.{with_cells, AreNumbered};
+ghost use Rattle.wm_sqlite.specs.Standing.{ShowsTable, StandsWith};
+ghost use Rattle.wm_sqlite.specs.Steps.{IsStep, MakesFirst, MakesSecond, MakesTables, MakesWhere};
 ghost use Rattle.wm_columns.specs.Values.{values_of};
-ghost use Rattle.wm_sqlite.specs.Table.{both_schema, carried, cells, no_schema, work_schema};
+ghost use Rattle.wm_sqlite.specs.Table.{carried, cells};
 
 use sqlite::types::ValueRef;
 use sqlite::{Alter, Error, Row as ShownRow, Transaction};
@@ -20,20 +19,9 @@ use wm_keeper::Row;
 
 /// Makes `work` where there is none of its name.
 pub(crate) fn make_first<A: Alter>(transaction: &mut Transaction<'_, A>) -> Result<usize, Error>
-    ensures same_reference { transaction.new.conn.ghost_name ≡ transaction.old.conn.ghost_name }
+    ensures step { IsStep A.Store (MakesFirst A.Store) result transaction.old.conn transaction.new.conn }
     ensures opened { HasCleanDisk (state A.Store transaction.new.conn.now)
         → OnOk result (IsTrue (state A.Store transaction.old.conn.now).is_open) }
-    ensures made { HasCleanDisk (state A.Store transaction.new.conn.now) → OnOk result ((base : _)
-        → Stands A.Store no_schema base transaction.old.conn.now
-        → Stands A.Store work_schema base transaction.new.conn.now
-        × ((state A.Store transaction.new.conn.now).now.trees 0 ≡ [])) }
-    ensures kept { HasCleanDisk (state A.Store transaction.new.conn.now) → OnOk result ((base : _)
-        → Stands A.Store work_schema base transaction.old.conn.now
-        → Stands A.Store work_schema base transaction.new.conn.now
-        × ((state A.Store transaction.new.conn.now).now.trees 0 ≡ (state A.Store transaction.old.conn.now).now.trees 0)) }
-    ensures err { OnErr result (LeavesBase A.Store transaction.old.conn.now transaction.new.conn.now) }
-    ensures survives { Survives (state A.Store transaction.old.conn.now) (state A.Store transaction.new.conn.now) (λ _. ⊥) }
-    ensures was_open { WasOpen A.Store transaction.old.conn.now transaction.new.conn.now }
 {
     transaction.execute(
         "CREATE TABLE IF NOT EXISTS work(version INTEGER NOT NULL, seq INTEGER PRIMARY KEY, id BLOB NOT NULL, name TEXT, class TEXT NOT NULL, kind INTEGER NOT NULL, period INTEGER NOT NULL, flex INTEGER NOT NULL, delay INTEGER NOT NULL, policy INTEGER NOT NULL, wait INTEGER NOT NULL, merger INTEGER NOT NULL, network INTEGER NOT NULL, flags INTEGER NOT NULL, phase INTEGER NOT NULL, attempt INTEGER NOT NULL, backoff_n INTEGER NOT NULL, runs INTEGER NOT NULL, generation INTEGER NOT NULL, enqueued_at INTEGER NOT NULL, input TEXT NOT NULL, output TEXT NOT NULL, prior BLOB NOT NULL, tags TEXT NOT NULL) STRICT",
@@ -43,13 +31,7 @@ pub(crate) fn make_first<A: Alter>(transaction: &mut Transaction<'_, A>) -> Resu
 
 /// Makes `work2` where there is none of its name.
 pub(crate) fn make_second<A: Alter>(transaction: &mut Transaction<'_, A>) -> Result<usize, Error>
-    ensures same_reference { transaction.new.conn.ghost_name ≡ transaction.old.conn.ghost_name }
-    ensures made { HasCleanDisk (state A.Store transaction.new.conn.now) → OnOk result ((base : _)
-        → Stands A.Store work_schema base transaction.old.conn.now
-        → StandsWith A.Store base ((state A.Store transaction.old.conn.now).now.trees 0, []) transaction.new.conn.now) }
-    ensures err { OnErr result (LeavesBase A.Store transaction.old.conn.now transaction.new.conn.now) }
-    ensures survives { Survives (state A.Store transaction.old.conn.now) (state A.Store transaction.new.conn.now) (λ _. ⊥) }
-    ensures was_open { WasOpen A.Store transaction.old.conn.now transaction.new.conn.now }
+    ensures { IsStep A.Store (MakesSecond A.Store) result transaction.old.conn transaction.new.conn }
 {
     transaction.execute(
         "CREATE TABLE IF NOT EXISTS work2(version INTEGER NOT NULL, seq INTEGER PRIMARY KEY, id BLOB NOT NULL, name TEXT, class TEXT NOT NULL, kind INTEGER NOT NULL, period INTEGER NOT NULL, flex INTEGER NOT NULL, delay INTEGER NOT NULL, policy INTEGER NOT NULL, wait INTEGER NOT NULL, merger INTEGER NOT NULL, network INTEGER NOT NULL, flags INTEGER NOT NULL, phase INTEGER NOT NULL, attempt INTEGER NOT NULL, backoff_n INTEGER NOT NULL, runs INTEGER NOT NULL, generation INTEGER NOT NULL, enqueued_at INTEGER NOT NULL, input TEXT NOT NULL, output TEXT NOT NULL, prior BLOB NOT NULL, tags TEXT NOT NULL, next_at INTEGER NOT NULL, keep_for INTEGER NOT NULL, finished_at INTEGER NOT NULL) STRICT",
@@ -59,15 +41,9 @@ pub(crate) fn make_second<A: Alter>(transaction: &mut Transaction<'_, A>) -> Res
 
 /// Refuses where the store is shut, since a statement is prepared.
 pub(crate) fn check_open<A: Alter>(transaction: &mut Transaction<'_, A>) -> Result<(), Error>
-    ensures same_reference { transaction.new.conn.ghost_name ≡ transaction.old.conn.ghost_name }
+    ensures step { IsStep A.Store (MakesTables A.Store (λ tables. tables)) result transaction.old.conn transaction.new.conn }
     ensures opened { HasCleanDisk (state A.Store transaction.new.conn.now)
         → OnOk result (IsTrue (state A.Store transaction.old.conn.now).is_open) }
-    ensures ok { HasCleanDisk (state A.Store transaction.new.conn.now)
-        → OnOk result ((base : _) (tables : _) → StandsWith A.Store base tables transaction.old.conn.now
-        → StandsWith A.Store base tables transaction.new.conn.now) }
-    ensures err { OnErr result (LeavesBase A.Store transaction.old.conn.now transaction.new.conn.now) }
-    ensures survives { Survives (state A.Store transaction.old.conn.now) (state A.Store transaction.new.conn.now) (λ _. ⊥) }
-    ensures was_open { WasOpen A.Store transaction.old.conn.now transaction.new.conn.now }
 {
     transaction.prepare("DELETE FROM work2 WHERE seq = ?1")?;
     Ok(())
@@ -77,16 +53,10 @@ pub(crate) fn check_open<A: Alter>(transaction: &mut Transaction<'_, A>) -> Resu
 pub(crate) fn select_first<A: Alter>(
     transaction: &mut Transaction<'_, A>,
 ) -> Result<Vec<ShownRow>, Error>
-    ensures same_reference { transaction.new.conn.ghost_name ≡ transaction.old.conn.ghost_name }
-    ensures ok { HasCleanDisk (state A.Store transaction.new.conn.now)
-        → OnOk result ((base : _) (tables : _) → StandsWith A.Store base tables transaction.old.conn.now
-        → StandsWith A.Store base tables transaction.new.conn.now) }
+    ensures step { IsStep A.Store (MakesTables A.Store (λ tables. tables)) result transaction.old.conn transaction.new.conn }
     ensures rows { HasCleanDisk (state A.Store transaction.new.conn.now)
         → IfOk result (λ rows. (base : _) (tables : _) → StandsWith A.Store base tables transaction.old.conn.now
         → ShowsTable (map carried tables.0) rows.items) }
-    ensures err { OnErr result (LeavesBase A.Store transaction.old.conn.now transaction.new.conn.now) }
-    ensures survives { Survives (state A.Store transaction.old.conn.now) (state A.Store transaction.new.conn.now) (λ _. ⊥) }
-    ensures was_open { WasOpen A.Store transaction.old.conn.now transaction.new.conn.now }
 {
     transaction.query_all(
         "SELECT version, seq, id, name, class, kind, period, flex, delay, policy, wait, merger, network, flags, phase, attempt, backoff_n, runs, generation, enqueued_at, input, output, prior, tags, -1, 0, 0 FROM work ORDER BY seq",
@@ -98,16 +68,10 @@ pub(crate) fn select_first<A: Alter>(
 pub(crate) fn select_second<A: Alter>(
     transaction: &mut Transaction<'_, A>,
 ) -> Result<Vec<ShownRow>, Error>
-    ensures same_reference { transaction.new.conn.ghost_name ≡ transaction.old.conn.ghost_name }
-    ensures ok { HasCleanDisk (state A.Store transaction.new.conn.now)
-        → OnOk result ((base : _) (tables : _) → StandsWith A.Store base tables transaction.old.conn.now
-        → StandsWith A.Store base tables transaction.new.conn.now) }
+    ensures step { IsStep A.Store (MakesTables A.Store (λ tables. tables)) result transaction.old.conn transaction.new.conn }
     ensures rows { HasCleanDisk (state A.Store transaction.new.conn.now)
         → IfOk result (λ rows. (base : _) (tables : _) → StandsWith A.Store base tables transaction.old.conn.now
         → ShowsTable tables.1 rows.items) }
-    ensures err { OnErr result (LeavesBase A.Store transaction.old.conn.now transaction.new.conn.now) }
-    ensures survives { Survives (state A.Store transaction.old.conn.now) (state A.Store transaction.new.conn.now) (λ _. ⊥) }
-    ensures was_open { WasOpen A.Store transaction.old.conn.now transaction.new.conn.now }
 {
     transaction.query_all(
         "SELECT version, seq, id, name, class, kind, period, flex, delay, policy, wait, merger, network, flags, phase, attempt, backoff_n, runs, generation, enqueued_at, input, output, prior, tags, next_at, keep_for, finished_at FROM work2 ORDER BY seq",
@@ -120,14 +84,7 @@ pub(crate) fn delete_first<A: Alter>(
     transaction: &mut Transaction<'_, A>,
     seq: &i64,
 ) -> Result<usize, Error>
-    ensures same_reference { transaction.new.conn.ghost_name ≡ transaction.old.conn.ghost_name }
-    ensures ok { HasCleanDisk (state A.Store transaction.new.conn.now)
-        → OnOk result ((base : _) (tables : _) → StandsWith A.Store base tables transaction.old.conn.now
-        → AreNumbered tables.0
-        → StandsWith A.Store base (without_rowid seq.now tables.0, tables.1) transaction.new.conn.now) }
-    ensures err { OnErr result (LeavesBase A.Store transaction.old.conn.now transaction.new.conn.now) }
-    ensures survives { Survives (state A.Store transaction.old.conn.now) (state A.Store transaction.new.conn.now) (λ _. ⊥) }
-    ensures was_open { WasOpen A.Store transaction.old.conn.now transaction.new.conn.now }
+    ensures { IsStep A.Store (MakesWhere A.Store (λ tables. AreNumbered tables.0) (λ tables. (without_rowid seq.now tables.0, tables.1))) result transaction.old.conn transaction.new.conn }
 {
     let number = number_of(seq);
     transaction.execute("DELETE FROM work WHERE seq = ?1", &[number])
@@ -138,14 +95,7 @@ pub(crate) fn delete_second<A: Alter>(
     transaction: &mut Transaction<'_, A>,
     seq: &i64,
 ) -> Result<usize, Error>
-    ensures same_reference { transaction.new.conn.ghost_name ≡ transaction.old.conn.ghost_name }
-    ensures ok { HasCleanDisk (state A.Store transaction.new.conn.now)
-        → OnOk result ((base : _) (tables : _) → StandsWith A.Store base tables transaction.old.conn.now
-        → AreNumbered tables.1
-        → StandsWith A.Store base (tables.0, without_rowid seq.now tables.1) transaction.new.conn.now) }
-    ensures err { OnErr result (LeavesBase A.Store transaction.old.conn.now transaction.new.conn.now) }
-    ensures survives { Survives (state A.Store transaction.old.conn.now) (state A.Store transaction.new.conn.now) (λ _. ⊥) }
-    ensures was_open { WasOpen A.Store transaction.old.conn.now transaction.new.conn.now }
+    ensures { IsStep A.Store (MakesWhere A.Store (λ tables. AreNumbered tables.1) (λ tables. (tables.0, without_rowid seq.now tables.1))) result transaction.old.conn transaction.new.conn }
 {
     let number = number_of(seq);
     transaction.execute("DELETE FROM work2 WHERE seq = ?1", &[number])
@@ -159,13 +109,7 @@ pub(crate) fn insert_row<A: Alter>(
     prior: &Vec<u8>,
     tags: &String,
 ) -> Result<usize, Error>
-    ensures same_reference { transaction.new.conn.ghost_name ≡ transaction.old.conn.ghost_name }
-    ensures ok { HasCleanDisk (state A.Store transaction.new.conn.now)
-        → OnOk result ((base : _) (tables : _) → StandsWith A.Store base tables transaction.old.conn.now
-        → StandsWith A.Store base (with_cells (cells (values_of row.now prior.now.items (string_bytes tags.now))) tables) transaction.new.conn.now) }
-    ensures err { OnErr result (LeavesBase A.Store transaction.old.conn.now transaction.new.conn.now) }
-    ensures survives { Survives (state A.Store transaction.old.conn.now) (state A.Store transaction.new.conn.now) (λ _. ⊥) }
-    ensures was_open { WasOpen A.Store transaction.old.conn.now transaction.new.conn.now }
+    ensures { IsStep A.Store (MakesTables A.Store (with_cells (cells (values_of row.now prior.now.items (string_bytes tags.now))))) result transaction.old.conn transaction.new.conn }
 {
     let values = values_of(row, prior.as_slice(), tags.as_str());
     transaction.execute(

@@ -5,7 +5,8 @@ ghost use Rattle.sqlite_trees.specs.Tree.{Trees};
 ghost use Rattle.std.specs.Prelude.{◌≡◌, ◌⊎◌, [], false, IsTrue, IfOk, OnOk, OnErr};
 ghost use Rattle.wm_sqlite.specs.Held.{tables_in};
 ghost use Rattle.wm_sqlite.specs.Resting.{IsIncomplete, Rests, RestsStill, WasOpen};
-ghost use Rattle.wm_sqlite.specs.Standing.{ShowsTables, Stands, StandsWith};
+ghost use Rattle.wm_sqlite.specs.Standing.{ShowsTables, StandsWith};
+ghost use Rattle.wm_sqlite.specs.Steps.{IsStep, MakesBoth, MakesTables};
 ghost use Rattle.wm_sqlite.specs.Table.{both_schema, no_schema, work_schema};
 
 use crate::statements::{make_first, make_second, select_first, select_second};
@@ -49,22 +50,9 @@ pub(crate) fn make_tables<A: Alter>(connection: &mut Connection<A>) -> Result<()
 
 /// Makes the tables where there are none of their names.
 fn make_both<A: Alter>(transaction: &mut Transaction<'_, A>) -> Result<usize, Error>
-    ensures same_reference { transaction.new.conn.ghost_name ≡ transaction.old.conn.ghost_name }
+    ensures step { IsStep A.Store (MakesBoth A.Store) result transaction.old.conn transaction.new.conn }
     ensures opened { HasCleanDisk (state A.Store transaction.new.conn.now)
         → OnOk result (IsTrue (state A.Store transaction.old.conn.now).is_open) }
-    ensures made { HasCleanDisk (state A.Store transaction.new.conn.now) → OnOk result ((base : _)
-        → Stands A.Store no_schema base transaction.old.conn.now
-        → StandsWith A.Store base ([], []) transaction.new.conn.now) }
-    ensures completed { HasCleanDisk (state A.Store transaction.new.conn.now) → OnOk result ((base : _)
-        → Stands A.Store work_schema base transaction.old.conn.now
-        → StandsWith A.Store base ((state A.Store transaction.old.conn.now).now.trees 0, []) transaction.new.conn.now) }
-    ensures err { HasCleanDisk (state A.Store transaction.new.conn.now)
-        → IsTrue (state A.Store transaction.new.conn.now).is_open
-        → OnErr result ((schema : _) (base : _) → IsIncomplete schema
-        → Stands A.Store schema base transaction.old.conn.now
-        → (state A.Store transaction.new.conn.now).committed ≡ base) }
-    ensures survives { Survives (state A.Store transaction.old.conn.now) (state A.Store transaction.new.conn.now) (λ _. ⊥) }
-    ensures was_open { WasOpen A.Store transaction.old.conn.now transaction.new.conn.now }
 {
     make_first(transaction)?;
     make_second(transaction)
@@ -89,19 +77,10 @@ pub(crate) fn read_tables<A: Alter>(connection: &mut Connection<A>) -> Result<Sh
 
 /// The rows as the tables show them, each in ascending number.
 fn show_both<A: Alter>(transaction: &mut Transaction<'_, A>) -> Result<Shown, Error>
-    ensures same_reference { transaction.new.conn.ghost_name ≡ transaction.old.conn.ghost_name }
-    ensures ok { HasCleanDisk (state A.Store transaction.new.conn.now)
-        → OnOk result ((base : _) (tables : _) → StandsWith A.Store base tables transaction.old.conn.now
-        → StandsWith A.Store base tables transaction.new.conn.now) }
+    ensures step { IsStep A.Store (MakesTables A.Store (λ tables. tables)) result transaction.old.conn transaction.new.conn }
     ensures rows { HasCleanDisk (state A.Store transaction.new.conn.now)
         → IfOk result (λ shown. (base : _) (tables : _) → StandsWith A.Store base tables transaction.old.conn.now
         → ShowsTables tables shown.first.items shown.second.items) }
-    ensures err { HasCleanDisk (state A.Store transaction.new.conn.now)
-        → IsTrue (state A.Store transaction.new.conn.now).is_open
-        → OnErr result ((base : _) (tables : _) → StandsWith A.Store base tables transaction.old.conn.now
-        → (state A.Store transaction.new.conn.now).committed ≡ base) }
-    ensures survives { Survives (state A.Store transaction.old.conn.now) (state A.Store transaction.new.conn.now) (λ _. ⊥) }
-    ensures was_open { WasOpen A.Store transaction.old.conn.now transaction.new.conn.now }
 {
     let first = select_first(transaction)?;
     let second = select_second(transaction)?;

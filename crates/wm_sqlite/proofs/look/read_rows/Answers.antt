@@ -5,35 +5,29 @@ use Rattle.wm_sqlite.proofs.Tellings.{alike-then, fallen-none, looked-alike, loo
 use Rattle.wm_sqlite.specs.Told.{looked_at, rows_told, told_of}
 use Rattle.wm_sqlite.proofs.look.read_rows.Goals as goal
 
-pub returns-clause-knows : goal.returns-clause-knows
-returns-clause-knows g c =
-    let new = c.show_rows.new.connection in
-    let standing = c.show_rows.new.standing in
-    let first = c.in_ok-shown.shown.first.items in
-    let second = c.in_ok-shown.shown.second.items in
-    let rows = c.in_ok-rows.rows.items in
-    rw c.looked_at.ensures
-    (looked-known standing c.in_ok-shown.ensures.made c.do_ascend.result c.spread.result g.A.Store new c.show_rows.ensures.knows (λ up_rows known up.
-    let clean = open-clean _ _ (g.met.A.Store.shut_if_dirty new.store) up in
-    let shows = c.in_ok-shown.ensures.shown clean known up in
-    risen-held first second rows c.in_ok-rows.ensures _ shows c.spread.result (spread-shown c.spread.result _ first second shows c.spread.ensures)
-    ((rw c.as_slice.ensures.value at c.do_ascend.ensures).0 up_rows)))
-
-pub returns-clause-alike : goal.returns-clause-alike
-returns-clause-alike g c =
+pub returns-clause-still : goal.returns-clause-still
+returns-clause-still g c =
     let old = c.args.connection.now in
     let new = c.show_rows.new.connection in
     let standing = c.show_rows.new.standing in
     let first = c.in_ok-shown.shown.first.items in
     let second = c.in_ok-shown.shown.second.items in
     let rows = c.in_ok-rows.rows.items in
-    rw c.looked_at.ensures
-    (alike-then (told_of c.args.standing.now (state g.A.Store old) 0) (told_of standing (state g.A.Store new) 0)
-    (told_of (looked_at c.do_ascend.result c.spread.result standing) (state g.A.Store new) 0) c.show_rows.ensures.alike
-    (looked-alike standing c.in_ok-shown.ensures.made c.do_ascend.result c.spread.result (state g.A.Store new) (λ fallen known up.
-    let clean = open-clean _ _ (g.met.A.Store.shut_if_dirty new.store) up in
-    fallen-none first second rows c.in_ok-rows.ensures _ (c.in_ok-shown.ensures.shown clean known up)
-    (λ ascends. true≢false (sym ((rw c.as_slice.ensures.value at c.do_ascend.ensures).1 ascends) ∙ fallen)))))
+    let still = c.show_rows.ensures.still in
+    let up_clean = open-clean _ _ (g.met.A.Store.shut_if_dirty new.store) in
+    let do_ascend = rw c.as_slice.ensures.value at c.do_ascend.ensures in
+    rw c.looked_at.ensures (record {
+      knows = looked-known standing c.in_ok-shown.ensures.made c.do_ascend.result c.spread.result g.A.Store new still.knows (λ up_rows known up.
+          let shows = c.in_ok-shown.ensures.shown (up_clean up) known up in
+          risen-held first second rows c.in_ok-rows.ensures _ shows c.spread.result (spread-shown c.spread.result _ first second shows c.spread.ensures)
+          (do_ascend.0 up_rows));
+      alike = alike-then (told_of c.args.standing.now (state g.A.Store old) 0) (told_of standing (state g.A.Store new) 0)
+          (told_of (looked_at c.do_ascend.result c.spread.result standing) (state g.A.Store new) 0) still.alike
+          (looked-alike standing c.in_ok-shown.ensures.made c.do_ascend.result c.spread.result (state g.A.Store new) (λ fallen known up.
+          fallen-none first second rows c.in_ok-rows.ensures _ (c.in_ok-shown.ensures.shown (up_clean up) known up)
+          (λ ascends. true≢false (sym (do_ascend.1 ascends) ∙ fallen))));
+      was_open = still.was_open;
+    })
 
 pub returns-clause-rows : goal.returns-clause-rows
 returns-clause-rows g c clean =

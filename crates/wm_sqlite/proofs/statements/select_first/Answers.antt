@@ -1,24 +1,18 @@
-use Rattle.wm_sqlite.proofs.OpenBefore.{read-open}
+use Rattle.wm_sqlite.proofs.StepsMade.{read-step}
 use Rattle.wm_sqlite.proofs.TextReadings.{select_plain}
-use Rattle.wm_sqlite.proofs.TextTurns.{selects, selects_none, selects_first}
+use Rattle.wm_sqlite.proofs.TextTurns.{selects, selects_first}
 use Rattle.wm_sqlite.proofs.statements.select_first.Goals as goal
 
-pub returns-clause-ok : goal.returns-clause-ok
-returns-clause-ok g c clean =
-    let old = c.args.transaction.now.conn.now in
-    let new = c.query_all.new.self.conn.now in
-    selects g.A.Store old new _ c.query_all.result select_plain (c.query_all.ensures.ok clean)
+pub returns-clause-step : goal.returns-clause-step
+returns-clause-step g c =
+    let old = c.args.transaction.now.conn in
+    let new = c.query_all.new.self.conn in
+    let run = c.query_all.ensures in
+    read-step g.A.Store _ old new c.query_all.result run.same_reference run.survives run.ok run.err
+    (selects g.A.Store old.now new.now _ c.query_all.result select_plain run.ok)
 
 pub returns-clause-rows : goal.returns-clause-rows
 returns-clause-rows g c clean =
     let old = c.args.transaction.now.conn.now in
     let new = c.query_all.new.self.conn.now in
     selects_first g.A.Store old new c.query_all.result (c.query_all.ensures.ok clean)
-
-pub returns-clause-err : goal.returns-clause-err
-returns-clause-err g c =
-    selects_none g.A.Store c.args.transaction.now.conn.now c.query_all.new.self.conn.now _ c.query_all.result c.query_all.ensures.err
-
-pub returns-clause-was_open : goal.returns-clause-was_open
-returns-clause-was_open g c clean =
-    read-open _ _ _ _ c.query_all.result (c.query_all.ensures.ok clean) (c.query_all.ensures.err clean)

@@ -10,7 +10,7 @@ returns-clause-rows g c =
     let new = c.read_rows.new.connection in
     rw (← c.self.view_is)
     (loaded-told i.standing c.read_rows.new.standing (state g.A.Store i.connection) (state g.A.Store new) i.faults i.faults c.in_ok-rows.rows.items
-    (open-clean _ _ (g.met.A.Store.shut_if_dirty new.store)) c.in_ok-rows.ensures.rows (alike-kept _ _ c.read_rows.ensures.alike))
+    (open-clean _ _ (g.met.A.Store.shut_if_dirty new.store)) c.in_ok-rows.ensures.rows (alike-kept _ _ c.read_rows.ensures.still.alike))
 
 pub returns-in_err-rows-clause-telling : goal.returns-in_err-rows-clause-telling
 returns-in_err-rows-clause-telling g c =
@@ -18,7 +18,7 @@ returns-in_err-rows-clause-telling g c =
     let new = c.read_rows.new.connection in
     rw (← c.self.view_is)
     (alike-telling _ _ (alike-counted i.standing c.read_rows.new.standing (state g.A.Store i.connection) (state g.A.Store new) i.faults i.faults
-    c.read_rows.ensures.alike))
+    c.read_rows.ensures.still.alike))
 
 pub returns-in_err-rows-clause-kept : goal.returns-in_err-rows-clause-kept
 returns-in_err-rows-clause-kept g c =
@@ -26,7 +26,7 @@ returns-in_err-rows-clause-kept g c =
     let new = c.read_rows.new.connection in
     rw (← c.self.view_is)
     (alike-kept _ _ (alike-counted i.standing c.read_rows.new.standing (state g.A.Store i.connection) (state g.A.Store new) i.faults i.faults
-    c.read_rows.ensures.alike))
+    c.read_rows.ensures.still.alike))
 
 pub returns-clause-telling : goal.returns-clause-telling
 returns-clause-telling g c =
@@ -34,7 +34,7 @@ returns-clause-telling g c =
     let new = c.read_rows.new.connection in
     rw (← c.self.view_is)
     (alike-telling _ _ (alike-counted i.standing c.read_rows.new.standing (state g.A.Store i.connection) (state g.A.Store new) i.faults i.faults
-    c.read_rows.ensures.alike))
+    c.read_rows.ensures.still.alike))
 
 pub returns-clause-kept : goal.returns-clause-kept
 returns-clause-kept g c =
@@ -42,4 +42,4 @@ returns-clause-kept g c =
     let new = c.read_rows.new.connection in
     rw (← c.self.view_is)
     (alike-kept _ _ (alike-counted i.standing c.read_rows.new.standing (state g.A.Store i.connection) (state g.A.Store new) i.faults i.faults
-    c.read_rows.ensures.alike))
+    c.read_rows.ensures.still.alike))
