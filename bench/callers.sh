@@ -19,7 +19,7 @@ memory=/dev/shm
 if [ ! -w "$memory" ]; then memory=${TMPDIR:-/tmp}; fi
 memory=$(mktemp -d "$memory/work.XXXXXX")
 trap 'rm -rf "$disk" "$memory"' EXIT
-"$root/bin/work" --store "$disk/build" < /dev/null
+"$root/bin/work" --prove
 python3 - "$root/crates/work/out/work" "$disk" "$memory" "${1:-200}" "${2:-1}" << 'PYTHON'
 import json, random, shutil, sqlite3, subprocess, sys, tempfile, time
 from pathlib import Path

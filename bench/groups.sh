@@ -7,6 +7,7 @@ set -euo pipefail
 root=$(cd "$(dirname "${BASH_SOURCE[0]}")/.." && pwd)
 work=$(mktemp -d "${1:-/tmp}/work.XXXXXX")
 trap 'rm -rf "$work"' EXIT
+"$root/bin/work" --prove
 "$root/bin/work" --store "$work/build" < /dev/null
 PYTHONDONTWRITEBYTECODE=1 PYTHONPATH=$root/bench python3 - "$root/crates/work/out/work" "$work" <<'PYTHON'
 import resource, subprocess, sys, time

@@ -11,8 +11,7 @@ root=$(cd "$(dirname "${BASH_SOURCE[0]}")/.." && pwd)
 work=$(mktemp -d)
 trap 'rm -rf "$work"' EXIT
 cd "$work"
-"$root/bin/work" --store build < /dev/null
-rm -f build build-*
+"$root/bin/work" --prove
 exec python3 - "$root/crates/work/out/work" "${1:-200}" << 'PYTHON'
 import json, os, random, subprocess, sys, time
 

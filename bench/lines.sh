@@ -36,7 +36,7 @@ work=$(mktemp -d)
 trap 'rm -rf "$work"' EXIT
 script "$lines" > "$work/script"
 bytes=$(wc -c < "$work/script")
-"$root/bin/work" --store "$work/store" < /dev/null
+"$root/bin/work" --prove
 read -r ours peak < <(measure "$root/crates/work/out/work" --store "$work/store")
 [ "$(grep -c '"error":"BadData","key":"z"' "$work/replies")" -eq "$lines" ]
 read -r plain _ < <(measure python3 -c 'import json, sys

@@ -8,7 +8,7 @@ if [ ! -w "$memory" ]; then memory=${TMPDIR:-/tmp}; fi
 work=$(mktemp -d "$memory/work.XXXXXX")
 trap 'rm -rf "$work"' EXIT
 store=$work/store
-"$root/bin/work" --store "$work/build" < /dev/null
+"$root/bin/work" --prove
 
 # Runs a script of that name by a command on a new store.
 run_anew() {

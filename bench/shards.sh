@@ -15,7 +15,7 @@ shift $(($# > 0 ? 1 : 0))
 program=$root/crates/work/out/work
 groups=200
 rounds=5
-"$root/bin/work" --store "$work/build" < /dev/null
+"$root/bin/work" --prove
 
 # Prints the script; its last line asks for a summary.
 script() {

@@ -16,6 +16,8 @@ const MOST_CALLERS: u32 = 64;
 pub struct End<'a, B> {
     /// Whether the table was begun.
     pub began: bool,
+    /// Whether the commit of its opening was refused.
+    pub at_opening: bool,
     pub log: &'a [Event],
     /// The callers of the log's first events, one for each; none where no callers called them.
     pub callers: &'a [u32],
@@ -33,7 +35,7 @@ pub fn tell_end<B: Worker>(
     end: &End<'_, B>,
     brief: bool,
 ) -> Result<(), AllocError> {
-    told.push_str(if end.began { "begun\n" } else { "not begun\n" })?;
+    told.push_str(beginning_of(end.began, end.at_opening))?;
     if !brief {
         tell_log(alloc, told, end.log, end.callers)?;
         tell_gone(told, end.hands)?;
@@ -43,6 +45,15 @@ pub fn tell_end<B: Worker>(
         tell_sorted_bytes(alloc, told, end.written)
     } else {
         tell_bytes(alloc, told, end.written)
+    }
+}
+
+/// Whether a table was begun, and where it wasn't whether the commit of its opening was refused.
+fn beginning_of(began: bool, at_opening: bool) -> &'static str {
+    match (began, at_opening) {
+        (true, _) => "begun\n",
+        (false, false) => "not begun\n",
+        (false, true) => "not begun, at the opening\n",
     }
 }
 

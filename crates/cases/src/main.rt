@@ -1,10 +1,11 @@
-//! The worked cases of whole runs: the program reads the case files where it runs, has
-//! [`wm_outcome::program`] do each case over a source, a sink and a keeper in memory, and prints what came
-//! of it. What it has to print stands in the crate's file `stdout`, written by hand.
+//! The worked cases of whole runs, and the tables of single calls: the program reads the case files
+//! where it runs, has [`wm_outcome::program`] do each case over a source, a sink and a keeper in memory,
+//! and prints what came of it; and then what comes of the tables ([`tables`]). What it has to print stands
+//! in the crate's file `stdout`, written by hand.
 //!
 //! A case file ends in `.cases`; the files are read in the order of their names. The folder
 //! `faulty` has files that are out of form: what is printed for each is why it is refused.
-//! `data/README.md` has the form of a case and of its outcome.
+//! `data/README.md` has the form of a case and of its outcome, and that of a row of a table.
 #![tactic(auto)]
 
 mod audit;
@@ -24,6 +25,7 @@ use std::process::ExitCode;
 use std::rt::Runtime;
 use std::sync::Wait;
 use std::thread::Threads;
+use tables::print_tables;
 
 /// What comes of the cases of a file, or why the file is refused; and whether it is in form.
 fn told<R: Threads + Wait + Sync>(
@@ -52,9 +54,11 @@ fn print_folder<R: Runtime + AllocGlobal + Threads + Wait + Sync>(
     Ok(as_wanted)
 }
 
-/// Ends with status 1 where a case file is refused, or one that is out of form isn't.
+/// Ends with status 1 where a case file is refused, or one that is out of form isn't, and where a row of
+/// a table isn't as it says, or one that is wrong is.
 fn main(rt: HostRuntime) -> io::Result<ExitCode> {
     let cases = print_folder(&rt, ".", true)?;
     let faulty = print_folder(&rt, "faulty", false)?;
-    Ok(ExitCode::from(u8::from(!(cases && faulty))))
+    let tables = print_tables(&rt)?;
+    Ok(ExitCode::from(u8::from(!(cases && faulty && tables))))
 }

@@ -10,11 +10,11 @@ use std::alloc::{AllocError, Global};
 use std::sync::Wait;
 use std::thread::Threads;
 use wm_bench::Hand;
-use wm_cli::Ended;
 use wm_collections::Replica;
+use wm_ended::{Ended, NotBegun};
 use wm_io::{MemorySink, MemorySource};
 use wm_keeper::{Change, Keeper, MemoryKeeper, Row, SureKeeper};
-use wm_live_program::{LiveEnded, LiveNotBegun};
+use wm_live_program::LiveEnded;
 use wm_outcome::{Outcome, program};
 use wm_program::stock_hands;
 use wm_worker::Worker;
@@ -177,6 +177,7 @@ fn end_of<'a, W, B>(
 ) -> End<'a, B> {
     End {
         began: ended.began,
+        at_opening: ended.at_opening,
         log: ended.log.as_slice(),
         callers,
         hands: &ended.hands,
@@ -189,6 +190,7 @@ fn end_of<'a, W, B>(
 fn end_of_live<B>(ended: &LiveEnded<MemoryKeeper, MemorySink, B>) -> End<'_, B> {
     End {
         began: true,
+        at_opening: false,
         log: ended.end.table.log.as_slice(),
         callers: &[],
         hands: &ended.end.hands,
@@ -198,9 +200,10 @@ fn end_of_live<B>(ended: &LiveEnded<MemoryKeeper, MemorySink, B>) -> End<'_, B> 
 }
 
 /// What is told of a test driver that wasn't begun.
-fn end_unbegun<B>(unbegun: &LiveNotBegun<MemoryKeeper, MemorySink, B>) -> End<'_, B> {
+fn end_unbegun<B>(unbegun: &NotBegun<MemoryKeeper, MemorySink, B>) -> End<'_, B> {
     End {
         began: false,
+        at_opening: unbegun.at_opening,
         log: &[],
         callers: &[],
         hands: &unbegun.hands,

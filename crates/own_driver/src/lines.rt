@@ -2,7 +2,7 @@
 ghost use Rattle.std.specs.Prelude.{◌≡◌, ◌<◌, ◌+◌, length, vec_len, true, false, IfOk, IfSome};
 
 use std::alloc::Global;
-use wm_cli::Status;
+use wm_ended::Status;
 use wm_io::{Got, Source};
 use wm_script::{Limit, MAX_LINE_BYTES};
 

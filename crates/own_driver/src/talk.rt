@@ -7,7 +7,7 @@ use crate::lines::Lines;
 use std::alloc::{AllocError, Global};
 use std::rt::Clock;
 use wm_asks::Ask;
-use wm_cli::Status;
+use wm_ended::Status;
 use wm_io::{Sink, Source, WriteFault, write_front};
 use wm_keeper::Keeper;
 use wm_live::Live;

@@ -11,6 +11,9 @@ use wm_worker::{Answer, DoWork, Signal, Simple, Task};
 /// How many steps a turn takes: a millisecond's or so.
 const STEPS: u32 = 5_000_000;
 
+/// How many workers of the class there are.
+pub const BUSY_WORKERS: u32 = 4;
+
 /// Takes as many turns as an Int in its input says under `turns`, or one where none is there, each as
 /// long as any other, and succeeds with no data.
 #[derive(Drop)]

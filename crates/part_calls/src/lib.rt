@@ -2,7 +2,7 @@
 //! given and tells what came: data and its merging, conditions, schedules, requests, chains and the
 //! stock workers, a module a subject; and how what came is told ([`told`]).
 //!
-//! The program `tables` makes these calls, and those of the crates above.
+//! The tables of single calls have these, and those of the crates above.
 #![tactic(auto)]
 
 pub mod chains;

@@ -1,5 +1,6 @@
-//! Hands, for the tests.
-ghost use Rattle.std.specs.Prelude.{◌≡◌, ◌+◌, vec_len, OnOk};
+//! Hands, and the words of a command line, for the tests.
+ghost use Rattle.std.specs.Prelude.{◌≡◌, ◌≤◌, ◌+◌, vec_len, IfOk, OnOk};
+ghost use Rattle.wm_bench.specs.Places.{most_hands};
 
 use std::alloc::{AllocError, Global};
 use wm_bench::Hand;
@@ -17,4 +18,22 @@ pub fn add_hand<B: Drop>(
     let class = Text::from_str(alloc, class)?;
     hands.push(Hand { class, worker })?;
     Ok(())
+}
+
+/// One hand.
+pub fn one_hand<B: Drop>(alloc: Global, class: &str, worker: B) -> Result<Vec<Hand<B>>, AllocError>
+    ensures { IfOk result (λ hands. vec_len hands ≤ most_hands) }
+{
+    let mut hands = Vec::new(alloc);
+    add_hand(alloc, &mut hands, class, worker)?;
+    Ok(hands)
+}
+
+/// These words, as a command line has them.
+pub fn words(alloc: Global, words: &[&str]) -> Result<Vec<String>, AllocError> {
+    let mut all = Vec::new(alloc);
+    for word in words {
+        all.push(String::from_str(alloc, word)?)?;
+    }
+    Ok(all)
 }

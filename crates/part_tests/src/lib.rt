@@ -1,7 +1,7 @@
 //! Tests of single calls of the crates that the table stands on, as far as no table of plain values
 //! has them, a module a subject: lists and copies, the graph, the index, ready works, keepers, streams,
-//! workers and the bench, and the roll; and what the tests of the crates above have too: workers that tell diaries, their
-//! hands, Data, and requests within their limits.
+//! workers and the bench, and the roll; and what the tests of the crates above have too: workers that tell
+//! diaries, their hands, Data, requests within their limits, and a gate at which threads meet.
 #![tactic(auto)]
 
 #[cfg(test)]
@@ -17,6 +17,7 @@ pub mod hands;
 mod index;
 #[cfg(test)]
 mod keepers;
+pub mod meeting;
 #[cfg(test)]
 mod ready;
 pub mod requests;

@@ -1,24 +1,25 @@
 //! A line beside a run.
-ghost use Rattle.std.specs.Prelude.{◌≡◌, ◌≤◌, ◌<◌, ◌^◌, [], length, vec_len, IfOk};
 ghost use Rattle.std.specs.List.{AllByRecursion};
+ghost use Rattle.std.specs.Prelude.{◌≡◌, ◌≤◌, ◌<◌, ◌^◌, [], length, vec_len, IfOk};
+ghost use Rattle.wm_beginning.specs.Begun.{AreInputs};
+ghost use Rattle.wm_beginning.specs.Loading.{MayBegin};
 ghost use Rattle.wm_bench.specs.Places.{most_hands};
-ghost use Rattle.wm_cli.specs.Setup.{IsSetUp};
+ghost use Rattle.wm_ended.specs.Tells.{tells_of};
 ghost use Rattle.wm_machine.specs.Outcome.{IsAskable};
 ghost use Rattle.wm_roll.specs.Parts.{without};
 ghost use Rattle.wm_session.specs.BetweenRuns.{IsAtBegin};
-ghost use Rattle.wm_session.specs.Tells.{tells_of};
 
 use std::alloc::{AllocError, Global};
 use std::marker::Brand;
 use std::test::Fail;
+use wm_beginning::{Loaded, begin, load};
 use wm_bench::{Hand, Seated};
-use wm_cli::{Setup, instances_of, open_book};
+use wm_cli::open_book;
 use wm_collections::{Items, Text};
 use wm_io::{Sink, StdSink};
 use wm_keeper::{Keeper, MemoryKeeper};
 use wm_machine::Command;
 use wm_pool::OpenGate;
-use wm_roll::Roll;
 use wm_script::read_lines;
 use wm_session::{After, Book, Front, Job, run_serial};
 use wm_stock::Echo;
@@ -137,11 +138,23 @@ fn fronts<K: Keeper + Drop, W: Sink + Drop, B: Worker, M: Mark>(
 /// is what the run is given.
 fn fronts_over<K: Keeper + Drop, W: Sink + Drop, B: Worker, M: Mark>(
     alloc: Global,
-    setup: Setup<K, W, B>,
+    loaded: Loaded<K, W, B>,
+    commands: Items<Command>,
 ) -> Option<Beside>
-    requires { IsSetUp (tells_of K.store W.given W.faults B.kind_of B.diary_of) M.inputs setup }
+    requires may { MayBegin K.store B.kind_of loaded }
+    requires inputs { AreInputs (tells_of K.store W.given W.faults B.kind_of B.diary_of) M.inputs loaded commands }
+    requires askable { AllByRecursion IsAskable commands }
+    requires few { length commands < 2 ^ 32 }
 {
-    match open_book::<W, K, B, M>(alloc, setup) {
+    let begun = match begin::<K, W, B, M>(alloc, loaded) {
+        Ok(begun) => begun,
+        Err(back) => {
+            drop(back);
+            drop(commands);
+            return None;
+        }
+    };
+    match open_book(alloc, begun, commands) {
         Ok(book) => Some(fronts(alloc, book)),
         Err(ended) => {
             drop(ended);
@@ -156,27 +169,20 @@ fn fronts_with<K: Keeper + Drop, W: Sink + Drop, B: Worker>(
     commands: Items<Command>,
     hands: Vec<Hand<B>>,
     sink: W,
-    mut keeper: K,
-) -> Result<Option<Beside>, AllocError>
+    keeper: K,
+) -> Option<Beside>
     requires few_hands { vec_len hands ≤ most_hands }
     requires askable { AllByRecursion IsAskable commands }
     requires few { length commands < 2 ^ 32 }
 {
-    let Ok(rows) = keeper.load("a") else {
-        return Ok(None);
-    };
-    let instances = instances_of(alloc, &hands)?;
-    let roll = Roll::new(alloc)?;
-    let setup = Setup {
-        rows,
-        instances,
-        roll,
-        commands,
-        hands,
-        sink,
-        keeper,
-    };
-    Ok(fronts_over::<K, W, B, Brand>(alloc, setup))
+    match load(alloc, "a", hands, sink, keeper) {
+        Ok(loaded) => fronts_over::<K, W, B, Brand>(alloc, loaded, commands),
+        Err(back) => {
+            drop(back);
+            drop(commands);
+            None
+        }
+    }
 }
 
 /// A worker of class Echo.
@@ -218,7 +224,7 @@ fn answers(alloc: Global, script: &str, failing: u32) -> Result<Option<Beside>, 
     let keeper = MemoryKeeper::new(Vec::new(alloc), failing);
     let mut written = Vec::new(alloc);
     let sink = StdSink::new(&mut written);
-    fronts_with(alloc, commands, hands, sink, keeper)
+    Ok(fronts_with(alloc, commands, hands, sink, keeper))
 }
 
 /// A line that settles isn't executed while a run is out, and is once the run has reported. A line that

@@ -46,22 +46,16 @@ fn ended(alloc: Global, ran: Result<Status, AllocError>) -> (ExitCode, String) {
 #[test]
 fn the_program_ends_with_a_code_and_a_text(rt: HostRuntime) -> Result<(), Fail> {
     let usage = "usage: work --store NAME [--workers N] [--generate SEED]\n";
+    let long = Ok(Status::ScriptTooLong(Limit::Line));
+    let bad = Ok(Status::BadStore {
+        seq: -7,
+        bad_row: true,
+    });
     let cases = [
         (Ok(Status::Done), 0, ""),
         (Ok(Status::Usage), 2, usage),
-        (
-            Ok(Status::ScriptTooLong(Limit::Line)),
-            7,
-            "script too long: line\n",
-        ),
-        (
-            Ok(Status::BadStore {
-                seq: -7,
-                bad_row: true,
-            }),
-            6,
-            "bad store: row -7: bad row\n",
-        ),
+        (long, 7, "script too long: line\n"),
+        (bad, 6, "bad store: row -7: bad row\n"),
         (Err(AllocError), 8, "out of memory\n"),
     ];
     for (ran, code, text) in cases {

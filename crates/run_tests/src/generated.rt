@@ -1,16 +1,18 @@
 //! A serial run over a large input that a seed gives.
-ghost use Rattle.std.specs.Prelude.{◌≡◌, ◌≤◌, ◌<◌, ◌^◌, length, vec_len};
 ghost use Rattle.std.specs.List.{AllByRecursion};
+ghost use Rattle.std.specs.Prelude.{◌≡◌, ◌≤◌, ◌<◌, ◌^◌, length, vec_len};
+ghost use Rattle.wm_beginning.specs.Begun.{AreInputs};
+ghost use Rattle.wm_beginning.specs.Loading.{MayBegin};
 ghost use Rattle.wm_bench.specs.Places.{most_hands};
-ghost use Rattle.wm_cli.specs.Setup.{IsSetUp};
+ghost use Rattle.wm_ended.specs.Tells.{tells_of};
 ghost use Rattle.wm_machine.specs.Outcome.{IsAskable};
-ghost use Rattle.wm_session.specs.Tells.{tells_of};
 
 use std::alloc::{AllocError, Global};
 use std::marker::Brand;
 use std::test::Fail;
+use wm_beginning::{Loaded, begin, load};
 use wm_bench::Hand;
-use wm_cli::{Ended, Setup, Status, instances_of, open_book};
+use wm_cli::{Ended, Status, open_book};
 use wm_collections::{Items, both};
 use wm_generator::generate;
 use wm_io::{Sink, StdSink};
@@ -18,7 +20,6 @@ use wm_keeper::{Keeper, SureKeeper};
 use wm_machine::Command;
 use wm_pool::OpenGate;
 use wm_program::stock_hands;
-use wm_roll::Roll;
 use wm_session::run_serial;
 use wm_table::Mark;
 use wm_worker::Worker;
@@ -32,11 +33,22 @@ fn status_of<K: Drop, W: Drop, B: Drop>(ended: Ended<K, W, B>) -> Status {
 /// is given.
 fn serial_over<K: Keeper + Drop, W: Sink + Drop, B: Worker, M: Mark>(
     alloc: Global,
-    setup: Setup<K, W, B>,
+    loaded: Loaded<K, W, B>,
+    commands: Items<Command>,
 ) -> Status
-    requires { IsSetUp (tells_of K.store W.given W.faults B.kind_of B.diary_of) M.inputs setup }
+    requires may { MayBegin K.store B.kind_of loaded }
+    requires inputs { AreInputs (tells_of K.store W.given W.faults B.kind_of B.diary_of) M.inputs loaded commands }
+    requires askable { AllByRecursion IsAskable commands }
+    requires few { length commands < 2 ^ 32 }
 {
-    match open_book::<W, K, B, M>(alloc, setup) {
+    let begun = match begin::<K, W, B, M>(alloc, loaded) {
+        Ok(begun) => begun,
+        Err(back) => {
+            drop(commands);
+            return back.status;
+        }
+    };
+    match open_book(alloc, begun, commands) {
         Ok(book) => status_of(run_serial(alloc, book, &OpenGate)),
         Err(ended) => status_of(ended),
     }
@@ -48,27 +60,19 @@ fn serial_with<K: Keeper + Drop, W: Sink + Drop, B: Worker>(
     commands: Items<Command>,
     hands: Vec<Hand<B>>,
     sink: W,
-    mut keeper: K,
-) -> Result<Status, AllocError>
+    keeper: K,
+) -> Status
     requires few_hands { vec_len hands ≤ most_hands }
     requires askable { AllByRecursion IsAskable commands }
     requires few { length commands < 2 ^ 32 }
 {
-    let Ok(rows) = keeper.load("a") else {
-        return Ok(Status::KeeperFault);
-    };
-    let instances = instances_of(alloc, &hands)?;
-    let roll = Roll::new(alloc)?;
-    let setup = Setup {
-        rows,
-        instances,
-        roll,
-        commands,
-        hands,
-        sink,
-        keeper,
-    };
-    Ok(serial_over::<K, W, B, Brand>(alloc, setup))
+    match load(alloc, "a", hands, sink, keeper) {
+        Ok(loaded) => serial_over::<K, W, B, Brand>(alloc, loaded, commands),
+        Err(back) => {
+            drop(commands);
+            back.status
+        }
+    }
 }
 
 /// How a serial run ends of what seed 1 gives with 10,000 groups, over a keeper in memory, and what it
@@ -79,7 +83,7 @@ fn large_run(alloc: Global) -> Result<(Status, Vec<u8>), AllocError> {
     let mut written = Vec::new(alloc);
     let sink = StdSink::new(&mut written);
     let keeper = SureKeeper::new(Vec::new(alloc));
-    let status = serial_with(alloc, commands, hands, sink, keeper)?;
+    let status = serial_with(alloc, commands, hands, sink, keeper);
     Ok((status, written))
 }
 

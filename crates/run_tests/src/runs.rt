@@ -2,10 +2,10 @@
 ghost use Rattle.std.specs.Prelude.{◌≡◌, ◌≤◌, vec_len, IfOk};
 ghost use Rattle.wm_bench.specs.Places.{most_hands};
 
-use crate::threads::{one_hand, run_at};
+use crate::threads::run_at;
 use part_tests::data::data_of;
 use part_tests::diarist::{Diarist, diary_text};
-use part_tests::hands::add_hand;
+use part_tests::hands::{add_hand, one_hand, words};
 use part_tests::uploader::Uploader;
 use std::alloc::{AllocError, Global};
 use std::process::Abort;
@@ -14,21 +14,16 @@ use std::test::Fail;
 use std::thread::Threads;
 use wm_bench::Hand;
 use wm_cli::{Ended, Status, run};
-use wm_collections::{Text, both};
+use wm_collections::both;
 use wm_data::Value;
 use wm_io::{MemorySink, MemorySource};
 use wm_keeper::SureKeeper;
 use wm_pool::OpenGate;
-use wm_stock::Echo;
+use wm_stock::{Count, Echo};
 use wm_worker::{Simple, Worker};
 
 /// The words of an ordinary run.
-fn words(alloc: Global) -> Result<Vec<String>, AllocError> {
-    let mut words = Vec::new(alloc);
-    words.push(String::from_str(alloc, "--store")?)?;
-    words.push(String::from_str(alloc, "demo")?)?;
-    Ok(words)
-}
+const DEMO: [&str; 2] = ["--store", "demo"];
 
 const SCRIPT: &str =
     r#"{"cmd":"enqueue","works":[{"class":"Echo","id":"00000000-0000-0000-0000-000000000001"}]}
@@ -39,21 +34,13 @@ const REPLIES: &str = r#"{"line":1,"ok":"enqueued","works":[1]}
 {"line":2,"ok":"query","works":[{"attempt":1,"generation":0,"id":"00000000-0000-0000-0000-000000000001","output":{},"progress":{},"seq":1,"state":"SUCCEEDED","tags":[]}]}
 "#;
 
-/// A worker of class Echo.
-fn echo(alloc: Global) -> Result<Hand<Echo>, AllocError> {
-    Ok(Hand {
-        class: Text::from_str(alloc, "Echo")?,
-        worker: Echo::new(),
-    })
-}
-
 /// Two workers of class Echo.
 fn echoes(alloc: Global) -> Result<Vec<Hand<Echo>>, AllocError>
     ensures { IfOk result (λ hands. vec_len hands ≤ most_hands) }
 {
     let mut hands = Vec::new(alloc);
-    hands.push(echo(alloc)?)?;
-    hands.push(echo(alloc)?)?;
+    add_hand(alloc, &mut hands, "Echo", Echo::new())?;
+    add_hand(alloc, &mut hands, "Echo", Echo::new())?;
     Ok(hands)
 }
 
@@ -61,7 +48,7 @@ fn echoes(alloc: Global) -> Result<Vec<Hand<Echo>>, AllocError>
 #[test]
 fn a_run_takes_any_source_sink_and_keeper(rt: HostRuntime) -> Result<(), Fail> {
     let alloc = rt.alloc();
-    let words = words(alloc)?;
+    let words = words(alloc, &DEMO)?;
     let hands = echoes(alloc)?;
     let (status, written) = run_at(&rt, alloc, &words, hands, SCRIPT, &OpenGate);
     assert_eq!(rt; status, Status::Done);
@@ -99,22 +86,24 @@ fn hands_of(ended: Ended<SureKeeper, MemorySink>) -> Vec<Hand> {
 }
 
 /// Runs a script with these words and workers, over sources and sinks in memory.
-fn run_in_memory<R: Threads + Wait + Sync>(
+fn run_with<R: Threads + Wait + Sync>(
     rt: &R,
     alloc: Global,
-    words: &[String],
-    script: Vec<u8>,
+    called: &[&str],
     hands: Vec<Hand>,
+    script: &str,
 ) -> Result<Left, AllocError>
     requires { vec_len hands ≤ most_hands }
 {
+    let (hands, words) = both(hands, words(alloc, called))?;
+    let (hands, script) = both(hands, Vec::from_slice(alloc, script.as_bytes()))?;
     let mut source = MemorySource::new(script, 100, Vec::new(alloc));
     let sink = MemorySink::new(100, Vec::new(alloc));
     let keeper = SureKeeper::new(Vec::new(alloc));
     let ended = run(
         rt,
         alloc,
-        words,
+        &words,
         hands,
         &mut source,
         sink,
@@ -122,20 +111,6 @@ fn run_in_memory<R: Threads + Wait + Sync>(
         &OpenGate,
     );
     left_of(alloc, ended)
-}
-
-/// Runs a script with these workers.
-fn run_with<R: Threads + Wait + Sync>(
-    rt: &R,
-    alloc: Global,
-    hands: Vec<Hand>,
-    script: &str,
-) -> Result<Left, AllocError>
-    requires { vec_len hands ≤ most_hands }
-{
-    let (hands, words) = both(hands, words(alloc))?;
-    let (hands, script) = both(hands, Vec::from_slice(alloc, script.as_bytes()))?;
-    run_in_memory(rt, alloc, &words, script, hands)
 }
 
 /// A run is done, had so many events, wrote this, and its one worker, of this class, comes back with
@@ -168,12 +143,8 @@ fn boxed_diarist(alloc: Global) -> Result<Box<dyn Worker + Send>, AllocError> {
 #[test]
 fn a_boxed_worker_comes_back_with_its_diary(rt: HostRuntime) -> Result<(), Fail> {
     let alloc = rt.alloc();
-    let left = run_with(
-        &rt,
-        alloc,
-        one_hand(alloc, "Echo", boxed_diarist(alloc)?)?,
-        SCRIPT,
-    )?;
+    let hands = one_hand(alloc, "Echo", boxed_diarist(alloc)?)?;
+    let left = run_with(&rt, alloc, &DEMO, hands, SCRIPT)?;
     let diary = "run 1 begun\nrun 1 turn 0: Success {}\n";
     expect_left(&rt, alloc, &left, "Echo", (4, REPLIES, diary))
 }
@@ -205,7 +176,13 @@ fn uploader(alloc: Global) -> Result<Simple<Uploader>, AllocError> {
 fn a_custom_worker_takes_turns_and_fails(rt: HostRuntime) -> Result<(), Fail> {
     let alloc = rt.alloc();
     let worker: Box<dyn Worker + Send> = Box::new(alloc, Diarist::new(alloc, uploader(alloc)?))?;
-    let left = run_with(&rt, alloc, one_hand(alloc, "Upload", worker)?, UPLOAD)?;
+    let left = run_with(
+        &rt,
+        alloc,
+        &DEMO,
+        one_hand(alloc, "Upload", worker)?,
+        UPLOAD,
+    )?;
     let expected = (6, UPLOAD_REPLIES, UPLOAD_DIARY);
     expect_left(&rt, alloc, &left, "Upload", expected)
 }
@@ -243,7 +220,46 @@ fn two_hands(alloc: Global) -> Result<Vec<Hand>, AllocError>
 #[test]
 fn a_retire_takes_the_workers_of_its_class_alone(rt: HostRuntime) -> Result<(), Fail> {
     let alloc = rt.alloc();
-    let left = run_with(&rt, alloc, two_hands(alloc)?, TWO_CLASSES)?;
+    let left = run_with(&rt, alloc, &DEMO, two_hands(alloc)?, TWO_CLASSES)?;
     let expected = (11, TWO_CLASSES_REPLIES, RIGHT_DIARY);
     expect_left(&rt, alloc, &left, "Right", expected)
+}
+
+const TWO_COUNTS: &str =
+    r#"{"cmd":"enqueue","works":[{"class":"Count","id":"00000000-0000-0000-0000-000000000001","input":{"turns":{"int":3}}},{"class":"Count","id":"00000000-0000-0000-0000-000000000002","input":{"turns":{"int":1}}}]}
+{"cmd":"settle"}
+"#;
+
+const COUNT_DIARY: &str = r#"run 1 begun
+run 1 turn 0: More {"turn":{"int":1}}
+run 1 turn 1: More {"turn":{"int":2}}
+run 1 turn 2: Success {"turns":{"int":3}}
+run 2 begun
+run 2 turn 0: Success {"turns":{"int":1}}
+"#;
+
+const COUNT_REPLIES: &str = r#"{"line":1,"ok":"enqueued","works":[1,2]}
+{"line":2,"ok":"settled"}
+"#;
+
+/// With worker threads too, a worker begins each of its runs once, before its turn 0, and takes each
+/// turn once.
+#[test]
+fn a_worker_begins_once_and_takes_each_turn_once(rt: HostRuntime) -> Result<(), Fail> {
+    let alloc = rt.alloc();
+    for workers in ["1", "2"] {
+        let worker: Box<dyn Worker + Send> = Box::new(alloc, Diarist::new(alloc, Count::new()))?;
+        let called = ["--store", "a", "--workers", workers];
+        let left = run_with(
+            &rt,
+            alloc,
+            &called,
+            one_hand(alloc, "Count", worker)?,
+            TWO_COUNTS,
+        )?;
+        let told = expect_left(&rt, alloc, &left, "Count", (8, COUNT_REPLIES, COUNT_DIARY));
+        drop(left);
+        told?;
+    }
+    Ok(())
 }

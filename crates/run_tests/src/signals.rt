@@ -2,9 +2,10 @@
 ghost use Rattle.std.specs.Prelude.{◌≤◌, vec_len, IfOk};
 ghost use Rattle.wm_bench.specs.Places.{most_hands};
 
-use crate::threads::{MOST_POLLS, one_hand, run_at, words};
+use crate::threads::run_at;
 use part_tests::data::data_of;
-use part_tests::hands::add_hand;
+use part_tests::hands::{add_hand, one_hand, words};
+use part_tests::meeting::MOST_POLLS;
 use std::alloc::{AllocError, Global};
 use std::process::Abort;
 use std::sync::atomic::{AtomicBool, AtomicU64, Ordering};
@@ -125,17 +126,15 @@ fn looks<'a, R: Abort>(
 ) -> Result<Vec<Hand<Simple<Look<'a, R>>>>, AllocError>
     ensures { IfOk result (λ hands. vec_len hands ≤ most_hands) }
 {
-    let (first, until) = (&watch.met, &watch.passed);
     let mut hands = Vec::new(alloc);
+    let until = &watch.met;
     add_hand(
         alloc,
         &mut hands,
         "First",
-        Simple::new(Look {
-            watch,
-            until: first,
-        }),
+        Simple::new(Look { watch, until }),
     )?;
+    let until = &watch.passed;
     add_hand(
         alloc,
         &mut hands,
@@ -196,7 +195,7 @@ const WAITS_REPLIES: &str = r#"{"line":1,"ok":"enqueued","works":[1]}
 #[test]
 fn a_worker_sees_whether_its_run_was_stopped(rt: HostRuntime) -> Result<(), Fail> {
     let alloc = rt.alloc();
-    let words = words(alloc, "2")?;
+    let words = words(alloc, &["--store", "a", "--workers", "2"])?;
     for (waits, script, replies, seen) in [
         (true, STOPPED, STOPPED_REPLIES, 5),
         (false, KEPT, KEPT_REPLIES, 0),

@@ -1,105 +1,21 @@
-//! Runs with worker threads, which a gate of the test holds until they have met.
+//! Runs with worker threads, and callers of a script, which a gate of the test holds until they have met.
 ghost use Rattle.std.specs.Prelude.{◌≤◌, vec_len, IfOk};
 ghost use Rattle.wm_bench.specs.Places.{most_hands};
 
-use part_tests::hands::add_hand;
+use part_tests::hands::{add_hand, one_hand, words};
+use part_tests::meeting::Meeting;
 use std::alloc::{AllocError, Global};
 use std::sync::Wait;
-use std::sync::atomic::{AtomicBool, AtomicU64, Ordering};
 use std::test::Fail;
-use std::thread;
 use std::thread::Threads;
 use wm_bench::Hand;
+use wm_callers_program::{CallersEnd, run_callers};
 use wm_cli::{Status, run};
 use wm_io::{StdSink, StdSource};
 use wm_keeper::SureKeeper;
-use wm_pool::{Gate, Point};
-use wm_stock::Count;
+use wm_pool::Gate;
+use wm_stock::{Count, Echo};
 use wm_worker::Worker;
-
-/// How often a thread that waits looks whether it may go on.
-pub(crate) const MOST_POLLS: u32 = 1_000_000;
-
-/// Where some runs meet: each is held at its turn 0 until all have come there, for a limited number
-/// of polls.
-#[derive(Drop)]
-struct Meeting {
-    /// How many runs meet.
-    works: u64,
-    /// How many have come.
-    came: AtomicU64,
-    /// Whether one was let go before all had come.
-    missed: AtomicBool,
-    /// Whether a line after the one that settles came before all had come.
-    hurried: AtomicBool,
-}
-
-impl Meeting {
-    /// A meeting of so many runs, to which none has come.
-    fn of(works: u64) -> Meeting {
-        Meeting {
-            works,
-            came: AtomicU64::new(0),
-            missed: AtomicBool::new(false),
-            hurried: AtomicBool::new(false),
-        }
-    }
-
-    /// Whether all runs have come.
-    fn is_full(&self) -> bool {
-        self.came.load(Ordering::SeqCst) >= self.works
-    }
-
-    /// Holds a run that has come until all have.
-    fn wait(&self) {
-        for _i in 0..MOST_POLLS {
-            if self.is_full() {
-                return;
-            }
-            thread::yield_now();
-        }
-        self.missed.store(true, Ordering::SeqCst);
-    }
-}
-
-impl Gate for Meeting {
-    fn at(&self, point: Point) {
-        match point {
-            Point::Turn { k: 0, .. } => {
-                self.came.fetch_add(1, Ordering::SeqCst);
-                self.wait();
-            }
-            Point::Front { line: 3 } => {
-                if !self.is_full() {
-                    self.hurried.store(true, Ordering::SeqCst);
-                }
-            }
-            _ => {}
-        }
-    }
-}
-
-/// The words of a run with so many workers.
-pub(crate) fn words(alloc: Global, workers: &str) -> Result<Vec<String>, AllocError> {
-    let mut words = Vec::new(alloc);
-    for word in ["--store", "a", "--workers", workers] {
-        words.push(String::from_str(alloc, word)?)?;
-    }
-    Ok(words)
-}
-
-/// One worker.
-pub(crate) fn one_hand<B: Drop>(
-    alloc: Global,
-    class: &str,
-    worker: B,
-) -> Result<Vec<Hand<B>>, AllocError>
-    ensures { IfOk result (λ hands. vec_len hands ≤ most_hands) }
-{
-    let mut hands = Vec::new(alloc);
-    add_hand(alloc, &mut hands, class, worker)?;
-    Ok(hands)
-}
 
 /// Four workers of class Count.
 fn counts(alloc: Global) -> Result<Vec<Hand<Count>>, AllocError>
@@ -156,35 +72,82 @@ const FOUR_REPLIES: &str = r#"{"line":1,"ok":"enqueued","works":[1,2,3,4]}
 {"attempts":4,"blocked":0,"cancelled":0,"enqueued":0,"failed":0,"line":3,"ok":"summary","running":0,"succeeded":4}
 "#;
 
-/// Numbers of workers and of works, each with the script that enqueues these works and settles, and
-/// what it writes.
-fn meetings() -> [(&'static str, u64, &'static str, &'static str); 2] {
-    [
-        ("2", 2, TWO_WORKS, TWO_REPLIES),
-        ("64", 4, FOUR_WORKS, FOUR_REPLIES),
-    ]
-}
-
 /// Runs take their turns at the same time: on one thread the first of them would wait in vain for the
 /// others. The line that settles waits for all of them meanwhile.
 #[test]
 fn runs_of_several_threads_meet_at_their_first_turn(rt: HostRuntime) -> Result<(), Fail> {
     let alloc = rt.alloc();
-    for (workers, works, script, replies) in meetings() {
-        let meeting = Meeting::of(works);
-        let words = words(alloc, workers)?;
+    for (workers, works, script, replies) in [
+        ("2", 2, TWO_WORKS, TWO_REPLIES),
+        ("64", 4, FOUR_WORKS, FOUR_REPLIES),
+    ] {
+        let meeting = Meeting::of(works, false);
+        let words = words(alloc, &["--store", "a", "--workers", workers])?;
         let hands = counts(alloc)?;
         let (status, written) = run_at(&rt, alloc, &words, hands, script, &meeting);
         assert_eq!(rt; status, Status::Done);
         assert_eq!(rt; written.as_slice(), replies.as_bytes());
-        assert!(rt;
-            !meeting.missed.load(Ordering::SeqCst),
-            "{works} runs didn't meet"
-        );
-        assert!(rt;
-            !meeting.hurried.load(Ordering::SeqCst),
-            "a settle of {works} runs didn't wait"
-        );
+        assert!(rt; !meeting.missed(), "{works} runs didn't meet");
+        assert!(rt; !meeting.hurried(), "a settle of {works} runs didn't wait");
     }
+    Ok(())
+}
+
+const ONE_ID: &str =
+    r#"{"cmd":"enqueue","works":[{"class":"Echo","id":"00000000-0000-0000-0000-000000000001"}]}
+{"cmd":"enqueue","works":[{"class":"Echo","id":"00000000-0000-0000-0000-000000000001"}]}
+"#;
+
+const FIRST_CAME: &str = r#"{"line":1,"ok":"enqueued","works":[1]}
+{"error":"IdInUse","id":"00000000-0000-0000-0000-000000000001","line":2}
+"#;
+
+const SECOND_CAME: &str = r#"{"line":2,"ok":"enqueued","works":[1]}
+{"error":"IdInUse","id":"00000000-0000-0000-0000-000000000001","line":1}
+"#;
+
+/// Whether the caller that called first has the id, and the other one was refused.
+fn has_one_the_id(callers: &[u32], written: &[u8]) -> bool {
+    match callers {
+        [0, 1] => written == FIRST_CAME.as_bytes(),
+        [1, 0] => written == SECOND_CAME.as_bytes(),
+        _ => false,
+    }
+}
+
+/// How two callers of one id end at a gate, and whether one of both has it, by the order of the callers and
+/// what is written.
+fn call_both<R: Threads + Wait + Sync>(
+    rt: &R,
+    alloc: Global,
+    words: &[String],
+    hands: Vec<Hand<Echo>>,
+    meeting: &Meeting,
+) -> (Status, bool)
+    requires { vec_len hands ≤ most_hands }
+{
+    let mut written = Vec::new(alloc);
+    let mut source = StdSource::new(ONE_ID.as_bytes());
+    let sink = StdSink::new(&mut written);
+    let keeper = SureKeeper::new(Vec::new(alloc));
+    let called = run_callers(rt, alloc, words, hands, &mut source, sink, keeper, meeting);
+    let CallersEnd { ended, callers } = called;
+    let status = ended.status;
+    drop(ended);
+    (status, has_one_the_id(&callers, &written))
+}
+
+/// One of both has the id, and the other one is refused. On one thread the first of them would wait in
+/// vain for the other.
+#[test]
+fn two_callers_enqueue_one_id(rt: HostRuntime) -> Result<(), Fail> {
+    let alloc = rt.alloc();
+    let words = words(alloc, &["--store", "a", "--workers", "2"])?;
+    let hands = one_hand(alloc, "Echo", Echo::new())?;
+    let meeting = Meeting::of(2, true);
+    let (status, has_one) = call_both(&rt, alloc, &words, hands, &meeting);
+    assert_eq!(rt; status, Status::Done);
+    assert!(rt; has_one, "not one of both has the id");
+    assert!(rt; !meeting.missed(), "the callers didn't meet");
     Ok(())
 }

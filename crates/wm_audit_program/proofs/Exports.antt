@@ -6,19 +6,20 @@ use Rattle.wm_audit_program.proofs.Canonical.{HaveCanonical-lines}
 use Rattle.wm_audit_program.specs.Exported.{audit_of, over_sure, IsAuditWritten, IsExported, IsWrittenStatus}
 use Rattle.wm_audit_program.specs.Written.{takes_of}
 use Rattle.wm_audit_text.specs.Lines.{HasCanonical}
+use Rattle.wm_beginning.specs.Causes.{IsUnlessMemory}
+use Rattle.wm_beginning.specs.Over.{HasReplayed, IsReplayed}
+use Rattle.wm_beginning.specs.Reading.{Reads}
 use Rattle.wm_bench.specs.declared.hand.Hand.{Hand}
-use Rattle.wm_cli.specs.Causes.{IsUnlessMemory}
-use Rattle.wm_cli.specs.Ended.{HasReplayed, IsReplayed}
-use Rattle.wm_cli.specs.Run.{IsRun, Reads}
+use Rattle.wm_cli.specs.Run.{IsRun}
+use Rattle.wm_ended.specs.Tells.{Tells}
+use Rattle.wm_ended.specs.declared.ended.Ended.{Ended}
+use Rattle.wm_ended.specs.declared.status.Status.{Status}
+use Rattle.wm_ended.specs.declared.status.Status.TheVariants as status
 use Rattle.wm_faults.specs.Faults.{Failed}
 use Rattle.wm_io.proofs.AppendedTexts.{IsAppended-nothing}
 use Rattle.wm_keeper.specs.Store.{told_before}
 use Rattle.wm_machine.specs.Opened.{Opened}
 use Rattle.wm_seating.specs.Hands.{instances_from}
-use Rattle.wm_session.specs.Tells.{Tells}
-use Rattle.wm_session.specs.declared.ended.Ended.{Ended}
-use Rattle.wm_session.specs.declared.status.Status.{Status}
-use Rattle.wm_session.specs.declared.status.Status.TheVariants as status
 use Rattle.wm_texts.specs.Texts.{log_text}
 
 -- ---- a run that is done

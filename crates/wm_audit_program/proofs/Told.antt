@@ -14,7 +14,7 @@ use Rattle.wm_audit_program.specs.declared.judging.Judged.{Judged}
 use Rattle.wm_audit_program.specs.declared.status.CheckStatus.{CheckStatus}
 use Rattle.wm_audit_program.specs.declared.status.CheckStatus.TheVariants as status
 use Rattle.wm_io.specs.Writing.{IsAppended}
-use Rattle.wm_session.specs.Ended.{IsPartAppended}
+use Rattle.wm_ended.specs.Ended.{IsPartAppended}
 
 -- ---- a front of a text
 

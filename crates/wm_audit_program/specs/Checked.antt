@@ -7,12 +7,11 @@ use Rattle.wm_audit_program.specs.Written.{Takes}
 use Rattle.wm_audit_program.specs.declared.checking.Checked.{Checked}
 use Rattle.wm_audit_program.specs.declared.status.CheckStatus.{CheckStatus}
 use Rattle.wm_audit_program.specs.declared.status.CheckStatus.TheVariants as status
-use Rattle.wm_cli.specs.Ended.{ForScript}
-use Rattle.wm_cli.specs.Run.{Reads}
-use Rattle.wm_cli.specs.Script.{IsTakenWithin}
+use Rattle.wm_beginning.specs.Reading.{ForScript, Reads}
+use Rattle.wm_beginning.specs.Script.{IsTakenWithin}
 use Rattle.wm_faults.specs.Faults.{Failed}
 use Rattle.wm_io.specs.Writing.{IsAppended}
-use Rattle.wm_session.specs.Ended.{IsPartAppended}
+use Rattle.wm_ended.specs.Ended.{IsPartAppended}
 
 -- the most bytes of an audit
 abbrev pub most_audit_bytes : ℕ

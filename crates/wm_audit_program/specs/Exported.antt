@@ -7,17 +7,18 @@ use Rattle.wm_audit_program.specs.Written.{IsFrontWritten, Takes}
 use Rattle.wm_audit_program.specs.declared.exporting.Exported.{Exported}
 use Rattle.wm_audit_text.specs.Audits.{audit_text}
 use Rattle.wm_bench.specs.declared.hand.Hand.{Hand}
-use Rattle.wm_cli.specs.Causes.{IsUnlessMemory}
-use Rattle.wm_cli.specs.Run.{IsRun, Reads}
+use Rattle.wm_beginning.specs.Causes.{IsUnlessMemory}
+use Rattle.wm_cli.specs.Run.{IsRun}
+use Rattle.wm_beginning.specs.Reading.{Reads}
 use Rattle.wm_faults.specs.Faults.{Failed}
 use Rattle.wm_machine.specs.Replay.{Replay}
 use Rattle.wm_machine.specs.Rows.{rows_of}
 use Rattle.wm_machine.specs.declared.event.Event.{Event}
 use Rattle.wm_machine.specs.declared.state.State.{State}
-use Rattle.wm_session.specs.Tells.{Tells}
-use Rattle.wm_session.specs.declared.ended.Ended.{Ended}
-use Rattle.wm_session.specs.declared.status.Status.{Status}
-use Rattle.wm_session.specs.declared.status.Status.TheVariants as status
+use Rattle.wm_ended.specs.Tells.{Tells}
+use Rattle.wm_ended.specs.declared.ended.Ended.{Ended}
+use Rattle.wm_ended.specs.declared.status.Status.{Status}
+use Rattle.wm_ended.specs.declared.status.Status.TheVariants as status
 use Rattle.wm_texts.specs.Texts.{log_text}
 
 -- what is told where the sink is one in memory that never fails, and all else tells as it does

@@ -7,8 +7,8 @@ use Rattle.wm_audit.specs.declared.verdict.Verdict.TheVariants as verdict
 use Rattle.wm_audit_program.specs.declared.status.CheckStatus.{CheckStatus}
 use Rattle.wm_audit_program.specs.declared.status.CheckStatus.TheVariants as status
 use Rattle.wm_audit_text.specs.Audits.{with_lf}
-use Rattle.wm_session.specs.Status.{status_text}
-use Rattle.wm_session.specs.declared.status.Status.TheVariants as run
+use Rattle.wm_ended.specs.Status.{status_text}
+use Rattle.wm_ended.specs.declared.status.Status.TheVariants as run
 use Rattle.wm_spelling.specs.Works.{count}
 
 -- the exit status of the program

@@ -1,9 +1,9 @@
 -- What a sink tells, and what of a text was written to it.
 use Rattle.std.specs.Prelude.{◌≡◌, ℕ, List, Option}
 use Rattle.wm_io.specs.Writing.{IsAppended}
-use Rattle.wm_session.specs.Ended.{IsPartAppended}
-use Rattle.wm_session.specs.declared.status.Status.{Status}
-use Rattle.wm_session.specs.declared.status.Status.TheVariants.{Done}
+use Rattle.wm_ended.specs.Ended.{IsPartAppended}
+use Rattle.wm_ended.specs.declared.status.Status.{Status}
+use Rattle.wm_ended.specs.declared.status.Status.TheVariants.{Done}
 
 -- what a sink tells: the bytes that it was given, where it tells them, and how many faults it has met
 pub record Takes (W : Type 0) : Type 1 where

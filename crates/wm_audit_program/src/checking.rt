@@ -3,14 +3,14 @@ ghost use Rattle.std.specs.Prelude.{◌≡◌, ◌+◌, ◌≤◌, length, map, 
 ghost use Rattle.wm_audit_program.specs.Checked.{most_audit_bytes, IsChecked};
 ghost use Rattle.wm_audit_program.specs.Read.{IsReadAs, IsReadBy, IsToldBy};
 ghost use Rattle.wm_audit_program.specs.Written.{takes_of};
-ghost use Rattle.wm_cli.specs.Run.{reads_of};
-ghost use Rattle.wm_cli.specs.Script.{IsTakenWithin};
+ghost use Rattle.wm_beginning.specs.Reading.{reads_of};
+ghost use Rattle.wm_beginning.specs.Script.{IsTakenWithin};
 
 use crate::judging::judge;
 use crate::status::CheckStatus;
 use crate::writing::write_text;
 use std::alloc::Global;
-use wm_cli::{ReadFault, read_script};
+use wm_beginning::{ReadFault, read_script};
 use wm_io::{Sink, Source, WriteFault};
 
 /// The most bytes of an audit.

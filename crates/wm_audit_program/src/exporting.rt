@@ -6,8 +6,8 @@ ghost use Rattle.wm_audit_program.specs.Exported.{IsAuditWritten, IsExported};
 ghost use Rattle.wm_audit_program.specs.Written.{takes_of};
 ghost use Rattle.wm_audit_text.specs.Lines.{HasCanonical};
 ghost use Rattle.wm_bench.specs.Places.{most_hands};
-ghost use Rattle.wm_cli.specs.Run.{reads_of};
-ghost use Rattle.wm_session.specs.Tells.{tells_of};
+ghost use Rattle.wm_beginning.specs.Reading.{reads_of};
+ghost use Rattle.wm_ended.specs.Tells.{tells_of};
 
 use crate::sure::SureSink;
 use crate::writing::write_text;

@@ -1,7 +1,7 @@
 //! Writing a text to a sink, as far as it takes it.
 ghost use Rattle.std.specs.Prelude.{OnOk};
 ghost use Rattle.wm_io.specs.Writing.{IsAppended, WriteCause};
-ghost use Rattle.wm_session.specs.Ended.{IsPartAppended};
+ghost use Rattle.wm_ended.specs.Ended.{IsPartAppended};
 
 use wm_io::{Sink, WriteFault, write_front};
 

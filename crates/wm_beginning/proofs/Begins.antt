@@ -1,27 +1,51 @@
--- The workers of a table that begins beside their bench, and why it doesn't begin.
-use Rattle.std.proofs.Common.{◌≡◌, ℕ, List, Some, Result, Ok, Err, IfOk, refl, ◌∙◌, ap}
-use Rattle.wm_beginning.specs.Begun.{IsUnbegunBy}
-use Rattle.wm_bench.specs.Places.{idle_hands}
+-- A store that wasn't loaded, and an opening that was refused.
+use Rattle.std.proofs.Common.{◌≡◌, true, false, List, Option, Some, IfSome, Vec, Global, refl, subst, inl, inr}
+use Rattle.wm_beginning.specs.NotBegun.{EarlyCause, IsNotBegun, IsOpeningRefused}
 use Rattle.wm_bench.specs.declared.hand.Hand.{Hand}
-use Rattle.wm_bench.specs.declared.place.Place.{Place}
-use Rattle.wm_cli.proofs.RunEnds.{EarlyCause}
+use Rattle.wm_ended.specs.Causes.{status_by_begin}
+use Rattle.wm_ended.specs.declared.status.Status.{Status}
+use Rattle.wm_keeper.proofs.Stores.{GoesOn-loaded}
+use Rattle.wm_keeper.specs.Store.{Store, IsStoreKept, KeepsTelling}
 use Rattle.wm_keeper.specs.declared.row.Row.{Row}
-use Rattle.wm_session.specs.declared.status.Status.{Status}
-use Rattle.wm_session.specs.declared.status.Status.TheVariants as status
+use Rattle.wm_machine.specs.declared.state.Instance.{Instance}
+use Rattle.wm_table.specs.Table.{is_at_commit, AreChangedByOpening, LeavesUnopened}
+use Rattle.wm_table.specs.declared.table.BeginFault.{BeginFault}
+use Rattle.wm_table.specs.declared.table.BeginFault.TheVariants as begin
 
--- the workers on a bench that is given on are there
-pub beside-workers : {T E B : Type 0} (bench : List (Place B)) (hands : List (Hand B)) (result : Result (T × List (Place B)) E)
-    → IfOk result (λ begun. begun.1 ≡ bench) → idle_hands bench ≡ hands → IfOk result (λ begun. idle_hands begun.1 ≡ hands)
-beside-workers bench hands (Ok begun) same are = ap idle_hands same ∙ are
-beside-workers bench hands (Err refused) same are = tt
+-- what comes back where no opening was committed
+pub not_begun-unopened : {K W B : Type 0} (store : K → Store) (instances : List Instance) (held : Option (List Row)) (keeper kept : K) (sink : W)
+    (hands : Vec (Hand B) Global) (why : Status)
+    → EarlyCause why (store keeper).faults (store kept).faults held → IsStoreKept (store keeper) (store kept) → KeepsTelling (store keeper) (store kept)
+    → IsNotBegun store instances hands.items held keeper sink (record { status = why; at_opening = false; keeper = kept; sink = sink; hands = hands })
+not_begun-unopened store instances held keeper kept sink hands why cause same telling = record {
+  cause = cause;
+  at_opening = λ image left. same.images image left;
+  rows = same.rows;
+  goes_on = GoesOn-loaded (store keeper) (store kept) same telling;
+  sink_is = refl;
+  hands_back = refl;
+}
 
--- why rows aren't begun with is why a run ends before its table is begun
-pub early-unbegun : (why : Status) (rows : List Row) (before now : ℕ) → IsUnbegunBy why rows before now → EarlyCause why before now (Some rows)
-early-unbegun status.KeeperFault rows before now is = is.0
-early-unbegun (status.BadStore seq bad_row) rows before now is = record { rows = rows; told = refl; refused = is.1 }
-early-unbegun status.Memory rows before now is = tt
-early-unbegun status.Done rows before now is = absurd is
-early-unbegun status.SinkFault rows before now is = absurd is
-early-unbegun status.Usage rows before now is = absurd is
-early-unbegun status.SourceFault rows before now is = absurd is
-early-unbegun (status.ScriptTooLong limit) rows before now is = absurd is
+-- whether the commit of an opening was refused, as the table tells it
+pub refused-begin : {K : Type 0} (store : K → Store) (rows : List Row) (instances : List Instance) (keeper : K) (refused : K × BeginFault)
+    → IfSome (store keeper).rows (λ held. rows ≡ held) → (is_at_commit refused.1 ≡ true → AreChangedByOpening rows instances)
+    → LeavesUnopened store rows instances keeper refused
+    → IsOpeningRefused false (is_at_commit refused.1) (status_by_begin refused.1) (Some rows) instances (store keeper) (store refused.0)
+refused-begin store rows instances keeper (now, begin.KeeperFault) held changed leaves = record {
+  rows = rows;
+  told = refl;
+  told_left = λ image left. held;
+  changed = changed refl;
+  why = inl refl;
+  images = λ image left. elim (leaves image left) [ inl old ↦ inl old | inr would ↦ inr would.1 ];
+}
+refused-begin store rows instances keeper (now, begin.CommitMemory) held changed leaves = record {
+  rows = rows;
+  told = refl;
+  told_left = λ image left. held;
+  changed = changed refl;
+  why = inr refl;
+  images = λ image left. elim (leaves image left) [ inl old ↦ inl old | inr would ↦ inr would.1 ];
+}
+refused-begin store rows instances keeper (now, begin.Memory) held changed same = λ image left. subst (λ k. (store k).images image) same left
+refused-begin store rows instances keeper (now, begin.Bad seq bad_row) held changed same = λ image left. subst (λ k. (store k).images image) same left

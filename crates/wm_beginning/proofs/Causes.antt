@@ -1,21 +1,19 @@
 -- Why a program ends: for its words, for its script, or once its store was to be opened.
-use Rattle.std.proofs.Common.{◌≡◌, ◌∙◌, ℕ, ℤ, Bool, List, Option, Some, None, IfSome, IsSome, Err, refl, sym, ap, subst, inl, inr}
-use Rattle.wm_beginning.specs.Caused.{IsCaused}
-use Rattle.wm_cli.proofs.OriginLines.{past_within, without}
-use Rattle.wm_cli.proofs.RunEnds.{none_refused}
-use Rattle.wm_cli.specs.Causes.{IsOpeningStatus, IsToldTooLong, IsToldWithin, IsUnlessMemory, LimitCause, StoreCause}
-use Rattle.wm_cli.specs.Ended.{ForScript}
-use Rattle.wm_cli.specs.Reading.{IsReadStatus}
-use Rattle.wm_cli.specs.Run.{Reads}
+use Rattle.std.proofs.Common.{IsSomeAnd, ◌≡◌, ◌∙◌, ℕ, List, Option, Some, None, IfSome, IsSome, refl, sym, ap, subst, inl, inr}
+use Rattle.wm_beginning.proofs.Unbegun.{none_refused}
+use Rattle.wm_beginning.proofs.Unread.{past_within, without}
+use Rattle.wm_beginning.specs.Caused.{HaveScript, IsCaused, IsCausedFor, IsCausedOnceRead}
+use Rattle.wm_beginning.specs.Causes.{IsOpeningStatus, IsToldTooLong, IsToldWithin, IsUnlessMemory, LimitCause, StoreCause}
+use Rattle.wm_beginning.specs.Reading.{ForScript, IsReadStatus, Reads}
+use Rattle.wm_ended.specs.Tells.{Tells}
+use Rattle.wm_ended.specs.declared.status.Status.{Status}
+use Rattle.wm_ended.specs.declared.status.Status.TheVariants as status
 use Rattle.wm_faults.specs.Faults.{Failed}
 use Rattle.wm_keeper.specs.Store.{told_before}
 use Rattle.wm_keeper.specs.declared.row.Row.{Row}
 use Rattle.wm_rows.specs.Sound.{checked, AreSound}
 use Rattle.wm_script.specs.Limits.{first_limit}
 use Rattle.wm_script.specs.declared.limits.Limit.{Limit}
-use Rattle.wm_session.specs.Tells.{Tells}
-use Rattle.wm_session.specs.declared.status.Status.{Status}
-use Rattle.wm_session.specs.declared.status.Status.TheVariants as status
 use Rattle.wm_table.specs.Table.{row_fault}
 use Rattle.wm_words.specs.declared.run.Origin.TheVariants.{Script}
 
@@ -73,13 +71,20 @@ done_opened _ held rows keeper kept sink given opened bad stored sound keeper_fa
 
 -- ---- the causes
 
+-- where there is none, nothing holds of it
+pub none_that : {O : Type 0} (P : O → Type 0) (options : Option O) → options ≡ None → IsSomeAnd options P → ⊥
+none_that P None wrong right = right
+none_that P (Some given) wrong right = absurd cc
+
 some_none : {O : Type 0} (options : Option O) → IsSome options → options ≡ None → ⊥
 some_none {O = O} options right none = let is : IsSome {T = O} None = subst IsSome none right in absurd cc
 
-module _ {K W B S O : Type 0} (tells : Tells K W B) (source : Reads S) (options : Option O) (before now : S) (keeper : K) (sink : W) where
+module _ {K W B S O : Type 0} (tells : Tells K W B) (source : Reads S) (options : Option O) (asks_script has_lines : Type 0) (before now : S) (keeper : K)
+    (sink : W) where
   -- the words are wrong: nothing was read, and keeper and sink are as they were
-  pub caused-usage : options ≡ None → now ≡ before → IsCaused tells source options before now keeper keeper sink sink status.Usage
-  caused-usage wrong unread = record {
+  pub usage-caused : options ≡ None → (asks_script → ⊥) → (has_lines → ⊥) → now ≡ before
+      → IsCausedFor tells source options asks_script has_lines before now keeper keeper sink sink status.Usage
+  usage-caused wrong no_script no_lines unread = record {
     usage = (λ is. wrong, λ none. refl);
     usage_reads_nothing = λ is. unread;
     usage_keeps = λ is. (refl, refl);
@@ -87,18 +92,19 @@ module _ {K W B S O : Type 0} (tells : Tells K W B) (source : Reads S) (options 
     source_fault_keeps = λ is. (refl, refl);
     script_too_long = tt;
     script_too_long_keeps = λ limit is. (refl, refl);
-    long_script = λ limit right past no_fault. absurd (some_none options right wrong);
+    long_script = λ limit asks past no_fault. absurd (no_script asks);
     keeper_fault = λ is. absurd cc;
     sink_fault = λ is. absurd cc;
     bad_store = tt;
-    unsound_store = λ rows seq bad_row script held refused no_fault. absurd (some_none options script.right wrong);
-    completes = λ rows script held sound keeps writes. absurd (some_none options script.right wrong);
+    unsound_store = λ rows seq bad_row lines held refused no_fault. absurd (no_lines lines);
+    completes = λ rows lines held sound keeps writes. absurd (no_lines lines);
   }
 
   -- the script wasn't read: keeper and sink are as they were
-  pub caused-read : (ended : Status) → IsSome options → IsReadStatus ended (source.faults before) (source.faults now) (source.left before)
-      → IsCaused tells source options before now keeper keeper sink sink ended
-  caused-read ended right read =
+  pub read-caused : (ended : Status) → IsSome options → IsReadStatus ended (source.faults before) (source.faults now) (source.left before)
+      → (has_lines → ended ≡ status.Memory)
+      → IsCausedFor tells source options asks_script has_lines before now keeper keeper sink sink ended
+  read-caused ended right read memory =
       let earlier = source.faults before in
       let later = source.faults now in
       let left = source.left before in
@@ -106,44 +112,62 @@ module _ {K W B S O : Type 0} (tells : Tells K W B) (source : Reads S) (options 
       record {
         usage = (λ is. absurd (read_as status.Usage is), λ none. absurd (some_none options right none));
         usage_reads_nothing = λ is. absurd (read_as status.Usage is);
-        usage_keeps = λ is. (refl, refl);
+        usage_keeps = λ is. absurd (read_as status.Usage is);
         source_fault = read_as status.SourceFault;
         source_fault_keeps = λ is. (refl, refl);
         script_too_long = limit_read ended earlier later left read;
         script_too_long_keeps = λ limit is. (refl, refl);
-        long_script = λ limit are past no_fault. long_read limit ended earlier later left read past no_fault;
+        long_script = λ limit asks past no_fault. long_read limit ended earlier later left read past no_fault;
         keeper_fault = λ is. absurd (read_as status.KeeperFault is);
         sink_fault = λ is. absurd (read_as status.SinkFault is);
         bad_store = store_read ended earlier later left _ read;
-        unsound_store = λ rows seq bad_row script held refused no_fault.
-            inr (within_read ended earlier later left script.within script.no_fault read);
-        completes = λ rows script held sound keeps writes. inr (within_read ended earlier later left script.within script.no_fault read);
+        unsound_store = λ rows seq bad_row lines held refused no_fault. inr (memory lines);
+        completes = λ rows lines held sound keeps writes. inr (memory lines);
       }
 
   -- the script was read, and the store was to be opened
-  pub caused-opened : (kept : K) (given : W) (ended : Status) → IsSome options → IfSome (source.left before) (λ all. first_limit all ≡ None)
-      → IsOpeningStatus ended
-      → (ended ≡ status.KeeperFault → Failed (tells.store keeper).faults (tells.store kept).faults)
-      → (ended ≡ status.SinkFault → Failed (tells.sink_faults sink) (tells.sink_faults given))
-      → StoreCause ended (told_before (tells.store keeper).rows (tells.store kept).rows)
-      → ((rows : List Row) (seq : ℤ) (bad_row : Bool) → told_before (tells.store keeper).rows (tells.store kept).rows ≡ Some rows
-      → checked rows ≡ Err (row_fault seq bad_row) → ¬ Failed (tells.store keeper).faults (tells.store kept).faults
-      → IsUnlessMemory ended (status.BadStore seq bad_row))
-      → IsCaused tells source options before now keeper kept sink given ended
-  caused-opened kept given ended right within opened keeper_fault sink_fault bad unsound =
-      let opened_as : ((why : Status) → ended ≡ why → IsOpeningStatus why) = λ why is. subst IsOpeningStatus is opened in
+  pub opened-caused : (kept : K) (given : W) (ended : Status) → IsSome options
+      → (asks_script → IfSome (source.left before) (λ all. first_limit all ≡ None))
+      → IsCausedOnceRead tells (told_before (tells.store keeper).rows (tells.store kept).rows) keeper kept sink given ended
+      → IsCausedFor tells source options asks_script has_lines before now keeper kept sink given ended
+  opened-caused kept given ended right within causes =
+      let opened_as : ((why : Status) → ended ≡ why → IsOpeningStatus why) = λ why is. subst IsOpeningStatus is causes.opened in
       record {
         usage = (λ is. absurd (opened_as status.Usage is), λ none. absurd (some_none options right none));
         usage_reads_nothing = λ is. absurd (opened_as status.Usage is);
         usage_keeps = λ is. absurd (opened_as status.Usage is);
         source_fault = λ is. absurd (opened_as status.SourceFault is);
         source_fault_keeps = λ is. absurd (opened_as status.SourceFault is);
-        script_too_long = limit_opened ended (source.faults before) (source.faults now) (source.left before) opened;
+        script_too_long = limit_opened ended (source.faults before) (source.faults now) (source.left before) causes.opened;
         script_too_long_keeps = λ limit is. absurd (opened_as (status.ScriptTooLong limit) is);
-        long_script = λ limit are past no_fault. absurd (past_within (source.left before) limit within past);
-        keeper_fault = keeper_fault;
-        sink_fault = sink_fault;
-        bad_store = bad;
-        unsound_store = λ rows seq bad_row script. unsound rows seq bad_row;
-        completes = λ rows script held sound keeps writes. done_opened ended _ rows _ _ _ _ opened bad held sound keeper_fault sink_fault keeps writes;
+        long_script = λ limit asks past no_fault. absurd (past_within (source.left before) limit (within asks) past);
+        keeper_fault = causes.keeper_fault;
+        sink_fault = causes.sink_fault;
+        bad_store = causes.bad_store;
+        unsound_store = λ rows seq bad_row lines. causes.unsound rows seq bad_row;
+        completes = λ rows lines held sound keeps writes.
+            done_opened ended _ rows _ _ _ _ causes.opened causes.bad_store held sound causes.keeper_fault causes.sink_fault keeps writes;
       }
+
+-- ---- where right words ask for a script
+
+module _ {K W B S O : Type 0} (tells : Tells K W B) (source : Reads S) (options : Option O) (before now : S) (keeper : K) (sink : W) where
+  abbrev HasScript : Type 0
+  HasScript = HaveScript options (source.left before) (source.faults before) (source.faults now)
+
+  pub caused-usage : options ≡ None → now ≡ before → IsCaused tells source options before now keeper keeper sink sink status.Usage
+  caused-usage wrong unread =
+      usage-caused tells source options (IsSome options) HasScript before now keeper sink wrong (λ right. some_none options right wrong)
+      (λ script. some_none options script.right wrong) unread
+
+  pub caused-read : (ended : Status) → IsSome options → IsReadStatus ended (source.faults before) (source.faults now) (source.left before)
+      → IsCaused tells source options before now keeper keeper sink sink ended
+  caused-read ended right read =
+      read-caused tells source options (IsSome options) HasScript before now keeper sink ended right read
+      (λ script. within_read ended (source.faults before) (source.faults now) (source.left before) script.within script.no_fault read)
+
+  pub caused-opened : (kept : K) (given : W) (ended : Status) → IsSome options → IfSome (source.left before) (λ all. first_limit all ≡ None)
+      → IsCausedOnceRead tells (told_before (tells.store keeper).rows (tells.store kept).rows) keeper kept sink given ended
+      → IsCaused tells source options before now keeper kept sink given ended
+  caused-opened kept given ended right within causes =
+      opened-caused tells source options (IsSome options) HasScript before now keeper sink kept given ended right (λ asks. within) causes

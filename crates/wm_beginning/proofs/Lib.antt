@@ -1,2 +1,10 @@
 pub mod Begins
 pub mod Causes
+pub mod Images
+pub mod Nothing
+pub mod Overs
+pub mod ReportedRuns
+pub mod ScriptLimits
+pub mod TakenBytes
+pub mod Unbegun
+pub mod Unread

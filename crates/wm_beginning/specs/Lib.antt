@@ -1,2 +1,9 @@
 pub mod Begun
 pub mod Caused
+pub mod Causes
+pub mod Images
+pub mod Loading
+pub mod NotBegun
+pub mod Over
+pub mod Reading
+pub mod Script

@@ -1,102 +1,92 @@
 //! A table beside the bench of its workers, over rows that were loaded.
-ghost use Rattle.std.specs.Prelude.{◌≡◌, ◌≤◌, [], map, vec_len, IfErr, IfOk, IfSome};
-ghost use Rattle.wm_beginning.specs.Begun.{tells_alone, IsGiven, IsUnbegun};
-ghost use Rattle.wm_bench.specs.Places.{idle_hands, most_hands};
-ghost use Rattle.wm_cli.specs.Benched.{AreBenched, HasJustBegun};
-ghost use Rattle.wm_machine.specs.Opened.{AreFresh};
-ghost use Rattle.wm_seating.specs.Bench.{instance_traits, place_traits, NoneAway};
-ghost use Rattle.wm_seating.specs.Hands.{instances_from};
-ghost use Rattle.wm_seating.specs.Idle.{IsIdle};
+ghost use Rattle.std.specs.Prelude.{◌≡◌, [], IfErr, IfOk, IfSome, Some};
+ghost use Rattle.wm_beginning.specs.Begun.{AreBenched, HasBegun, IsGiven};
+ghost use Rattle.wm_beginning.specs.Loading.{MayBegin};
+ghost use Rattle.wm_beginning.specs.NotBegun.{IsNotBegun};
+ghost use Rattle.wm_bench.specs.Places.{idle_hands};
 
+use crate::loading::Loaded;
 use std::alloc::{AllocFailed, Global};
-use wm_bench::{Bench, Hand};
+use wm_bench::Bench;
 use wm_collections::Items;
+use wm_ended::{NotBegun, Status};
 use wm_keeper::{Keeper, Row};
 use wm_machine::Instance;
 use wm_roll::Roll;
-use wm_session::Status;
 use wm_table::{Mark, Table};
 use wm_worker::Worker;
 
-/// What is handed back where nothing was begun.
-#[derive(Drop)]
-pub struct Unbegun<K, B = Box<dyn Worker + Send>> {
-    /// `KeeperFault` or `BadStore`, where the rows couldn't be opened, or `Memory`.
-    pub status: Status,
-    /// Whether the commit of the opening was refused: a crash may then leave what it would have left.
-    pub at_opening: bool,
-    pub keeper: K,
-    pub hands: Vec<Hand<B>>,
+/// A table that has just begun, beside the bench of its workers, and what will be written to.
+pub struct Begun<K: Keeper, W, B, M: Mark> {
+    pub table: Table<K, M>,
+    pub bench: Bench<B>,
+    pub sink: W,
 }
 
-/// Opens the rows that were loaded, with the instances of these workers, and gives the table beside the
+/// Opens the rows that were loaded, with the instances of the workers, and gives the table beside the
 /// bench of them. The mark is what the run is given.
 ///
-/// A refusal gives keeper and workers back, and the rows held are as they were. Its status is `BadStore`
-/// exactly where the rows aren't sound, with the first one that has a fault; `KeeperFault` where the keeper
-/// failed; or `Memory`.
-pub fn begin<K: Keeper, B: Worker, M: Mark>(
+/// A refusal gives everything back, and the rows held are as they were. Its status is `BadStore` exactly
+/// where the rows aren't sound, with the first one that has a fault; `KeeperFault` where the keeper failed;
+/// or `Memory`.
+pub fn begin<K: Keeper, W, B: Worker, M: Mark>(
     alloc: Global,
-    rows: Vec<Row>,
-    instances: Items<Instance>,
-    roll: Roll,
-    hands: Vec<Hand<B>>,
-    keeper: K,
-) -> Result<(Table<K, M>, Bench<B>), Unbegun<K, B>>
-    requires given { IsGiven M.inputs (K.store keeper) rows.items instances roll.table_id }
-    requires roll { roll.parts ≡ [] }
-    requires instances { instances ≡ instances_from B.kind_of 0 hands.items }
-    requires rows { IfSome (K.store keeper).rows (λ held. rows.items ≡ held) }
-    requires few_hands { vec_len hands ≤ most_hands }
-    ensures begun { IfOk result (λ begun. HasJustBegun (tells_alone K.store B.kind_of B.diary_of) M.inputs begun.0) }
-    ensures benched { IfOk result (λ begun. AreBenched B.kind_of begun.1 M.inputs.instances) }
-    ensures idle { IfOk result (λ begun. IsIdle B.kind_of begun.0 begun.1) }
-    ensures workers { IfOk result (λ begun. idle_hands begun.1 ≡ hands.items) }
-    ensures unbegun { IfErr result (IsUnbegun K.store rows.items instances keeper hands.items) }
+    loaded: Loaded<K, W, B>,
+) -> Result<Begun<K, W, B, M>, NotBegun<K, W, B>>
+    requires may { MayBegin K.store B.kind_of loaded }
+    requires given { IsGiven M.inputs (K.store loaded.keeper) loaded.rows.items loaded.instances
+        loaded.roll.table_id }
+    ensures begun { IfOk result (λ begun. HasBegun K.store B.kind_of M.inputs loaded.hands.items loaded.sink
+        begun.table begun.bench begun.sink) }
+    ensures not_begun { IfErr result (IsNotBegun K.store loaded.instances loaded.hands.items
+        (Some loaded.rows.items) loaded.keeper loaded.sink) }
 {
+    let Loaded {
+        rows,
+        instances,
+        roll,
+        hands,
+        sink,
+        keeper,
+    } = loaded;
     match Bench::new(alloc, hands) {
-        Ok(bench) => begin_beside(alloc, rows, instances, roll, bench, keeper),
+        Ok(bench) => begin_beside(alloc, rows, instances, roll, bench, sink, keeper),
         Err(failed) => {
             let AllocFailed { value } = failed;
-            Err(Unbegun {
-                status: Status::Memory,
-                at_opening: false,
-                keeper,
-                hands: value,
-            })
+            Err(NotBegun::before_opening(Status::Memory, keeper, sink, value))
         }
     }
 }
 
 /// Opens the rows that were loaded, with the instances of the workers on this bench, and gives the table
 /// beside it.
-fn begin_beside<K: Keeper, B: Worker, M: Mark>(
+fn begin_beside<K: Keeper, W, B: Worker, M: Mark>(
     alloc: Global,
     rows: Vec<Row>,
     instances: Items<Instance>,
     roll: Roll,
     bench: Bench<B>,
+    sink: W,
     keeper: K,
-) -> Result<(Table<K, M>, Bench<B>), Unbegun<K, B>>
+) -> Result<Begun<K, W, B, M>, NotBegun<K, W, B>>
     requires given { IsGiven M.inputs (K.store keeper) rows.items instances roll.table_id }
     requires roll { roll.parts ≡ [] }
-    requires fresh { AreFresh instances }
-    requires workers { map (place_traits B.kind_of) bench ≡ map instance_traits instances }
-    requires none_away { NoneAway bench }
+    requires benched { AreBenched B.kind_of bench instances }
     requires rows { IfSome (K.store keeper).rows (λ held. rows.items ≡ held) }
-    ensures begun { IfOk result (λ begun. HasJustBegun (tells_alone K.store B.kind_of B.diary_of) M.inputs begun.0) }
-    ensures bench { IfOk result (λ begun. begun.1 ≡ bench) }
-    ensures idle { IfOk result (λ begun. IsIdle B.kind_of begun.0 begun.1) }
-    ensures unbegun { IfErr result (IsUnbegun K.store rows.items instances keeper (idle_hands bench)) }
+    ensures begun { IfOk result (λ begun. HasBegun K.store B.kind_of M.inputs (idle_hands bench) sink
+        begun.table begun.bench begun.sink) }
+    ensures not_begun { IfErr result (IsNotBegun K.store instances (idle_hands bench)
+        (Some rows.items) keeper sink) }
 {
     match Table::begin(alloc, keeper, rows, instances, roll) {
-        Ok(table) => Ok((table, bench)),
+        Ok(table) => Ok(Begun { table, bench, sink }),
         Err(refused) => {
             let (keeper, fault) = refused;
-            Err(Unbegun {
+            Err(NotBegun {
                 status: Status::from(fault),
                 at_opening: fault.is_at_commit(),
                 keeper,
+                sink,
                 hands: bench.back(),
             })
         }

@@ -1,11 +1,18 @@
-//! How a table begins beside the bench of its workers, over a store that was loaded.
+//! How a program begins that reads a script and opens a store.
 //!
-//! [`begin`] makes the bench, and opens the rows that were loaded for its workers. Where it can't, it hands
-//! all of them back as an [`Unbegun`], with the status that tells why. `specs/Begun.antt` says what it is
-//! given and what comes back; what has begun is what a run of `wm_cli` begins with. `specs/Caused.antt` says
-//! when each status comes of a program that reads words and a script before.
+//! [`read_script`] reads a script from its source, and [`read_commands`] its commands. [`load`] loads a
+//! store, and [`begin`] opens the rows that were loaded, beside the bench of the workers. Each that can't
+//! hands all back that it was given, as a [`NotBegun`](wm_ended::NotBegun) with the status that tells why.
+//! `specs/NotBegun.antt` says what comes back, `specs/Begun.antt` what has begun, and `specs/Over.antt` what
+//! is over in the end. `specs/Caused.antt` says when each status comes of a program that begins so, whatever
+//! its words are.
 #![tactic(auto)]
 
 mod beginning;
+mod instances;
+mod loading;
+mod script;
 
-pub use beginning::{Unbegun, begin};
+pub use beginning::{Begun, begin};
+pub use loading::{Loaded, load};
+pub use script::{ReadFault, read_commands, read_script};

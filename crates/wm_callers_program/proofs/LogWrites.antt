@@ -5,7 +5,7 @@ use Rattle.wm_callers_program.specs.LogTexts.{hushes, plain_text}
 use Rattle.wm_io.proofs.AppendedTexts.{IsAppended-append, IsAppended-nothing}
 use Rattle.wm_io.specs.Writing.{IsAppended}
 use Rattle.wm_machine.specs.declared.event.Event.{Event}
-use Rattle.wm_session.specs.Ended.{IsPartAppended}
+use Rattle.wm_ended.specs.Ended.{IsPartAppended}
 use Rattle.wm_texts.specs.Texts.{text_of}
 
 -- nothing of it

@@ -5,14 +5,14 @@ use Rattle.wm_bench.specs.declared.hand.Hand.{Hand}
 use Rattle.wm_callers.specs.History.{IsOfDesk}
 use Rattle.wm_callers_program.specs.Calls.{AreAllCalled, AreCalled}
 use Rattle.wm_callers_program.specs.Lines.{AskedLine}
-use Rattle.wm_cli.specs.Ended.{IsRunOver, IsTableOver}
+use Rattle.wm_beginning.specs.Over.{IsRunOver, IsTableOver}
 use Rattle.wm_keeper.specs.declared.row.Row.{Row}
 use Rattle.wm_machine.specs.Log.{commands_of}
 use Rattle.wm_machine.specs.declared.event.Event.{Event}
-use Rattle.wm_session.specs.Tells.{Tells}
-use Rattle.wm_session.specs.declared.ended.Ended.{Ended}
-use Rattle.wm_session.specs.declared.status.Status.{Status}
-use Rattle.wm_session.specs.declared.status.Status.TheVariants as status
+use Rattle.wm_ended.specs.Tells.{Tells}
+use Rattle.wm_ended.specs.declared.ended.Ended.{Ended}
+use Rattle.wm_ended.specs.declared.status.Status.{Status}
+use Rattle.wm_ended.specs.declared.status.Status.TheVariants as status
 use Rattle.wm_table.specs.Inputs.{Inputs}
 
 -- all calls of callers come before the first work starts, or can't start

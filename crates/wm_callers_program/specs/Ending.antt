@@ -4,10 +4,11 @@ use Rattle.wm_faults.specs.Faults.{Failed}
 use Rattle.wm_keeper.specs.Store.{TellsOn}
 use Rattle.wm_machine.specs.Opened.{Opened}
 use Rattle.wm_machine.specs.Replay.{Replay}
-use Rattle.wm_session.specs.Ended.{AreHandsBack, IsSessionStatus, IsTextWritten}
-use Rattle.wm_session.specs.Tells.{Tells}
-use Rattle.wm_session.specs.declared.ended.Ended.{Ended}
-use Rattle.wm_session.specs.declared.status.Status.TheVariants as status
+use Rattle.wm_seating.specs.Hands.{AreHandsBack}
+use Rattle.wm_ended.specs.Ended.{IsSessionStatus, IsTextWritten}
+use Rattle.wm_ended.specs.Tells.{Tells}
+use Rattle.wm_ended.specs.declared.ended.Ended.{Ended}
+use Rattle.wm_ended.specs.declared.status.Status.TheVariants as status
 use Rattle.wm_table.specs.Inputs.{Inputs}
 use Rattle.wm_table.specs.Table.{HoldsRowsOf}
 use Rattle.wm_table.specs.TableState.{TableState}

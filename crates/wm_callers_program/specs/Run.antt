@@ -1,22 +1,23 @@
 -- The promise of callers that call the lines of a script, fact by fact.
-use Rattle.std.specs.Prelude.{◌≡◌, ◌+◌, ℕ, true, false, List, Option, option_map}
 use Rattle.std.specs.Option.{option_map_or}
+use Rattle.std.specs.Prelude.{◌≡◌, ◌+◌, ℕ, true, false, List, Option, option_map}
 use Rattle.wm_beginning.specs.Caused.{IsCaused}
+use Rattle.wm_beginning.specs.NotBegun.{IsOpeningRefused}
+use Rattle.wm_beginning.specs.Over.{AreHandsOf, AreReportedOnce, AreRowsKept, IsBegunBy, IsQuietOnDone, IsReplayed}
+use Rattle.wm_beginning.specs.Reading.{ForScript, Reads}
+use Rattle.wm_beginning.specs.Script.{IsTakenWithin}
 use Rattle.wm_bench.specs.declared.hand.Hand.{Hand}
 use Rattle.wm_callers_program.specs.Ended.{AreCallsOf, CallsComeFirst}
 use Rattle.wm_callers_program.specs.Lines.{lines_of}
-use Rattle.wm_cli.specs.Ended.{AreHandsOf, AreReportedOnce, AreRowsKept, ForScript, IsBegunBy, IsOpeningRefused, IsQuietOnDone, IsReplayed}
-use Rattle.wm_cli.specs.Run.{Reads}
-use Rattle.wm_cli.specs.Script.{IsTakenWithin}
+use Rattle.wm_ended.specs.Ended.{IsTextWritten}
+use Rattle.wm_ended.specs.Tells.{Tells}
+use Rattle.wm_ended.specs.declared.ended.Ended.{Ended}
+use Rattle.wm_ended.specs.declared.status.Status.TheVariants as status
 use Rattle.wm_keeper.specs.Store.{told_before, IsAtMost, KeepsTelling}
 use Rattle.wm_keeper.specs.declared.row.Row.{Row}
 use Rattle.wm_script.specs.Limits.{most_script_bytes}
 use Rattle.wm_script.specs.Lines.{commands_in}
 use Rattle.wm_seating.specs.Hands.{instances_from}
-use Rattle.wm_session.specs.Ended.{IsTextWritten}
-use Rattle.wm_session.specs.Tells.{Tells}
-use Rattle.wm_session.specs.declared.ended.Ended.{Ended}
-use Rattle.wm_session.specs.declared.status.Status.TheVariants as status
 use Rattle.wm_words.specs.Callers.{callers_options_of}
 
 -- where the keeper tells the name that it was loaded with, it is the one that the words name
@@ -40,7 +41,10 @@ pub record IsCallersRun {K W B S : Type 0} (tells : Tells K W B) (source : Reads
   -- Rows that the keeper told are told in the end, unless it is lost then.
   pub keeps_telling : KeepsTelling (tells.store keeper) (tells.store ended.keeper)
   pub begun : IsBegunBy ended.status ended.began
-  pub at_opening : IsOpeningRefused ended.status ended.began ended.at_opening
+  -- That the commit of the opening was refused is said where it was, of rows that are sound and change by
+  -- it; and where it isn't said, and no table was begun, nothing was committed.
+  pub at_opening : IsOpeningRefused ended.began ended.at_opening ended.status (told_before (tells.store keeper).rows (tells.store ended.keeper).rows)
+      (instances_from tells.kind_of 0 workers) (tells.store keeper) (tells.store ended.keeper)
   -- Where no store was opened, the sink is as it was.
   pub not_begun_keeps : ended.began ≡ false → ended.sink ≡ sink
   -- The rows kept are the last state's, and those of before where no store was opened. They stand in the

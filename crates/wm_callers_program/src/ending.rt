@@ -3,14 +3,14 @@ ghost use Rattle.std.specs.Prelude.{◌≡◌, [], map};
 ghost use Rattle.wm_callers_program.specs.Ended.{CallsComeFirst};
 ghost use Rattle.wm_callers_program.specs.Ending.{IsHandedOver};
 ghost use Rattle.wm_seating.specs.Bench.{instance_traits, place_traits, NoneAway};
-ghost use Rattle.wm_session.specs.Tells.{tells_of};
+ghost use Rattle.wm_ended.specs.Tells.{tells_of};
 
 use crate::texts::write_log;
 use std::alloc::Global;
 use wm_bench::Bench;
+use wm_ended::{Ended, Status};
 use wm_io::Sink;
 use wm_keeper::Keeper;
-use wm_session::{Ended, Status};
 use wm_table::{Mark, Table, TableEnd, Trouble};
 use wm_worker::Worker;
 

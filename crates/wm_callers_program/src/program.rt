@@ -7,7 +7,7 @@ ghost use Rattle.wm_callers_program.specs.Calls.{IsCalledOut};
 ghost use Rattle.wm_callers_program.specs.Ended.{IsCallersEnd};
 ghost use Rattle.wm_callers_program.specs.Lines.{lines_of, AskedLine};
 ghost use Rattle.wm_machine.specs.Outcome.{IsAskable};
-ghost use Rattle.wm_session.specs.Tells.{tells_of};
+ghost use Rattle.wm_ended.specs.Tells.{tells_of};
 
 use crate::calling::{Called, call_lines};
 use crate::draining::settle;
@@ -18,12 +18,12 @@ use std::thread::Threads;
 use wm_bench::Bench;
 use wm_callers::DeskEnd;
 use wm_collections::Items;
+use wm_ended::Ended;
 use wm_io::Sink;
 use wm_keeper::Keeper;
 use wm_live::Stand;
 use wm_machine::Command;
 use wm_pool::Gate;
-use wm_session::Ended;
 use wm_table::{Mark, Table, Trouble};
 use wm_worker::Worker;
 

@@ -2,7 +2,7 @@
 ghost use Rattle.std.specs.Prelude.{◌≡◌, ◌||◌, [], OnOk};
 ghost use Rattle.wm_callers_program.specs.LogTexts.{hushes, plain_text};
 ghost use Rattle.wm_io.specs.Writing.{IsAppended, WriteCause};
-ghost use Rattle.wm_session.specs.Ended.{IsPartAppended};
+ghost use Rattle.wm_ended.specs.Ended.{IsPartAppended};
 ghost use Rattle.wm_texts.specs.Texts.{text_of};
 
 use std::alloc::Global;

@@ -1,32 +1,34 @@
 //! The top call: all that the program does with the first word `callers`, with its contract.
-ghost use Rattle.std.specs.Prelude.{◌≡◌, ◌<◌, ◌≤◌, ◌^◌, [], false, length, map, vec_len, IfSome, Some, string_bytes};
 ghost use Rattle.std.specs.List.{AllByRecursion};
+ghost use Rattle.std.specs.Prelude.{◌≡◌, ◌<◌, ◌≤◌, ◌^◌, length, map, vec_len, IfErr, IfOk, Some, string_bytes};
+ghost use Rattle.wm_beginning.specs.Begun.{AreInputs};
+ghost use Rattle.wm_beginning.specs.Caused.{BeganNothing};
+ghost use Rattle.wm_beginning.specs.Loading.{MayBegin};
+ghost use Rattle.wm_beginning.specs.NotBegun.{IsNotBegun};
+ghost use Rattle.wm_beginning.specs.Reading.{reads_of};
 ghost use Rattle.wm_bench.specs.Places.{most_hands};
 ghost use Rattle.wm_callers_program.specs.Ended.{IsCallersRunEnd};
 ghost use Rattle.wm_callers_program.specs.Lines.{lines_of};
 ghost use Rattle.wm_callers_program.specs.Run.{IsCallersRun};
-ghost use Rattle.wm_cli.specs.Run.{reads_of};
+ghost use Rattle.wm_ended.specs.Tells.{tells_of};
 ghost use Rattle.wm_keeper.specs.Store.{told_before};
 ghost use Rattle.wm_machine.specs.Outcome.{IsAskable};
 ghost use Rattle.wm_seating.specs.Hands.{instances_from};
-ghost use Rattle.wm_session.specs.Ended.{IsUnbegun};
-ghost use Rattle.wm_session.specs.Tells.{tells_of, AreInputs};
+ghost use Rattle.wm_words.specs.Callers.{callers_options_of};
 
 use crate::program::{CallersEnd, call_script};
 use std::alloc::Global;
 use std::marker::Brand;
 use std::sync::Wait;
 use std::thread::Threads;
-use wm_beginning::{Unbegun, begin};
+use wm_beginning::{Begun, Loaded, begin, load, read_commands};
 use wm_bench::Hand;
-use wm_cli::{instances_and_roll, read_commands};
 use wm_collections::Items;
+use wm_ended::{Ended, NotBegun, Status};
 use wm_io::{Sink, Source};
-use wm_keeper::{Keeper, Row};
-use wm_machine::{Command, Instance};
+use wm_keeper::Keeper;
+use wm_machine::Command;
 use wm_pool::Gate;
-use wm_roll::Roll;
-use wm_session::{Ended, Status};
 use wm_table::Mark;
 use wm_words::callers_options_of;
 use wm_worker::Worker;
@@ -42,23 +44,6 @@ struct Crew<'a, R, G> {
     ghost some: { 0 < callers },
 }
 
-/// How callers end that ended before their table was begun.
-fn before_begin<K: Keeper, W: Sink, B: Worker>(
-    alloc: Global,
-    status: Status,
-    keeper: K,
-    sink: W,
-    hands: Vec<Hand<B>>,
-) -> CallersEnd<K, W, B>
-    ensures ended { IsUnbegun status false keeper sink hands result.ended }
-    ensures callers { result.callers.items ≡ [] }
-{
-    CallersEnd::uncalled(
-        alloc,
-        Ended::before_begin(alloc, status, keeper, sink, hands),
-    )
-}
-
 /// Loads the store of this name, opens it, and has the callers call the lines of these commands.
 fn call_commands<
     K: Keeper + Send,
@@ -72,31 +57,28 @@ fn call_commands<
     commands: Items<Command>,
     hands: Vec<Hand<B>>,
     sink: W,
-    mut keeper: K,
-) -> CallersEnd<K, W, B>
+    keeper: K,
+) -> Result<CallersEnd<K, W, B>, NotBegun<K, W, B>>
     requires few_hands { vec_len hands ≤ most_hands }
     requires askable { AllByRecursion IsAskable commands }
     requires few { length commands < 2 ^ 32 }
-    ensures { IsCallersRunEnd (tells_of K.store W.given W.faults B.kind_of B.diary_of)
+    ensures called { IfOk result (λ end. IsCallersRunEnd (tells_of K.store W.given W.faults B.kind_of B.diary_of)
         crew.now.callers (lines_of commands) hands.items (Some store.now)
-        (told_before (K.store keeper).rows (K.store result.ended.keeper).rows)
-        (K.store keeper).rows keeper sink result.callers.items result.ended }
+        (told_before (K.store keeper).rows (K.store end.ended.keeper).rows)
+        (K.store keeper).rows keeper sink end.callers.items end.ended) }
+    ensures not_begun { IfErr result (λ back. IsNotBegun K.store (instances_from B.kind_of 0 hands.items)
+        hands.items (told_before (K.store keeper).rows (K.store back.keeper).rows) keeper sink back) }
 {
-    let rows = match keeper.load(store) {
-        Ok(rows) => rows,
-        Err(fault) => {
+    match load(crew.alloc, store, hands, sink, keeper) {
+        Ok(loaded) => call_loaded::<K, W, B, Brand, R, G>(crew, loaded, commands),
+        Err(back) => {
             drop(commands);
-            return before_begin(crew.alloc, Status::from(fault), keeper, sink, hands);
+            Err(back)
         }
-    };
-    let Ok(begun) = instances_and_roll(crew.alloc, &hands) else {
-        return before_begin(crew.alloc, Status::Memory, keeper, sink, hands);
-    };
-    let (instances, roll) = begun;
-    call_loaded::<K, W, B, Brand, R, G>(crew, rows, instances, roll, commands, hands, sink, keeper)
+    }
 }
 
-/// Opens the rows that were loaded, and has the callers call the lines of these commands, beside these
+/// Opens the rows that were loaded, and has the callers call the lines of these commands, beside the
 /// workers. The mark is what they are given.
 fn call_loaded<
     K: Keeper + Send,
@@ -107,50 +89,82 @@ fn call_loaded<
     G: Gate + Sync,
 >(
     crew: &Crew<'_, R, G>,
-    rows: Vec<Row>,
-    instances: Items<Instance>,
-    roll: Roll,
+    loaded: Loaded<K, W, B>,
     commands: Items<Command>,
-    hands: Vec<Hand<B>>,
-    sink: W,
-    keeper: K,
-) -> CallersEnd<K, W, B>
-    requires inputs { AreInputs (tells_of K.store W.given W.faults B.kind_of B.diary_of) M.inputs
-        keeper rows.items instances commands sink roll.table_id }
-    requires roll { roll.parts ≡ [] }
-    requires instances { instances ≡ instances_from B.kind_of 0 hands.items }
-    requires rows { IfSome (K.store keeper).rows (λ held. rows.items ≡ held) }
-    requires few_hands { vec_len hands ≤ most_hands }
+) -> Result<CallersEnd<K, W, B>, NotBegun<K, W, B>>
+    requires may { MayBegin K.store B.kind_of loaded }
+    requires inputs { AreInputs (tells_of K.store W.given W.faults B.kind_of B.diary_of) M.inputs loaded commands }
     requires askable { AllByRecursion IsAskable commands }
     requires few { length commands < 2 ^ 32 }
-    ensures { IsCallersRunEnd (tells_of K.store W.given W.faults B.kind_of B.diary_of)
-        crew.now.callers (lines_of commands) hands.items (K.store keeper).name (Some rows.items) (Some rows.items)
-        keeper sink result.callers.items result.ended }
+    ensures called { IfOk result (λ end. IsCallersRunEnd (tells_of K.store W.given W.faults B.kind_of B.diary_of)
+        crew.now.callers (lines_of commands) loaded.hands.items (K.store loaded.keeper).name
+        (Some loaded.rows.items) (Some loaded.rows.items)
+        loaded.keeper loaded.sink end.callers.items end.ended) }
+    ensures not_begun { IfErr result (IsNotBegun K.store loaded.instances loaded.hands.items
+        (Some loaded.rows.items) loaded.keeper loaded.sink) }
 {
-    match begin::<K, B, M>(crew.alloc, rows, instances, roll, hands, keeper) {
-        Ok((table, bench)) => call_script(
-            crew.rt,
-            crew.alloc,
-            crew.gate,
-            table,
-            bench,
-            commands,
-            crew.callers,
-            sink,
-        ),
-        Err(unbegun) => {
-            drop(commands);
-            let Unbegun {
-                status,
-                at_opening,
-                keeper,
-                hands,
-            } = unbegun;
-            CallersEnd::uncalled(
+    match begin::<K, W, B, M>(crew.alloc, loaded) {
+        Ok(begun) => {
+            let Begun { table, bench, sink } = begun;
+            Ok(call_script(
+                crew.rt,
                 crew.alloc,
-                Ended::unbegun(crew.alloc, status, at_opening, keeper, sink, hands),
-            )
+                crew.gate,
+                table,
+                bench,
+                commands,
+                crew.callers,
+                sink,
+            ))
         }
+        Err(back) => {
+            drop(commands);
+            Err(back)
+        }
+    }
+}
+
+/// Does all that the program does with these words after `callers`, or gives everything back where no table
+/// was begun.
+fn call_words<
+    R: Threads + Wait + Sync,
+    S: Source,
+    W: Sink,
+    K: Keeper + Send,
+    B: Worker + Send,
+    G: Gate + Sync,
+>(
+    rt: &R,
+    alloc: Global,
+    words: &[String],
+    hands: Vec<Hand<B>>,
+    source: &mut S,
+    sink: W,
+    keeper: K,
+    gate: &G,
+) -> Result<CallersEnd<K, W, B>, NotBegun<K, W, B>>
+    requires few_hands { vec_len hands ≤ most_hands }
+    ensures called { IfOk result (λ end. IsCallersRun (tells_of K.store W.given W.faults B.kind_of B.diary_of)
+        (reads_of S.left S.faults) (map string_bytes words.now) hands.items source.old source.new keeper sink
+        end.callers.items end.ended) }
+    ensures not_begun { IfErr result (BeganNothing (tells_of K.store W.given W.faults B.kind_of B.diary_of)
+        (reads_of S.left S.faults) (callers_options_of (map string_bytes words.now)) hands.items
+        source.old source.new keeper sink) }
+{
+    let Some(options) = callers_options_of(words) else {
+        return Err(NotBegun::before_opening(Status::Usage, keeper, sink, hands));
+    };
+    match read_commands(alloc, source) {
+        Ok(commands) => {
+            let crew = Crew {
+                rt,
+                alloc,
+                gate,
+                callers: options.callers,
+            };
+            call_commands(&crew, options.store, commands, hands, sink, keeper)
+        }
+        Err(status) => Err(NotBegun::before_opening(status, keeper, sink, hands)),
     }
 }
 
@@ -188,19 +202,8 @@ pub fn run_callers<
     ensures { IsCallersRun (tells_of K.store W.given W.faults B.kind_of B.diary_of) (reads_of S.left S.faults)
         (map string_bytes words.now) hands.items source.old source.new keeper sink result.callers.items result.ended }
 {
-    let Some(options) = callers_options_of(words) else {
-        return before_begin(alloc, Status::Usage, keeper, sink, hands);
-    };
-    match read_commands(alloc, source) {
-        Ok(commands) => {
-            let crew = Crew {
-                rt,
-                alloc,
-                gate,
-                callers: options.callers,
-            };
-            call_commands(&crew, options.store, commands, hands, sink, keeper)
-        }
-        Err(status) => before_begin(alloc, status, keeper, sink, hands),
+    match call_words(rt, alloc, words, hands, source, sink, keeper, gate) {
+        Ok(end) => end,
+        Err(back) => CallersEnd::uncalled(alloc, Ended::unbegun(alloc, back)),
     }
 }

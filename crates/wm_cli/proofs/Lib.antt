@@ -2,10 +2,6 @@ pub mod Desks
 pub mod Hands
 pub mod Opening
 pub mod OriginLines
-pub mod ReportedRuns
 pub mod RunEnds
 pub mod RunImages
 pub mod RunsUnopened
-pub mod RunsWithoutEvents
-pub mod ScriptLimits
-pub mod TakenBytes

@@ -1,19 +1,18 @@
 -- A run whose store wasn't opened is one of the lines of whatever script.
 use Rattle.std.proofs.Common.{◌≡◌, ℕ, false, List, Vec, Global, sym, ◌∙◌, ap}
 use Rattle.wm_bench.specs.declared.hand.Hand.{Hand}
-use Rattle.wm_cli.proofs.Opening.{IsSerialRun-unopened}
+use Rattle.wm_cli.proofs.Opening.{IsSerialRun-unopened, HasCommands-nothing}
 use Rattle.wm_cli.proofs.OriginLines.{AreAskable-lines_of}
 use Rattle.wm_cli.proofs.RunImages.{crash-unopened}
-use Rattle.wm_cli.proofs.RunsWithoutEvents.{HasCommands-nothing}
 use Rattle.wm_words.proofs.WordsLemmas.{origin-fits}
 use Rattle.wm_cli.specs.Ended.{IsRunOf}
 use Rattle.wm_cli.specs.Lines.{lines_of}
 use Rattle.wm_words.specs.Run.{origin_of}
-use Rattle.wm_session.specs.Ended.{IsUnbegun}
-use Rattle.wm_session.specs.Tells.{Tells}
-use Rattle.wm_session.specs.declared.ended.Ended.{Ended}
-use Rattle.wm_session.specs.declared.status.Status.{Status}
-use Rattle.wm_session.specs.declared.status.Status.TheVariants as status
+use Rattle.wm_ended.specs.Ended.{IsUnbegun}
+use Rattle.wm_ended.specs.Tells.{Tells}
+use Rattle.wm_ended.specs.declared.ended.Ended.{Ended}
+use Rattle.wm_ended.specs.declared.status.Status.{Status}
+use Rattle.wm_ended.specs.declared.status.Status.TheVariants as status
 
 pub IsRunOf-unopened : {K W B : Type 0} (tells : Tells K W B) (words : List (List ℕ)) (hands : List (Hand B)) (given : Vec (Hand B) Global) (keeper : K)
     (sink : W) (bytes : List ℕ) (why : Status) (ended : Ended K W B)

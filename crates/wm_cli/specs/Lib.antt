@@ -1,11 +1,7 @@
-pub mod Benched
-pub mod Causes
 pub mod Desk
 pub mod Ended
 pub mod Images
 pub mod Lines
-pub mod Reading
 pub mod Run
-pub mod Script
 pub mod Setup
 pub mod Taken

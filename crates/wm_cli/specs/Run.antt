@@ -1,10 +1,17 @@
 -- The promise of a run, fact by fact.
-use Rattle.std.specs.Prelude.{◌≡◌, ◌↔◌, ◌+◌, ℕ, ℤ, Bool, true, false, List, Option, Some, None, Err}
+use Rattle.std.specs.Prelude.{◌≡◌, ◌↔◌, ◌+◌, ℕ, ℤ, Bool, true, false, List, Some, None, Err}
+use Rattle.wm_beginning.specs.Causes.{IsToldTooLong, IsUnlessMemory, LimitCause, StoreCause}
+use Rattle.wm_beginning.specs.NotBegun.{IsOpeningRefused}
+use Rattle.wm_beginning.specs.Over.{AreHandsOf, AreReportedOnce, AreRowsKept, IsBegunBy, IsQuietOnDone, IsReplayed}
+use Rattle.wm_beginning.specs.Reading.{ForScript, Reads}
+use Rattle.wm_beginning.specs.Script.{IsTakenWithin}
 use Rattle.wm_bench.specs.declared.hand.Hand.{Hand}
-use Rattle.wm_cli.specs.Causes.{HaveLines, IsToldTooLong, IsUnlessMemory, LimitCause, StoreCause}
-use Rattle.wm_cli.specs.Ended.{AreBoxesOf, AreHandsOf, AreReportedOnce, AreRowsKept, ForScript, HaveToldOnDone, IsBegunBy, IsOpeningRefused, IsQuietOnDone, IsReplayed, IsRunOf, IsStoreOf}
-use Rattle.wm_cli.specs.Lines.{lines_of}
-use Rattle.wm_cli.specs.Script.{IsTakenWithin}
+use Rattle.wm_cli.specs.Ended.{AreBoxesOf, HaveToldOnDone, IsRunOf, IsStoreOf}
+use Rattle.wm_cli.specs.Lines.{HaveLines, lines_of}
+use Rattle.wm_ended.specs.Ended.{IsTextWritten}
+use Rattle.wm_ended.specs.Tells.{Tells}
+use Rattle.wm_ended.specs.declared.ended.Ended.{Ended}
+use Rattle.wm_ended.specs.declared.status.Status.TheVariants as status
 use Rattle.wm_faults.specs.Faults.{Failed}
 use Rattle.wm_keeper.specs.Store.{told_before, KeepsTelling}
 use Rattle.wm_keeper.specs.declared.row.Row.{Row}
@@ -12,22 +19,9 @@ use Rattle.wm_rows.specs.Sound.{checked, AreSound}
 use Rattle.wm_script.specs.Limits.{most_script_bytes}
 use Rattle.wm_script.specs.declared.limits.Limit.{Limit}
 use Rattle.wm_seating.specs.Hands.{instances_from}
-use Rattle.wm_session.specs.Ended.{IsTextWritten}
-use Rattle.wm_session.specs.Tells.{Tells}
-use Rattle.wm_session.specs.declared.ended.Ended.{Ended}
-use Rattle.wm_session.specs.declared.status.Status.TheVariants as status
 use Rattle.wm_table.specs.Table.{row_fault}
 use Rattle.wm_words.specs.Run.{options_of, origin_of, AskForNoThreads, AskForScript}
 use Rattle.wm_words.specs.declared.run.Origin.TheVariants as origin
-
--- what a source tells: the bytes that it has left, where it tells them, and how many faults it has met
-pub record Reads (S : Type 0) : Type 1 where
-  pub left : S → Option (List ℕ)
-  pub faults : S → ℕ
-
--- the same of its ghost members
-abbrev pub reads_of : {S : Type 0} → (S → Option (List ℕ)) → (S → ℕ) → Reads S
-reads_of left faults = record { left = left; faults = faults }
 
 -- The promise of a run with these words and workers, whose source was and is as told, which was given this keeper and this sink, and ended so.
 pub record IsRun {K W B S : Type 0} (tells : Tells K W B) (source : Reads S) (words : List (List ℕ)) (workers : List (Hand B)) (before now : S)
@@ -41,7 +35,10 @@ pub record IsRun {K W B S : Type 0} (tells : Tells K W B) (source : Reads S) (wo
   -- Rows that the keeper told are told in the end, unless it is lost then.
   pub keeps_telling : KeepsTelling (tells.store keeper) (tells.store ended.keeper)
   pub begun : IsBegunBy ended.status ended.began
-  pub at_opening : IsOpeningRefused ended.status ended.began ended.at_opening
+  -- That the commit of the opening was refused is said where it was, of rows that are sound and change by
+  -- it; and where it isn't said, and no table was begun, nothing was committed.
+  pub at_opening : IsOpeningRefused ended.began ended.at_opening ended.status (told_before (tells.store keeper).rows (tells.store ended.keeper).rows)
+      (instances_from tells.kind_of 0 workers) (tells.store keeper) (tells.store ended.keeper)
   -- Where no store was opened, the sink is as it was.
   pub not_begun_keeps : ended.began ≡ false → ended.sink ≡ sink
   -- The rows kept are the last state's, and those of before where no store was opened.

@@ -1,19 +1,22 @@
--- What a run begins with, once its store was loaded.
-use Rattle.std.specs.Prelude.{◌≡◌, ◌<◌, ◌≤◌, ◌^◌, [], length, vec_len, IfSome}
+-- What a run executes its commands on, once its table has begun.
 use Rattle.std.specs.List.{AllByRecursion}
-use Rattle.wm_bench.specs.Places.{most_hands}
-use Rattle.wm_cli.specs.declared.beginning.Setup.{Setup}
+use Rattle.std.specs.Prelude.{◌≡◌, ◌<◌, ◌^◌, List, length}
+use Rattle.wm_beginning.specs.Begun.{AreBenched, HasJustBegun}
+use Rattle.wm_bench.specs.declared.place.Place.{Place}
+use Rattle.wm_ended.specs.Tells.{Tells}
 use Rattle.wm_machine.specs.Outcome.{IsAskable}
-use Rattle.wm_seating.specs.Hands.{instances_from}
-use Rattle.wm_session.specs.Tells.{AreInputs, Tells}
+use Rattle.wm_machine.specs.declared.command.Command.{Command}
 use Rattle.wm_table.specs.Inputs.{Inputs}
+use Rattle.wm_table.specs.TableState.{TableState}
 
--- the run's inputs are these: the rows are those that its keeper holds, the instances are its workers', and no ticket is out
-pub record IsSetUp {K W B : Type 0} (tells : Tells K W B) (run : Inputs) (setup : Setup K W B) : Type 0 where
-  pub inputs : AreInputs tells run setup.keeper setup.rows.items setup.instances setup.commands setup.sink setup.roll.table_id
-  pub roll : setup.roll.parts ≡ []
-  pub instances : setup.instances ≡ instances_from tells.kind_of 0 setup.hands.items
-  pub rows : IfSome (tells.store setup.keeper).rows (λ held. setup.rows.items ≡ held)
-  pub few_hands : vec_len setup.hands ≤ most_hands
-  pub askable : AllByRecursion IsAskable setup.commands
-  pub few : length setup.commands < 2 ^ 32
+-- the run's lines are these commands, each of which may come, the table has just begun of what the run was given, beside the bench of its workers, and
+-- the sink is the run's
+pub record IsSetUp {K W B : Type 0} (tells : Tells K W B) (run : Inputs) (commands : List Command) (table : TableState K) (places : List (Place B)) (sink : W)
+    : Type 0 where
+  pub lines : commands ≡ run.lines
+  pub askable : AllByRecursion IsAskable commands
+  pub few : length commands < 2 ^ 32
+  pub begun : HasJustBegun tells.store run table
+  pub benched : AreBenched tells.kind_of places run.instances
+  pub written : tells.given sink ≡ run.written
+  pub sink_faults : tells.sink_faults sink ≡ run.sink_faults

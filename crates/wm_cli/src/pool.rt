@@ -2,7 +2,7 @@
 //! workers take their turns and report.
 ghost use Rattle.std.specs.Prelude.{◌≡◌, ◌+◌, ◌<◌, ◌≤◌, [], All, IfOk, IsNone, is_some, map, sum};
 ghost use Rattle.wm_session.specs.Ended.{IsBookEnd};
-ghost use Rattle.wm_session.specs.Tells.{tells_of};
+ghost use Rattle.wm_ended.specs.Tells.{tells_of};
 
 use crate::desk::{Desk, Start};
 use crate::work::{Part, Work};

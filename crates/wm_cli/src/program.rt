@@ -1,32 +1,35 @@
 //! The top call: all that the program does, with its contract.
-ghost use Rattle.std.specs.Prelude.{◌≡◌, ◌+◌, ◌≤◌, ◌<◌, ◌^◌, ℕ, length, map, vec_len, None, Some, Err, IfOk, IfErr, IfSome, OnOk, string_bytes};
 ghost use Rattle.std.specs.List.{AllByRecursion};
+ghost use Rattle.std.specs.Prelude.{◌≡◌, ◌+◌, ◌≤◌, ◌<◌, ◌^◌, ℕ, true, length, map, vec_len, None, Some, Err, IfOk, IfErr, IfSome, OnOk, string_bytes};
+ghost use Rattle.wm_beginning.specs.Begun.{AreInputs};
+ghost use Rattle.wm_beginning.specs.Loading.{MayBegin};
+ghost use Rattle.wm_beginning.specs.NotBegun.{IsNotBegun};
+ghost use Rattle.wm_beginning.specs.Reading.{ForScript, IsReadStatus, reads_of};
+ghost use Rattle.wm_beginning.specs.Script.{IsTakenWithin};
 ghost use Rattle.wm_bench.specs.Places.{idle_hands, most_hands};
-ghost use Rattle.wm_cli.specs.Ended.{ForScript, IsRunEnd};
+ghost use Rattle.wm_cli.specs.Ended.{IsRunEnd};
 ghost use Rattle.wm_cli.specs.Lines.{lines_of};
-ghost use Rattle.wm_cli.specs.Reading.{IsReadStatus};
-ghost use Rattle.wm_cli.specs.Run.{reads_of, IsRun};
-ghost use Rattle.wm_cli.specs.Script.{IsTakenWithin};
+ghost use Rattle.wm_cli.specs.Run.{IsRun};
 ghost use Rattle.wm_cli.specs.Setup.{IsSetUp};
-ghost use Rattle.wm_words.specs.Run.{options_of};
+ghost use Rattle.wm_ended.specs.Tells.{tells_of};
 ghost use Rattle.wm_faults.specs.Faults.{Failed};
 ghost use Rattle.wm_keeper.specs.Store.{told_before};
 ghost use Rattle.wm_machine.specs.Outcome.{IsAskable};
 ghost use Rattle.wm_script.specs.Limits.{first_limit, most_script_bytes};
 ghost use Rattle.wm_session.specs.BetweenRuns.{IsAtBegin};
 ghost use Rattle.wm_session.specs.Ended.{IsBookEnd, IsSerialEnd};
-ghost use Rattle.wm_session.specs.Tells.{tells_of};
+ghost use Rattle.wm_words.specs.Run.{options_of};
 
-use crate::beginning::{Setup, open_book};
-use crate::instances::instances_and_roll;
+use crate::beginning::open_book;
 use crate::pool::run_pool;
-use crate::script::read_commands;
 use std::alloc::Global;
 use std::marker::Brand;
 use std::sync::Wait;
 use std::thread::Threads;
+use wm_beginning::{Begun, Loaded, begin, load, read_commands};
 use wm_bench::Hand;
 use wm_collections::Items;
+use wm_ended::NotBegun;
 use wm_generator::generate;
 use wm_io::{Sink, Source};
 use wm_keeper::Keeper;
@@ -94,7 +97,7 @@ fn run_commands<
     commands: Items<Command>,
     hands: Vec<Hand<B>>,
     sink: W,
-    mut keeper: K,
+    keeper: K,
 ) -> Ended<K, W, B>
     requires few_hands { vec_len hands ≤ most_hands }
     requires askable { AllByRecursion IsAskable commands }
@@ -104,26 +107,17 @@ fn run_commands<
         (told_before (K.store keeper).rows (K.store result.keeper).rows)
         (K.store keeper).rows keeper sink result }
 {
-    let rows = match keeper.load(store) {
-        Ok(rows) => rows,
-        Err(fault) => {
-            return Ended::before_begin(crew.alloc, Status::from(fault), keeper, sink, hands);
+    let loaded = match load(crew.alloc, store, hands, sink, keeper) {
+        Ok(loaded) => loaded,
+        Err(back) => {
+            drop(commands);
+            return Ended::unbegun(crew.alloc, back);
         }
     };
-    let Ok(begun) = instances_and_roll(crew.alloc, &hands) else {
-        return Ended::before_begin(crew.alloc, Status::Memory, keeper, sink, hands);
-    };
-    let (instances, roll) = begun;
-    let setup = Setup {
-        rows,
-        instances,
-        roll,
-        commands,
-        hands,
-        sink,
-        keeper,
-    };
-    run_loaded::<W, K, B, Brand, R, G>(crew, setup)
+    match run_loaded::<W, K, B, Brand, R, G>(crew, loaded, commands) {
+        Ok(ended) => ended,
+        Err(back) => Ended::unbegun(crew.alloc, back),
+    }
 }
 
 /// Opens the rows that were loaded, and executes the commands on them, with the workers. The mark is
@@ -135,13 +129,49 @@ fn run_loaded<
     M: Mark + Send + Sync,
     R: Threads + Wait + Sync,
     G: Gate + Sync,
->(crew: &Crew<'_, R, G>, setup: Setup<K, W, B>) -> Ended<K, W, B>
-    requires { IsSetUp (tells_of K.store W.given W.faults B.kind_of B.diary_of) M.inputs setup }
-    ensures { IsRunEnd (tells_of K.store W.given W.faults B.kind_of B.diary_of)
-        crew.now.workers setup.commands setup.hands.items (K.store setup.keeper).name
-        (Some setup.rows.items) (Some setup.rows.items) setup.keeper setup.sink result }
+>(
+    crew: &Crew<'_, R, G>,
+    loaded: Loaded<K, W, B>,
+    commands: Items<Command>,
+) -> Result<Ended<K, W, B>, NotBegun<K, W, B>>
+    requires may { MayBegin K.store B.kind_of loaded }
+    requires inputs { AreInputs (tells_of K.store W.given W.faults B.kind_of B.diary_of) M.inputs loaded commands }
+    requires askable { AllByRecursion IsAskable commands }
+    requires few { length commands < 2 ^ 32 }
+    ensures began { IfOk result (λ ended. ended.began ≡ true) }
+    ensures begun { IfOk result (IsRunEnd (tells_of K.store W.given W.faults B.kind_of B.diary_of)
+        crew.now.workers commands loaded.hands.items (K.store loaded.keeper).name
+        (Some loaded.rows.items) (Some loaded.rows.items) loaded.keeper loaded.sink) }
+    ensures not_begun { IfErr result (IsNotBegun K.store loaded.instances loaded.hands.items
+        (Some loaded.rows.items) loaded.keeper loaded.sink) }
 {
-    match open_book::<W, K, B, M>(crew.alloc, setup) {
+    match begin::<K, W, B, M>(crew.alloc, loaded) {
+        Ok(begun) => Ok(run_begun(crew, begun, commands)),
+        Err(back) => {
+            drop(commands);
+            Err(back)
+        }
+    }
+}
+
+/// Executes the commands on a table that has just begun.
+fn run_begun<
+    W: Sink + Send,
+    K: Keeper + Send,
+    B: Worker + Send,
+    M: Mark + Send + Sync,
+    R: Threads + Wait + Sync,
+    G: Gate + Sync,
+>(crew: &Crew<'_, R, G>, begun: Begun<K, W, B, M>, commands: Items<Command>) -> Ended<K, W, B>
+    requires set_up { IsSetUp (tells_of K.store W.given W.faults B.kind_of B.diary_of) M.inputs commands
+        begun.table begun.bench begun.sink }
+    ensures end { IsBookEnd (tells_of K.store W.given W.faults B.kind_of B.diary_of)
+        M.inputs result }
+    ensures serial { crew.now.workers ≡ 0
+        → IsSerialEnd (tells_of K.store W.given W.faults B.kind_of B.diary_of)
+        M.inputs (idle_hands begun.bench) result }
+{
+    match open_book(crew.alloc, begun, commands) {
         Ok(book) => run_book(crew, book),
         Err(ended) => ended,
     }

@@ -1,30 +1,32 @@
 -- What comes of the asks of a script, from what the calls below gave back.
-use Rattle.std.proofs.Common.{◌≡◌, ℕ, ℤ, Bool, List, Option, Some, None, IfSome, Result, Ok, Err, IfOk, IfErr, refl, sym, ◌∙◌, ap, subst}
+use Rattle.std.proofs.Common.{◌≡◌, ℕ, List, Some, None, Result, Ok, Err, IfOk, IfErr, refl, sym, ◌∙◌, subst}
 use Rattle.atomic_table.specs.Seated.{TableId}
 use Rattle.wm_asks.specs.declared.ask.Ask.{Ask}
+use Rattle.wm_beginning.proofs.Overs.{opened_told}
+use Rattle.wm_beginning.proofs.Unbegun.{caused-loaded, caused-session, goes_on-loaded, not_begun-loaded, told_to_end}
 use Rattle.wm_beginning.specs.Begun.{IsGiven}
+use Rattle.wm_beginning.specs.Loading.{HasLoaded}
+use Rattle.wm_beginning.specs.NotBegun.{IsNotBegun}
+use Rattle.wm_beginning.specs.Over.{IsOpenedFrom}
 use Rattle.wm_bench.specs.declared.hand.Hand.{Hand}
-use Rattle.wm_cli.proofs.RunEnds.{EarlyCause, HasLoaded, is_early, loaded_told, none_refused, opened_told, session_store, store_told}
-use Rattle.wm_cli.specs.Ended.{IsOpenedFrom}
+use Rattle.wm_ended.specs.Ended.{IsSessionStatus}
+use Rattle.wm_ended.specs.Tells.{Tells}
+use Rattle.wm_ended.specs.declared.not_begun.NotBegun.{NotBegun}
+use Rattle.wm_ended.specs.declared.status.Status.TheVariants as status
 use Rattle.wm_faults.specs.Faults.{Failed, HasCause}
-use Rattle.wm_keeper.proofs.Stores.{GoesOn-loaded, GoesOn-same, GoesOn-then, IsAtMost-then}
-use Rattle.wm_keeper.specs.Store.{told_before, GoesOn, IsAtMost}
+use Rattle.wm_keeper.proofs.Stores.{GoesOn-same, GoesOn-then, IsAtMost-then}
+use Rattle.wm_keeper.specs.Store.{told_before, IsAtMost, Store}
 use Rattle.wm_keeper.specs.declared.row.Row.{Row}
 use Rattle.wm_live.specs.Live.{is_for_keeper, IsEndFor, LiveCause}
 use Rattle.wm_live_program.specs.Driven.{IsDriven}
-use Rattle.wm_live_program.specs.Ended.{keeper_of, HasEnded, IsLiveRunEnd, IsUnbegunStatus, IsUntouched, IsWritten}
+use Rattle.wm_live_program.specs.Ended.{HasEnded, IsWritten}
 use Rattle.wm_live_program.specs.declared.ended.LiveEnded.{LiveEnded}
-use Rattle.wm_live_program.specs.declared.ended.LiveNotBegun.{LiveNotBegun}
 use Rattle.wm_machine.specs.Opened.{Opened}
 use Rattle.wm_machine.specs.declared.state.Instance.{Instance}
 use Rattle.wm_rows.specs.Sound.{AreSound}
 use Rattle.wm_seating.specs.Hands.{instances_from}
-use Rattle.wm_session.specs.Ended.{IsSessionStatus}
-use Rattle.wm_session.specs.Tells.{Tells}
-use Rattle.wm_session.specs.declared.status.Status.{Status}
-use Rattle.wm_session.specs.declared.status.Status.TheVariants as status
 use Rattle.wm_table.specs.Inputs.{Inputs}
-use Rattle.wm_table.specs.Table.{row_fault, HoldsRowsOf}
+use Rattle.wm_table.specs.Table.{HoldsRowsOf}
 use Rattle.wm_table.specs.declared.table.Trouble.TheVariants as trouble
 
 -- ---- where a table was begun
@@ -53,111 +55,50 @@ module _ {K W B : Type 0} (tells : Tells K W B) (run : Inputs) (step : ℕ) (ask
       subst (λ n. Failed n now) (no_fault ∙ sym given.faults)
       (subst (λ why. HasCause (is_for_keeper why) (tells.store begun).faults now) (met is) cause)
 
-  -- the rows that were opened are sound
-  none_unsound : (all : List Row) (seq : ℤ) (bad_row : Bool) → Some rows ≡ Some all → AreSound all
-  none_unsound all seq bad_row stored = let same : rows ≡ all = cc in subst AreSound (sym given.rows_are ∙ same) sound
-
-  pub live-begun : IsLiveRunEnd tells step asks hands (tells.store keeper).name (Some rows) keeper sink (Ok ended)
+  pub live-begun : HasEnded tells step asks hands (tells.store keeper).name (Some rows) keeper sink ended
   live-begun = record {
-    begun = record {
-      opened = opened_is;
-      driven = driven;
-      all_asked = all_asked;
-      rows = held;
-      store_is = subst (λ name. IsAtMost name (tells.store ended.end.table.keeper).name) (sym given.name) of_run.tells_on.name;
-      bytes = bytes;
-    };
-    not_begun = tt;
+    opened = opened_is;
+    driven = driven;
+    all_asked = all_asked;
+    rows = held;
+    store_is = subst (λ name. IsAtMost name (tells.store ended.end.table.keeper).name) (sym given.name) of_run.tells_on.name;
+    bytes = bytes;
     status_is = session;
-    keeper_fault = keeper_failed;
-    sink_fault = failed;
-    bad_store = session_store ended.status (Some rows) session;
-    unsound = λ all seq bad_row stored refused no_keeper_fault. absurd (none_refused all (row_fault seq bad_row) (none_unsound all seq bad_row stored) refused);
+    causes = caused-session tells rows keeper ended.end.table.keeper sink ended.sink ended.status session (subst AreSound (sym given.rows_are) sound)
+        keeper_failed failed;
     goes_on = GoesOn-then (tells.store keeper) run.store (tells.store ended.end.table.keeper)
         (GoesOn-same (tells.store keeper) run.store (sym given.told) (λ image left. (given.images image).1 left) (sym given.lost)) of_run.tells_on.goes_on;
   }
 
--- ---- where none was
-
-unbegun_status : (why : Status) (before now : ℕ) (held : Option (List Row)) → EarlyCause why before now held → IsUnbegunStatus why
-unbegun_status status.Memory before now held cause = tt
-unbegun_status status.KeeperFault before now held cause = tt
-unbegun_status (status.BadStore seq bad_row) before now held cause = tt
-unbegun_status status.Done before now held cause = absurd cause
-unbegun_status status.SinkFault before now held cause = absurd cause
-unbegun_status status.Usage before now held cause = absurd cause
-unbegun_status status.SourceFault before now held cause = absurd cause
-unbegun_status (status.ScriptTooLong limit) before now held cause = absurd cause
-
-pub live-unbegun : {K W B : Type 0} (tells : Tells K W B) (step : ℕ) (asks : List Ask) (hands : List (Hand B)) (name : Option (List ℕ))
-    (held : Option (List Row)) (keeper : K) (sink : W) (back : LiveNotBegun K W B)
-    → IsUntouched tells hands keeper sink back → EarlyCause back.status (tells.store keeper).faults (tells.store back.keeper).faults held
-    → GoesOn (tells.store keeper) (tells.store back.keeper) → IsLiveRunEnd tells step asks hands name held keeper sink (Err back)
-live-unbegun tells step asks hands name held keeper sink back same cause goes_on =
-    let before = (tells.store keeper).faults in
-    let now = (tells.store back.keeper).faults in
-    let is = is_early back.status before now held cause in
-    record {
-      begun = tt;
-      not_begun = same;
-      status_is = unbegun_status back.status before now held cause;
-      keeper_fault = is.keeper_fault;
-      sink_fault = λ fault. absurd (is.no_sink_fault fault);
-      bad_store = is.bad_store;
-      unsound = is.unsound;
-      goes_on = goes_on;
-    }
-
 -- ---- over rows that were loaded
 
-module _ {K W B : Type 0} (tells : Tells K W B) (step : ℕ) (asks : List Ask) (hands : List (Hand B)) (name : List ℕ) (rows : List Row) (keeper loaded : K)
-    (sink : W) (load : HasLoaded name rows (tells.store keeper) (tells.store loaded)) where
-  -- the rows that were loaded are those told before, where rows are told to the end
-  told_to_end : (now : K) → GoesOn (tells.store loaded) (tells.store now)
-      → IfSome (told_before (tells.store keeper).rows (tells.store now).rows) (λ kept. rows ≡ kept)
-  told_to_end now goes_on =
-      loaded_told (tells.store keeper).rows (tells.store loaded).rows (tells.store now).rows rows load.rows_are.told load.kept.rows goes_on.rows
+-- what ended over the rows that were loaded did so over those of the keeper as it was before
+pub ended-loaded : {K W B : Type 0} (tells : Tells K W B) (step : ℕ) (asks : List Ask) (hands : List (Hand B)) (name : List ℕ) (rows : List Row)
+    (keeper loaded : K) (sink : W) (came : Result (LiveEnded K W B) (NotBegun K W B))
+    → HasLoaded name rows (tells.store keeper) (tells.store loaded)
+    → IfOk came (HasEnded tells step asks hands (tells.store loaded).name (Some rows) loaded sink)
+    → IfOk came (λ ended. HasEnded tells step asks hands (Some name) (told_before (tells.store keeper).rows (tells.store ended.end.table.keeper).rows) keeper
+    sink ended)
+ended-loaded tells step asks hands name rows keeper loaded sink (Err back) load is = tt
+ended-loaded tells step asks hands name rows keeper loaded sink (Ok ended) load is =
+    let now = ended.end.table.keeper in
+    record {
+      opened = opened_told (told_to_end tells.store name rows keeper loaded now load is.goes_on) is.opened;
+      driven = is.driven;
+      all_asked = is.all_asked;
+      rows = is.rows;
+      store_is = IsAtMost-then (Some name) (tells.store loaded).name (tells.store now).name load.named is.store_is;
+      bytes = is.bytes;
+      status_is = is.status_is;
+      causes = caused-loaded tells name rows keeper loaded now sink ended.sink ended.status load is.goes_on is.causes;
+      goes_on = goes_on-loaded tells.store name rows keeper loaded now load is.goes_on;
+    }
 
-  begun_loaded : (came : Result (LiveEnded K W B) (LiveNotBegun K W B)) → GoesOn (tells.store loaded) (tells.store (keeper_of came))
-      → IfOk came (HasEnded tells step asks hands (tells.store loaded).name (Some rows) sink)
-      → IfOk came (HasEnded tells step asks hands (Some name) (told_before (tells.store keeper).rows (tells.store (keeper_of came)).rows) sink)
-  begun_loaded (Err back) goes_on is = tt
-  begun_loaded (Ok ended) goes_on is = record {
-    opened = opened_told (told_to_end ended.end.table.keeper goes_on) is.opened;
-    driven = is.driven;
-    all_asked = is.all_asked;
-    rows = is.rows;
-    store_is = IsAtMost-then (Some name) (tells.store loaded).name (tells.store ended.end.table.keeper).name load.named is.store_is;
-    bytes = is.bytes;
-  }
-
-  untouched_loaded : (came : Result (LiveEnded K W B) (LiveNotBegun K W B)) → IfErr came (IsUntouched tells hands loaded sink)
-      → IfErr came (IsUntouched tells hands keeper sink)
-  untouched_loaded (Ok ended) is = tt
-  untouched_loaded (Err back) is = record {
-    at_opening = is.at_opening;
-    rows = IsAtMost-then (tells.store keeper).rows (tells.store loaded).rows (tells.store back.keeper).rows load.kept.rows is.rows;
-    sink_is = is.sink_is;
-    hands_back = is.hands_back;
-  }
-
-  pub live-loaded : (came : Result (LiveEnded K W B) (LiveNotBegun K W B))
-      → IsLiveRunEnd tells step asks hands (tells.store loaded).name (Some rows) loaded sink came
-      → IsLiveRunEnd tells step asks hands (Some name) (told_before (tells.store keeper).rows (tells.store (keeper_of came)).rows) keeper sink came
-  live-loaded came is =
-      let now = (tells.store (keeper_of came)).faults in
-      let held = told_before (tells.store keeper).rows (tells.store (keeper_of came)).rows in
-      let told = told_to_end (keeper_of came) is.goes_on in
-      record {
-        begun = begun_loaded came is.goes_on is.begun;
-        not_begun = untouched_loaded came is.not_begun;
-        status_is = is.status_is;
-        keeper_fault = λ fault. subst (λ n. Failed n now) load.no_fault (is.keeper_fault fault);
-        sink_fault = is.sink_fault;
-        bad_store = store_told _ held rows told is.bad_store;
-        unsound = λ all seq bad_row stored refused no_fault.
-            let both : rows ≡ all = subst (λ held. IfSome held (λ kept. rows ≡ kept)) stored told in
-            is.unsound all seq bad_row (ap Some both) refused (subst (λ n. ¬ Failed n now) (sym load.no_fault) no_fault);
-        goes_on = GoesOn-then (tells.store keeper) (tells.store loaded) (tells.store (keeper_of came))
-            (GoesOn-loaded (tells.store keeper) (tells.store loaded) load.kept load.telling) is.goes_on;
-      }
+-- and so where none was begun
+pub unbegun-loaded : {K W B : Type 0} (store : K → Store) (instances : List Instance) (hands : List (Hand B)) (name : List ℕ) (rows : List Row)
+    (keeper loaded : K) (sink : W) (came : Result (LiveEnded K W B) (NotBegun K W B))
+    → HasLoaded name rows (store keeper) (store loaded) → IfErr came (IsNotBegun store instances hands (Some rows) loaded sink)
+    → IfErr came (λ back. IsNotBegun store instances hands (told_before (store keeper).rows (store back.keeper).rows) keeper sink back)
+unbegun-loaded store instances hands name rows keeper loaded sink (Ok ended) load is = tt
+unbegun-loaded store instances hands name rows keeper loaded sink (Err back) load is =
+    not_begun-loaded store instances hands name rows keeper loaded sink back load is

@@ -1,7 +1,7 @@
 -- What reading the asks of a script answers.
 use Rattle.std.specs.Prelude.{◌≡◌, ℕ, List, Option, None}
 use Rattle.wm_asks.specs.declared.ask.Ask.{Ask}
-use Rattle.wm_cli.specs.Ended.{ForScript}
+use Rattle.wm_beginning.specs.Reading.{ForScript}
 use Rattle.wm_live_program.specs.Asks.{asks_in}
 use Rattle.wm_script.specs.Limits.{first_limit}
 

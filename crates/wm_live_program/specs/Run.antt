@@ -1,20 +1,21 @@
 -- The promise of a test driver that is asked the lines of a script, fact by fact.
 use Rattle.std.specs.Prelude.{◌≡◌, ◌+◌, ℕ, List, Option, None, IfSome, option_map, Result, IfOk, IfErr}
 use Rattle.wm_beginning.specs.Caused.{IsCaused}
+use Rattle.wm_beginning.specs.NotBegun.{IsUntouched}
+use Rattle.wm_beginning.specs.Over.{IsOpenedFrom}
+use Rattle.wm_beginning.specs.Reading.{ForScript, Reads}
+use Rattle.wm_beginning.specs.Script.{IsTakenWithin}
 use Rattle.wm_bench.specs.declared.hand.Hand.{Hand}
-use Rattle.wm_cli.specs.Ended.{ForScript, IsOpenedFrom}
-use Rattle.wm_cli.specs.Run.{Reads}
-use Rattle.wm_cli.specs.Script.{IsTakenWithin}
+use Rattle.wm_ended.specs.Tells.{Tells}
+use Rattle.wm_ended.specs.declared.not_begun.NotBegun.{NotBegun}
+use Rattle.wm_ended.specs.declared.status.Status.TheVariants as status
 use Rattle.wm_keeper.specs.Store.{told_before, IsAtMost, KeepsTelling}
 use Rattle.wm_live_program.specs.Asks.{asks_in}
 use Rattle.wm_live_program.specs.Driven.{IsDriven}
-use Rattle.wm_live_program.specs.Ended.{keeper_of, sink_of, status_of, IsEndStatus, IsUntouched, IsWritten}
+use Rattle.wm_live_program.specs.Ended.{keeper_of, sink_of, status_of, IsEndStatus, IsWritten}
 use Rattle.wm_live_program.specs.declared.ended.LiveEnded.{LiveEnded}
-use Rattle.wm_live_program.specs.declared.ended.LiveNotBegun.{LiveNotBegun}
 use Rattle.wm_script.specs.Limits.{most_script_bytes}
 use Rattle.wm_seating.specs.Hands.{instances_from}
-use Rattle.wm_session.specs.Tells.{Tells}
-use Rattle.wm_session.specs.declared.status.Status.TheVariants as status
 use Rattle.wm_table.specs.Table.{HoldsRowsOf}
 use Rattle.wm_words.specs.Live.{live_options_of}
 
@@ -38,9 +39,10 @@ pub record HasLived {K W B : Type 0} (tells : Tells K W B) (left : Option (List 
 -- The promise of a test driver with these words and workers, whose source was and is as told, which was given this keeper and this sink, and came to
 -- this.
 pub record IsLiveRun {K W B S : Type 0} (tells : Tells K W B) (source : Reads S) (words : List (List ℕ)) (workers : List (Hand B)) (before now : S)
-    (keeper : K) (sink : W) (came : Result (LiveEnded K W B) (LiveNotBegun K W B)) : Type 0 where
+    (keeper : K) (sink : W) (came : Result (LiveEnded K W B) (NotBegun K W B)) : Type 0 where
   pub begun : IfOk came (HasLived tells (source.left before) words workers keeper sink)
-  -- Where no table was begun, the rows held are those of before, nothing is written, and the workers come back.
+  -- Where no table was begun, the rows held are those of before, nothing is written, and the workers come back. That the commit of the opening was refused
+  -- is said where it was, of rows that are sound and change by it; where it isn't said, nothing was committed.
   pub not_begun : IfErr came (IsUntouched tells workers keeper sink)
   -- Rows that the keeper told are told in the end, unless it is lost then.
   pub keeps_telling : KeepsTelling (tells.store keeper) (tells.store (keeper_of came))

@@ -13,5 +13,5 @@ mod program;
 
 pub use asks::{ask_of, read_asks};
 pub use driving::ask_all;
-pub use ended::{LiveEnded, LiveNotBegun};
+pub use ended::LiveEnded;
 pub use program::run_live;

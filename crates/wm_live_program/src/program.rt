@@ -1,43 +1,40 @@
 //! A test driver over a store, which is asked the lines of a script.
-ghost use Rattle.std.specs.Prelude.{◌≡◌, ◌+◌, ◌<◌, ◌≤◌, ◌^◌, [], length, map, string_bytes, vec_len, IfErr, IfOk, IfSome, None, OnOk, Some};
 ghost use Rattle.std.specs.List.{AllByRecursion};
+ghost use Rattle.std.specs.Prelude.{◌≡◌, ◌+◌, ◌<◌, ◌≤◌, ◌^◌, [], length, map, string_bytes, vec_len, IfErr, IfOk, IfSome, None, OnOk, Some};
 ghost use Rattle.wm_beginning.specs.Begun.{IsGiven};
+ghost use Rattle.wm_beginning.specs.Loading.{MayBegin};
+ghost use Rattle.wm_beginning.specs.NotBegun.{IsNotBegun};
+ghost use Rattle.wm_beginning.specs.Reading.{IsReadStatus, reads_of};
+ghost use Rattle.wm_beginning.specs.Script.{IsTakenWithin};
 ghost use Rattle.wm_bench.specs.Places.{most_hands};
-ghost use Rattle.wm_cli.specs.Reading.{IsReadStatus};
-ghost use Rattle.wm_cli.specs.Run.{reads_of};
-ghost use Rattle.wm_cli.specs.Script.{IsTakenWithin};
+ghost use Rattle.wm_ended.specs.Ended.{IsSessionStatus};
+ghost use Rattle.wm_ended.specs.Tells.{tells_of};
 ghost use Rattle.wm_faults.specs.Faults.{Failed};
 ghost use Rattle.wm_keeper.specs.Store.{told_before};
 ghost use Rattle.wm_live.specs.Live.{IsEndFor, LiveCause};
 ghost use Rattle.wm_live_program.specs.Asks.{HasAskable};
 ghost use Rattle.wm_live_program.specs.Driven.{AreAsked, IsDriven};
-ghost use Rattle.wm_live_program.specs.Ended.{keeper_of, IsLiveRunEnd, IsWritten};
+ghost use Rattle.wm_live_program.specs.Ended.{HasEnded, IsWritten};
 ghost use Rattle.wm_live_program.specs.Reading.{AreAsksOf};
 ghost use Rattle.wm_live_program.specs.Run.{IsLiveRun};
 ghost use Rattle.wm_script.specs.Limits.{most_script_bytes};
 ghost use Rattle.wm_seating.specs.Hands.{instances_from};
 ghost use Rattle.wm_seating.specs.Idle.{IsIdle};
-ghost use Rattle.wm_session.specs.Ended.{IsSessionStatus};
-ghost use Rattle.wm_session.specs.Tells.{tells_of};
 ghost use Rattle.wm_table.specs.Table.{HoldsRowsOf};
 
 use crate::asks::read_asks;
 use crate::driving::ask_all;
-use crate::ended::{LiveEnded, LiveNotBegun};
+use crate::ended::LiveEnded;
 use std::alloc::Global;
 use std::marker::Brand;
 use wm_asks::{Ask, StepClock};
-use wm_beginning::begin;
+use wm_beginning::{Begun, Loaded, ReadFault, begin, load, read_script};
 use wm_bench::{Bench, Hand};
-use wm_cli::{ReadFault, instances_and_roll, read_script};
-use wm_collections::Items;
+use wm_ended::{NotBegun, Status};
 use wm_io::{Sink, Source, write_front};
-use wm_keeper::{Keeper, Row};
+use wm_keeper::Keeper;
 use wm_live::{Live, LiveEnd};
-use wm_machine::Instance;
-use wm_roll::Roll;
 use wm_script::{MAX_SCRIPT_BYTES, ScriptFault};
-use wm_session::Status;
 use wm_table::{Mark, Table, Trouble};
 use wm_words::live_options_of;
 use wm_worker::Worker;
@@ -130,39 +127,29 @@ fn write_text<K, W: Sink, B>(end: LiveEnd<K, B>, mut sink: W) -> LiveEnded<K, W,
 /// Opens the rows that were loaded, and asks a test driver over them these. The mark is what it is given.
 fn ask_loaded<W: Sink, K: Keeper, B: Worker, M: Mark>(
     alloc: Global,
-    rows: Vec<Row>,
-    instances: Items<Instance>,
-    roll: Roll,
+    loaded: Loaded<K, W, B>,
     asks: Vec<Ask>,
     step: u64,
-    hands: Vec<Hand<B>>,
-    sink: W,
-    keeper: K,
-) -> Result<LiveEnded<K, W, B>, LiveNotBegun<K, W, B>>
-    requires given { IsGiven M.inputs (K.store keeper) rows.items instances roll.table_id }
-    requires roll { roll.parts ≡ [] }
-    requires instances { instances ≡ instances_from B.kind_of 0 hands.items }
-    requires rows { IfSome (K.store keeper).rows (λ held. rows.items ≡ held) }
-    requires few_hands { vec_len hands ≤ most_hands }
+) -> Result<LiveEnded<K, W, B>, NotBegun<K, W, B>>
+    requires may { MayBegin K.store B.kind_of loaded }
+    requires given { IsGiven M.inputs (K.store loaded.keeper) loaded.rows.items loaded.instances
+        loaded.roll.table_id }
     requires askable { AllByRecursion HasAskable asks.items }
     requires few { length asks.items < 2 ^ 32 }
-    ensures { IsLiveRunEnd (tells_of K.store W.given W.faults B.kind_of B.diary_of)
-        step asks.items hands.items (K.store keeper).name (Some rows.items) keeper sink result }
+    ensures begun { IfOk result (HasEnded (tells_of K.store W.given W.faults B.kind_of B.diary_of)
+        step asks.items loaded.hands.items (K.store loaded.keeper).name (Some loaded.rows.items)
+        loaded.keeper loaded.sink) }
+    ensures not_begun { IfErr result (IsNotBegun K.store loaded.instances loaded.hands.items
+        (Some loaded.rows.items) loaded.keeper loaded.sink) }
 {
-    match begin::<K, B, M>(alloc, rows, instances, roll, hands, keeper) {
+    match begin::<K, W, B, M>(alloc, loaded) {
         Ok(begun) => {
-            let (table, bench) = begun;
+            let Begun { table, bench, sink } = begun;
             Ok(write_text(drive(alloc, table, bench, asks, step), sink))
         }
-        Err(unbegun) => {
+        Err(back) => {
             drop(asks);
-            Err(LiveNotBegun {
-                status: unbegun.status,
-                at_opening: unbegun.at_opening,
-                keeper: unbegun.keeper,
-                sink,
-                hands: unbegun.hands,
-            })
+            Err(back)
         }
     }
 }
@@ -175,32 +162,24 @@ fn ask_store<W: Sink, K: Keeper, B: Worker>(
     asks: Vec<Ask>,
     hands: Vec<Hand<B>>,
     sink: W,
-    mut keeper: K,
-) -> Result<LiveEnded<K, W, B>, LiveNotBegun<K, W, B>>
+    keeper: K,
+) -> Result<LiveEnded<K, W, B>, NotBegun<K, W, B>>
     requires few_hands { vec_len hands ≤ most_hands }
     requires askable { AllByRecursion HasAskable asks.items }
     requires few { length asks.items < 2 ^ 32 }
-    ensures { IsLiveRunEnd (tells_of K.store W.given W.faults B.kind_of B.diary_of)
+    ensures begun { IfOk result (λ ended. HasEnded (tells_of K.store W.given W.faults B.kind_of B.diary_of)
         step asks.items hands.items (Some store.now)
-        (told_before (K.store keeper).rows (K.store (keeper_of result)).rows) keeper sink result }
+        (told_before (K.store keeper).rows (K.store ended.end.table.keeper).rows) keeper sink ended) }
+    ensures not_begun { IfErr result (λ back. IsNotBegun K.store (instances_from B.kind_of 0 hands.items)
+        hands.items (told_before (K.store keeper).rows (K.store back.keeper).rows) keeper sink back) }
 {
-    let rows = match keeper.load(store) {
-        Ok(rows) => rows,
-        Err(fault) => {
+    match load(alloc, store, hands, sink, keeper) {
+        Ok(loaded) => ask_loaded::<W, K, B, Brand>(alloc, loaded, asks, step),
+        Err(back) => {
             drop(asks);
-            let status = Status::from(fault);
-            return Err(LiveNotBegun::before_opening(status, keeper, sink, hands));
+            Err(back)
         }
-    };
-    let Ok(begun) = instances_and_roll(alloc, &hands) else {
-        drop(rows);
-        drop(asks);
-        return Err(LiveNotBegun::before_opening(Status::Memory, keeper, sink, hands));
-    };
-    let (instances, roll) = begun;
-    ask_loaded::<W, K, B, Brand>(
-        alloc, rows, instances, roll, asks, step, hands, sink, keeper,
-    )
+    }
 }
 
 /// Does all that the program does with the first word `live`: reads the words after it, then the whole
@@ -219,13 +198,13 @@ pub fn run_live<S: Source, W: Sink, K: Keeper, B: Worker>(
     source: &mut S,
     sink: W,
     keeper: K,
-) -> Result<LiveEnded<K, W, B>, LiveNotBegun<K, W, B>>
+) -> Result<LiveEnded<K, W, B>, NotBegun<K, W, B>>
     requires few_hands { vec_len hands ≤ most_hands }
     ensures { IsLiveRun (tells_of K.store W.given W.faults B.kind_of B.diary_of) (reads_of S.left S.faults)
         (map string_bytes words.now) hands.items source.old source.new keeper sink result }
 {
     let Some(options) = live_options_of(words) else {
-        return Err(LiveNotBegun::before_opening(Status::Usage, keeper, sink, hands));
+        return Err(NotBegun::before_opening(Status::Usage, keeper, sink, hands));
     };
     match asks_of(alloc, source) {
         Ok(asks) => ask_store(
@@ -237,6 +216,6 @@ pub fn run_live<S: Source, W: Sink, K: Keeper, B: Worker>(
             sink,
             keeper,
         ),
-        Err(status) => Err(LiveNotBegun::before_opening(status, keeper, sink, hands)),
+        Err(status) => Err(NotBegun::before_opening(status, keeper, sink, hands)),
     }
 }

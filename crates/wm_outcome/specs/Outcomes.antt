@@ -6,14 +6,15 @@ use Rattle.wm_audit_program.specs.Statuses as check
 use Rattle.wm_audit_program.specs.Written.{takes_of}
 use Rattle.wm_bench.specs.declared.hand.Hand.{Hand}
 use Rattle.wm_callers_program.specs.Run.{IsCallersRun}
-use Rattle.wm_cli.specs.Run.{IsRun, Reads}
+use Rattle.wm_cli.specs.Run.{IsRun}
+use Rattle.wm_beginning.specs.Reading.{Reads}
 use Rattle.wm_live_program.specs.Run.{IsLiveRun}
 use Rattle.wm_live_program.specs.declared.ended.LiveEnded.{LiveEnded}
-use Rattle.wm_live_program.specs.declared.ended.LiveNotBegun.{LiveNotBegun as NotBegun}
+use Rattle.wm_ended.specs.declared.not_begun.NotBegun.{NotBegun}
 use Rattle.wm_outcome.specs.declared.outcome.Outcome.{Outcome}
 use Rattle.wm_outcome.specs.declared.outcome.Outcome.TheVariants.{Callers, Check, Export, Live, LiveNotBegun, Run}
-use Rattle.wm_session.specs.Status as run
-use Rattle.wm_session.specs.Tells.{Tells}
+use Rattle.wm_ended.specs.Status as run
+use Rattle.wm_ended.specs.Tells.{Tells}
 
 -- ---- the first word
 

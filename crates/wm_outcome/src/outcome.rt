@@ -5,8 +5,8 @@ ghost use Rattle.wm_outcome.specs.Outcomes.{code_of, text_of};
 use std::alloc::{AllocError, Global};
 use wm_audit_program::{Checked, Exported};
 use wm_callers_program::CallersEnd;
-use wm_live_program::{LiveEnded, LiveNotBegun};
-use wm_session::Ended;
+use wm_ended::{Ended, NotBegun};
+use wm_live_program::LiveEnded;
 use wm_worker::Worker;
 
 /// What the program came to, by its first word.
@@ -21,7 +21,7 @@ pub enum Outcome<K, W, B = Box<dyn Worker + Send>> {
     /// A test driver that was asked the lines of a script, by `live`.
     Live(LiveEnded<K, W, B>),
     /// One whose table wasn't begun.
-    LiveNotBegun(LiveNotBegun<K, W, B>),
+    LiveNotBegun(NotBegun<K, W, B>),
     /// Callers on threads of their own, by `callers`.
     Callers(CallersEnd<K, W, B>),
 }

@@ -1,10 +1,10 @@
 //! The top call of the program, by its first word.
 ghost use Rattle.std.specs.Prelude.{◌≡◌, ◌∷◌, ◌≤◌, codes, map, string_bytes, vec_len};
 ghost use Rattle.wm_bench.specs.Places.{most_hands};
-ghost use Rattle.wm_cli.specs.Run.{reads_of};
+ghost use Rattle.wm_beginning.specs.Reading.{reads_of};
 ghost use Rattle.wm_outcome.specs.Asked.{IsAsked};
 ghost use Rattle.wm_outcome.specs.Outcomes.{live_outcome, IsOutcome};
-ghost use Rattle.wm_session.specs.Tells.{tells_of};
+ghost use Rattle.wm_ended.specs.Tells.{tells_of};
 
 use crate::outcome::Outcome;
 use std::alloc::Global;
@@ -14,9 +14,10 @@ use wm_audit_program::{check_source, export_run};
 use wm_bench::Hand;
 use wm_callers_program::run_callers;
 use wm_cli::run;
+use wm_ended::NotBegun;
 use wm_io::{Sink, Source};
 use wm_keeper::Keeper;
-use wm_live_program::{LiveEnded, LiveNotBegun, run_live};
+use wm_live_program::{LiveEnded, run_live};
 use wm_pool::Gate;
 use wm_worker::Worker;
 
@@ -52,9 +53,7 @@ fn asked_by(words: &[String]) -> Asked<'_>
 }
 
 /// The outcome of a test driver, whether its table was begun or wasn't.
-fn live_outcome<K, W, B>(
-    came: Result<LiveEnded<K, W, B>, LiveNotBegun<K, W, B>>,
-) -> Outcome<K, W, B>
+fn live_outcome<K, W, B>(came: Result<LiveEnded<K, W, B>, NotBegun<K, W, B>>) -> Outcome<K, W, B>
     ensures { result ≡ live_outcome came }
 {
     match came {

@@ -4,8 +4,8 @@
 
 ghost use Rattle.std.specs.Prelude.{◌≡◌, IfOk, IfErr};
 ghost use Rattle.std.specs.Process.{exit_status};
-ghost use Rattle.wm_session.specs.Status.{code_of};
-ghost use Rattle.wm_session.specs.declared.status.Status.TheVariants as status;
+ghost use Rattle.wm_ended.specs.Status.{code_of};
+ghost use Rattle.wm_ended.specs.declared.status.Status.TheVariants as status;
 
 mod stock;
 
@@ -14,7 +14,7 @@ use std::process::ExitCode;
 use std::rt::Env;
 use std::{env, io};
 pub use stock::stock_hands;
-use wm_session::Status;
+use wm_ended::Status;
 
 /// The words of the command line after the program's name. Where the system doesn't give them,
 /// there is none.

@@ -1,3 +1,4 @@
+pub mod Hands
 pub mod IdleTables
 pub mod PlacesAndInstances
 pub mod PlacesChanged

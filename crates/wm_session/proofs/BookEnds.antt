@@ -2,9 +2,9 @@
 use Rattle.std.proofs.Common.{◌≡◌, ℕ, ◌≤◌, List, [], ◌++◌, Option, Some, None, IsNone, IfSome, Result, Ok, Err, OnOk, IfErr, refl, sym, ◌∙◌, ap, subst, arith}
 use Rattle.wm_session.proofs.Words.{AreNumberedFrom, BookInvariant, BookState, Command, EndsBy, Event, Failed, HasCommands, HasPrefix, Inputs, IsGivenBut, IsSessionStatus, IsTextWritten, LinesInvariant, State, Status, Stop, StopCause, Tells, WriteCause, WriteFault, append-nil, commands_of, le_trans, log_text, pending_text, status_by_stop, stop_by_fault}
 use Rattle.wm_session.proofs.BookSteps.{LinesInvariant-front, failed_since}
-use Rattle.wm_session.proofs.WrittenTexts.{IsAppended-kept, IsPartAppended-kept}
+use Rattle.wm_ended.proofs.WrittenTexts.{IsAppended-kept, IsPartAppended-kept}
 use Rattle.wm_session.specs.declared.book.Stop.TheVariants as why
-use Rattle.wm_session.specs.declared.status.Status.TheVariants as status
+use Rattle.wm_ended.specs.declared.status.Status.TheVariants as status
 use Rattle.wm_io.specs.declared.writing.WriteFault.TheVariants as fault
 
 done_is : (stop : Option Stop) (ended : Status) → IfSome stop (λ why. ended ≡ status_by_stop why) → ended ≡ status.Done → stop ≡ None

@@ -3,7 +3,7 @@ use Rattle.std.proofs.Common.{◌≡◌, ℕ, ◌+◌, ◌-◌, ◌^◌, ◌≤�
 use Rattle.wm_session.proofs.Words.{AllByRecursion, AreNumberedFrom, ArePlacedBy, AreSeated, AwayInvariant, BookInvariant, BookState, Command, Event, Failed, HasCause, HasPrefix, Inputs, IsAskable, IsBetweenRuns, IsGivenBut, IsListed, IsOneStep, IsRolledBy, IsTold, IsUntouched, LinesInvariant, ListsExactly, Part, PendingState, Replay, Replay-step, Report, RollInvariant, Run, State, Stop, StopCause, Store, TableState, TellCause, Tells, TicketState, Trouble, TroubleCause, TurnCause, Valid, Valid-after, command_in, commands_of, commands_of-push, exact-by, frame_of, framed, is_away, is_keeper_fault, last_text, le-min, le_trans, log_text, log_text-last, min-le_left, min-le_right, none_away, out-agrees, part_of, pending_text, role_of, seated-by, stop_by_trouble}
 use Rattle.wm_session.proofs.BookEvents.{AreNumberedFrom-silent}
 use Rattle.wm_session.proofs.BookImages.{images-going, images-only}
-use Rattle.wm_session.proofs.WrittenTexts.{IsGivenBut-more}
+use Rattle.wm_ended.proofs.WrittenTexts.{IsGivenBut-more}
 use Rattle.wm_session.specs.declared.book.Stop.TheVariants as stop
 use Rattle.wm_table.specs.declared.table.Trouble.TheVariants as trouble
 use Rattle.wm_table.specs.declared.table.TurnAnswer.TheVariants as turn

@@ -1,25 +1,9 @@
 -- The places of a bench, one by one, and the hands that come back from them.
 use Rattle.std.proofs.Common.{◌≡◌, ℕ, zero, suc, ◌+◌, false, List, [], ◌∷◌, map, filter, Some, IsSomeAnd, slice_get, refl, ap, subst, arith}
-use Rattle.wm_session.proofs.Words.{AreHandsBack, AreNumberedInOrder, EachAtPlace, EachBack, Hand, Kind, NoneAway, Place, State, Traits, hand_traits-places, idle_at, idle_hands, idle_in, instance_traits, is_away, kept_numbers, place_of, place_traits, retired_in, stays}
 use Rattle.wm_bench.specs.declared.place.Presence.{Presence}
 use Rattle.wm_bench.specs.declared.place.Presence.TheVariants.{Away, Gone, Idle}
 use Rattle.wm_machine.specs.declared.state.Instance.{Instance}
-
--- ---- hands that are given
-
--- every worker that was given is at its place
-pub NoneAway-hands : {B : Type 0} (hands : List (Hand B)) → NoneAway (map place_of hands)
-NoneAway-hands [] = tt
-NoneAway-hands (hand ∷ hands) = (refl, NoneAway-hands hands)
-
--- ---- all hands
-
--- where no worker is away, those of the instances that aren't retired come back
-pub AreHandsBack-all : {B : Type 0} (kind_of : B → Kind) (places : List (Place B)) (last : State) → NoneAway places
-    → map (place_traits kind_of) places ≡ map instance_traits last.instances → AreHandsBack kind_of last (idle_hands places)
-AreHandsBack-all kind_of places last none same = hand_traits-places kind_of places last.instances none same
-
--- ---- what holds of each worker that comes back
+use Rattle.wm_session.proofs.Words.{AreNumberedInOrder, EachAtPlace, EachBack, Hand, Kind, NoneAway, Place, State, Traits, idle_at, idle_hands, idle_in, instance_traits, is_away, kept_numbers, place_traits, retired_in, stays}
 
 module _ {B : Type 0} (fact : ℕ → B → B → Type 0) (given : List (Hand B)) (kind_of : B → Kind) where
   -- it holds beside the worker that was given under this number

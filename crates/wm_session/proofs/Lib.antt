@@ -7,8 +7,6 @@ pub mod BookSteps
 pub mod BookStops
 pub mod BoxLemmas
 pub mod DiaryLemmas
-pub mod Endings
 pub mod HandLemmas
 pub mod SerialLemmas
 pub mod Words
-pub mod WrittenTexts

@@ -51,15 +51,18 @@ pub use Rattle.wm_session.specs.BetweenRuns.{GoesInOrder, IsAtBegin, IsBetweenRu
 pub use Rattle.wm_session.specs.Book.{HasClaimed, IsBegun, IsClaimStopped, IsFrontStopped, IsFronted, IsGivenBack, IsLast, IsLineDone, IsNextLine, IsReported, MayCome, SettlesNext, StopsAfter}
 pub use Rattle.wm_session.specs.BookState.{BookState}
 pub use Rattle.wm_session.specs.Boxes.{EachAtPlace, EachBack, HasTold, IsBoxAfter, IsDiaryLater, IsStartOn}
-pub use Rattle.wm_session.specs.Causes.{EndsBy, StopCause, ended_by, status_by_stop, stop_by_fault, stop_by_trouble}
+pub use Rattle.wm_session.specs.Causes.{EndsBy, StopCause, status_by_stop, stop_by_fault, stop_by_trouble}
+pub use Rattle.wm_ended.specs.Causes.{ended_by}
 pub use Rattle.wm_session.specs.Drive.{GoesOnWith, IsDriven, IsOutOfGiven, IsUnderWay, KeepBoxesOut}
-pub use Rattle.wm_session.specs.Ended.{AreHandsBack, HasCommands, IsPartAppended, IsSerialRun, IsSessionStatus, IsTextWritten, kept_numbers}
+pub use Rattle.wm_seating.specs.Hands.{AreHandsBack}
+pub use Rattle.wm_session.specs.Ended.{HasCommands, IsSerialRun, kept_numbers}
+pub use Rattle.wm_ended.specs.Ended.{IsPartAppended, IsSessionStatus, IsTextWritten}
 pub use Rattle.wm_session.specs.Images.{EndImages, LeavesOneMore, MayComeNext, StopImages}
 pub use Rattle.wm_session.specs.Invariant.{AwayInvariant, BookInvariant, LinesInvariant, RollInvariant}
 pub use Rattle.wm_session.specs.Pending.{IsTold, TellCause, pending_text}
-pub use Rattle.wm_session.specs.Tells.{Tells, tells_of}
+pub use Rattle.wm_ended.specs.Tells.{Tells, tells_of}
 pub use Rattle.wm_session.specs.declared.book.Stop.{Stop}
-pub use Rattle.wm_session.specs.declared.status.Status.{Status}
+pub use Rattle.wm_ended.specs.declared.status.Status.{Status}
 pub use Rattle.wm_table.proofs.Claims.{HasGoneOn-roll, IsOneStep-roll, IsUntouched-roll}
 pub use Rattle.wm_table.proofs.NoLines.{framed_end, silent_end}
 pub use Rattle.wm_table.proofs.TableSteps.{IsUntouched-as, IsUntouched-same}

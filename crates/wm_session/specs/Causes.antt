@@ -1,24 +1,14 @@
 -- Which status a fault gives, and why a session ends early.
-use Rattle.std.specs.Prelude.{◌≡◌, ℕ, Option, Some, None, IsNone, IfSome, Result, Ok, Err, OnOk, IfErr}
+use Rattle.std.specs.Prelude.{◌≡◌, ℕ, Option, Some, None, IsNone, IfSome, Result, OnOk, IfErr}
+use Rattle.wm_ended.specs.declared.status.Status.{Status}
+use Rattle.wm_ended.specs.declared.status.Status.TheVariants as status
 use Rattle.wm_faults.specs.Faults.{Failed}
-use Rattle.wm_keeper.specs.declared.keeper.KeepFault.{KeepFault}
-use Rattle.wm_session.specs.declared.book.Stop.{Stop}
-use Rattle.wm_session.specs.declared.book.Stop.TheVariants as stop
-use Rattle.wm_session.specs.declared.status.Status.{Status}
-use Rattle.wm_session.specs.declared.status.Status.TheVariants as status
-use Rattle.wm_table.specs.Trouble.{trouble_of}
-use Rattle.wm_table.specs.declared.table.BeginFault.{BeginFault}
-use Rattle.wm_table.specs.declared.table.BeginFault.TheVariants as begin
-use Rattle.wm_table.specs.declared.table.Trouble.{Trouble}
-use Rattle.wm_table.specs.declared.table.Trouble.TheVariants as trouble
 use Rattle.wm_io.specs.declared.writing.WriteFault.{WriteFault}
 use Rattle.wm_io.specs.declared.writing.WriteFault.TheVariants as fault
-
-abbrev pub status_by_begin : BeginFault → Status
-status_by_begin (begin.Bad seq bad_row) = status.BadStore seq bad_row
-status_by_begin begin.KeeperFault = status.KeeperFault
-status_by_begin begin.Memory = status.Memory
-status_by_begin begin.CommitMemory = status.Memory
+use Rattle.wm_session.specs.declared.book.Stop.{Stop}
+use Rattle.wm_session.specs.declared.book.Stop.TheVariants as stop
+use Rattle.wm_table.specs.declared.table.Trouble.{Trouble}
+use Rattle.wm_table.specs.declared.table.Trouble.TheVariants as trouble
 
 abbrev pub status_by_stop : Stop → Status
 status_by_stop stop.KeeperFault = status.KeeperFault
@@ -28,10 +18,6 @@ status_by_stop stop.Memory = status.Memory
 abbrev pub stop_by_trouble : Trouble → Stop
 stop_by_trouble trouble.KeeperFault = stop.KeeperFault
 stop_by_trouble trouble.Memory = stop.Memory
-
--- a fault of the keeper, as before the table is begun, is what it would be of the table
-abbrev pub status_by_keeper : KeepFault → Status
-status_by_keeper fault = status_by_stop (stop_by_trouble (trouble_of fault))
 
 abbrev pub stop_by_fault : WriteFault → Stop
 stop_by_fault fault.Failed = stop.SinkFault
@@ -49,11 +35,3 @@ pub record EndsBy (stop : Option Stop) (written : Result (Unit {0}) WriteFault) 
   pub stopped : IfSome stop (λ why. ended ≡ status_by_stop why)
   pub refused : IsNone stop → IfErr written (λ fault. ended ≡ status_by_stop (stop_by_fault fault))
   pub done : IsNone stop → OnOk written (ended ≡ status.Done)
-
--- how it ends where a table met this trouble, or none and the last write was answered so
-abbrev pub ended_by : Option Trouble → Result (Unit {0}) WriteFault → Status
-ended_by (Some trouble.KeeperFault) written = status.KeeperFault
-ended_by (Some trouble.Memory) written = status.Memory
-ended_by None (Ok done) = status.Done
-ended_by None (Err fault.Failed) = status.SinkFault
-ended_by None (Err fault.Memory) = status.Memory

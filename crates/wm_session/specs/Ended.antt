@@ -1,46 +1,38 @@
 -- How a session ends: what its log, its last state, the bytes given and the workers handed back are.
-use Rattle.std.specs.Prelude.{◌≡◌, ℕ, Bool, true, false, not, List, [], map, filter, Option, Result, OnOk, Vec}
-use Rattle.std.specs.declared.alloc.Global.{Global}
+use Rattle.std.specs.Prelude.{◌≡◌, ℕ, true, false, not, List, [], map, filter, Option, Result, OnOk}
 use Rattle.wm_bench.specs.Places.{idle_hands}
 use Rattle.wm_bench.specs.declared.hand.Hand.{Hand}
+use Rattle.wm_ended.specs.Ended.{IsSessionStatus, IsTextWritten}
+use Rattle.wm_ended.specs.Tells.{Tells}
+use Rattle.wm_ended.specs.declared.ended.Ended.{Ended}
+use Rattle.wm_ended.specs.declared.status.Status.{Status}
+use Rattle.wm_ended.specs.declared.status.Status.TheVariants as status
 use Rattle.wm_faults.specs.Faults.{Failed}
+use Rattle.wm_io.specs.Pending.{IsGivenBut}
+use Rattle.wm_io.specs.Writing.{WriteCause}
+use Rattle.wm_io.specs.declared.writing.WriteFault.{WriteFault}
 use Rattle.wm_keeper.specs.Store.{TellsOn}
 use Rattle.wm_machine.specs.Log.{commands_of, AreNumberedFrom, HasPrefix}
-use Rattle.wm_machine.specs.Opened.{opening_state, Opened}
+use Rattle.wm_machine.specs.Opened.{Opened}
 use Rattle.wm_machine.specs.Quiet.{IsQuiet}
 use Rattle.wm_machine.specs.Replay.{Replay}
 use Rattle.wm_machine.specs.Serial.{IsSerial, BeginsSerial}
 use Rattle.wm_machine.specs.Valid.{Valid}
-use Rattle.wm_texts.specs.Texts.{log_text}
 use Rattle.wm_machine.specs.declared.command.Command.{Command}
 use Rattle.wm_machine.specs.declared.event.Event.{Event}
 use Rattle.wm_machine.specs.declared.state.State.{State}
-use Rattle.wm_seating.specs.Bench.{hand_traits, instance_traits, place_traits}
+use Rattle.wm_seating.specs.Bench.{instance_traits, place_traits}
+use Rattle.wm_seating.specs.Hands.{AreHandsBack}
 use Rattle.wm_session.specs.BookState.{BookState}
 use Rattle.wm_session.specs.Boxes.{EachBack, HasTold, IsBoxAfter}
 use Rattle.wm_session.specs.Causes.{EndsBy}
 use Rattle.wm_session.specs.Images.{EndImages}
+use Rattle.wm_session.specs.Pending.{pending_text}
 use Rattle.wm_table.specs.Images.{LeavesOnly}
 use Rattle.wm_table.specs.Inputs.{Inputs}
-use Rattle.wm_io.specs.Pending.{IsGivenBut}
-use Rattle.wm_session.specs.Pending.{pending_text}
-use Rattle.wm_session.specs.Tells.{Tells}
-use Rattle.wm_io.specs.Writing.{IsAppended, WriteCause}
-use Rattle.wm_session.specs.declared.ended.Ended.{Ended}
-use Rattle.wm_session.specs.declared.status.Status.{Status}
-use Rattle.wm_session.specs.declared.status.Status.TheVariants as status
-use Rattle.wm_io.specs.declared.writing.WriteFault.{WriteFault}
 use Rattle.wm_table.specs.Table.{HoldsRowsOf}
 use Rattle.wm_worker.specs.declared.answer.Entry.{Entry}
 use Rattle.wm_worker.specs.declared.kind.Kind.{Kind}
-
--- how a session ends
-abbrev pub IsSessionStatus : Status → Type 0
-IsSessionStatus status.Done = Unit {0}
-IsSessionStatus status.KeeperFault = Unit {0}
-IsSessionStatus status.SinkFault = Unit {0}
-IsSessionStatus status.Memory = Unit {0}
-IsSessionStatus _ = ⊥
 
 -- the log has a front of these commands, one line each, and all of them on `Done`
 pub record HasCommands (commands : List Command) (ended : Status) (log : List Event) : Type 0 where
@@ -48,25 +40,10 @@ pub record HasCommands (commands : List Command) (ended : Status) (log : List Ev
   pub numbered : AreNumberedFrom 1 log
   pub all : ended ≡ status.Done → commands_of log ≡ commands
 
--- a front of the text came to its end
-pub record IsPartAppended (before now : Option (List ℕ)) (text : List ℕ) : Type 0 where
-  pub front : List ℕ
-  pub is_front : HasPrefix text front
-  pub given : IsAppended before now front
-
--- the sink was given a front of the log's text, and all of it on `Done`
-pub record IsTextWritten (before now : Option (List ℕ)) (ended : Status) (first : State) (log : List Event) : Type 0 where
-  pub front : IsPartAppended before now (log_text first log)
-  pub all : ended ≡ status.Done → IsAppended before now (log_text first log)
-
 -- the log is that of a serial run over these lines on `Done`, and else a front of one
 abbrev pub IsSerialRun : List Command → Status → State → List Event → State → Type 0
 IsSerialRun lines status.Done first log last = IsSerial lines first log last
 IsSerialRun lines _ first log last = BeginsSerial lines first log
-
--- the workers are those of the instances that aren't retired, in order, of their class and kind
-abbrev pub AreHandsBack : {B : Type 0} → (B → Kind) → State → List (Hand B) → Type 0
-AreHandsBack kind_of last hands = map (hand_traits kind_of) hands ≡ map instance_traits (filter (λ instance. not instance.retired) last.instances)
 
 -- the numbers of the instances that aren't retired
 abbrev pub kept_numbers : State → List ℕ
@@ -133,16 +110,3 @@ pub record IsSerialEnd {K W B : Type 0} (tells : Tells K W B) (run : Inputs) (gi
   pub boxes : AreBoxesBack tells.diary_of given ended.log ended.last ended.hands.items
   pub diaries : ended.status ≡ status.Done → HaveTold tells.diary_of given ended.first ended.log ended.last ended.hands.items
   pub serial : IsSerialRun run.lines ended.status ended.first ended.log ended.last
-
--- a run that ended with this status before its table was begun, at the commit of its opening or not: nothing has happened, and keeper, sink and
--- workers are these
-pub record IsUnbegun {K W B : Type 0} (why : Status) (at_opening : Bool) (keeper : K) (sink : W) (hands : Vec (Hand B) Global) (ended : Ended K W B) : Type 0 where
-  pub status_is : ended.status ≡ why
-  pub began : ended.began ≡ false
-  pub opening : ended.at_opening ≡ at_opening
-  pub first : ended.first ≡ opening_state [] []
-  pub log : ended.log ≡ []
-  pub last : ended.last ≡ opening_state [] []
-  pub keeper_is : ended.keeper ≡ keeper
-  pub sink_is : ended.sink ≡ sink
-  pub hands_are : ended.hands ≡ hands

@@ -9,8 +9,8 @@ use Rattle.wm_machine.specs.declared.event.Event.{Event}
 use Rattle.wm_machine.specs.declared.state.State.{State}
 use Rattle.wm_session.specs.declared.book.Stop.{Stop}
 use Rattle.wm_session.specs.declared.book.Stop.TheVariants as stop
-use Rattle.wm_session.specs.declared.status.Status.{Status}
-use Rattle.wm_session.specs.declared.status.Status.TheVariants as status
+use Rattle.wm_ended.specs.declared.status.Status.{Status}
+use Rattle.wm_ended.specs.declared.status.Status.TheVariants as status
 use Rattle.wm_table.specs.Images.{LeavesOnly, WouldLeave}
 
 -- an event that may come next over these lines, after this log: it is no line, or the next one

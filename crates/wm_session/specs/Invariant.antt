@@ -18,7 +18,7 @@ use Rattle.wm_table.specs.Images.{LeavesOnly}
 use Rattle.wm_table.specs.Inputs.{Inputs}
 use Rattle.wm_io.specs.Pending.{IsGivenBut}
 use Rattle.wm_session.specs.Pending.{pending_text}
-use Rattle.wm_session.specs.Tells.{Tells}
+use Rattle.wm_ended.specs.Tells.{Tells}
 use Rattle.wm_session.specs.declared.book.Stop.{Stop}
 
 -- while a session goes on, the lines are those that were executed and those that are left; after it has stopped early, those that were

@@ -8,5 +8,3 @@ pub mod Ended
 pub mod Images
 pub mod Invariant
 pub mod Pending
-pub mod Status
-pub mod Tells

@@ -12,19 +12,19 @@ ghost use Rattle.wm_seating.specs.Bench.{instance_traits, place_traits, NoneAway
 ghost use Rattle.wm_session.specs.BetweenRuns.{IsBetweenRuns};
 ghost use Rattle.wm_session.specs.Book.{failed_told, front_told, over_told, with_back, IsSessionOver, IsClaimed, IsFronted, IsReported, MayCome, MustWait, SettlesNext};
 ghost use Rattle.wm_session.specs.Ended.{IsHandedBack, IsSessionEnd, IsWrittenOut};
-ghost use Rattle.wm_session.specs.Tells.{tells_of};
+ghost use Rattle.wm_ended.specs.Tells.{tells_of};
 ghost use Rattle.wm_table.specs.Images.{LeavesOnly};
 ghost use Rattle.wm_table.specs.Parts.{WasOut};
 
-use crate::ended::Ended;
 use crate::pending::{tell_last, tell_rest};
 use crate::signals::Signals;
-use crate::status::{Status, status_after};
+use crate::statuses::status_after;
 use std::alloc::{AllocError, Global};
 use std::collections::VecDeque;
 use std::marker::{Model, PhantomData};
 use wm_bench::{Bench, Seated};
 use wm_collections::Items;
+use wm_ended::{Ended, Status};
 use wm_io::{Pending, Sink, WriteFault};
 use wm_keeper::Keeper;
 use wm_machine::Command;
@@ -173,7 +173,7 @@ impl<K: Keeper, W: Sink, B: Worker, M: Mark> Model for Book<K, W, B, M> {
     ghost Value = { BookState K W B };
 
     ghost use Rattle.wm_session.specs.Invariant.{BookInvariant};
-    ghost use Rattle.wm_session.specs.Tells.{tells_of};
+    ghost use Rattle.wm_ended.specs.Tells.{tells_of};
 
     ghost view = { λ b. record { table = b.table; places = b.bench; left = b.left.items; line = b.line; pending = b.pending; sink = b.sink; status = b.status } };
 

@@ -1,4 +1,4 @@
-//! A session: the book that a script is executed in, the serial run, and how a run ends.
+//! A session: the book that a script is executed in, and the serial run.
 //!
 //! [`Book`] holds a [`Table`](wm_table::Table) with the bench of workers, the lines that are left and
 //! what is still to be written. Its type keeps what the promises of a run rest on, of what the run
@@ -8,13 +8,11 @@
 #![tactic(auto)]
 
 pub mod book;
-pub mod ended;
 mod pending;
 pub mod serial;
 mod signals;
-pub mod status;
+mod statuses;
 
 pub use book::{After, Book, Front, Job, Over, Stop};
-pub use ended::Ended;
 pub use serial::run_serial;
-pub use status::Status;
+pub use wm_ended::{Ended, Status};

@@ -10,14 +10,14 @@ ghost use Rattle.wm_machine.specs.declared.command.Command.{Command};
 ghost use Rattle.wm_session.specs.Drive.{IsDriven, IsTurned, IsUnderWay};
 ghost use Rattle.wm_session.specs.Ended.{IsBookEnd, IsSerialEnd};
 ghost use Rattle.wm_session.specs.BetweenRuns.{GoesInOrder, IsAtBegin, IsBetweenRuns, IsReady, KeepBoxes};
-ghost use Rattle.wm_session.specs.Tells.{tells_of};
+ghost use Rattle.wm_ended.specs.Tells.{tells_of};
 ghost use Rattle.wm_worker.specs.Diary.{diary_with};
 ghost use Rattle.wm_worker.specs.declared.answer.Entry.TheVariants.{Begun};
 
 use crate::book::{After, Book, Front, Job};
-use crate::ended::Ended;
 use std::alloc::Global;
 use wm_bench::Seated;
+use wm_ended::Ended;
 use wm_io::Sink;
 use wm_keeper::Keeper;
 use wm_pool::{Gate, Point};

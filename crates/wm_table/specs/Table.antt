@@ -1,5 +1,5 @@
 -- What the calls of the table do to the state, its log and the rows held.
-use Rattle.std.specs.Prelude.{◌≡◌, ◌⊎◌, ℕ, ℤ, ◌+◌, ◌≤◌, Bool, true, false, if◌then◌else◌, List, [], ◌∷◌, ◌++◌, length, Option, Some, None, IsSomeAnd, IfSome, IsSome, MatchBool, Result, Ok, Err, Vec, vec_capacity}
+use Rattle.std.specs.Prelude.{◌≡◌, ◌≢◌, ◌⊎◌, ℕ, ℤ, ◌+◌, ◌≤◌, Bool, true, false, if◌then◌else◌, List, [], ◌∷◌, ◌++◌, length, Option, Some, None, IsSomeAnd, IfSome, IsSome, MatchBool, Result, Ok, Err, Vec, vec_capacity}
 use Rattle.std.specs.declared.alloc.Global.{Global}
 use Rattle.wm_data.specs.declared.data.DataEntry.{DataEntry}
 use Rattle.wm_faults.specs.Faults as faults
@@ -115,6 +115,13 @@ IsBeginFault rows (begin.Bad seq bad_row) = checked rows ≡ Err (row_fault seq 
 IsBeginFault rows begin.KeeperFault = AreSound rows
 IsBeginFault rows begin.CommitMemory = AreSound rows
 IsBeginFault rows begin.Memory = Unit {0}
+
+-- these rows change where they are opened: they are sound, and the state that they open to with these instances has other ones
+pub record AreChangedByOpening (rows : List Row) (instances : List Instance) : Type 0 where
+  pub sound : AreSound rows
+  pub first : State
+  pub opened : Opened rows instances first
+  pub others : rows_of first ≢ rows
 
 -- whether the opening was being committed
 abbrev pub is_at_commit : BeginFault → Bool

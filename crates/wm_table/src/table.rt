@@ -21,7 +21,7 @@ ghost use Rattle.wm_steps.specs.Wakes.{IsWakeOf};
 ghost use Rattle.wm_settings.specs.Builds.{ChangesNoRow, ChangesRows};
 ghost use Rattle.wm_runs.specs.Reports.{goes_on, CountsIn, IsOut};
 ghost use Rattle.wm_table.specs.Images.{IsLine, IsNoLine};
-ghost use Rattle.wm_table.specs.Table.{reply_in, BeginCause, HasClaimed, HoldsRowsOf, IsClaim, IsBeginFault, IsClaimAnswer, IsFinished, IsLateAnswer, IsOneStep, IsReplied, IsReturned, IsTurnAnswer, IsTurned, IsUntouched, LeavesOpened, LeavesUnopened, TroubleCause, TurnCause};
+ghost use Rattle.wm_table.specs.Table.{is_at_commit, reply_in, AreChangedByOpening, BeginCause, HasClaimed, HoldsRowsOf, IsClaim, IsBeginFault, IsClaimAnswer, IsFinished, IsLateAnswer, IsOneStep, IsReplied, IsReturned, IsTurnAnswer, IsTurned, IsUntouched, LeavesOpened, LeavesUnopened, TroubleCause, TurnCause};
 ghost use Rattle.wm_table.specs.Parts.{IsOffRoll, NoneOf, Stands, ticket_part, WasOut};
 ghost use Rattle.wm_table.specs.Rolls.{IsNewOn, IsRollClaimed, IsRollReturned, IsRollTurned, roll_after, WasOutWhereTaken};
 ghost use Rattle.wm_machine.specs.Step.{role_of};
@@ -279,6 +279,8 @@ impl<K: Keeper, M: Mark> Table<K, M> {
         ensures only_changed { IfOk result (λ table. rows_of table.first ≡ rows.items → table.keeper ≡ keeper) }
         ensures images { IfOk result (LeavesOpened K.store rows.items keeper) }
         ensures bad { IfErr result (λ refused. IsBeginFault rows.items refused.1) }
+        ensures at_commit { IfErr result (λ refused. is_at_commit refused.1 ≡ true
+            → AreChangedByOpening rows.items instances) }
         ensures kept { IfErr result (λ refused. IsAtMost (K.store keeper).rows (K.store refused.0).rows) }
         ensures tells_on_err { IfErr result (λ refused. TellsOn (K.store keeper) (K.store refused.0)) }
         ensures images_err { IfErr result (LeavesUnopened K.store rows.items instances keeper) }

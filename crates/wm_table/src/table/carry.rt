@@ -274,7 +274,7 @@ pub(crate) fn commit<K: Keeper>(keeper: &mut K, changes: &[Change]) -> Result<()
     ensures cause { TroubleCause result (K.store keeper.old).faults (K.store keeper.new).faults }
     ensures tells_on { TellsOn (K.store keeper.old) (K.store keeper.new) }
     ensures untouched_keeper { changes.now ≡ [] → keeper.new ≡ keeper.old }
-    ensures no_keeper_fault { changes.now ≡ [] → result ≢ Err Trouble.KeeperFault }
+    ensures some { OnErr result (changes.now ≢ []) }
 {
     if !changes.is_empty() {
         keeper.commit(changes)?;

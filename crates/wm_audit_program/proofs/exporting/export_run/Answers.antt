@@ -2,9 +2,10 @@ use Rattle.std.proofs.Common.{◌≡◌, map, subst}
 use Rattle.std.specs.Prelude.{string_bytes}
 use Rattle.wm_audit_program.proofs.Exports.{HaveCanonical-done, IsExported-done, IsExported-undone, IsOpened-done}
 use Rattle.wm_audit_program.specs.Exported.{over_sure}
-use Rattle.wm_cli.specs.Run.{reads_of, IsRun}
-use Rattle.wm_session.specs.Tells.{tells_of}
-use Rattle.wm_session.specs.declared.status.Status.TheVariants.{Done}
+use Rattle.wm_beginning.specs.Reading.{reads_of}
+use Rattle.wm_cli.specs.Run.{IsRun}
+use Rattle.wm_ended.specs.Tells.{tells_of}
+use Rattle.wm_ended.specs.declared.status.Status.TheVariants.{Done}
 use Rattle.wm_audit_program.proofs.exporting.export_run.Goals as goal
 
 -- the run isn't done

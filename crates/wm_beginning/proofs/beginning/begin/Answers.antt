@@ -1,36 +1,32 @@
-use Rattle.std.proofs.Common.{◌≡◌, ◌≤◌, length, map, IfErr, sym, ◌∙◌, ap, subst, rules}
-use Rattle.wm_beginning.specs.Begun.{IsUnbegun}
-use Rattle.wm_bench.specs.Places.{idle_hands, most_hands}
-use Rattle.wm_cli.proofs.Hands.{AreFresh-instances_from, idle_hands-places, traits-places}
-use Rattle.wm_machine.specs.Opened.{AreFresh}
-use Rattle.wm_beginning.proofs.Begins.{beside-workers}
-use Rattle.wm_seating.specs.Bench.{instance_traits, place_traits, NoneAway}
-use Rattle.wm_session.proofs.HandLemmas.{NoneAway-hands}
+use Rattle.std.proofs.Common.{◌≡◌, Some, IfErr, IfOk, ◌∙◌, ap, map, subst, rules}
+use Rattle.wm_beginning.specs.Begun.{HasBegun}
+use Rattle.wm_beginning.specs.NotBegun.{IsNotBegun}
+use Rattle.wm_bench.specs.Places.{idle_hands, place_of}
+use Rattle.wm_seating.proofs.Hands.{idle_hands-places}
 use Rattle.wm_beginning.proofs.beginning.begin.Goals as goal
 
-pub begin_beside-requires-clause-fresh : goal.begin_beside-requires-clause-fresh
-begin_beside-requires-clause-fresh g c =
-    let few : length c.args.hands.items ≤ most_hands = search rules in
-    subst AreFresh (sym c.requires.instances) (AreFresh-instances_from g.B.Worker.kind_of c.args.hands.items few)
+-- the bench is made of the workers
+pub begin_beside-requires-clause-benched : goal.begin_beside-requires-clause-benched
+begin_beside-requires-clause-benched g c = record {
+  hands = c.args.loaded.hands.items;
+  few = search rules;
+  at_places = c.in-Ok.ensures.places;
+  are = c.requires.may.instances;
+}
 
-pub begin_beside-requires-clause-workers : goal.begin_beside-requires-clause-workers
-begin_beside-requires-clause-workers g c =
-    ap (map (place_traits g.B.Worker.kind_of)) c.in-Ok.ensures.places
-    ∙ traits-places g.B.Worker.kind_of 0 c.args.hands.items
-    ∙ ap (map instance_traits) (sym c.requires.instances)
+pub returns-in-Ok-clause-begun : goal.returns-in-Ok-clause-begun
+returns-in-Ok-clause-begun g c =
+    let hands = c.args.loaded.hands.items in
+    let are : idle_hands c.in-Ok.bench ≡ hands = ap idle_hands {y = map place_of hands} c.in-Ok.ensures.places ∙ idle_hands-places hands in
+    subst
+    (λ workers. IfOk c.begin_beside.result
+    (λ begun. HasBegun g.K.Keeper.store g.B.Worker.kind_of g.M.Mark.inputs workers c.args.loaded.sink begun.table begun.bench begun.sink)) are
+    c.begin_beside.ensures.begun
 
-pub begin_beside-requires-clause-none_away : goal.begin_beside-requires-clause-none_away
-begin_beside-requires-clause-none_away g c = subst NoneAway (sym c.in-Ok.ensures.places) (NoneAway-hands c.args.hands.items)
-
-pub returns-in-Ok-clause-workers : goal.returns-in-Ok-clause-workers
-returns-in-Ok-clause-workers g c =
-    let hands = c.args.hands.items in
-    let are : idle_hands c.in-Ok.bench ≡ hands = ap idle_hands c.in-Ok.ensures.places ∙ idle_hands-places hands in
-    beside-workers c.in-Ok.bench hands c.begin_beside.result c.begin_beside.ensures.bench are
-
-pub returns-in-Ok-clause-unbegun : goal.returns-in-Ok-clause-unbegun
-returns-in-Ok-clause-unbegun g c =
-    let hands = c.args.hands.items in
-    let are : idle_hands c.in-Ok.bench ≡ hands = ap idle_hands c.in-Ok.ensures.places ∙ idle_hands-places hands in
-    subst (λ back. IfErr c.begin_beside.result (IsUnbegun g.K.Keeper.store c.args.rows.items c.args.instances c.args.keeper back)) are
-    c.begin_beside.ensures.unbegun
+pub returns-in-Ok-clause-not_begun : goal.returns-in-Ok-clause-not_begun
+returns-in-Ok-clause-not_begun g c =
+    let loaded = c.args.loaded in
+    let hands = loaded.hands.items in
+    let are : idle_hands c.in-Ok.bench ≡ hands = ap idle_hands {y = map place_of hands} c.in-Ok.ensures.places ∙ idle_hands-places hands in
+    subst (λ back. IfErr c.begin_beside.result (IsNotBegun g.K.Keeper.store loaded.instances back (Some loaded.rows.items) loaded.keeper loaded.sink)) are
+    c.begin_beside.ensures.not_begun

@@ -6,9 +6,10 @@ use Rattle.wm_callers_program.specs.LogTexts.{plain_text}
 use Rattle.wm_io.specs.Writing.{IsAppended}
 use Rattle.wm_machine.specs.declared.state.State.{State}
 use Rattle.wm_seating.specs.Bench.{instance_traits}
-use Rattle.wm_session.proofs.Endings.{done-none, done-written, keeper-met, session-status, sink-failed}
-use Rattle.wm_session.proofs.HandLemmas.{AreHandsBack-all}
-use Rattle.wm_session.specs.Ended.{AreHandsBack, IsPartAppended, IsSessionStatus}
+use Rattle.wm_ended.proofs.Endings.{done-none, done-written, keeper-met, session-status, sink-failed}
+use Rattle.wm_seating.proofs.Hands.{AreHandsBack-all}
+use Rattle.wm_seating.specs.Hands.{AreHandsBack}
+use Rattle.wm_ended.specs.Ended.{IsPartAppended, IsSessionStatus}
 use Rattle.wm_texts.specs.Texts.{log_text}
 use Rattle.wm_callers_program.proofs.ending.end_table.Goals as goal
 

@@ -3,7 +3,7 @@ use Rattle.wm_callers_program.proofs.CallEnds.{callers-ended, failed-later}
 use Rattle.wm_callers_program.specs.Ending.{IsHandedOver}
 use Rattle.wm_faults.specs.Faults.{Failed}
 use Rattle.wm_live.specs.StandState.{StandState}
-use Rattle.wm_session.specs.Tells.{tells_of}
+use Rattle.wm_ended.specs.Tells.{tells_of}
 use Rattle.wm_callers_program.proofs.program.end_called.Goals as goal
 
 pub end_table-requires-clause-calls : goal.end_table-requires-clause-calls

@@ -1,6 +1,6 @@
 use Rattle.std.proofs.Common.{◌∙◌, subst}
-use Rattle.wm_session.proofs.WrittenTexts.{part-taken}
-use Rattle.wm_session.specs.Ended.{IsPartAppended}
+use Rattle.wm_ended.proofs.WrittenTexts.{part-taken}
+use Rattle.wm_ended.specs.Ended.{IsPartAppended}
 use Rattle.wm_callers_program.proofs.texts.write_event.Goals as goal
 
 pub returns-clause-front : goal.returns-clause-front

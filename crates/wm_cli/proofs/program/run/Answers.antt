@@ -1,15 +1,18 @@
-use Rattle.std.proofs.Common.{◌≡◌, map, ap, subst, sym, ◌∙◌, inr, rules}
+use Rattle.std.proofs.Common.{◌≡◌, map, None, IsSome, ap, refl, subst, sym, ◌∙◌, rules}
 use Rattle.std.specs.Prelude.{string_bytes}
-use Rattle.wm_cli.proofs.RunsWithoutEvents.{IsTextWritten-nothing, ForScript-any, not_done}
-use Rattle.wm_cli.proofs.ReportedRuns.{AreReportedOnce-nothing, AreReportedOnce-replayed}
+use Rattle.wm_beginning.proofs.Causes.{none_that, opened-caused, read-caused, usage-caused}
+use Rattle.wm_beginning.proofs.ReportedRuns.{AreReportedOnce-nothing, AreReportedOnce-replayed}
+use Rattle.wm_beginning.proofs.Unread.{IsTextWritten-nothing, ForScript-any, not_done, unopened-kept}
+use Rattle.wm_beginning.specs.Caused.{IsCausedFor}
+use Rattle.wm_beginning.specs.Reading.{reads_of}
+use Rattle.wm_cli.proofs.OriginLines.{long_of_script, without_lines}
 use Rattle.wm_cli.proofs.RunsUnopened.{IsRunOf-unopened}
-use Rattle.wm_cli.proofs.OriginLines.{long_of_script, past_within, without_lines}
-use Rattle.wm_words.proofs.WordsLemmas.{no_threads, origin_read, script_asked}
 use Rattle.wm_cli.specs.Ended.{IsRunOf}
-use Rattle.wm_cli.specs.Lines.{lines_of}
-use Rattle.wm_words.specs.Run.{origin_of}
-use Rattle.wm_session.specs.Tells.{tells_of}
-use Rattle.wm_session.specs.declared.status.Status.TheVariants.{Done, Usage}
+use Rattle.wm_cli.specs.Lines.{HaveLines, lines_of}
+use Rattle.wm_ended.specs.Tells.{tells_of}
+use Rattle.wm_ended.specs.declared.status.Status.TheVariants.{Done, Usage}
+use Rattle.wm_words.proofs.WordsLemmas.{no_threads, origin_read, script_asked}
+use Rattle.wm_words.specs.Run.{options_of, origin_of, AskForScript}
 use Rattle.wm_cli.proofs.program.run.Goals as goal
 
 -- the words are wrong: nothing was read or opened
@@ -17,13 +20,22 @@ pub returns-in_default : goal.returns-in_default
 returns-in_default g c =
     let tells = tells_of g.K.Keeper.store g.W.Sink.given g.W.Sink.faults g.B.Worker.kind_of g.B.Worker.diary_of in
     let words = map string_bytes c.args.words.now in
+    let source = reads_of g.S.Source.left g.S.Source.faults in
+    let options = options_of words in
+    let at = c.before_begin.ensures in
     let ended = c.before_begin.result in
+    let before = c.args.source.now in
+    let has_lines = HaveLines words (source.left before) (source.faults before) (source.faults before) in
+    let wrong : options ≡ None = search rules in
+    let causes : IsCausedFor tells source options (AskForScript words) has_lines before before c.args.keeper ended.keeper c.args.sink ended.sink ended.status =
+    rw (at.status_is, at.keeper_is, at.sink_is)
+    (usage-caused tells source options (AskForScript words) has_lines before before c.args.keeper c.args.sink wrong (none_that _ options wrong) (none_that _ options wrong) refl) in
     record {
       replay = search rules;
       replay_left = search rules;
       keeps_telling = search rules;
       begun = search rules;
-      at_opening = search rules;
+      at_opening = unopened-kept tells.store ended.began ended.at_opening ended.status _ _ c.args.keeper ended.keeper at.began at.opening at.keeper_is;
       not_begun_keeps = search rules;
       rows = search rules;
       store = search rules;
@@ -40,20 +52,20 @@ returns-in_default g c =
       reads = search rules;
       generated_reads_nothing = search rules;
       done = search rules;
-      usage = search rules;
-      usage_reads_nothing = search rules;
-      usage_keeps = search rules;
-      source_fault = search rules;
-      source_fault_keeps = search rules;
-      script_too_long = search rules;
+      usage = causes.usage;
+      usage_reads_nothing = causes.usage_reads_nothing;
+      usage_keeps = causes.usage_keeps;
+      source_fault = causes.source_fault;
+      source_fault_keeps = causes.source_fault_keeps;
+      script_too_long = causes.script_too_long;
       script_too_long_of_script = search rules;
-      script_too_long_keeps = search rules;
-      long_script = search rules;
-      keeper_fault = search rules;
-      sink_fault = search rules;
-      bad_store = search rules;
-      unsound_store = search rules;
-      completes = search rules;
+      script_too_long_keeps = causes.script_too_long_keeps;
+      long_script = causes.long_script;
+      keeper_fault = causes.keeper_fault;
+      sink_fault = causes.sink_fault;
+      bad_store = causes.bad_store;
+      unsound_store = causes.unsound_store;
+      completes = causes.completes;
     }
 
 -- the lines weren't read: the run ended before its store was opened
@@ -61,13 +73,25 @@ pub returns-in-Err : goal.returns-in-Err
 returns-in-Err g c =
     let tells = tells_of g.K.Keeper.store g.W.Sink.given g.W.Sink.faults g.B.Worker.kind_of g.B.Worker.diary_of in
     let words = map string_bytes c.args.words.now in
+    let source = reads_of g.S.Source.left g.S.Source.faults in
+    let options = options_of words in
+    let at = c.before_begin-in-Err.ensures in
     let ended = c.before_begin-in-Err.result in
+    let before = c.args.source.now in
+    let now = c.lines_of.new.source in
+    let has_lines = HaveLines words (source.left before) (source.faults before) (source.faults now) in
+    let right : IsSome options = subst IsSome c.in-Some.ensures.asked refl in
+    let causes : IsCausedFor tells source options (AskForScript words) has_lines before now c.args.keeper ended.keeper c.args.sink ended.sink ended.status =
+    rw (at.status_is, at.keeper_is, at.sink_is)
+    (read-caused tells source options (AskForScript words) has_lines before now c.args.keeper c.args.sink c.in-Err.status right c.in-Err.ensures.status
+    (λ lines. without_lines words c.in-Some.options c.in-Err.status (source.left before) (source.faults before) (source.faults now) c.in-Some.ensures.asked
+    lines c.in-Err.ensures.status c.in-Err.ensures.generated_status)) in
     record {
       replay = search rules;
       replay_left = search rules;
       keeps_telling = search rules;
       begun = search rules;
-      at_opening = search rules;
+      at_opening = unopened-kept tells.store ended.began ended.at_opening ended.status _ _ c.args.keeper ended.keeper at.began at.opening at.keeper_is;
       not_begun_keeps = search rules;
       rows = search rules;
       store = search rules;
@@ -86,28 +110,22 @@ returns-in-Err g c =
           let origin = origin_read words c.in-Some.options c.in-Some.ensures.asked in
           c.lines_of.ensures.generated seed (sym origin ∙ is);
       done = search rules;
-      usage = search rules;
-      usage_reads_nothing = search rules;
-      usage_keeps = search rules;
-      source_fault = search rules;
-      source_fault_keeps = search rules;
-      script_too_long = search rules;
+      usage = causes.usage;
+      usage_reads_nothing = causes.usage_reads_nothing;
+      usage_keeps = causes.usage_keeps;
+      source_fault = causes.source_fault;
+      source_fault_keeps = causes.source_fault_keeps;
+      script_too_long = causes.script_too_long;
       script_too_long_of_script = λ limit is.
           long_of_script words c.in-Some.options c.in-Err.status limit c.in-Some.ensures.asked
           c.in-Err.ensures.generated_status (sym c.before_begin-in-Err.ensures.status_is ∙ is);
-      script_too_long_keeps = search rules;
-      long_script = search rules;
-      keeper_fault = search rules;
-      sink_fault = search rules;
-      bad_store = search rules;
-      unsound_store = λ rows seq bad_row lines held refused no_fault.
-          inr (c.before_begin-in-Err.ensures.status_is ∙ without_lines words c.in-Some.options c.in-Err.status
-          (g.S.Source.left c.args.source.now) (g.S.Source.faults c.args.source.now) (g.S.Source.faults c.lines_of.new.source)
-          c.in-Some.ensures.asked lines c.in-Err.ensures.status c.in-Err.ensures.generated_status);
-      completes = λ rows lines held sound kept given.
-          inr (c.before_begin-in-Err.ensures.status_is ∙ without_lines words c.in-Some.options c.in-Err.status
-          (g.S.Source.left c.args.source.now) (g.S.Source.faults c.args.source.now) (g.S.Source.faults c.lines_of.new.source)
-          c.in-Some.ensures.asked lines c.in-Err.ensures.status c.in-Err.ensures.generated_status);
+      script_too_long_keeps = causes.script_too_long_keeps;
+      long_script = causes.long_script;
+      keeper_fault = causes.keeper_fault;
+      sink_fault = causes.sink_fault;
+      bad_store = causes.bad_store;
+      unsound_store = causes.unsound_store;
+      completes = causes.completes;
     }
 
 -- the lines are there: it is the run of them
@@ -115,15 +133,25 @@ pub returns-in-Ok : goal.returns-in-Ok
 returns-in-Ok g c =
     let tells = tells_of g.K.Keeper.store g.W.Sink.given g.W.Sink.faults g.B.Worker.kind_of g.B.Worker.diary_of in
     let words = map string_bytes c.args.words.now in
+    let source = reads_of g.S.Source.left g.S.Source.faults in
+    let options = options_of words in
     let ended = c.run_commands.result in
+    let its = c.run_commands.ensures.over in
+    let before = c.args.source.now in
+    let now = c.lines_of.new.source in
+    let has_lines = HaveLines words (source.left before) (source.faults before) (source.faults now) in
+    let right : IsSome options = subst IsSome c.in-Some.ensures.asked refl in
+    let causes =
+    opened-caused tells source options (AskForScript words) has_lines before now c.args.keeper c.args.sink ended.keeper ended.sink ended.status right
+    (λ asks. c.in-Ok.ensures.within (script_asked words c.in-Some.options c.in-Some.ensures.asked asks)) its.causes in
     record {
-      replay = search rules;
-      replay_left = search rules;
-      keeps_telling = search rules;
-      begun = search rules;
-      at_opening = search rules;
-      not_begun_keeps = search rules;
-      rows = search rules;
+      replay = its.replay;
+      replay_left = its.replay_left;
+      keeps_telling = its.goes_on.keeps;
+      begun = its.begun;
+      at_opening = its.at_opening;
+      not_begun_keeps = its.not_begun_keeps;
+      rows = its.rows;
       store = search rules;
       script = let run = c.run_commands.ensures in
           let read = c.in-Ok.ensures.lines in
@@ -138,10 +166,10 @@ returns-in-Ok g c =
               crash = λ settled. run.images settled;
             });
           };
-      bytes = search rules;
-      end = search rules;
+      bytes = its.bytes;
+      end = its.end;
       reports = AreReportedOnce-replayed _ _ ended.began ended.first ended.log ended.last c.run_commands.ensures.over.replay;
-      hands = search rules;
+      hands = its.hands_back;
       boxes = λ alone. c.run_commands.ensures.boxes (no_threads words c.in-Some.options c.in-Some.ensures.asked alone);
       diaries = λ alone. c.run_commands.ensures.diaries (no_threads words c.in-Some.options c.in-Some.ensures.asked alone);
       reads = search rules;
@@ -149,20 +177,18 @@ returns-in-Ok g c =
           let origin = origin_read words c.in-Some.options c.in-Some.ensures.asked in
           c.lines_of.ensures.generated seed (sym origin ∙ is);
       done = search rules;
-      usage = search rules;
-      usage_reads_nothing = search rules;
-      usage_keeps = search rules;
-      source_fault = search rules;
-      source_fault_keeps = search rules;
-      script_too_long = search rules;
+      usage = causes.usage;
+      usage_reads_nothing = causes.usage_reads_nothing;
+      usage_keeps = causes.usage_keeps;
+      source_fault = causes.source_fault;
+      source_fault_keeps = causes.source_fault_keeps;
+      script_too_long = causes.script_too_long;
       script_too_long_of_script = search rules;
-      script_too_long_keeps = search rules;
-      long_script = λ limit asks past no_fault.
-          let script = script_asked words c.in-Some.options c.in-Some.ensures.asked asks in
-          absurd (past_within (g.S.Source.left c.args.source.now) limit (c.in-Ok.ensures.within script) past);
-      keeper_fault = search rules;
-      sink_fault = search rules;
-      bad_store = search rules;
-      unsound_store = λ rows seq bad_row lines held refused. c.run_commands.ensures.over.unsound rows seq bad_row held refused;
-      completes = search rules;
+      script_too_long_keeps = causes.script_too_long_keeps;
+      long_script = causes.long_script;
+      keeper_fault = causes.keeper_fault;
+      sink_fault = causes.sink_fault;
+      bad_store = causes.bad_store;
+      unsound_store = causes.unsound_store;
+      completes = causes.completes;
     }

@@ -1,24 +1,24 @@
-use Rattle.std.proofs.Common.{Some, subst}
-use Rattle.wm_cli.proofs.RunEnds.{IsRunEnd-begun, IsRunEnd-threads}
-use Rattle.wm_rows.specs.Sound.{AreSound}
+use Rattle.std.proofs.Common.{subst}
+use Rattle.wm_cli.proofs.Opening.{IsSetUp-begun}
+use Rattle.wm_cli.proofs.RunEnds.{IsRunEnd-begun}
+use Rattle.wm_ended.specs.Tells.{tells_of}
 use Rattle.wm_session.specs.Ended.{IsSerialEnd}
-use Rattle.wm_session.specs.Tells.{tells_of}
 use Rattle.wm_cli.proofs.program.run_loaded.Goals as goal
 
-pub returns-in-Ok : goal.returns-in-Ok
-returns-in-Ok g c =
+pub run_begun-requires-clause-set_up : goal.run_begun-requires-clause-set_up
+run_begun-requires-clause-set_up g c = λ lifetimes outlive.
     let tells = tells_of g.K.Keeper.store g.W.Sink.given g.W.Sink.faults g.B.Worker.kind_of g.B.Worker.diary_of in
-    let given = c.requires.inputs in
-    let run = g.M.Mark.inputs in
-    rw given.rows_are
-    (IsRunEnd-begun tells run c.args.crew.now.workers c.args.setup.commands c.args.setup.hands.items c.args.setup.keeper c.args.setup.sink c.run_book.result
-    c.run_book.ensures.end
-    (λ alone. subst (λ hands. IsSerialEnd tells run hands c.run_book.result) c.in-Ok.ensures.workers (c.run_book.ensures.serial alone))
-    given c.requires.instances (subst AreSound given.rows_are c.in-Ok.ensures.sound))
+    let begun = c.in-Ok.begun in
+    IsSetUp-begun tells g.M.Mark.inputs c.args.loaded c.args.commands begun.table begun.bench begun.sink c.requires.inputs c.in-Ok.ensures.begun
+    c.requires.askable c.requires.few
 
-pub returns-in-Err : goal.returns-in-Err
-returns-in-Err g c =
+pub returns-in-Ok-clause-begun : goal.returns-in-Ok-clause-begun
+returns-in-Ok-clause-begun g c =
     let tells = tells_of g.K.Keeper.store g.W.Sink.given g.W.Sink.faults g.B.Worker.kind_of g.B.Worker.diary_of in
-    let rows = c.args.setup.rows.items in
-    IsRunEnd-threads tells c.args.crew.now.workers c.args.setup.commands c.args.setup.hands.items (tells.store c.args.setup.keeper).name (Some rows) (Some rows)
-    c.args.setup.keeper c.args.setup.sink c.in-Err.ended c.in-Err.ensures.ended
+    let inputs = c.requires.inputs in
+    let begun = c.in-Ok.ensures.begun in
+    let run = g.M.Mark.inputs in
+    rw inputs.given.rows_are
+    (IsRunEnd-begun tells run c.args.crew.now.workers c.args.loaded c.args.commands c.run_begun.result c.run_begun.ensures.end
+    (λ alone. subst (λ hands. IsSerialEnd tells run hands c.run_begun.result) begun.workers (c.run_begun.ensures.serial alone))
+    inputs c.requires.may begun.begun.sound)

@@ -1,6 +1,6 @@
 -- The asks are those of the script, and the limit that what was read passes is the script's.
 use Rattle.std.proofs.Common.{◌≡◌, Some, None, rules}
-use Rattle.wm_cli.proofs.ScriptLimits.{read_whole, same_limit}
+use Rattle.wm_beginning.proofs.ScriptLimits.{read_whole, same_limit}
 use Rattle.wm_script.specs.Limits.{first_limit}
 use Rattle.wm_live_program.proofs.program.asks_of.Goals as goal
 

@@ -1,8 +1,8 @@
 use Rattle.std.proofs.Common.{◌∙◌, sym, subst}
 use Rattle.wm_io.specs.Writing.{IsAppended}
-use Rattle.wm_session.proofs.Endings.{done-none, done-written}
-use Rattle.wm_session.proofs.WrittenTexts.{all-taken, part-taken}
-use Rattle.wm_session.specs.Ended.{IsPartAppended}
+use Rattle.wm_ended.proofs.Endings.{done-none, done-written}
+use Rattle.wm_ended.proofs.WrittenTexts.{all-taken, part-taken}
+use Rattle.wm_ended.specs.Ended.{IsPartAppended}
 use Rattle.wm_live_program.proofs.program.write_text.Goals as goal
 
 pub returns-clause-bytes : goal.returns-clause-bytes

@@ -1,7 +1,8 @@
 use Rattle.std.proofs.Common.{subst, sym}
 use Rattle.wm_session.proofs.Words.{AllByRecursion, AreInOrder, HasTold, IsAskable, IsBoxAfter, idle_hands}
 use Rattle.wm_session.proofs.BoxLemmas.{AtPlace-weaker, KeepBoxes-begin}
-use Rattle.wm_session.proofs.HandLemmas.{AreHandsBack-all, EachBack-all}
+use Rattle.wm_seating.proofs.Hands.{AreHandsBack-all}
+use Rattle.wm_session.proofs.HandLemmas.{EachBack-all}
 use Rattle.wm_session.proofs.SerialLemmas.{IsReady-begin, IsSerialRun-order}
 use Rattle.wm_session.proofs.serial.run_serial.Goals as goal
 

@@ -1,5 +1,5 @@
 use Rattle.wm_session.proofs.BookSteps.{IsBetweenRuns-rests}
-use Rattle.wm_session.specs.Tells.{tells_of}
+use Rattle.wm_ended.specs.Tells.{tells_of}
 use Rattle.wm_session.proofs.book.Book.drains_first.Goals as goal
 
 -- no ticket is out

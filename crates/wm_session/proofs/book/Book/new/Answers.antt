@@ -1,7 +1,7 @@
 use Rattle.std.proofs.Common.{◌∙◌, ◌<◌, ◌+◌, ◌^◌, length, sym, ap, subst, arith, ◌++◌, None, []}
 use Rattle.wm_session.proofs.Words.{AllByRecursion, AreNumberedFrom, IsAskable, PendingState, Replay, all_here, commands_of}
 use Rattle.wm_session.proofs.BookSteps.{AwayInvariant-from}
-use Rattle.wm_session.proofs.WrittenTexts.{IsGivenBut-unwritten}
+use Rattle.wm_ended.proofs.WrittenTexts.{IsGivenBut-unwritten}
 use Rattle.wm_session.proofs.book.Book.new.Goals as goal
 
 pub invariant_of-result : goal.invariant_of-result

@@ -17,6 +17,14 @@ returns-clause-bad g c =
     subst (IsBeginFault c.args.rows.items) (sym c.from-in-Err-commit.ensures)
     (refused c.args.rows.items c.in-Err-commit.trouble (rw c.deref.ensures.value at c.in-Ok.ensures.sound))
 
+pub returns-clause-at_commit : goal.returns-clause-at_commit
+returns-clause-at_commit g c = λ at. record {
+  sound = rw c.deref.ensures.value at c.in-Ok.ensures.sound;
+  first = c.in-Ok.opening.first;
+  opened = rw c.deref.ensures.value at c.in-Ok.ensures.opened;
+  others = λ same. (rw c.deref-2.ensures.value at c.in-Err-commit.ensures.some) ((rw c.deref.ensures.value at c.in-Ok.ensures.only_changed) same);
+}
+
 pub returns-clause-images_err : goal.returns-clause-images_err
 returns-clause-images_err g c =
     let store = g.K.Keeper.store in

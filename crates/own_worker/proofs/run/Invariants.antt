@@ -1,0 +1,6 @@
+use Rattle.std.proofs.Common.{◌≡◌, vec_len}
+use Rattle.own_worker.proofs.run.Given as goal
+
+-- the workers so far
+abbrev pub invariant-loop-number : goal.invariant-loop-number
+invariant-loop-number l = vec_len l.hands ≡ l.number
