@@ -9,7 +9,7 @@ use Rattle.wm_machine.proofs.Runnings.{WorksAscend}
 use Rattle.wm_machine.specs.First.{is_succeeded}
 use Rattle.wm_machine.specs.Valid.{Valid}
 use Rattle.wm_machine.specs.declared.record.Record.{Record}
-use Rattle.wm_steps.specs.Nodes.{node_of, nodes_of}
+use Rattle.wm_changes.specs.Nodes.{node_of, nodes_of}
 use Rattle.command_tests.specs.Waiting.{waiting_state, AreWaiting}
 
 pub waiting_valid : (works : List Record) (next : ℕ) → AreWaiting works → length works ≤ 100000 → length works < next → next ≤ 2 ^ 53

@@ -3,7 +3,7 @@
 ghost use Rattle.std.specs.Prelude.{◌≡◌, ◌^◌, ◌<◌, ◌≤◌, [], length, IfOk, IfSome};
 ghost use Rattle.command_tests.specs.Waiting.{waiting_state, AreWaiting, ComesAnywhere};
 ghost use Rattle.wm_machine.specs.Built.{AreAsked};
-ghost use Rattle.wm_steps.specs.Nodes.{nodes_of};
+ghost use Rattle.wm_changes.specs.Nodes.{nodes_of};
 ghost use Rattle.wm_request.specs.Requests.{IsRequest, IsShortText};
 
 use crate::checks::{MAX_WORKS, NEW, SPENT, TOO_MANY, Told, name, periodic, records, told};

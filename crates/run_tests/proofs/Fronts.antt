@@ -8,8 +8,8 @@ use Rattle.wm_session.specs.Book.{IsFronted}
 use Rattle.wm_session.specs.BookState.{BookState}
 use Rattle.wm_session.specs.declared.book.Front.{Front}
 use Rattle.wm_session.specs.declared.book.Front.TheVariants as front
-use Rattle.wm_table.specs.Parts.{ticket_part}
-use Rattle.wm_table.specs.TableState.{TicketState}
+use Rattle.wm_engine.specs.Parts.{ticket_part}
+use Rattle.wm_engine.specs.TableState.{TicketState}
 use Rattle.wm_worker.specs.declared.kind.Kind.{Kind}
 
 -- a line leaves it

@@ -36,8 +36,7 @@ struct Beside {
     after: Front,
 }
 
-/// Has a worker report that memory was refused to it, by which the session ends, or the run is over
-/// that was stopped.
+/// Has a worker report that memory was refused to it: the session ends, or a stopped run is over.
 fn stop<K: Keeper, W: Sink, B: Worker, M: Mark>(
     book: &mut Book<K, W, B, M>,
     ticket: Ticket<M>,
@@ -69,8 +68,7 @@ fn first_turn<B: Worker, M: Mark>(
     seat.turn(alloc, ticket.task(), ticket.k(), signal)
 }
 
-/// Has the worker of a run, the only one that is out, take one turn, and reports it. Where the run
-/// isn't over by that, the session ends.
+/// Has the only worker that is out take a turn, and reports it; a run that goes on ends the session.
 fn drive_once<K: Keeper, W: Sink, B: Worker, M: Mark>(
     alloc: Global,
     book: &mut Book<K, W, B, M>,
@@ -134,8 +132,7 @@ fn fronts<K: Keeper + Drop, W: Sink + Drop, B: Worker, M: Mark>(
     }
 }
 
-/// How the lines of a script, these commands, are answered over the rows that were loaded. The mark
-/// is what the run is given.
+/// How these commands, of a script, are answered over rows loaded; the mark is what the run is given.
 fn fronts_over<K: Keeper + Drop, W: Sink + Drop, B: Worker, M: Mark>(
     alloc: Global,
     loaded: Loaded<K, W, B>,

@@ -28,8 +28,7 @@ use wm_worker::Worker;
 /// What came of the calls.
 #[derive(Clone, Copy, Debug, PartialEq, Eq)]
 enum Came {
-    /// How many calls the second caller saw, the place of its own, and whether it was told of the work
-    /// with the number 1 alone.
+    /// The calls that the second caller saw, the place of its own, and whether it was told of work 1.
     Told(u64, u64, bool),
     KeeperFault,
     NoMemory,

@@ -40,8 +40,7 @@ fn enqueue_one<K: Keeper, B: Worker, M: Mark, J: DeskMark, R: Wait>(
     }
 }
 
-/// Has the callers of all passes enqueue a work each, in a thread of their own; where no thread can be
-/// made, one after another.
+/// Has the callers of all passes enqueue a work each, in threads, or else one after another.
 fn enqueue_all<
     K: Keeper + Send,
     B: Worker + Send,

@@ -113,8 +113,7 @@ fn run_with<R: Threads + Wait + Sync>(
     left_of(alloc, ended)
 }
 
-/// A run is done, had so many events, wrote this, and its one worker, of this class, comes back with
-/// this diary.
+/// A run is done, had so many events, wrote this, and has its one worker back, with this diary.
 fn expect_left(
     rt: &impl Abort,
     alloc: Global,
@@ -242,8 +241,7 @@ const COUNT_REPLIES: &str = r#"{"line":1,"ok":"enqueued","works":[1,2]}
 {"line":2,"ok":"settled"}
 "#;
 
-/// With worker threads too, a worker begins each of its runs once, before its turn 0, and takes each
-/// turn once.
+/// With worker threads too, each run begins once, before its turn 0, and takes each turn once.
 #[test]
 fn a_worker_begins_once_and_takes_each_turn_once(rt: HostRuntime) -> Result<(), Fail> {
     let alloc = rt.alloc();

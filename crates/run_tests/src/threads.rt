@@ -115,8 +115,7 @@ fn has_one_the_id(callers: &[u32], written: &[u8]) -> bool {
     }
 }
 
-/// How two callers of one id end at a gate, and whether one of both has it, by the order of the callers and
-/// what is written.
+/// How two callers of one id end at a gate, and whether one of both has it, and what is written.
 fn call_both<R: Threads + Wait + Sync>(
     rt: &R,
     alloc: Global,
@@ -137,8 +136,7 @@ fn call_both<R: Threads + Wait + Sync>(
     (status, has_one_the_id(&callers, &written))
 }
 
-/// One of both has the id, and the other one is refused. On one thread the first of them would wait in
-/// vain for the other.
+/// One of both has the id, and the other is refused. On one thread the first would wait in vain.
 #[test]
 fn two_callers_enqueue_one_id(rt: HostRuntime) -> Result<(), Fail> {
     let alloc = rt.alloc();

@@ -373,7 +373,7 @@ ready-startable s number work valid none ready =
     and_from _ _ ready.waiting
     (and_from _ _ ready.prerequisites
     (and_from _ _ (le-leb (due_of work) s.now ready.due)
-    (and_from _ _ ready.constraints (rooms-quiet s work.request.class valid none))))
+    (and_from _ _ ready.constraints (rooms-quiet s valid none work.request.class))))
 
 -- an event that isn't a line, and those after it
 silent-front : (e : Event) (events : List Event) → commands_of (e ∷ events) ≡ [] → command_in e ≡ []

@@ -8,9 +8,9 @@ use Rattle.wm_keeper.proofs.Stores.{GoesOn-loaded}
 use Rattle.wm_keeper.specs.Store.{Store, IsStoreKept, KeepsTelling}
 use Rattle.wm_keeper.specs.declared.row.Row.{Row}
 use Rattle.wm_machine.specs.declared.state.Instance.{Instance}
-use Rattle.wm_table.specs.Table.{is_at_commit, AreChangedByOpening, LeavesUnopened}
-use Rattle.wm_table.specs.declared.table.BeginFault.{BeginFault}
-use Rattle.wm_table.specs.declared.table.BeginFault.TheVariants as begin
+use Rattle.wm_engine.specs.Begins.{is_at_commit, AreChangedByOpening, LeavesUnopened}
+use Rattle.wm_engine.specs.declared.trouble.BeginFault.{BeginFault}
+use Rattle.wm_engine.specs.declared.trouble.BeginFault.TheVariants as begin
 
 -- what comes back where no opening was committed
 pub not_begun-unopened : {K W B : Type 0} (store : K → Store) (instances : List Instance) (held : Option (List Row)) (keeper kept : K) (sink : W)

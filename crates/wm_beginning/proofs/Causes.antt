@@ -14,7 +14,7 @@ use Rattle.wm_keeper.specs.declared.row.Row.{Row}
 use Rattle.wm_rows.specs.Sound.{checked, AreSound}
 use Rattle.wm_script.specs.Limits.{first_limit}
 use Rattle.wm_script.specs.declared.limits.Limit.{Limit}
-use Rattle.wm_table.specs.Table.{row_fault}
+use Rattle.wm_engine.specs.Begins.{row_fault}
 use Rattle.wm_words.specs.declared.run.Origin.TheVariants.{Script}
 
 -- ---- of a status by which a script wasn't read

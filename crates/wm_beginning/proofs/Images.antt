@@ -8,7 +8,7 @@ use Rattle.wm_ended.specs.declared.status.Status.{Status}
 use Rattle.wm_keeper.specs.Store.{Store, IsLoaded, IsStoreKept}
 use Rattle.wm_keeper.specs.declared.row.Row.{Row}
 use Rattle.wm_machine.specs.declared.state.Instance.{Instance}
-use Rattle.wm_table.specs.Images.{LeavesOnly}
+use Rattle.wm_steps.specs.Stored.{LeavesOnly}
 
 -- rows that are those held are told as these
 pub held_rows : (held : Option (List Row)) (image : List Row) → held ≡ Some image → IfSome held (λ rows. image ≡ rows)

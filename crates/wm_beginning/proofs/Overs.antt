@@ -25,7 +25,7 @@ use Rattle.wm_machine.specs.declared.state.Instance.{Instance}
 use Rattle.wm_machine.specs.declared.state.State.{State}
 use Rattle.wm_rows.specs.Sound.{AreSound}
 use Rattle.wm_seating.specs.Hands.{instances_from}
-use Rattle.wm_table.specs.Inputs.{Inputs}
+use Rattle.wm_engine.specs.Inputs.{Inputs}
 
 session_begun : (ended : Status) (began : Bool) → IsSessionStatus ended → began ≡ true → IsBegunBy ended began
 session_begun status.Done began session is = is

@@ -21,9 +21,9 @@ use Rattle.wm_keeper.specs.declared.row.Row.{Row}
 use Rattle.wm_machine.specs.declared.state.Instance.{Instance}
 use Rattle.wm_rows.specs.Sound.{checked, AreSound}
 use Rattle.wm_rows.specs.declared.fault.RowFault.{RowFault}
-use Rattle.wm_table.specs.Table.{row_fault, BeginCause, IsBeginFault}
-use Rattle.wm_table.specs.declared.table.BeginFault.{BeginFault}
-use Rattle.wm_table.specs.declared.table.BeginFault.TheVariants as begin
+use Rattle.wm_engine.specs.Begins.{row_fault, BeginCause, IsBeginFault}
+use Rattle.wm_engine.specs.declared.trouble.BeginFault.{BeginFault}
+use Rattle.wm_engine.specs.declared.trouble.BeginFault.TheVariants as begin
 
 -- ---- of a table that was begun
 

@@ -15,10 +15,10 @@ use Rattle.wm_machine.specs.declared.state.Instance.{Instance}
 use Rattle.wm_rows.specs.Sound.{AreSound}
 use Rattle.wm_seating.specs.Hands.{instances_from}
 use Rattle.wm_seating.specs.Idle.{IsIdle}
-use Rattle.wm_table.specs.Images.{LeavesOnly}
-use Rattle.wm_table.specs.Inputs.{Inputs}
-use Rattle.wm_table.specs.Table.{HoldsRowsOf}
-use Rattle.wm_table.specs.TableState.{TableState}
+use Rattle.wm_steps.specs.Stored.{LeavesOnly}
+use Rattle.wm_engine.specs.Inputs.{Inputs}
+use Rattle.wm_engine.specs.Rows.{HoldsRowsOf}
+use Rattle.wm_engine.specs.TableState.{TableState}
 use Rattle.wm_worker.specs.declared.kind.Kind.{Kind}
 
 -- what a run is given that begins where a keeper shows this, once these rows were loaded from it, with these instances and this roll, whatever

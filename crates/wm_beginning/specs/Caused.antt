@@ -15,7 +15,7 @@ use Rattle.wm_keeper.specs.declared.row.Row.{Row}
 use Rattle.wm_rows.specs.Sound.{checked, AreSound}
 use Rattle.wm_script.specs.Limits.{most_script_bytes}
 use Rattle.wm_script.specs.declared.limits.Limit.{Limit}
-use Rattle.wm_table.specs.Table.{row_fault}
+use Rattle.wm_engine.specs.Begins.{row_fault}
 
 -- the words were read to options, and the source tells a script that passes no limit, and doesn't fail
 pub record HaveScript {O : Type 0} (options : Option O) (left : Option (List ℕ)) (before now : ℕ) : Type 0 where

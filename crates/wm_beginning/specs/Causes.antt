@@ -6,7 +6,7 @@ use Rattle.wm_keeper.specs.declared.row.Row.{Row}
 use Rattle.wm_rows.specs.Sound.{checked}
 use Rattle.wm_script.specs.Limits.{first_limit}
 use Rattle.wm_script.specs.declared.limits.Limit.{Limit}
-use Rattle.wm_table.specs.Table.{row_fault}
+use Rattle.wm_engine.specs.Begins.{row_fault}
 
 -- the source tells what it has left, and this is the first limit that it passes
 abbrev pub IsToldTooLong : Limit → Option (List ℕ) → Type 0

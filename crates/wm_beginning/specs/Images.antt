@@ -3,7 +3,7 @@ use Rattle.std.specs.Prelude.{◌≡◌, ◌⊎◌, Bool, List, Option, Some, If
 use Rattle.wm_keeper.specs.Store.{Store}
 use Rattle.wm_keeper.specs.declared.row.Row.{Row}
 use Rattle.wm_machine.specs.declared.state.Instance.{Instance}
-use Rattle.wm_table.specs.Images.{WouldOpen}
+use Rattle.wm_engine.specs.Images.{WouldOpen}
 
 -- nothing is pending: a crash leaves just the rows held
 abbrev pub IsHeldAlone : Option (List Row) → Store → Type 0

@@ -11,8 +11,8 @@ use Rattle.wm_keeper.specs.Store.{Store, told_before, GoesOn, IsAtMost}
 use Rattle.wm_keeper.specs.declared.row.Row.{Row}
 use Rattle.wm_machine.specs.declared.state.Instance.{Instance}
 use Rattle.wm_seating.specs.Hands.{instances_from}
-use Rattle.wm_table.specs.Images.{WouldOpen}
-use Rattle.wm_table.specs.Table.{AreChangedByOpening}
+use Rattle.wm_engine.specs.Begins.{AreChangedByOpening}
+use Rattle.wm_engine.specs.Images.{WouldOpen}
 
 -- why no table was begun of a store that was to be opened, with the keeper's count of faults before and now; it held these rows, where they are told
 abbrev pub EarlyCause : Status → ℕ → ℕ → Option (List Row) → Type 0

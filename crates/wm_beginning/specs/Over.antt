@@ -21,8 +21,8 @@ use Rattle.wm_machine.specs.declared.event.Event.TheVariants as event
 use Rattle.wm_machine.specs.declared.state.Instance.{Instance}
 use Rattle.wm_machine.specs.declared.state.State.{State}
 use Rattle.wm_seating.specs.Hands.{instances_from, AreHandsBack}
-use Rattle.wm_table.specs.Inputs.{Inputs}
-use Rattle.wm_table.specs.Table.{HoldsRowsOf}
+use Rattle.wm_engine.specs.Inputs.{Inputs}
+use Rattle.wm_engine.specs.Rows.{HoldsRowsOf}
 use Rattle.wm_worker.specs.declared.kind.Kind.{Kind}
 
 -- the first state is the one that some rows open to with these instances, and where the rows held are told, they are these

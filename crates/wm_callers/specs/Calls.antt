@@ -6,8 +6,8 @@ use Rattle.wm_callers.specs.Places.{places_of, ArePart}
 use Rattle.wm_machine.specs.declared.command.Command.{Command}
 use Rattle.wm_callers.specs.declared.entry.Signed.{Signed}
 use Rattle.wm_callers.specs.declared.pass.Receipt.{Receipt}
-use Rattle.wm_table.specs.declared.table.Trouble.{Trouble}
-use Rattle.wm_table.specs.declared.table.Trouble.TheVariants as trouble
+use Rattle.wm_engine.specs.declared.trouble.Trouble.{Trouble}
+use Rattle.wm_engine.specs.declared.trouble.Trouble.TheVariants as trouble
 
 -- what was seen begins what is seen, which ends with this caller's number, this line, this command and this reply, at the place of the receipt
 pub record IsCalled (line : ℕ) (command : Command) (receipt : Receipt) (old new : PassState) : Type 0 where

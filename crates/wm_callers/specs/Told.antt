@@ -2,7 +2,7 @@
 use Rattle.std.specs.Prelude.{ℕ, List}
 use Rattle.wm_keeper.specs.Store.{Store}
 use Rattle.wm_machine.specs.declared.event.Event.{Event}
-use Rattle.wm_table.specs.TableState.{TableState}
+use Rattle.wm_engine.specs.TableState.{TableState}
 
 -- its log, and its keeper's count of faults
 pub record TableTold : Type 0 where

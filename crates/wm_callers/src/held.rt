@@ -39,7 +39,7 @@ impl<K: Keeper, B: Worker, M: Mark, J: DeskMark> Model for Held<K, B, M, J> {
     ghost use Rattle.wm_seating.specs.Idle.{IsIdle};
     ghost use Rattle.wm_callers.specs.Invariants.{HeldInvariant};
     ghost use Rattle.wm_callers.specs.Told.{told_of};
-    ghost use Rattle.wm_table.specs.TableState.{TableState};
+    ghost use Rattle.wm_engine.specs.TableState.{TableState};
 
     ghost Value = { TableState K };
 

@@ -20,10 +20,10 @@ use Rattle.wm_machine.specs.declared.event.Event.TheVariants as event
 use Rattle.wm_ended.specs.Ended.{IsTextWritten}
 use Rattle.wm_ended.specs.Tells.{Tells}
 use Rattle.wm_ended.specs.declared.ended.Ended.{Ended}
-use Rattle.wm_table.specs.Inputs.{Inputs}
-use Rattle.wm_table.specs.TableState.{TableState}
-use Rattle.wm_table.specs.declared.table.Trouble.{Trouble}
-use Rattle.wm_table.specs.declared.table.Trouble.TheVariants as trouble
+use Rattle.wm_engine.specs.Inputs.{Inputs}
+use Rattle.wm_engine.specs.TableState.{TableState}
+use Rattle.wm_engine.specs.declared.trouble.Trouble.{Trouble}
+use Rattle.wm_engine.specs.declared.trouble.Trouble.TheVariants as trouble
 
 -- ---- a log without commands
 

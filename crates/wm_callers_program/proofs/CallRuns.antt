@@ -35,7 +35,7 @@ use Rattle.wm_rows.specs.Sound.{AreSound}
 use Rattle.wm_script.specs.Limits.{most_script_bytes}
 use Rattle.wm_script.specs.Lines.{commands_in}
 use Rattle.wm_seating.specs.Hands.{instances_from}
-use Rattle.wm_table.specs.Inputs.{Inputs}
+use Rattle.wm_engine.specs.Inputs.{Inputs}
 use Rattle.wm_words.specs.Callers.{callers_asked, callers_options_of, CallersOptions}
 use Rattle.wm_words.specs.declared.callers.CallersOptions.{CallersOptions as ReadOptions}
 
@@ -91,82 +91,82 @@ pub callers-read : (words : List (List ℕ)) (options : ReadOptions) → Some (c
 callers-read words options are = ap (λ (asked : Option CallersOptions). option_map_or (λ (options : CallersOptions). options.callers) asked 0) (sym are)
 
 module _ {K W B S : Type 0} (tells : Tells K W B) (source : Reads S) (words : List (List ℕ)) (workers : List (Hand B)) (before now : S) (keeper : K) (sink : W)
-    where
-  -- the commands were read, and their lines called
-  pub run-called : (options : ReadOptions) (commands : List Command) (came : Result (CallersEnd K W B) (NotBegun K W B))
-      → Some (callers_asked options) ≡ callers_options_of words → AreCommandsOf (source.left before) commands
-      → IsTakenWithin (most_script_bytes + 1) (source.left before) (source.left now)
-      → IfOk came (λ end. IsCallersRunEnd tells options.callers (lines_of commands) workers (Some options.store.now)
-      (told_before (tells.store keeper).rows (tells.store end.ended.keeper).rows) (tells.store keeper).rows keeper sink end.callers.items end.ended)
-      → IfOk came (λ end. IsCallersRun tells source words workers before now keeper sink end.callers.items end.ended)
-  run-called options commands (Err back) asked read reads is = tt
-  run-called options commands (Ok end) asked read reads is =
-      let ended = end.ended in
-      let its = is.over in
-      record {
-        replay = its.replay;
-        replay_left = its.replay_left;
-        keeps_telling = its.goes_on.keeps;
-        begun = its.begun;
-        at_opening = its.at_opening;
-        not_begun_keeps = its.not_begun_keeps;
-        rows = its.rows;
-        store = λ began.
-            subst (λ (o : Option CallersOptions). IsAtMost (option_map (λ options. options.store) o) (tells.store ended.keeper).name) asked (its.store_is began);
-        script = record {
-          bytes = read.bytes;
-          told = read.told;
-          holds = rw (callers-read words options asked, ← read.holds.0) is.calls;
-        };
-        calls_first = is.calls_first;
-        bytes = its.bytes;
-        end = its.end;
-        reports = AreReportedOnce-replayed _ _ ended.began ended.first ended.log ended.last its.replay;
-        hands = its.hands_back;
-        reads = reads;
-        causes = caused-opened tells source (callers_options_of words) before now keeper sink ended.keeper ended.sink ended.status (subst IsSome asked refl)
-            (within-script (λ bytes. commands ≡ commands_in bytes) (source.left before) read) its.causes;
-        done = λ done. subst (λ s. IsBegunBy s ended.began) done its.begun;
-      }
+  where
+    -- the commands were read, and their lines called
+    pub run-called : (options : ReadOptions) (commands : List Command) (came : Result (CallersEnd K W B) (NotBegun K W B))
+        → Some (callers_asked options) ≡ callers_options_of words → AreCommandsOf (source.left before) commands
+        → IsTakenWithin (most_script_bytes + 1) (source.left before) (source.left now)
+        → IfOk came (λ end. IsCallersRunEnd tells options.callers (lines_of commands) workers (Some options.store.now)
+        (told_before (tells.store keeper).rows (tells.store end.ended.keeper).rows) (tells.store keeper).rows keeper sink end.callers.items end.ended)
+        → IfOk came (λ end. IsCallersRun tells source words workers before now keeper sink end.callers.items end.ended)
+    run-called options commands (Err back) asked read reads is = tt
+    run-called options commands (Ok end) asked read reads is =
+        let ended = end.ended in
+        let its = is.over in
+        record {
+          replay = its.replay;
+          replay_left = its.replay_left;
+          keeps_telling = its.goes_on.keeps;
+          begun = its.begun;
+          at_opening = its.at_opening;
+          not_begun_keeps = its.not_begun_keeps;
+          rows = its.rows;
+          store = λ began.
+              subst (λ (o : Option CallersOptions). IsAtMost (option_map (λ options. options.store) o) (tells.store ended.keeper).name) asked (its.store_is began);
+          script = record {
+            bytes = read.bytes;
+            told = read.told;
+            holds = rw (callers-read words options asked, ← read.holds.0) is.calls;
+          };
+          calls_first = is.calls_first;
+          bytes = its.bytes;
+          end = its.end;
+          reports = AreReportedOnce-replayed _ _ ended.began ended.first ended.log ended.last its.replay;
+          hands = its.hands_back;
+          reads = reads;
+          causes = caused-opened tells source (callers_options_of words) before now keeper sink ended.keeper ended.sink ended.status (subst IsSome asked refl)
+              (within-script (λ bytes. commands ≡ commands_in bytes) (source.left before) read) its.causes;
+          done = λ done. subst (λ s. IsBegunBy s ended.began) done its.begun;
+        }
 
-  -- and none was
-  pub run-uncalled : (commands : List Command) (came : Result (CallersEnd K W B) (NotBegun K W B)) → IsSome (callers_options_of words)
-      → AreCommandsOf (source.left before) commands → IsTakenWithin (most_script_bytes + 1) (source.left before) (source.left now)
-      → IfErr came (λ back. IsNotBegun tells.store (instances_from tells.kind_of 0 workers) workers
-      (told_before (tells.store keeper).rows (tells.store back.keeper).rows) keeper sink back)
-      → IfErr came (BeganNothing tells source (callers_options_of words) workers before now keeper sink)
-  run-uncalled commands (Ok end) right read reads is = tt
-  run-uncalled commands (Err back) right read reads is =
-      nothing-opened tells source (callers_options_of words) before keeper sink now workers back right
-      (within-script (λ bytes. commands ≡ commands_in bytes) (source.left before) read) reads is
+    -- and none was
+    pub run-uncalled : (commands : List Command) (came : Result (CallersEnd K W B) (NotBegun K W B)) → IsSome (callers_options_of words)
+        → AreCommandsOf (source.left before) commands → IsTakenWithin (most_script_bytes + 1) (source.left before) (source.left now)
+        → IfErr came (λ back. IsNotBegun tells.store (instances_from tells.kind_of 0 workers) workers
+        (told_before (tells.store keeper).rows (tells.store back.keeper).rows) keeper sink back)
+        → IfErr came (BeganNothing tells source (callers_options_of words) workers before now keeper sink)
+    run-uncalled commands (Ok end) right read reads is = tt
+    run-uncalled commands (Err back) right read reads is =
+        nothing-opened tells source (callers_options_of words) before keeper sink now workers back right
+        (within-script (λ bytes. commands ≡ commands_in bytes) (source.left before) read) reads is
 
-  -- a run whose table wasn't begun
-  pub run-nothing : (back : NotBegun K W B) (ended : Ended K W B) (numbers : List ℕ)
-      → BeganNothing tells source (callers_options_of words) workers before now keeper sink back
-      → IsUnbegun back.status back.at_opening back.keeper back.sink back.hands ended → numbers ≡ []
-      → IsCallersRun tells source words workers before now keeper sink numbers ended
-  run-nothing back ended numbers is at nobody =
-      let nothing : HasNotBegun ended.first ended.log ended.last = record { first_is = at.first; last_is = at.last; no_event = at.log } in
-      let sink_is : ended.sink ≡ sink = at.sink_is ∙ is.untouched.sink_is in
-      let early : ended.status ≡ status.Done → ⊥ = λ done. subst IsNotBegunStatus (sym at.status_is ∙ done) is.status_is in
-      record {
-        replay = rw at.began nothing;
-        replay_left = λ image left. rw at.began nothing;
-        keeps_telling = rw at.keeper_is is.keeps_telling;
-        begun = rw at.status_is (nothing-begun back.status ended.began is.status_is at.began);
-        at_opening = rw (at.began, at.opening, at.status_is, at.keeper_is) is.untouched.at_opening;
-        not_begun_keeps = λ began. sink_is;
-        rows = rw (at.began, at.keeper_is) is.untouched.rows;
-        store = λ began. let clash : true ≡ false = sym began ∙ at.began in absurd (cc);
-        script = ForScript-any (source.left before) (λ bytes. AreCallsOf (callers_of words) (lines_of (commands_in bytes)) ended.status ended.log numbers)
-            (λ bytes. no-calls (callers_of words) (lines_of (commands_in bytes)) ended.status ended.log numbers at.log nobody early);
-        calls_first = none-first ended.log at.log;
-        bytes = IsTextWritten-nothing (tells.given sink) (tells.given ended.sink) ended.status ended.first ended.log (ap tells.given sink_is) at.log;
-        end = λ done. absurd (early done);
-        reports = AreReportedOnce-nothing ended.first ended.log ended.last at.log;
-        hands = subst (λ began. AreHandsOf tells.kind_of began ended.last workers ended.hands.items) (sym at.began)
-            (ap (λ v. v.items) at.hands_are ∙ is.untouched.hands_back);
-        reads = is.reads;
-        causes = rw (at.status_is, at.keeper_is, at.sink_is) is.causes;
-        done = λ done. absurd (early done);
-      }
+    -- a run whose table wasn't begun
+    pub run-nothing : (back : NotBegun K W B) (ended : Ended K W B) (numbers : List ℕ)
+        → BeganNothing tells source (callers_options_of words) workers before now keeper sink back
+        → IsUnbegun back.status back.at_opening back.keeper back.sink back.hands ended → numbers ≡ []
+        → IsCallersRun tells source words workers before now keeper sink numbers ended
+    run-nothing back ended numbers is at nobody =
+        let nothing : HasNotBegun ended.first ended.log ended.last = record { first_is = at.first; last_is = at.last; no_event = at.log } in
+        let sink_is : ended.sink ≡ sink = at.sink_is ∙ is.untouched.sink_is in
+        let early : ended.status ≡ status.Done → ⊥ = λ done. subst IsNotBegunStatus (sym at.status_is ∙ done) is.status_is in
+        record {
+          replay = rw at.began nothing;
+          replay_left = λ image left. rw at.began nothing;
+          keeps_telling = rw at.keeper_is is.keeps_telling;
+          begun = rw at.status_is (nothing-begun back.status ended.began is.status_is at.began);
+          at_opening = rw (at.began, at.opening, at.status_is, at.keeper_is) is.untouched.at_opening;
+          not_begun_keeps = λ began. sink_is;
+          rows = rw (at.began, at.keeper_is) is.untouched.rows;
+          store = λ began. let clash : true ≡ false = sym began ∙ at.began in absurd (cc);
+          script = ForScript-any (source.left before) (λ bytes. AreCallsOf (callers_of words) (lines_of (commands_in bytes)) ended.status ended.log numbers)
+              (λ bytes. no-calls (callers_of words) (lines_of (commands_in bytes)) ended.status ended.log numbers at.log nobody early);
+          calls_first = none-first ended.log at.log;
+          bytes = IsTextWritten-nothing (tells.given sink) (tells.given ended.sink) ended.status ended.first ended.log (ap tells.given sink_is) at.log;
+          end = λ done. absurd (early done);
+          reports = AreReportedOnce-nothing ended.first ended.log ended.last at.log;
+          hands = subst (λ began. AreHandsOf tells.kind_of began ended.last workers ended.hands.items) (sym at.began)
+              (ap (λ v. v.items) at.hands_are ∙ is.untouched.hands_back);
+          reads = is.reads;
+          causes = rw (at.status_is, at.keeper_is, at.sink_is) is.causes;
+          done = λ done. absurd (early done);
+        }

@@ -20,7 +20,7 @@ use Rattle.wm_callers_program.specs.Lines.{caller_of, lines_for, numbers_from, A
 use Rattle.wm_callers_program.specs.Made.{entries_by, line_of, made_by}
 use Rattle.wm_machine.specs.declared.event.Event.{Event}
 use Rattle.wm_machine.specs.declared.event.Event.TheVariants as event
-use Rattle.wm_table.specs.declared.table.Trouble.{Trouble}
+use Rattle.wm_engine.specs.declared.trouble.Trouble.{Trouble}
 
 -- ---- numbers
 

@@ -10,8 +10,8 @@ use Rattle.wm_callers_program.specs.Calls.{worse, HaveCalled}
 use Rattle.wm_callers_program.specs.Lines.{dealt, lines_for, numbers_from, AskedLine}
 use Rattle.wm_callers_program.specs.Serving.{HasCalled, HasCalledAll, IsServed}
 use Rattle.wm_callers_program.specs.declared.caller.Caller.{Caller}
-use Rattle.wm_table.specs.declared.table.Trouble.{Trouble}
-use Rattle.wm_table.specs.declared.table.Trouble.TheVariants.{KeeperFault, Memory}
+use Rattle.wm_engine.specs.declared.trouble.Trouble.{Trouble}
+use Rattle.wm_engine.specs.declared.trouble.Trouble.TheVariants.{KeeperFault, Memory}
 
 -- ---- lists
 

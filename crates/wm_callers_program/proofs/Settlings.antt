@@ -7,9 +7,9 @@ use Rattle.wm_keeper.specs.Store.{Store}
 use Rattle.wm_live.specs.Drained.{HasSettled, HasStopped}
 use Rattle.wm_live.specs.StandState.{StandState}
 use Rattle.wm_seating.specs.Idle.{IsIdle}
-use Rattle.wm_table.specs.Table.{TroubleCause}
-use Rattle.wm_table.specs.declared.table.Trouble.{Trouble}
-use Rattle.wm_table.specs.declared.table.Trouble.TheVariants.{KeeperFault, Memory}
+use Rattle.wm_engine.specs.Calls.{TroubleCause}
+use Rattle.wm_engine.specs.declared.trouble.Trouble.{Trouble}
+use Rattle.wm_engine.specs.declared.trouble.Trouble.TheVariants.{KeeperFault, Memory}
 use Rattle.wm_worker.specs.declared.kind.Kind.{Kind}
 
 -- a call was refused, so nothing was drained

@@ -9,8 +9,8 @@ use Rattle.wm_callers_program.specs.Serving.{HasCalled, HasCalledAll}
 use Rattle.wm_faults.specs.Faults.{Failed}
 use Rattle.wm_machine.specs.declared.event.Event.{Event}
 use Rattle.wm_machine.specs.declared.event.Event.TheVariants as event
-use Rattle.wm_table.specs.declared.table.Trouble.{Trouble}
-use Rattle.wm_table.specs.declared.table.Trouble.TheVariants.{KeeperFault, Memory}
+use Rattle.wm_engine.specs.declared.trouble.Trouble.{Trouble}
+use Rattle.wm_engine.specs.declared.trouble.Trouble.TheVariants.{KeeperFault, Memory}
 
 -- ---- a log
 

@@ -7,8 +7,8 @@ use Rattle.wm_live.specs.StandState.{StandState}
 use Rattle.wm_machine.specs.Log.{commands_of}
 use Rattle.wm_machine.specs.Quiet.{IsQuiet}
 use Rattle.wm_machine.specs.declared.event.Event.{Event}
-use Rattle.wm_table.specs.declared.table.Trouble.{Trouble}
-use Rattle.wm_table.specs.declared.table.Trouble.TheVariants.{KeeperFault}
+use Rattle.wm_engine.specs.declared.trouble.Trouble.{Trouble}
+use Rattle.wm_engine.specs.declared.trouble.Trouble.TheVariants.{KeeperFault}
 use Rattle.wm_worker.specs.declared.kind.Kind.{Kind}
 
 -- the log has gone on by events without a line, no ticket is out, and the workers are back

@@ -13,7 +13,7 @@ use Rattle.wm_ended.specs.Tells.{Tells}
 use Rattle.wm_ended.specs.declared.ended.Ended.{Ended}
 use Rattle.wm_ended.specs.declared.status.Status.{Status}
 use Rattle.wm_ended.specs.declared.status.Status.TheVariants as status
-use Rattle.wm_table.specs.Inputs.{Inputs}
+use Rattle.wm_engine.specs.Inputs.{Inputs}
 
 -- all calls of callers come before the first work starts, or can't start
 pub record CallsComeFirst (log : List Event) : Type 0 where

@@ -9,11 +9,11 @@ use Rattle.wm_ended.specs.Ended.{IsSessionStatus, IsTextWritten}
 use Rattle.wm_ended.specs.Tells.{Tells}
 use Rattle.wm_ended.specs.declared.ended.Ended.{Ended}
 use Rattle.wm_ended.specs.declared.status.Status.TheVariants as status
-use Rattle.wm_table.specs.Inputs.{Inputs}
-use Rattle.wm_table.specs.Table.{HoldsRowsOf}
-use Rattle.wm_table.specs.TableState.{TableState}
-use Rattle.wm_table.specs.declared.table.Trouble.{Trouble}
-use Rattle.wm_table.specs.declared.table.Trouble.TheVariants as trouble
+use Rattle.wm_engine.specs.Inputs.{Inputs}
+use Rattle.wm_engine.specs.Rows.{HoldsRowsOf}
+use Rattle.wm_engine.specs.TableState.{TableState}
+use Rattle.wm_engine.specs.declared.trouble.Trouble.{Trouble}
+use Rattle.wm_engine.specs.declared.trouble.Trouble.TheVariants as trouble
 
 -- What a table hands back that is over, of what its run was given: its states and its log, which replays, with the rows kept; the text of the log was
 -- written; the workers whose class wasn't retired come back. Each status has its cause: something was refused, or the sink failed.

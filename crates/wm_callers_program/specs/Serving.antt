@@ -7,7 +7,7 @@ use Rattle.wm_callers.specs.Places.{places_of, ArePart}
 use Rattle.wm_callers_program.specs.Lines.{lines_for, AskedLine}
 use Rattle.wm_callers_program.specs.Made.{lines_by}
 use Rattle.wm_callers_program.specs.declared.caller.Caller.{Caller}
-use Rattle.wm_table.specs.declared.table.Trouble.TheVariants.{KeeperFault}
+use Rattle.wm_engine.specs.declared.trouble.Trouble.TheVariants.{KeeperFault}
 
 -- the places of a pass are some of those of its number in what it has seen
 abbrev pub HasOwnPlaces : PassState → Type 0

@@ -10,7 +10,7 @@ use Rattle.wm_session.specs.declared.book.After.{After}
 use Rattle.wm_session.specs.declared.book.After.TheVariants as after
 use Rattle.wm_session.specs.declared.book.Front.{Front}
 use Rattle.wm_session.specs.declared.book.Front.TheVariants as front
-use Rattle.wm_table.specs.TableState.{TicketState}
+use Rattle.wm_engine.specs.TableState.{TicketState}
 use Rattle.wm_worker.specs.Told.{Report}
 use Rattle.wm_worker.specs.declared.kind.Kind.{Kind}
 

@@ -20,8 +20,8 @@ use Rattle.wm_machine.specs.declared.event.Event.{Event}
 use Rattle.wm_machine.specs.declared.state.Instance.{Instance}
 use Rattle.wm_machine.specs.declared.state.State.{State}
 use Rattle.wm_session.specs.Ended.{HasCommands, IsSerialRun}
-use Rattle.wm_table.specs.Inputs.{Inputs}
-use Rattle.wm_table.specs.TableState.{TableState}
+use Rattle.wm_engine.specs.Inputs.{Inputs}
+use Rattle.wm_engine.specs.TableState.{TableState}
 
 -- no event is a front of any commands
 pub HasCommands-nothing : (commands : List Command) (ended : Status) (log : List Event) → log ≡ [] → (ended ≡ status.Done → [] ≡ commands)

@@ -33,8 +33,8 @@ use Rattle.wm_seating.proofs.Hands.{AreHandsBack-opened}
 use Rattle.wm_seating.specs.Hands.{instances_from}
 use Rattle.wm_session.specs.Ended.{HasCommands, IsBookEnd, IsSerialEnd, IsSerialRun}
 use Rattle.wm_session.specs.Images.{EndImages}
-use Rattle.wm_table.specs.Inputs.{Inputs}
-use Rattle.wm_table.specs.TableState.{TableState}
+use Rattle.wm_engine.specs.Inputs.{Inputs}
+use Rattle.wm_engine.specs.TableState.{TableState}
 
 -- ---- a run that ended at once
 

@@ -16,8 +16,8 @@ use Rattle.wm_machine.specs.declared.event.Event.{Event}
 use Rattle.wm_machine.specs.declared.state.State.{State}
 use Rattle.wm_seating.specs.Hands.{instances_from}
 use Rattle.wm_session.specs.Ended.{AreBoxesBack, HasCommands, HaveTold, IsBookEnd, IsSerialEnd, IsSerialRun}
-use Rattle.wm_table.specs.Inputs.{Inputs}
-use Rattle.wm_table.specs.TableState.{TableState}
+use Rattle.wm_engine.specs.Inputs.{Inputs}
+use Rattle.wm_engine.specs.TableState.{TableState}
 use Rattle.wm_words.specs.Run.{options_of, AskForNoThreads}
 use Rattle.wm_worker.specs.declared.answer.Entry.{Entry}
 

@@ -19,7 +19,7 @@ use Rattle.wm_rows.specs.Sound.{checked, AreSound}
 use Rattle.wm_script.specs.Limits.{most_script_bytes}
 use Rattle.wm_script.specs.declared.limits.Limit.{Limit}
 use Rattle.wm_seating.specs.Hands.{instances_from}
-use Rattle.wm_table.specs.Table.{row_fault}
+use Rattle.wm_engine.specs.Begins.{row_fault}
 use Rattle.wm_words.specs.Run.{options_of, origin_of, AskForNoThreads, AskForScript}
 use Rattle.wm_words.specs.declared.run.Origin.TheVariants as origin
 

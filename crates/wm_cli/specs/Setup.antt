@@ -6,8 +6,8 @@ use Rattle.wm_bench.specs.declared.place.Place.{Place}
 use Rattle.wm_ended.specs.Tells.{Tells}
 use Rattle.wm_machine.specs.Outcome.{IsAskable}
 use Rattle.wm_machine.specs.declared.command.Command.{Command}
-use Rattle.wm_table.specs.Inputs.{Inputs}
-use Rattle.wm_table.specs.TableState.{TableState}
+use Rattle.wm_engine.specs.Inputs.{Inputs}
+use Rattle.wm_engine.specs.TableState.{TableState}
 
 -- the run's lines are these commands, each of which may come, the table has just begun of what the run was given, beside the bench of its workers, and
 -- the sink is the run's

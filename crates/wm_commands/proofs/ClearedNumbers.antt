@@ -24,10 +24,10 @@ use Rattle.wm_machine.specs.declared.record.Record.{Record}
 use Rattle.wm_steps.proofs.ByNumbers.{replacements-numbered, ChangesAmong}
 use Rattle.wm_graph.proofs.ListedNumbers.{rising-ascend}
 use Rattle.wm_steps.proofs.Tests.{among-kept}
-use Rattle.wm_steps.specs.Nodes.{is_there, node_of, nodes_of}
+use Rattle.wm_changes.specs.Nodes.{is_there, node_of, nodes_of}
 use Rattle.wm_graph.specs.Numbers.{Ascend}
-use Rattle.wm_steps.specs.Replacements.{by_numbers, replacement_of}
-use Rattle.wm_steps.specs.declared.change.Replacement.{Replacement}
+use Rattle.wm_changes.specs.Replacements.{by_numbers, replacement_of}
+use Rattle.wm_changes.specs.declared.change.Replacement.{Replacement}
 use Rattle.wm_unique.proofs.Numbered.{any_numbered, filter_both, filter_numbered, grouped_filter, numbers_filter}
 use Rattle.wm_unique.specs.Plans.{numbered_passes, AreNumbersOf}
 

@@ -30,11 +30,11 @@ use Rattle.wm_machine.specs.declared.record.How.TheVariants as how
 use Rattle.wm_steps.proofs.ManyRows.{after_change, replaced-apart, replaced-keep, unsucceeding-freeing}
 use Rattle.wm_steps.proofs.Nodes.{HasOne-number}
 use Rattle.wm_steps.proofs.Unsucceeding.{Unsucceeding}
-use Rattle.wm_steps.specs.Replacements.{at_index, or_same, replacements}
-use Rattle.wm_steps.specs.StepChanges.{changed_state, instances_by, next_run_by, placing, put_replaced, put_work, remove_numbered, runs_by, HaveNextNumbers, IsStepOf, NameEarlier}
-use Rattle.wm_steps.specs.declared.change.Replacement.{Replacement}
-use Rattle.wm_steps.specs.declared.change.RunChange.{RunChange}
-use Rattle.wm_steps.specs.declared.change.RunChange.TheVariants.{Stop, Unchanged}
+use Rattle.wm_changes.specs.Replacements.{at_index, or_same, replacements}
+use Rattle.wm_changes.specs.StepChanges.{changed_state, instances_by, next_run_by, placing, put_replaced, put_work, remove_numbered, runs_by, HaveNextNumbers, IsStepOf, NameEarlier}
+use Rattle.wm_changes.specs.declared.change.Replacement.{Replacement}
+use Rattle.wm_changes.specs.declared.change.RunChange.{RunChange}
+use Rattle.wm_changes.specs.declared.change.RunChange.TheVariants.{Stop, Unchanged}
 
 -- ---- what holds of those that are replaced
 

@@ -9,7 +9,7 @@ use Rattle.wm_commands.specs.Cleared.{becomes_cancelled, cancelled_in, cancellin
 use Rattle.wm_commands.specs.declared.clearing.Clearing.{Clearing}
 use Rattle.wm_machine.proofs.Closings.{not_run_reached}
 use Rattle.wm_machine.proofs.Groups.{closed_by, is_any_run_reached, works_closed-is}
-use Rattle.wm_collections.proofs.Lists.{All-any, All-stored, All-weaker, filter-all, filter-none, filter-same, list_any-agree, list_any-false, list_any-stored, list_any_after, map-same, one_gives}
+use Rattle.wm_collections.proofs.Lists.{All-any, All-stored, All-weaker, filter-none, filter-same, list_any-agree, list_any-false, list_any-stored, list_any_after, map-same, one_gives}
 use Rattle.wm_graph.specs.Descendants.{descendants}
 use Rattle.wm_graph.specs.Nodes.{NodeFields}
 use Rattle.wm_machine.proofs.Runnings.{IsAlone, IsAlone-stored, WorksAscend-in_order}
@@ -29,12 +29,12 @@ use Rattle.wm_machine.specs.declared.state.State.{State}
 use Rattle.wm_steps.proofs.ManyRows.{after_change, replaced-all, KeepNodes}
 use Rattle.wm_steps.proofs.Nodes.{open_not_succeeded}
 use Rattle.wm_steps.proofs.ReachedNodes.{reached_any-test}
-use Rattle.wm_graph.proofs.Tests.{eq-swap}
-use Rattle.wm_steps.specs.Nodes.{nodes_of, reached_from}
-use Rattle.wm_steps.specs.Replacements.{MayReplace}
-use Rattle.wm_steps.specs.Replacements.{at_index, or_same, replacements}
-use Rattle.wm_steps.specs.StepChanges.{other_works, with_replaced, without}
-use Rattle.wm_unique.proofs.Numbered.{among_filter, filter_both}
+use Rattle.wm_changes.proofs.RemovedWorks.{without-kept}
+use Rattle.wm_changes.specs.Nodes.{nodes_of, reached_from}
+use Rattle.wm_changes.specs.Replacements.{MayReplace}
+use Rattle.wm_changes.specs.Replacements.{at_index, or_same, replacements}
+use Rattle.wm_changes.specs.StepChanges.{with_replaced, without}
+use Rattle.wm_unique.proofs.Numbered.{among_filter}
 
 -- ---- what any of several works reaches
 
@@ -275,24 +275,12 @@ kept-cleared clearing work kept =
     ∙ cond_both changes (Some (cleared clearing work)) None (λ (o : Option Record). or_same work o ≡ cleared clearing work)
     (λ e. refl) (λ e. untouched-same clearing work e)
 
-not-or : (a b : Bool) → (not a && not b) ≡ not (a || b)
-not-or true b = refl
-not-or false b = refl
-
--- records without those of these numbers, one number after another
-pub without-stays : (numbers : List ℕ) (works : List Record) → without numbers works ≡ filter (stays numbers) works
-without-stays [] works = sym (filter-all (stays []) works (λ work. refl))
-without-stays (number ∷ numbers) works =
-    without-stays numbers (other_works number works) ∙ filter_both (λ work. not (eqb work.seq number)) (stays numbers) works
-    ∙ filter-same (λ work. not (eqb work.seq number) && stays numbers work) (stays (number ∷ numbers)) works (All-any works
-    (λ work. ap (λ b. not b && stays numbers work) (eq-swap work.seq number) ∙ not-or (eqb number work.seq) (is_among numbers work.seq)))
-
 -- the records that take the place of others and the numbers of those that are removed make it so
 pub cleared-in_place : (clearing : Clearing) (works : List Record)
     → without clearing.removed (with_replaced (replaced_by_clearing clearing works) works) ≡ with_cleared clearing works
 cleared-in_place clearing works =
     let change = after_change (cleared_by clearing) in
-    ap (without clearing.removed) (replaced-all (cleared_by clearing) works) ∙ without-stays clearing.removed (map change works)
+    ap (without clearing.removed) (replaced-all (cleared_by clearing) works) ∙ without-kept clearing.removed (map change works)
     ∙ filter-map (stays clearing.removed) change works ∙ ap (map change)
     (filter-same (λ work. stays clearing.removed (change work)) (stays clearing.removed) works (All-any works
     (λ work. ap (λ number. not (is_among clearing.removed number)) (clearing-node clearing work).seq)))

@@ -28,9 +28,9 @@ use Rattle.wm_machine.specs.declared.command.Command.TheVariants as command
 use Rattle.wm_machine.specs.declared.event.Event.TheVariants as event
 use Rattle.wm_machine.specs.declared.reply.Reply.TheVariants as reply
 use Rattle.wm_request.specs.declared.request.Batch.{Batch}
-use Rattle.wm_steps.specs.Nodes.{is_there}
-use Rattle.wm_steps.specs.StepChanges.{placing, seqs_of, HaveNextNumbers, NameEarlier}
-use Rattle.wm_steps.specs.declared.change.RunChange.TheVariants.{Stop}
+use Rattle.wm_changes.specs.Nodes.{is_there}
+use Rattle.wm_changes.specs.StepChanges.{placing, seqs_of, HaveNextNumbers, NameEarlier}
+use Rattle.wm_changes.specs.declared.change.RunChange.TheVariants.{Stop}
 
 -- ---- rows
 

@@ -31,7 +31,7 @@ use Rattle.wm_request.specs.Batches.{is_periodic}
 use Rattle.wm_request.specs.Requests.{IsRequest, RequestFields}
 use Rattle.wm_request.specs.declared.request.Batch.{Batch}
 use Rattle.wm_unique.proofs.Numbered.{numbered_found}
-use Rattle.wm_steps.specs.declared.change.StepChange.{StepChange}
+use Rattle.wm_changes.specs.declared.change.StepChange.{StepChange}
 use Rattle.wm_unique.specs.Plans.{plan_fields, refused_kind}
 
 -- ---- what is planned

@@ -21,7 +21,7 @@ use Rattle.wm_request.specs.declared.request.Node.{Node}
 use Rattle.wm_machine.specs.declared.command.Policy.TheVariants as policy
 use Rattle.wm_machine.specs.declared.reply.Refusal.TheVariants.{KindMismatch}
 use Rattle.wm_steps.proofs.Nodes.{there-each}
-use Rattle.wm_steps.specs.Nodes.{is_there}
+use Rattle.wm_changes.specs.Nodes.{is_there}
 use Rattle.wm_unique.proofs.Numbered.{grouped_filter, numbers_filter}
 use Rattle.wm_unique.specs.Plans.{grouped, plan_fields, refused_kind, AreNumbersOf}
 

@@ -23,8 +23,8 @@ use Rattle.wm_machine.specs.declared.state.State.{State}
 use Rattle.wm_request.specs.declared.request.Node.{Node}
 use Rattle.wm_steps.proofs.Nodes.{there-each}
 use Rattle.wm_steps.proofs.StepFits.{unplaced}
-use Rattle.wm_steps.specs.Nodes.{is_there}
-use Rattle.wm_steps.specs.StepChanges.{put_work, seqs_of, HaveNextNumbers, NameEarlier}
+use Rattle.wm_changes.specs.Nodes.{is_there}
+use Rattle.wm_changes.specs.StepChanges.{put_work, seqs_of, HaveNextNumbers, NameEarlier}
 use Rattle.wm_unique.proofs.Numbered.{filter_both}
 
 and-swap : (a b : Bool) → (a && b) ≡ (b && a)

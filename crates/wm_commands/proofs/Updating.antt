@@ -30,9 +30,9 @@ use Rattle.wm_request.specs.declared.request.NextRun.{NextRun}
 use Rattle.wm_request.specs.declared.request.NextRun.TheVariants.{Leave, At, Clear}
 use Rattle.wm_steps.proofs.Lookups.{All-at, stored-at}
 use Rattle.wm_steps.proofs.StepFits.{keeping_row-step, replacing-step}
-use Rattle.wm_steps.specs.Replacements.{MayReplace}
-use Rattle.wm_steps.specs.StepChanges.{instances_by, next_run_by, row_changes, runs_by, IsStepOf}
-use Rattle.wm_steps.specs.declared.change.StepChange.{StepChange}
+use Rattle.wm_changes.specs.Replacements.{MayReplace}
+use Rattle.wm_changes.specs.StepChanges.{instances_by, next_run_by, row_changes, runs_by, IsStepOf}
+use Rattle.wm_changes.specs.declared.change.StepChange.{StepChange}
 
 -- an updated record fits a row
 pub FitsRow-updated : (request : RequestFields) (work : Record) → IsNextRun request.period request.next → FitsRow work → FitsRow (updated request work)

@@ -10,10 +10,10 @@ use Rattle.wm_machine.specs.declared.reply.Reply.TheVariants as reply
 use Rattle.wm_request.specs.Requests.{RequestFields}
 use Rattle.wm_request.specs.declared.request.NextRun.{NextRun}
 use Rattle.wm_request.specs.declared.request.NextRun.TheVariants.{Leave}
-use Rattle.wm_steps.specs.StepChanges.{keeping_row, replacing}
-use Rattle.wm_steps.specs.declared.change.RunChange.{RunChange}
-use Rattle.wm_steps.specs.declared.change.RunChange.TheVariants as runs
-use Rattle.wm_steps.specs.declared.change.StepChange.{StepChange}
+use Rattle.wm_changes.specs.StepChanges.{keeping_row, replacing}
+use Rattle.wm_changes.specs.declared.change.RunChange.{RunChange}
+use Rattle.wm_changes.specs.declared.change.RunChange.TheVariants as runs
+use Rattle.wm_changes.specs.declared.change.StepChange.{StepChange}
 
 -- what becomes of the runs where this is asked of the next one of the work of this number: its current one is renewed, or all stay
 abbrev pub renewal : NextRun → ℕ → RunChange

@@ -12,9 +12,9 @@ use Rattle.wm_machine.specs.declared.record.Phase.TheVariants as phase
 use Rattle.wm_machine.specs.declared.record.Record.{Record}
 use Rattle.wm_machine.specs.declared.state.Run.{Run}
 use Rattle.wm_machine.specs.declared.state.State.{State}
-use Rattle.wm_steps.specs.Nodes.{nodes_of, reached_from}
-use Rattle.wm_steps.specs.Replacements.{replacements}
-use Rattle.wm_steps.specs.declared.change.Replacement.{Replacement}
+use Rattle.wm_changes.specs.Nodes.{nodes_of, reached_from}
+use Rattle.wm_changes.specs.Replacements.{replacements}
+use Rattle.wm_changes.specs.declared.change.Replacement.{Replacement}
 
 -- ---- what is cancelled
 

@@ -4,8 +4,8 @@ use Rattle.wm_conditions.specs.declared.conditions.Conditions.{Conditions}
 use Rattle.wm_machine.specs.Settings.{is_put_back_by, is_stopped_by, put_back}
 use Rattle.wm_machine.specs.declared.record.Record.{Record}
 use Rattle.wm_machine.specs.declared.state.Run.{Run}
-use Rattle.wm_steps.specs.Replacements.{replacements}
-use Rattle.wm_steps.specs.declared.change.Replacement.{Replacement}
+use Rattle.wm_changes.specs.Replacements.{replacements}
+use Rattle.wm_changes.specs.declared.change.Replacement.{Replacement}
 
 -- the numbers of the runs that such conditions stop
 abbrev pub stopped_under : Conditions → List Run → List ℕ

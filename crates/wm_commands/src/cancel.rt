@@ -9,10 +9,11 @@ ghost use Rattle.wm_machine.specs.declared.command.Target.TheVariants as target;
 use crate::clearing::{cancelling, replaced_by_clearing, stopped_by};
 use std::alloc::{AllocError, Global};
 use uuid::Uuid;
+use wm_changes::{RunChange, StepChange};
 use wm_collections::{Items, both};
 use wm_machine::{Command, Record, Refusal, Reply, Target};
 use wm_settings::{event_of, replying};
-use wm_steps::{RunChange, StepChange, View};
+use wm_steps::View;
 use wm_unique::unfinished;
 
 /// What a cancel comes to.

@@ -8,16 +8,17 @@ ghost use Rattle.std.specs.List.{list_any};
 ghost use Rattle.wm_commands.specs.Cleared.{becomes_cancelled, cancelled_in, cancelling, cleared, cleared_by, clearing_of, is_removable_then, is_needed_then, is_run_among, is_touched, phase_then, removed_by, replaced_by_clearing, stays, stopped_by};
 ghost use Rattle.wm_machine.specs.Closed.{is_open};
 ghost use Rattle.wm_machine.specs.Group.{unnamed};
-ghost use Rattle.wm_steps.specs.Nodes.{is_there};
-ghost use Rattle.wm_steps.specs.Replacements.{by_numbers, replacement_of};
+ghost use Rattle.wm_changes.specs.Nodes.{is_there};
+ghost use Rattle.wm_changes.specs.Replacements.{by_numbers, replacement_of};
 ghost use Rattle.wm_unique.specs.Plans.{numbered_passes, AreNumbersOf};
 
 use std::alloc::{AllocError, Global};
+use wm_changes::Replacement;
 use wm_collections::{Items, Replica, merged};
 use wm_graph::Numbers;
 use wm_lifecycle::closed;
 use wm_machine::{How, Phase, Record, Run};
-use wm_steps::{Replacement, View};
+use wm_steps::View;
 
 /// Which records change where works are cancelled and others are let go, by their numbers.
 #[derive(Drop)]

@@ -5,12 +5,13 @@ ghost use Rattle.wm_commands.specs.PutBack.{put_back_by, stopped_under};
 ghost use Rattle.wm_machine.specs.Settings.{is_put_back_by, is_stopped_by};
 
 use std::alloc::{AllocError, Global};
+use wm_changes::{Replacement, RunChange, SettingChange, StepChange};
 use wm_collections::{Items, both};
 use wm_conditions::{Conditions, met};
 use wm_lifecycle::stopped;
 use wm_machine::{Command, Record, Reply, Run};
 use wm_settings::event_of;
-use wm_steps::{Replacement, RunChange, SettingChange, StepChange, View};
+use wm_steps::View;
 
 /// What new conditions come to: the current runs whose constraints they don't meet are stopped, and
 /// their works wait.

@@ -10,7 +10,6 @@ ghost use Rattle.wm_settings.specs.Builds.{IsExecuted};
 ghost use Rattle.wm_machine.specs.Outcome.{IsLegalLine};
 
 mod cancel;
-mod checking;
 mod clearing;
 mod conditions;
 mod enqueue;
@@ -22,9 +21,10 @@ mod prune;
 mod update;
 
 use std::alloc::{AllocError, Global};
+use wm_changes::StepChange;
 use wm_machine::Command;
 use wm_settings::{faulty, hush, moment, observe, query, retire, settle, summary};
-use wm_steps::{StepChange, View};
+use wm_steps::View;
 
 /// What the command of a line comes to in the state of a view.
 pub fn execute(

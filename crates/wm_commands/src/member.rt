@@ -10,10 +10,11 @@ ghost use Rattle.wm_unique.specs.Plans.{plan_fields};
 
 use crate::update::update_of;
 use std::alloc::{AllocError, Global};
+use wm_changes::StepChange;
 use wm_collections::{Replica, at, both};
 use wm_machine::{Command, UniqueName};
 use wm_request::{Batch, Node, Request};
-use wm_steps::{StepChange, View};
+use wm_steps::View;
 
 /// Updates the member of this number by the first work of a batch, which is its only one.
 pub fn update_member(

@@ -13,14 +13,15 @@ ghost use Rattle.wm_machine.specs.Plan.{is_appending};
 ghost use Rattle.wm_steps.specs.Covers.{AreLast};
 ghost use Rattle.wm_unique.specs.Plans.{grouped, plan_fields, AreNumbersOf, IsPlanFault};
 
-use crate::checking::check_and_place;
+use crate::enqueue::check_and_place;
 use crate::member::update_member;
 use std::alloc::{AllocError, Global};
+use wm_changes::StepChange;
 use wm_collections::Text;
 use wm_machine::{Command, Policy, Refusal, Reply, UniqueName};
 use wm_request::Batch;
 use wm_settings::replying;
-use wm_steps::{StepChange, View};
+use wm_steps::View;
 use wm_unique::{GroupPlan, PlanFault, plan};
 
 /// What the enqueue of a batch under a unique name comes to.

@@ -5,17 +5,18 @@ ghost use Rattle.wm_settings.specs.Builds.{IsExecuted};
 ghost use Rattle.wm_commands.specs.Placed.{name_in, placement_of};
 ghost use Rattle.wm_machine.specs.Outcome.{IsLegalLine};
 ghost use Rattle.wm_machine.specs.Enqueued.{enqueued, made_ready, placing_in};
-ghost use Rattle.wm_steps.specs.Nodes.{is_there};
+ghost use Rattle.wm_changes.specs.Nodes.{is_there};
 ghost use Rattle.wm_unique.specs.Plans.{placing_by, AreNumbersOf};
 
 use crate::clearing::{clearing_of, replaced_by_clearing, stopped_by};
 use crate::placing::{placed_records, seqs_of};
 use std::alloc::{AllocError, Global};
+use wm_changes::{Replacement, RunChange, StepChange};
 use wm_collections::{Items, Replica, Text, both};
 use wm_machine::{Command, Record, Reply, UniqueName};
 use wm_request::{Batch, Node};
 use wm_settings::event_of;
-use wm_steps::{Replacement, RunChange, StepChange, View};
+use wm_steps::View;
 use wm_unique::GroupPlan;
 
 /// How a batch is placed, with its memory taken.

@@ -7,7 +7,7 @@ ghost use Rattle.wm_commands.specs.Cleared.{cleared_state, stays, with_cleared};
 ghost use Rattle.wm_commands.specs.Placed.{is_done, is_then, placed_record, placed_records, with_placed};
 ghost use Rattle.wm_machine.specs.Enqueued.{any_in, first_finished_at, first_phase, numbers_of, prior_of};
 ghost use Rattle.wm_request.specs.Requests.{of_record};
-ghost use Rattle.wm_steps.specs.StepChanges.{seqs_of};
+ghost use Rattle.wm_changes.specs.StepChanges.{seqs_of};
 
 use crate::clearing::{Clearing, phase_then, stays};
 use std::alloc::{AllocError, Global};

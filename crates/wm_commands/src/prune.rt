@@ -4,15 +4,16 @@ ghost use Rattle.std.specs.Prelude.{◌≡◌, true, filter, IfOk};
 ghost use Rattle.wm_settings.specs.Builds.{IsExecuted};
 ghost use Rattle.wm_machine.specs.Group.{numbers_in};
 ghost use Rattle.wm_machine.specs.Pruned.{is_needed, prunable, removable};
-ghost use Rattle.wm_steps.specs.Nodes.{is_there};
+ghost use Rattle.wm_changes.specs.Nodes.{is_there};
 
 use crate::clearing::is_needed_then;
 use std::alloc::{AllocError, Global};
+use wm_changes::StepChange;
 use wm_collections::{Items, both};
 use wm_graph::Numbers;
 use wm_machine::{Command, Record, Reply};
 use wm_settings::event_of;
-use wm_steps::{StepChange, View};
+use wm_steps::View;
 
 /// What a prune comes to.
 pub fn execute(alloc: Global, view: &View, line: u32, force: bool) -> Result<StepChange, AllocError>

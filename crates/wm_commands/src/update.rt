@@ -9,6 +9,7 @@ ghost use Rattle.wm_request.specs.Requests.{IsRequest};
 
 use std::alloc::{AllocError, Global};
 use uuid::Uuid;
+use wm_changes::{RunChange, StepChange};
 use wm_collections::{both, copied};
 use wm_lifecycle::updated;
 use wm_machine::{Applied, Command, Event, Phase, Record, Refusal, Reply};
@@ -16,7 +17,7 @@ use wm_request::{NextRun, Request};
 use wm_rows::have_one_row;
 use wm_schedule::Period;
 use wm_settings::{event_of, replying};
-use wm_steps::{RunChange, StepChange, View};
+use wm_steps::View;
 
 /// What an update comes to.
 pub fn execute(

@@ -7,8 +7,8 @@ use Rattle.wm_faults.specs.Faults.{Failed}
 use Rattle.wm_io.specs.Writing.{WriteCause}
 use Rattle.wm_io.specs.declared.writing.WriteFault.{WriteFault}
 use Rattle.wm_io.specs.declared.writing.WriteFault.TheVariants as fault
-use Rattle.wm_table.specs.declared.table.Trouble.{Trouble}
-use Rattle.wm_table.specs.declared.table.Trouble.TheVariants as trouble
+use Rattle.wm_engine.specs.declared.trouble.Trouble.{Trouble}
+use Rattle.wm_engine.specs.declared.trouble.Trouble.TheVariants as trouble
 
 -- it is done only where no trouble was met, and all was written
 pub done-none : (met : Option Trouble) (written : Result (Unit {0}) WriteFault) → ended_by met written ≡ status.Done → met ≡ None

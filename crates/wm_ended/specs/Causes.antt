@@ -6,10 +6,10 @@ use Rattle.wm_io.specs.declared.writing.WriteFault.{WriteFault}
 use Rattle.wm_io.specs.declared.writing.WriteFault.TheVariants as fault
 use Rattle.wm_keeper.specs.declared.keeper.KeepFault.{KeepFault}
 use Rattle.wm_keeper.specs.declared.keeper.KeepFault.TheVariants as keep
-use Rattle.wm_table.specs.declared.table.BeginFault.{BeginFault}
-use Rattle.wm_table.specs.declared.table.BeginFault.TheVariants as begin
-use Rattle.wm_table.specs.declared.table.Trouble.{Trouble}
-use Rattle.wm_table.specs.declared.table.Trouble.TheVariants as trouble
+use Rattle.wm_engine.specs.declared.trouble.BeginFault.{BeginFault}
+use Rattle.wm_engine.specs.declared.trouble.BeginFault.TheVariants as begin
+use Rattle.wm_engine.specs.declared.trouble.Trouble.{Trouble}
+use Rattle.wm_engine.specs.declared.trouble.Trouble.TheVariants as trouble
 
 abbrev pub status_by_begin : BeginFault → Status
 status_by_begin (begin.Bad seq bad_row) = status.BadStore seq bad_row

@@ -19,9 +19,9 @@ use Rattle.wm_machine.specs.declared.state.State.{State}
 use Rattle.wm_seating.proofs.IdleTables.{idle-called}
 use Rattle.wm_seating.specs.Bench.{places_after}
 use Rattle.wm_seating.specs.Idle.{IsIdle}
-use Rattle.wm_table.specs.Table.{IsOneStep, IsUntouched}
-use Rattle.wm_table.specs.TableState.{TableState}
-use Rattle.wm_table.specs.declared.table.Trouble.{Trouble}
+use Rattle.wm_engine.specs.Calls.{IsOneStep, IsUntouched}
+use Rattle.wm_engine.specs.TableState.{TableState}
+use Rattle.wm_engine.specs.declared.trouble.Trouble.{Trouble}
 use Rattle.wm_texts.specs.Texts.{event_text, last_text, log_text}
 use Rattle.wm_worker.specs.declared.kind.Kind.{Kind}
 

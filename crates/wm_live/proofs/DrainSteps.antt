@@ -15,9 +15,9 @@ use Rattle.wm_machine.specs.Serial.{IsInTurn}
 use Rattle.wm_machine.specs.Step.{after}
 use Rattle.wm_machine.specs.declared.event.Event.{Event}
 use Rattle.wm_machine.specs.declared.state.State.{State}
-use Rattle.wm_table.specs.Table.{IsOneStep, IsUntouched}
-use Rattle.wm_table.specs.declared.table.Trouble.{Trouble}
-use Rattle.wm_table.specs.declared.table.Trouble.TheVariants.{Memory}
+use Rattle.wm_engine.specs.Calls.{IsOneStep, IsUntouched}
+use Rattle.wm_engine.specs.declared.trouble.Trouble.{Trouble}
+use Rattle.wm_engine.specs.declared.trouble.Trouble.TheVariants.{Memory}
 use Rattle.wm_texts.specs.Texts.{event_text, last_text, log_text}
 use Rattle.wm_worker.specs.declared.kind.Kind.{Kind}
 

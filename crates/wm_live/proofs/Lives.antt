@@ -23,8 +23,8 @@ use Rattle.wm_machine.specs.declared.event.Event.{Event}
 use Rattle.wm_machine.specs.declared.event.Event.TheVariants as event
 use Rattle.wm_machine.specs.declared.reply.Reply.{Reply}
 use Rattle.wm_machine.specs.declared.state.State.{State}
-use Rattle.wm_table.specs.TableState.{TableState}
-use Rattle.wm_table.specs.declared.table.Trouble.{Trouble}
+use Rattle.wm_engine.specs.TableState.{TableState}
+use Rattle.wm_engine.specs.declared.trouble.Trouble.{Trouble}
 use Rattle.wm_texts.specs.Texts.{log_text}
 use Rattle.wm_worker.specs.declared.kind.Kind.{Kind}
 

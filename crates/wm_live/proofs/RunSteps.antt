@@ -26,11 +26,11 @@ use Rattle.wm_seating.proofs.Seats.{ticket_kind}
 use Rattle.wm_seating.proofs.Turnings.{Replay-step, alone-turned, alone_out-turned, current-turned, few-turned, next_turn, only-begun, runs-ended}
 use Rattle.wm_seating.specs.Bench.{instance_traits, place_traits, NoneAway}
 use Rattle.wm_seating.specs.Idle.{IsIdle}
-use Rattle.wm_table.proofs.NoLines.{framed_end}
-use Rattle.wm_table.specs.Parts.{ticket_part}
-use Rattle.wm_table.specs.Rolls.{given_again}
-use Rattle.wm_table.specs.Table.{HasGoneOn, IsOneStep, IsTicketIn}
-use Rattle.wm_table.specs.TableState.{TableState, TicketState}
+use Rattle.wm_engine.proofs.NoLines.{framed_end}
+use Rattle.wm_engine.specs.Parts.{ticket_part}
+use Rattle.wm_engine.specs.Rolls.{given_again}
+use Rattle.wm_engine.specs.Calls.{HasGoneOn, IsOneStep, IsTicketIn}
+use Rattle.wm_engine.specs.TableState.{TableState, TicketState}
 use Rattle.wm_worker.specs.Told.{Report}
 use Rattle.wm_worker.specs.declared.kind.Kind.{Kind}
 

@@ -31,16 +31,16 @@ use Rattle.wm_seating.proofs.PlacesChanged.{IsTaken}
 use Rattle.wm_seating.proofs.Seats.{taken_again}
 use Rattle.wm_seating.proofs.Turnings.{next_turn, not_stopped, IsOverAnswer}
 use Rattle.wm_seating.specs.Bench.{instance_traits, place_traits}
-use Rattle.wm_table.proofs.Claims.{IsOneStep-roll}
-use Rattle.wm_table.proofs.NoLines.{silent_end}
-use Rattle.wm_table.specs.Images.{IsNoLine}
-use Rattle.wm_table.specs.Parts.{ticket_part}
-use Rattle.wm_table.specs.Rolls.{given_again, IsRollTurned}
-use Rattle.wm_table.specs.Table.{HasGoneOn, IsFinished, IsOneStep, IsRunClaimed, IsTurnAnswer, IsUntouched}
-use Rattle.wm_table.specs.TableState.{TableState, TicketState}
-use Rattle.wm_table.specs.declared.table.Trouble.{Trouble}
-use Rattle.wm_table.specs.declared.table.Trouble.TheVariants.{Memory}
-use Rattle.wm_table.specs.declared.table.TurnAnswer.{TurnAnswer}
+use Rattle.wm_engine.proofs.Claims.{IsOneStep-roll}
+use Rattle.wm_engine.proofs.NoLines.{silent_end}
+use Rattle.wm_engine.specs.Images.{IsNoLine}
+use Rattle.wm_engine.specs.Parts.{ticket_part}
+use Rattle.wm_engine.specs.Rolls.{given_again, IsRollTurned}
+use Rattle.wm_engine.specs.Calls.{HasGoneOn, IsFinished, IsOneStep, IsRunClaimed, IsTurnAnswer, IsUntouched}
+use Rattle.wm_engine.specs.TableState.{TableState, TicketState}
+use Rattle.wm_engine.specs.declared.trouble.Trouble.{Trouble}
+use Rattle.wm_engine.specs.declared.trouble.Trouble.TheVariants.{Memory}
+use Rattle.wm_engine.specs.declared.engine.TurnAnswer.{TurnAnswer}
 use Rattle.wm_texts.specs.Texts.{last_text}
 use Rattle.wm_worker.specs.Told.{Report}
 use Rattle.wm_worker.specs.declared.kind.Kind.{Kind}

@@ -16,10 +16,10 @@ use Rattle.wm_machine.specs.Opened.{Opened}
 use Rattle.wm_machine.specs.Replay.{Replay}
 use Rattle.wm_machine.specs.declared.command.Command.{Command}
 use Rattle.wm_machine.specs.declared.event.Event.{Event}
-use Rattle.wm_table.specs.Inputs.{Inputs}
-use Rattle.wm_table.specs.Table.{HoldsRowsOf}
-use Rattle.wm_table.specs.TableState.{TableState}
-use Rattle.wm_table.specs.declared.table.Trouble.{Trouble}
+use Rattle.wm_engine.specs.Inputs.{Inputs}
+use Rattle.wm_engine.specs.Rows.{HoldsRowsOf}
+use Rattle.wm_engine.specs.TableState.{TableState}
+use Rattle.wm_engine.specs.declared.trouble.Trouble.{Trouble}
 use Rattle.wm_texts.specs.Texts.{log_text}
 
 -- ---- the end

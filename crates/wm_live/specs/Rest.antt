@@ -11,8 +11,8 @@ use Rattle.wm_roll.specs.Parts.{without}
 use Rattle.wm_runs.specs.Reports.{IsOut}
 use Rattle.wm_seating.specs.Bench.{instance_traits, place_traits, NoneAway}
 use Rattle.wm_seating.specs.Idle.{IsIdle}
-use Rattle.wm_table.specs.Table.{IsTicketIn}
-use Rattle.wm_table.specs.TableState.{TableState, TicketState}
+use Rattle.wm_engine.specs.Calls.{IsTicketIn}
+use Rattle.wm_engine.specs.TableState.{TableState, TicketState}
 use Rattle.wm_worker.specs.declared.kind.Kind.{Kind}
 
 -- the workers are the instances, and none of them is away

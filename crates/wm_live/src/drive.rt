@@ -3,7 +3,7 @@ ghost use Rattle.std.specs.Prelude.{◌≡◌, true};
 ghost use Rattle.wm_live.specs.Drained.{AdvanceCause, IsAdvanced, IsDrained, IsDriven, IsTurned, TurnCause};
 ghost use Rattle.wm_live.specs.Rest.{IsAtRest, IsUnderWay};
 ghost use Rattle.wm_seating.specs.Idle.{IsIdle};
-ghost use Rattle.wm_table.specs.Table.{TroubleCause};
+ghost use Rattle.wm_engine.specs.Calls.{TroubleCause};
 
 use crate::stand::{After, Job, Stand};
 use wm_bench::Seated;

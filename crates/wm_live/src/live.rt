@@ -8,7 +8,7 @@ ghost use Rattle.wm_machine.specs.Outcome.{IsLegalLine};
 ghost use Rattle.wm_machine.specs.Quiet.{IsQuiet};
 ghost use Rattle.wm_machine.specs.Valid.{Valid};
 ghost use Rattle.wm_seating.specs.Idle.{IsIdle};
-ghost use Rattle.wm_table.specs.Table.{TroubleCause};
+ghost use Rattle.wm_engine.specs.Calls.{TroubleCause};
 
 use crate::asked::asked;
 use crate::drive::drain;

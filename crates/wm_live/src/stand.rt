@@ -5,7 +5,7 @@ ghost use Rattle.wm_bench.specs.Places.{IsAwayAt};
 ghost use Rattle.wm_live.specs.Drained.{ClaimCause, IsClaimed, IsTurned, TurnCause};
 ghost use Rattle.wm_live.specs.Rest.{with_back, IsAtRest, IsUnderWay};
 ghost use Rattle.wm_machine.specs.Replay.{Replay};
-ghost use Rattle.wm_table.specs.Parts.{WasOut};
+ghost use Rattle.wm_engine.specs.Parts.{WasOut};
 ghost use Rattle.wm_texts.specs.Texts.{last_text};
 ghost use Rattle.wm_worker.specs.Answers.{given_of};
 ghost use Rattle.wm_worker.specs.Told.{IsReportOf};

@@ -25,9 +25,9 @@ use Rattle.wm_machine.specs.Opened.{Opened}
 use Rattle.wm_machine.specs.declared.state.Instance.{Instance}
 use Rattle.wm_rows.specs.Sound.{AreSound}
 use Rattle.wm_seating.specs.Hands.{instances_from}
-use Rattle.wm_table.specs.Inputs.{Inputs}
-use Rattle.wm_table.specs.Table.{HoldsRowsOf}
-use Rattle.wm_table.specs.declared.table.Trouble.TheVariants as trouble
+use Rattle.wm_engine.specs.Inputs.{Inputs}
+use Rattle.wm_engine.specs.Rows.{HoldsRowsOf}
+use Rattle.wm_engine.specs.declared.trouble.Trouble.TheVariants as trouble
 
 -- ---- where a table was begun
 

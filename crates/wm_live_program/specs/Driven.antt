@@ -8,9 +8,9 @@ use Rattle.wm_live.specs.StandState.{StandState}
 use Rattle.wm_live.specs.declared.live.LiveEnd.{LiveEnd}
 use Rattle.wm_live_program.specs.Answered.{AreAnswered, AreCutShort}
 use Rattle.wm_machine.specs.Replay.{Replay}
-use Rattle.wm_table.specs.Table.{HoldsRowsOf}
-use Rattle.wm_table.specs.TableState.{TableState}
-use Rattle.wm_table.specs.declared.table.Trouble.{Trouble}
+use Rattle.wm_engine.specs.Rows.{HoldsRowsOf}
+use Rattle.wm_engine.specs.TableState.{TableState}
+use Rattle.wm_engine.specs.declared.trouble.Trouble.{Trouble}
 
 -- a clock with this step has told these, from its first answer on
 pub record AreTold (step : ℕ) (told : List ℕ) : Type 0 where

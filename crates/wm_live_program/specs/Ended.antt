@@ -16,7 +16,7 @@ use Rattle.wm_keeper.specs.declared.row.Row.{Row}
 use Rattle.wm_live_program.specs.Driven.{IsDriven}
 use Rattle.wm_live_program.specs.declared.ended.LiveEnded.{LiveEnded}
 use Rattle.wm_seating.specs.Hands.{instances_from}
-use Rattle.wm_table.specs.Table.{HoldsRowsOf}
+use Rattle.wm_engine.specs.Rows.{HoldsRowsOf}
 
 -- ---- what comes back
 

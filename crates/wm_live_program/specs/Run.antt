@@ -16,7 +16,7 @@ use Rattle.wm_live_program.specs.Ended.{keeper_of, sink_of, status_of, IsEndStat
 use Rattle.wm_live_program.specs.declared.ended.LiveEnded.{LiveEnded}
 use Rattle.wm_script.specs.Limits.{most_script_bytes}
 use Rattle.wm_seating.specs.Hands.{instances_from}
-use Rattle.wm_table.specs.Table.{HoldsRowsOf}
+use Rattle.wm_engine.specs.Rows.{HoldsRowsOf}
 use Rattle.wm_words.specs.Live.{live_options_of}
 
 -- what a driver that was begun did, which has these words, workers and this sink, and a source that had this left

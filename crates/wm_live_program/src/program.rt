@@ -20,7 +20,7 @@ ghost use Rattle.wm_live_program.specs.Run.{IsLiveRun};
 ghost use Rattle.wm_script.specs.Limits.{most_script_bytes};
 ghost use Rattle.wm_seating.specs.Hands.{instances_from};
 ghost use Rattle.wm_seating.specs.Idle.{IsIdle};
-ghost use Rattle.wm_table.specs.Table.{HoldsRowsOf};
+ghost use Rattle.wm_engine.specs.Rows.{HoldsRowsOf};
 
 use crate::asks::read_asks;
 use crate::driving::ask_all;

@@ -17,8 +17,8 @@ use Rattle.wm_observe.specs.Near.{HaveDiffering}
 use Rattle.wm_observe.specs.declared.note.Pair.{Pair}
 use Rattle.wm_steps.proofs.NumberedWorks.{numbered-passing}
 use Rattle.wm_steps.specs.Numbers.{numbered}
-use Rattle.wm_steps.specs.StepChanges.{changed_state}
-use Rattle.wm_steps.specs.declared.change.StepChange.{StepChange}
+use Rattle.wm_changes.specs.StepChanges.{changed_state}
+use Rattle.wm_changes.specs.declared.change.StepChange.{StepChange}
 
 pub split-on : (yielded : List (Bor ℕ)) (number : Bor ℕ) (before after all : List ℕ) → map deref yielded ++ before ≡ all → before ≡ deref number ∷ after
     → map deref (yielded ++ number ∷ []) ++ after ≡ all

@@ -12,13 +12,13 @@ use Rattle.wm_machine.specs.declared.record.Record.{Record}
 use Rattle.wm_machine.specs.declared.reply.WorkInfo.{WorkInfo}
 use Rattle.wm_machine.specs.declared.state.State.{State}
 use Rattle.wm_steps.proofs.ReplacedRecords.{next-above}
-use Rattle.wm_steps.specs.StepChanges.{changed_state, Fits}
-use Rattle.wm_steps.specs.declared.change.StepChange.{StepChange}
+use Rattle.wm_changes.specs.StepChanges.{changed_state, Fits}
+use Rattle.wm_changes.specs.declared.change.StepChange.{StepChange}
 use Rattle.wm_observe.proofs.NoteLaws.{notes-differing}
 use Rattle.wm_steps.proofs.RecordsAfter.{numbered-after, records-after, succeeded-after, then-untouched, All-left}
 use Rattle.wm_observe.proofs.Same.{same_decides}
 use Rattle.wm_observe.specs.Compared.{compared_pairs, may_differ, new_pair, pair_at}
-use Rattle.wm_steps.specs.Touched.{then_of, touches}
+use Rattle.wm_changes.specs.Touched.{then_of, touches}
 use Rattle.wm_observe.specs.Notes.{differs, differs_in, has_number, notes, notes_between, pairs_of}
 use Rattle.wm_observe.specs.declared.note.Pair.{Pair}
 

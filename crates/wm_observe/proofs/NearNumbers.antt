@@ -23,11 +23,11 @@ use Rattle.wm_steps.proofs.Lookups.{stored-at}
 use Rattle.wm_steps.proofs.ReplacedRecords.{keeps_number, told_keep, KeepsNumber}
 use Rattle.wm_graph.proofs.Tests.{eq-swap}
 use Rattle.wm_steps.proofs.Tests.{among-kept, any-or, any-swap}
-use Rattle.wm_steps.specs.Nodes.{is_there, node_of, nodes_of}
-use Rattle.wm_steps.specs.StepChanges.{seqs_of, Fits}
-use Rattle.wm_steps.specs.Touched.{touches}
-use Rattle.wm_steps.specs.declared.change.Replacement.{Replacement}
-use Rattle.wm_steps.specs.declared.change.StepChange.{StepChange}
+use Rattle.wm_changes.specs.Nodes.{is_there, node_of, nodes_of}
+use Rattle.wm_changes.specs.StepChanges.{seqs_of, Fits}
+use Rattle.wm_changes.specs.Touched.{touches}
+use Rattle.wm_changes.specs.declared.change.Replacement.{Replacement}
+use Rattle.wm_changes.specs.declared.change.StepChange.{StepChange}
 
 -- ---- numbers that are added to a set
 

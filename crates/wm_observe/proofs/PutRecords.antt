@@ -10,8 +10,8 @@ use Rattle.std.proofs.lemmas.Option.{slice_get-get_or}
 use Rattle.wm_machine.specs.declared.record.Record.{Record}
 use Rattle.wm_observe.specs.Put.{put_at, AreFirstPlaces}
 use Rattle.wm_steps.proofs.RecordsAfter.{put-seq}
-use Rattle.wm_steps.specs.Touched.{put_in}
-use Rattle.wm_steps.specs.declared.change.Replacement.{Replacement}
+use Rattle.wm_changes.specs.Touched.{put_in}
+use Rattle.wm_changes.specs.declared.change.Replacement.{Replacement}
 
 -- ---- one more
 

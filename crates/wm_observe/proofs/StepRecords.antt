@@ -13,11 +13,11 @@ use Rattle.wm_machine.specs.Valid.{IsBefore, IsRecord, Valid}
 use Rattle.wm_machine.specs.declared.record.Record.{Record}
 use Rattle.wm_machine.specs.declared.state.State.{State}
 use Rattle.wm_query.proofs.NumbersDone.{has_done, has_succeeded-numbered}
-use Rattle.wm_steps.specs.StepChanges.{changed_state, IsStepOf}
-use Rattle.wm_steps.specs.declared.change.StepChange.{StepChange}
+use Rattle.wm_changes.specs.StepChanges.{changed_state, IsStepOf}
+use Rattle.wm_changes.specs.declared.change.StepChange.{StepChange}
 use Rattle.wm_steps.proofs.RecordsAfter.{numbered-after, records-after, All-left}
 use Rattle.wm_observe.specs.Compared.{succeeds, StaysRecord}
-use Rattle.wm_steps.specs.Touched.{then_of}
+use Rattle.wm_changes.specs.Touched.{then_of}
 
 -- ---- what is left
 

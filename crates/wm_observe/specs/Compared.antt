@@ -7,9 +7,9 @@ use Rattle.wm_machine.specs.Valid.{IsRecord}
 use Rattle.wm_machine.specs.declared.record.Record.{Record}
 use Rattle.wm_machine.specs.declared.state.State.{State}
 use Rattle.wm_observe.specs.declared.note.Pair.{Pair}
-use Rattle.wm_steps.specs.StepChanges.{changed_state}
-use Rattle.wm_steps.specs.Touched.{then_of, touches}
-use Rattle.wm_steps.specs.declared.change.StepChange.{StepChange}
+use Rattle.wm_changes.specs.StepChanges.{changed_state}
+use Rattle.wm_changes.specs.Touched.{then_of, touches}
+use Rattle.wm_changes.specs.declared.change.StepChange.{StepChange}
 
 -- ---- a record after a change
 

@@ -8,9 +8,9 @@ use Rattle.wm_collections.specs.Lists.{is_among}
 use Rattle.wm_collections.specs.Sets.{has_number}
 use Rattle.wm_machine.specs.declared.record.Record.{Record}
 use Rattle.wm_observe.specs.declared.places.Places.{Places}
-use Rattle.wm_steps.specs.Touched.{put_in}
-use Rattle.wm_steps.specs.declared.change.Replacement.{Replacement}
-use Rattle.wm_steps.specs.declared.change.StepChange.{StepChange}
+use Rattle.wm_changes.specs.Touched.{put_in}
+use Rattle.wm_changes.specs.declared.change.Replacement.{Replacement}
+use Rattle.wm_changes.specs.declared.change.StepChange.{StepChange}
 
 -- the set has just these numbers
 abbrev pub IsSetOf : List ℕ → BTreeSet ℕ → Type 0

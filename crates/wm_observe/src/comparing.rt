@@ -12,8 +12,8 @@ ghost use Rattle.wm_observe.specs.Near.{HaveDiffering};
 ghost use Rattle.wm_observe.specs.Notes.{notes_between};
 ghost use Rattle.wm_observe.specs.Put.{ArePlacesOf};
 ghost use Rattle.wm_steps.specs.Numbers.{numbered};
-ghost use Rattle.wm_steps.specs.StepChanges.{changed_state, IsStepOf};
-ghost use Rattle.wm_steps.specs.Touched.{then_of};
+ghost use Rattle.wm_changes.specs.StepChanges.{changed_state, IsStepOf};
+ghost use Rattle.wm_changes.specs.Touched.{then_of};
 
 use crate::nearby::nearby;
 use crate::note::{Note, Pair};
@@ -21,10 +21,11 @@ use crate::noting::notes;
 use crate::places::{Places, places_of, then_of};
 use std::alloc::{AllocError, Global};
 use std::collections::BTreeSet;
+use wm_changes::StepChange;
 use wm_collections::{Items, both};
 use wm_machine::{Record, WorkInfo};
 use wm_query::{has_succeeded, info};
-use wm_steps::{StepChange, View};
+use wm_steps::View;
 
 /// What the observers of a state are told of the step of a change. Without an observer nothing is
 /// compared, and no memory is taken.

@@ -2,12 +2,13 @@
 ghost use Rattle.std.specs.Prelude.{◌≡◌, IfOk, OnOk};
 ghost use Rattle.wm_collections.specs.Lists.{is_among};
 ghost use Rattle.wm_observe.specs.Near.{is_near, is_near_any, is_near_replaced, HaveDiffering, IsWith};
-ghost use Rattle.wm_steps.specs.StepChanges.{IsStepOf};
+ghost use Rattle.wm_changes.specs.StepChanges.{IsStepOf};
 
 use std::alloc::{AllocError, Global};
 use std::collections::BTreeSet;
+use wm_changes::{Replacement, StepChange};
 use wm_collections::add_each;
-use wm_steps::{Replacement, StepChange, View};
+use wm_steps::View;
 
 /// The numbers of the records of which a change may tell another thing: those that it touches, and
 /// their dependents. Memory that is refused is the only error.

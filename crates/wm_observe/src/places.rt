@@ -2,13 +2,13 @@
 ghost use Rattle.std.specs.Option.{option_copied};
 ghost use Rattle.std.specs.Prelude.{◌≡◌, IfOk};
 ghost use Rattle.wm_observe.specs.Put.{ArePlaces, ArePlacesOf, IsSetOf};
-ghost use Rattle.wm_steps.specs.Touched.{put_in, then_of};
+ghost use Rattle.wm_changes.specs.Touched.{put_in, then_of};
 
 use std::alloc::{AllocError, Global};
 use std::collections::{BTreeMap, BTreeSet};
+use wm_changes::{Replacement, StepChange};
 use wm_collections::{add_each, at};
 use wm_machine::Record;
-use wm_steps::{Replacement, StepChange};
 
 /// Which records a change removes, and where in its lists those are that it puts in the places of
 /// others, by their numbers.

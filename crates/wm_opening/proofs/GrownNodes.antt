@@ -12,7 +12,7 @@ use Rattle.wm_machine.specs.Valid.{IsBefore, IsRecord}
 use Rattle.wm_machine.specs.declared.record.Record.{Record}
 use Rattle.wm_rows.proofs.Tags.{All-before}
 use Rattle.wm_steps.proofs.Nodes.{nodes-there}
-use Rattle.wm_steps.specs.Nodes.{is_there, node_of}
+use Rattle.wm_changes.specs.Nodes.{is_there, node_of}
 
 -- a node can be added: its number is the greatest, and it names a few of those that are there
 pub record CanBeAdded (nodes : List NodeFields) (node : NodeFields) : Type 0 where

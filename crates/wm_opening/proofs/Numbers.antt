@@ -5,7 +5,7 @@ use Rattle.wm_machine.proofs.Runnings.{WorksAscend}
 use Rattle.wm_machine.specs.Input.{work_numbered}
 use Rattle.wm_machine.specs.Opened.{next_number}
 use Rattle.wm_machine.specs.declared.record.Record.{Record}
-use Rattle.wm_steps.specs.Nodes.{is_there}
+use Rattle.wm_changes.specs.Nodes.{is_there}
 
 -- a record of a number is found where one is there
 pub numbered-there : (number : ℕ) (works : List Record) → is_some (work_numbered number works) ≡ is_there works number

@@ -3,7 +3,7 @@ ghost use Rattle.std.specs.List.{AllByRecursion};
 ghost use Rattle.std.specs.Prelude.{◌≡◌, filter, IfOk};
 ghost use Rattle.wm_collections.specs.Lists.{AllLater};
 ghost use Rattle.wm_machine.specs.Valid.{IsBefore, IsRecord};
-ghost use Rattle.wm_steps.specs.Nodes.{is_there, nodes_of};
+ghost use Rattle.wm_changes.specs.Nodes.{is_there, nodes_of};
 
 use std::alloc::{AllocError, Global};
 use wm_graph::Graph;

@@ -28,13 +28,13 @@ use Rattle.wm_schedule.specs.declared.schedule.Period.{Period}
 use Rattle.wm_steps.proofs.ManyRows.{after_change, replaced-all, replaced-each, replaced-touched, unsucceeding-freeing, FreesTouched, KeepNodes}
 use Rattle.wm_steps.proofs.Nodes.{freed-nodes}
 use Rattle.wm_steps.proofs.Unsucceeding.{unsucceeding-not, Unsucceeding}
-use Rattle.wm_steps.specs.Nodes.{nodes_of}
-use Rattle.wm_steps.specs.Readiness.{TouchesFreed}
-use Rattle.wm_steps.specs.Replacements.{or_same, replacements}
-use Rattle.wm_steps.specs.StepChanges.{changed_state, replacing_all, with_replaced}
-use Rattle.wm_steps.specs.Touched.{touches}
-use Rattle.wm_steps.specs.declared.change.RunChange.{RunChange}
-use Rattle.wm_steps.specs.declared.change.StepChange.{StepChange}
+use Rattle.wm_changes.specs.Nodes.{nodes_of}
+use Rattle.wm_changes.specs.Readiness.{TouchesFreed}
+use Rattle.wm_changes.specs.Replacements.{or_same, replacements}
+use Rattle.wm_changes.specs.StepChanges.{changed_state, replacing_all, with_replaced}
+use Rattle.wm_changes.specs.Touched.{touches}
+use Rattle.wm_changes.specs.declared.change.RunChange.{RunChange}
+use Rattle.wm_changes.specs.declared.change.StepChange.{StepChange}
 
 -- ---- where nothing succeeds
 

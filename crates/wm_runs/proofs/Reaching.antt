@@ -25,8 +25,8 @@ use Rattle.wm_runs.specs.declared.reach.Reach.TheVariants as reach
 use Rattle.wm_steps.proofs.ManyRows.{after_change}
 use Rattle.wm_steps.proofs.Nodes.{freed-nodes, itself_reached, open_not_succeeded}
 use Rattle.wm_steps.proofs.ReachedNodes.{reached-test}
-use Rattle.wm_steps.specs.Nodes.{nodes_of, reached_from}
-use Rattle.wm_steps.specs.Replacements.{or_same, MayReplace}
+use Rattle.wm_changes.specs.Nodes.{nodes_of, reached_from}
+use Rattle.wm_changes.specs.Replacements.{or_same, MayReplace}
 
 -- ---- a change of some records
 

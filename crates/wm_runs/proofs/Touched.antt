@@ -14,13 +14,13 @@ use Rattle.wm_machine.specs.Input.{work_numbered}
 use Rattle.wm_machine.specs.Valid.{IsBefore}
 use Rattle.wm_machine.specs.declared.record.Record.{Record}
 use Rattle.wm_steps.proofs.ByNumbers.{replacement-found, replacements-numbered}
-use Rattle.wm_steps.specs.Replacements.{by_numbers, replacement_of}
+use Rattle.wm_changes.specs.Replacements.{by_numbers, replacement_of}
 use Rattle.wm_runs.specs.Reached.{change_by, numbers_of, others, reached_by, replaced_by}
 use Rattle.wm_runs.specs.declared.reach.Reach.{Reach}
 use Rattle.wm_runs.specs.declared.reach.Reach.TheVariants as reach
 use Rattle.wm_graph.proofs.Tests.{eq-swap}
 use Rattle.wm_graph.specs.Numbers.{RiseFrom}
-use Rattle.wm_steps.specs.declared.change.Replacement.{Replacement}
+use Rattle.wm_changes.specs.declared.change.Replacement.{Replacement}
 
 -- ---- the record of one number
 

@@ -17,11 +17,11 @@ use Rattle.wm_runs.specs.Reports.{wants_more}
 use Rattle.wm_runs.specs.declared.starting.Claimed.{Claimed}
 use Rattle.wm_runs.specs.declared.starting.Claimed.TheVariants as claimed
 use Rattle.wm_runs.specs.declared.starting.Claiming.{Claiming}
-use Rattle.wm_steps.specs.StepChanges.{row_changes, setting, IsStepOf}
-use Rattle.wm_steps.specs.declared.change.RunChange.{RunChange}
-use Rattle.wm_steps.specs.declared.change.RunChange.TheVariants as runs
-use Rattle.wm_steps.specs.declared.change.SettingChange.TheVariants as set
-use Rattle.wm_steps.specs.declared.change.StepChange.{StepChange}
+use Rattle.wm_changes.specs.StepChanges.{row_changes, setting, IsStepOf}
+use Rattle.wm_changes.specs.declared.change.RunChange.{RunChange}
+use Rattle.wm_changes.specs.declared.change.RunChange.TheVariants as runs
+use Rattle.wm_changes.specs.declared.change.SettingChange.TheVariants as set
+use Rattle.wm_changes.specs.declared.change.StepChange.{StepChange}
 use Rattle.wm_worker.specs.Answers.{given_of}
 use Rattle.wm_worker.specs.Told.{Report}
 use Rattle.wm_worker.specs.declared.answer.Answer.{Answer}

@@ -14,9 +14,9 @@ use Rattle.wm_machine.specs.declared.state.State.{State}
 use Rattle.wm_runs.specs.declared.reach.Reach.{Reach}
 use Rattle.wm_runs.specs.declared.reach.Reach.TheVariants as reach
 use Rattle.wm_schedule.specs.declared.schedule.Period.{Period}
-use Rattle.wm_steps.specs.Nodes.{nodes_of, reached_from}
-use Rattle.wm_steps.specs.Replacements.{replacements}
-use Rattle.wm_steps.specs.declared.change.Replacement.{Replacement}
+use Rattle.wm_changes.specs.Nodes.{nodes_of, reached_from}
+use Rattle.wm_changes.specs.Replacements.{replacements}
+use Rattle.wm_changes.specs.declared.change.Replacement.{Replacement}
 
 -- ---- what is reached
 

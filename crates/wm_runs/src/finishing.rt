@@ -4,17 +4,18 @@ ghost use Rattle.wm_machine.specs.Ends.{retried};
 ghost use Rattle.wm_runs.specs.Builds.{over, IsEndOf, IsFinish};
 ghost use Rattle.wm_runs.specs.Reached.{replaced_by, replaced_by_end};
 ghost use Rattle.wm_runs.specs.Reports.{goes_on, CountsIn};
-ghost use Rattle.wm_steps.specs.Nodes.{nodes_of, IsUnmarked};
-ghost use Rattle.wm_steps.specs.StepChanges.{replacing_all};
+ghost use Rattle.wm_changes.specs.Nodes.{nodes_of, IsUnmarked};
+ghost use Rattle.wm_changes.specs.StepChanges.{replacing_all};
 ghost use Rattle.wm_worker.specs.Answers.{given_of};
 
 use crate::reach::{Reach, end_reach, replaced_by};
 use crate::reports::{FoundRun, found_run};
 use std::alloc::{AllocError, Global};
+use wm_changes::{Replacement, RunChange, StepChange};
 use wm_collections::{Items, Replica, both};
 use wm_lifecycle::{ended, timed_out};
 use wm_machine::{End, Event, Record, Run};
-use wm_steps::{Replacement, RunChange, StepChange, View};
+use wm_steps::View;
 use wm_worker::{Answer, Told};
 
 /// The end of the run of this number, for which the report counts, and which doesn't go on: as its

@@ -4,17 +4,18 @@
 ghost use Rattle.std.specs.Prelude.{◌≡◌, ◌∷◌, ◌++◌, [], is_some, Some, IfOk, IsSome, OnOk};
 ghost use Rattle.wm_graph.specs.Marks.{freed_by};
 ghost use Rattle.wm_graph.specs.Nodes.{HasNode};
-ghost use Rattle.wm_steps.specs.Replacements.{by_numbers};
+ghost use Rattle.wm_changes.specs.Replacements.{by_numbers};
 ghost use Rattle.wm_runs.specs.Reached.{change_by, end_reach, not_started_reach, numbers_of, others, reached_by, replaced_by};
-ghost use Rattle.wm_steps.specs.Nodes.{nodes_of, reached_from, IsUnmarked};
+ghost use Rattle.wm_changes.specs.Nodes.{nodes_of, reached_from, IsUnmarked};
 ghost use Rattle.wm_graph.specs.Numbers.{RiseFrom};
 
 use std::alloc::{AllocError, Global};
+use wm_changes::Replacement;
 use wm_collections::{Items, Replica};
 use wm_graph::Numbers;
 use wm_lifecycle::{closed, freed};
 use wm_machine::{End, How, Record};
-use wm_steps::{Replacement, View};
+use wm_steps::View;
 
 /// What the end of a work makes of the other records.
 #[derive(Drop)]

@@ -4,8 +4,9 @@ ghost use Rattle.wm_runs.specs.Builds.{IsReturn};
 ghost use Rattle.wm_runs.specs.Reports.{IsOut};
 
 use std::alloc::Global;
+use wm_changes::{RunChange, SettingChange, StepChange};
 use wm_machine::Event;
-use wm_steps::{RunChange, SettingChange, StepChange, View};
+use wm_steps::View;
 
 /// The return of the run of this number, which is out and was stopped: it is over, and its instance
 /// idle, and nothing else changes. It takes no memory.

@@ -6,16 +6,17 @@ ghost use Rattle.wm_machine.specs.Input.{input_of};
 ghost use Rattle.wm_machine.specs.Runs.{start_refusal};
 ghost use Rattle.wm_runs.specs.Builds.{IsClaiming, IsFirstAt};
 ghost use Rattle.wm_runs.specs.Reached.{replaced_by_no_start};
-ghost use Rattle.wm_steps.specs.Nodes.{nodes_of};
+ghost use Rattle.wm_changes.specs.Nodes.{nodes_of};
 
 use crate::inputs::input_among;
 use crate::reach::{not_started_reach, replaced_by};
 use std::alloc::{AllocError, Global};
+use wm_changes::{Replacement, RunChange, StepChange};
 use wm_collections::{Items, Replica, both, copied};
 use wm_data::Data;
 use wm_lifecycle::{not_started, run_on, started};
 use wm_machine::{Cause, Event, Instance, Record, Run, idle_in};
-use wm_steps::{Replacement, RunChange, StepChange, View};
+use wm_steps::View;
 
 /// What becomes of the work that is first.
 #[derive(Drop)]

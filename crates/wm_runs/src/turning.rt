@@ -8,10 +8,11 @@ ghost use Rattle.wm_worker.specs.declared.answer.Given.TheVariants as given;
 
 use crate::reports::{FoundRun, found_run};
 use std::alloc::{AllocError, Global};
+use wm_changes::{RunChange, StepChange};
 use wm_collections::{Replica, both};
 use wm_data::Data;
 use wm_machine::{Event, Record};
-use wm_steps::{RunChange, StepChange, View};
+use wm_steps::View;
 use wm_worker::{Answer, Told};
 
 /// The next turn of the run of this number, for which the report counts, and which goes on.

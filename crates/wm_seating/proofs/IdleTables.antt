@@ -16,8 +16,8 @@ use Rattle.wm_machine.specs.declared.state.Run.{Run}
 use Rattle.wm_machine.specs.declared.state.State.{State}
 use Rattle.wm_seating.proofs.RetiredPlaces.{workers-after, NoneAway-after}
 use Rattle.wm_seating.specs.Bench.{instance_traits, place_traits, places_after, NoneAway}
-use Rattle.wm_table.specs.Table.{IsOneStep}
-use Rattle.wm_table.specs.TableState.{TableState}
+use Rattle.wm_engine.specs.Calls.{IsOneStep}
+use Rattle.wm_engine.specs.TableState.{TableState}
 use Rattle.wm_worker.specs.declared.kind.Kind.{Kind}
 use Rattle.wm_seating.specs.Idle.{IsIdle}
 

@@ -10,7 +10,7 @@ use Rattle.wm_bench.specs.declared.place.Presence.TheVariants.{Idle, Away, Gone}
 use Rattle.wm_machine.specs.declared.state.Instance.{Instance}
 use Rattle.wm_seating.proofs.PlacesAndInstances.{here-back, seat_is}
 use Rattle.wm_seating.specs.Bench.{instance_traits, is_away, place_traits, Traits, NoneAway, hand_traits}
-use Rattle.wm_table.specs.TableState.{TicketState}
+use Rattle.wm_engine.specs.TableState.{TicketState}
 use Rattle.wm_worker.specs.declared.kind.Kind.{Kind}
 
 -- ---- hands that are given

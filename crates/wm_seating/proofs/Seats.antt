@@ -25,10 +25,10 @@ use Rattle.wm_seating.proofs.PlacesAndInstances.{away-changed, here-back, run-fr
 use Rattle.wm_seating.proofs.RetiredPlaces.{away-after, workers-after}
 use Rattle.wm_seating.specs.Bench.{instance_traits, is_away, is_out_on, kind_at, place_traits, Traits, places_after}
 use Rattle.wm_seating.specs.Seats.{ListsExactly}
-use Rattle.wm_table.proofs.Parts.{none-without, part-same, out-framed}
-use Rattle.wm_table.specs.Parts.{part_of, ticket_part, IsItOrApart, WasOut, AreOut, Stands}
-use Rattle.wm_table.specs.Rolls.{given_again}
-use Rattle.wm_table.specs.TableState.{TicketState, ticket_of}
+use Rattle.wm_engine.proofs.Parts.{none-without, part-same, out-framed}
+use Rattle.wm_engine.specs.Parts.{part_of, ticket_part, IsItOrApart, WasOut, AreOut, Stands}
+use Rattle.wm_engine.specs.Rolls.{given_again}
+use Rattle.wm_engine.specs.TableState.{TicketState, ticket_of}
 use Rattle.wm_worker.specs.declared.kind.Kind.{Kind}
 use Rattle.wm_machine.specs.Role as role
 

@@ -23,13 +23,13 @@ use Rattle.wm_roll.specs.declared.part.Part.{Part}
 use Rattle.wm_runs.proofs.RunLookups.{found-numbered, run_numbered-turned}
 use Rattle.wm_runs.specs.Reports.{IsOut}
 use Rattle.wm_seating.proofs.Seats.{taken_again, without-new}
-use Rattle.wm_table.proofs.NoLines.{framed_end}
-use Rattle.wm_table.specs.Parts.{ticket_part}
-use Rattle.wm_table.specs.Rolls.{given_again}
-use Rattle.wm_table.specs.Table.{HasGoneOn, IsOneStep, IsTicketIn}
-use Rattle.wm_table.specs.TableState.{ticket_of, TableState, TicketState}
-use Rattle.wm_table.specs.declared.table.TurnAnswer.TheVariants as turn
-use Rattle.wm_table.specs.declared.table.TurnAnswer.{TurnAnswer}
+use Rattle.wm_engine.proofs.NoLines.{framed_end}
+use Rattle.wm_engine.specs.Parts.{ticket_part}
+use Rattle.wm_engine.specs.Rolls.{given_again}
+use Rattle.wm_engine.specs.Calls.{HasGoneOn, IsOneStep, IsTicketIn}
+use Rattle.wm_engine.specs.TableState.{ticket_of, TableState, TicketState}
+use Rattle.wm_engine.specs.declared.engine.TurnAnswer.TheVariants as turn
+use Rattle.wm_engine.specs.declared.engine.TurnAnswer.{TurnAnswer}
 use Rattle.wm_worker.specs.Told.{Report}
 
 -- the log replays with its new event

@@ -3,7 +3,7 @@ use Rattle.std.specs.Prelude.{◌≡◌, List, [], map}
 use Rattle.wm_bench.specs.declared.place.Place.{Place}
 use Rattle.wm_machine.specs.Valid.{Valid}
 use Rattle.wm_seating.specs.Bench.{instance_traits, place_traits, NoneAway}
-use Rattle.wm_table.specs.TableState.{TableState}
+use Rattle.wm_engine.specs.TableState.{TableState}
 use Rattle.wm_worker.specs.declared.kind.Kind.{Kind}
 
 -- the state is valid, the workers are the instances, none of them is away, no run is unreturned and no ticket out

@@ -4,7 +4,7 @@ use Rattle.std.specs.List.{AllByRecursion}
 use Rattle.wm_machine.specs.declared.state.Run.{Run}
 use Rattle.wm_roll.specs.Parts.{IsListed}
 use Rattle.wm_roll.specs.declared.part.Part.{Part}
-use Rattle.wm_table.specs.Parts.{part_of, AreOut}
+use Rattle.wm_engine.specs.Parts.{part_of, AreOut}
 
 -- the roll lists exactly these runs: each part is that of one, and the part of each is listed
 pub record ListsExactly (runs : List Run) (roll : List Part) : Type 0 where

@@ -1,7 +1,7 @@
 -- What a worker has written down once it took a turn.
 use Rattle.std.specs.Prelude.{◌≡◌, List, Option, Result, Ok, Err}
 use Rattle.std.specs.declared.alloc.AllocError.{AllocError}
-use Rattle.wm_table.specs.TableState.{TicketState}
+use Rattle.wm_engine.specs.TableState.{TicketState}
 use Rattle.wm_worker.specs.Diary.{diary_with, turn_entries}
 use Rattle.wm_worker.specs.Told.{Report}
 use Rattle.wm_worker.specs.declared.answer.Entry.{Entry}

@@ -9,9 +9,9 @@ ghost use Rattle.wm_machine.specs.declared.command.Command.{Command};
 ghost use Rattle.wm_machine.specs.declared.reply.Reply.{Reply};
 ghost use Rattle.wm_seating.specs.Bench.{places_after};
 ghost use Rattle.wm_roll.specs.Parts.{without};
-ghost use Rattle.wm_table.specs.Images.{IsLine};
-ghost use Rattle.wm_table.specs.Parts.{WasOut};
-ghost use Rattle.wm_table.specs.Table.{IsOneStep, IsUntouched, TroubleCause};
+ghost use Rattle.wm_engine.specs.Images.{IsLine};
+ghost use Rattle.wm_engine.specs.Parts.{WasOut};
+ghost use Rattle.wm_engine.specs.Calls.{IsOneStep, IsUntouched, TroubleCause};
 
 use wm_bench::{Bench, Seated};
 use wm_keeper::Keeper;

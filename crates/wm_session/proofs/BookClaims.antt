@@ -3,10 +3,10 @@ use Rattle.std.proofs.Common.{◌≡◌, ℕ, ◌+◌, ◌<◌, Bool, List, [], 
 use Rattle.wm_session.proofs.Words.{BookInvariant, BookState, Cause, Claim, DataEntry, Event, Inputs, IsClaimAnswer, IsOneStep, IsOneStep-roll, IsTaken, IsTicketIn, Seat, Stop, Store, TableState, Tells, TicketState, changed_at, command_in, idle_at, idle_at-in, instance_traits, kept_by, left_to_drain, made_back, no_seat, nothing, place_traits, places-back, run_numbered, ticket_kind, ticket_part, traits-taken, without, without-new}
 use Rattle.wm_machine.proofs.Firsts.{idle_instance-idle, idle_instance-stored}
 use Rattle.wm_session.proofs.BookSteps.{IsEvent, away_now, exact_now, seated_after, valid_after}
-use Rattle.wm_table.proofs.Parts.{new-on}
+use Rattle.wm_engine.proofs.Parts.{new-on}
 use Rattle.wm_machine.specs.declared.event.Event.TheVariants as event
 use Rattle.wm_session.specs.Book as book
-use Rattle.wm_table.specs.declared.table.Claim.TheVariants as claim
+use Rattle.wm_engine.specs.declared.engine.Claim.TheVariants as claim
 
 -- a claim's event, which is no line
 abbrev pub claimed_step : {K M : Type 0} (store : K → Store) (claimed : Claim M) (old new : TableState K) → IsClaimAnswer store (Some claimed) old new

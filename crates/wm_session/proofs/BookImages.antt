@@ -7,7 +7,7 @@ use Rattle.wm_session.proofs.BookEvents.{AreNumberedFrom-silent}
 use Rattle.wm_machine.specs.declared.event.Event.TheVariants as event
 use Rattle.wm_session.specs.declared.book.Stop.TheVariants as stop
 use Rattle.wm_io.specs.declared.writing.WriteFault.TheVariants as fault
-use Rattle.wm_table.specs.declared.table.Trouble.TheVariants as trouble
+use Rattle.wm_engine.specs.declared.trouble.Trouble.TheVariants as trouble
 
 -- ---- which event may come next
 

@@ -3,8 +3,8 @@ use Rattle.std.proofs.Common.{◌≡◌, ◌≤◌, [], Option, None, IsSomeAnd,
 use Rattle.wm_session.proofs.Words.{BookInvariant, BookState, Event, HasGoneOn, Inputs, IsAwayAt, IsEndOf, IsOneStep, IsOverAnswer, IsReturned, IsTurnAnswer, IsTurnOver, LeavesOf, Part, Report, Run, Seat, Stands, Store, TableState, Tells, TicketState, TurnCause, Valid, WasOut, after, away-out, changed_at, command_in, frame_of, kept_by, left_to_drain, made_back, part_of, part_standing, placed-end, role_of, rolled-end, run_numbered, silent_end, ticket-found, ticket_part, turned_found, without}
 use Rattle.wm_session.proofs.BookSteps.{IsEvent, IsEvent-silent}
 use Rattle.wm_session.proofs.BoxLemmas.{IsSomeAnd-weaker}
-use Rattle.wm_table.specs.Rolls.{IsRollTurned, WasOutWhereTaken, given_again}
-use Rattle.wm_table.specs.declared.table.TurnAnswer.{TurnAnswer}
+use Rattle.wm_engine.specs.Rolls.{IsRollTurned, WasOutWhereTaken, given_again}
+use Rattle.wm_engine.specs.declared.engine.TurnAnswer.{TurnAnswer}
 use Rattle.wm_machine.specs.declared.event.Event.TheVariants as event
 use Rattle.wm_session.specs.Book as book
 

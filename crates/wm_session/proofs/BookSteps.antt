@@ -5,8 +5,8 @@ use Rattle.wm_session.proofs.BookEvents.{AreNumberedFrom-silent}
 use Rattle.wm_session.proofs.BookImages.{images-going, images-only}
 use Rattle.wm_ended.proofs.WrittenTexts.{IsGivenBut-more}
 use Rattle.wm_session.specs.declared.book.Stop.TheVariants as stop
-use Rattle.wm_table.specs.declared.table.Trouble.TheVariants as trouble
-use Rattle.wm_table.specs.declared.table.TurnAnswer.TheVariants as turn
+use Rattle.wm_engine.specs.declared.trouble.Trouble.TheVariants as trouble
+use Rattle.wm_engine.specs.declared.engine.TurnAnswer.TheVariants as turn
 
 pub LinesInvariant-from : (status : Option Stop) (lines done left : List Command) → lines ≡ done ++ left → LinesInvariant status lines done left
 LinesInvariant-from None lines done left is = is

@@ -12,7 +12,7 @@ use Rattle.wm_worker.specs.Answers.{given_of}
 use Rattle.wm_worker.specs.declared.answer.Answer.{Answer}
 use Rattle.wm_worker.specs.declared.answer.Given.{Given}
 use Rattle.wm_machine.specs.declared.event.Event.TheVariants as event
-use Rattle.wm_table.specs.declared.table.Claim.TheVariants as claim
+use Rattle.wm_engine.specs.declared.engine.Claim.TheVariants as claim
 use Rattle.wm_session.specs.declared.book.After.TheVariants as report
 use Rattle.wm_ended.specs.declared.status.Status.TheVariants as status
 

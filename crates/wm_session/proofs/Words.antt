@@ -63,16 +63,17 @@ pub use Rattle.wm_session.specs.Pending.{IsTold, TellCause, pending_text}
 pub use Rattle.wm_ended.specs.Tells.{Tells, tells_of}
 pub use Rattle.wm_session.specs.declared.book.Stop.{Stop}
 pub use Rattle.wm_ended.specs.declared.status.Status.{Status}
-pub use Rattle.wm_table.proofs.Claims.{HasGoneOn-roll, IsOneStep-roll, IsUntouched-roll}
-pub use Rattle.wm_table.proofs.NoLines.{framed_end, silent_end}
-pub use Rattle.wm_table.proofs.TableSteps.{IsUntouched-as, IsUntouched-same}
-pub use Rattle.wm_table.specs.Images.{IsLine, IsNoLine, LeavesOnly, WouldLeave}
-pub use Rattle.wm_table.specs.Inputs.{Inputs}
-pub use Rattle.wm_table.specs.Parts.{Stands, WasOut, part_of, ticket_part}
-pub use Rattle.wm_table.specs.Table.{HasGoneOn, IsClaimAnswer, IsFinished, IsOneStep, IsReturned, IsTicketIn, IsTurnAnswer, IsTurnOver, IsUntouched, TroubleCause, TurnCause, is_keeper_fault}
-pub use Rattle.wm_table.specs.TableState.{TableState, TicketState, ticket_of}
-pub use Rattle.wm_table.specs.declared.table.Claim.{Claim}
-pub use Rattle.wm_table.specs.declared.table.Trouble.{Trouble}
+pub use Rattle.wm_engine.proofs.Claims.{HasGoneOn-roll, IsOneStep-roll, IsUntouched-roll}
+pub use Rattle.wm_engine.proofs.NoLines.{framed_end, silent_end}
+pub use Rattle.wm_engine.proofs.Steps.{IsUntouched-as, IsUntouched-same}
+pub use Rattle.wm_engine.specs.Images.{IsLine, IsNoLine, WouldLeave}
+pub use Rattle.wm_steps.specs.Stored.{LeavesOnly}
+pub use Rattle.wm_engine.specs.Inputs.{Inputs}
+pub use Rattle.wm_engine.specs.Parts.{Stands, WasOut, part_of, ticket_part}
+pub use Rattle.wm_engine.specs.Calls.{HasGoneOn, IsClaimAnswer, IsFinished, IsOneStep, IsReturned, IsTicketIn, IsTurnAnswer, IsTurnOver, IsUntouched, TroubleCause, TurnCause, is_keeper_fault}
+pub use Rattle.wm_engine.specs.TableState.{TableState, TicketState, ticket_of}
+pub use Rattle.wm_engine.specs.declared.engine.Claim.{Claim}
+pub use Rattle.wm_engine.specs.declared.trouble.Trouble.{Trouble}
 pub use Rattle.wm_texts.proofs.LogTexts.{last_text-is, log_text-last}
 pub use Rattle.wm_texts.specs.Texts.{last_text, log_text}
 pub use Rattle.wm_worker.specs.Diary.{diary_with, turn_entries}

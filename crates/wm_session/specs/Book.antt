@@ -19,12 +19,12 @@ use Rattle.wm_session.specs.BookState.{BookState}
 use Rattle.wm_io.specs.Pending.{nothing}
 use Rattle.wm_roll.specs.Parts.{without}
 use Rattle.wm_runs.specs.Reports.{CountsIn, IsOut}
-use Rattle.wm_table.specs.Images.{IsLine, IsNoLine}
-use Rattle.wm_table.specs.Parts.{ticket_part, WasOut}
-use Rattle.wm_table.specs.Rolls.{given_again}
-use Rattle.wm_table.specs.Table.{HasGoneOn, IsClaimAnswer, IsOneStep, IsReturned, IsTurnOver, IsUntouched, IsTicketIn}
-use Rattle.wm_table.specs.TableState.{TableState, TicketState}
-use Rattle.wm_table.specs.declared.table.Claim.{Claim}
+use Rattle.wm_engine.specs.Images.{IsLine, IsNoLine}
+use Rattle.wm_engine.specs.Parts.{ticket_part, WasOut}
+use Rattle.wm_engine.specs.Rolls.{given_again}
+use Rattle.wm_engine.specs.Calls.{HasGoneOn, IsClaimAnswer, IsOneStep, IsReturned, IsTurnOver, IsUntouched, IsTicketIn}
+use Rattle.wm_engine.specs.TableState.{TableState, TicketState}
+use Rattle.wm_engine.specs.declared.engine.Claim.{Claim}
 use Rattle.wm_session.specs.declared.book.After.{After}
 use Rattle.wm_session.specs.declared.book.After.TheVariants as after
 use Rattle.wm_session.specs.declared.book.Front.{Front}

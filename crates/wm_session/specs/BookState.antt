@@ -2,7 +2,7 @@
 use Rattle.std.specs.Prelude.{ℕ, List, Option}
 use Rattle.wm_bench.specs.declared.place.Place.{Place}
 use Rattle.wm_machine.specs.declared.command.Command.{Command}
-use Rattle.wm_table.specs.TableState.{TableState}
+use Rattle.wm_engine.specs.TableState.{TableState}
 use Rattle.wm_io.specs.Pending.{PendingState}
 use Rattle.wm_session.specs.declared.book.Stop.{Stop}
 

@@ -7,8 +7,8 @@ use Rattle.wm_io.specs.declared.writing.WriteFault.{WriteFault}
 use Rattle.wm_io.specs.declared.writing.WriteFault.TheVariants as fault
 use Rattle.wm_session.specs.declared.book.Stop.{Stop}
 use Rattle.wm_session.specs.declared.book.Stop.TheVariants as stop
-use Rattle.wm_table.specs.declared.table.Trouble.{Trouble}
-use Rattle.wm_table.specs.declared.table.Trouble.TheVariants as trouble
+use Rattle.wm_engine.specs.declared.trouble.Trouble.{Trouble}
+use Rattle.wm_engine.specs.declared.trouble.Trouble.TheVariants as trouble
 
 abbrev pub status_by_stop : Stop → Status
 status_by_stop stop.KeeperFault = status.KeeperFault

@@ -15,8 +15,8 @@ use Rattle.wm_session.specs.Boxes.{IsDiaryLater, IsStartOn}
 use Rattle.wm_session.specs.BetweenRuns.{GoesInOrder, IsBetweenRuns, KeepBoxes}
 use Rattle.wm_roll.specs.Parts.{without}
 use Rattle.wm_runs.specs.Reports.{IsOut}
-use Rattle.wm_table.specs.Table.{IsTicketIn}
-use Rattle.wm_table.specs.TableState.{TicketState}
+use Rattle.wm_engine.specs.Calls.{IsTicketIn}
+use Rattle.wm_engine.specs.TableState.{TicketState}
 use Rattle.wm_worker.specs.declared.answer.Entry.{Entry}
 use Rattle.wm_worker.specs.declared.kind.Kind.{Kind}
 

@@ -28,9 +28,9 @@ use Rattle.wm_session.specs.Boxes.{EachBack, HasTold, IsBoxAfter}
 use Rattle.wm_session.specs.Causes.{EndsBy}
 use Rattle.wm_session.specs.Images.{EndImages}
 use Rattle.wm_session.specs.Pending.{pending_text}
-use Rattle.wm_table.specs.Images.{LeavesOnly}
-use Rattle.wm_table.specs.Inputs.{Inputs}
-use Rattle.wm_table.specs.Table.{HoldsRowsOf}
+use Rattle.wm_steps.specs.Stored.{LeavesOnly}
+use Rattle.wm_engine.specs.Inputs.{Inputs}
+use Rattle.wm_engine.specs.Rows.{HoldsRowsOf}
 use Rattle.wm_worker.specs.declared.answer.Entry.{Entry}
 use Rattle.wm_worker.specs.declared.kind.Kind.{Kind}
 

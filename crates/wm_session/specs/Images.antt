@@ -11,7 +11,8 @@ use Rattle.wm_session.specs.declared.book.Stop.{Stop}
 use Rattle.wm_session.specs.declared.book.Stop.TheVariants as stop
 use Rattle.wm_ended.specs.declared.status.Status.{Status}
 use Rattle.wm_ended.specs.declared.status.Status.TheVariants as status
-use Rattle.wm_table.specs.Images.{LeavesOnly, WouldLeave}
+use Rattle.wm_steps.specs.Stored.{LeavesOnly}
+use Rattle.wm_engine.specs.Images.{WouldLeave}
 
 -- an event that may come next over these lines, after this log: it is no line, or the next one
 pub record MayComeNext (lines : List Command) (log : List Event) (e : Event) : Type 0 where

@@ -14,8 +14,8 @@ use Rattle.wm_seating.specs.Seats.{ListsExactly}
 use Rattle.wm_session.specs.BookState.{BookState}
 use Rattle.wm_session.specs.Causes.{StopCause}
 use Rattle.wm_session.specs.Images.{StopImages}
-use Rattle.wm_table.specs.Images.{LeavesOnly}
-use Rattle.wm_table.specs.Inputs.{Inputs}
+use Rattle.wm_steps.specs.Stored.{LeavesOnly}
+use Rattle.wm_engine.specs.Inputs.{Inputs}
 use Rattle.wm_io.specs.Pending.{IsGivenBut}
 use Rattle.wm_session.specs.Pending.{pending_text}
 use Rattle.wm_ended.specs.Tells.{Tells}

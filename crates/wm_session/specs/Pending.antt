@@ -4,7 +4,7 @@ use Rattle.wm_faults.specs.Faults.{Failed}
 use Rattle.wm_io.specs.Pending.{nothing, still_pending, IsGivenBut, PendingState}
 use Rattle.wm_session.specs.declared.book.Stop.{Stop}
 use Rattle.wm_session.specs.declared.book.Stop.TheVariants as stop
-use Rattle.wm_table.specs.TableState.{TableState}
+use Rattle.wm_engine.specs.TableState.{TableState}
 use Rattle.wm_texts.specs.Texts.{last_text}
 
 -- the text that is pending, the last one being that of the log's last event

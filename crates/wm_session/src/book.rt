@@ -13,8 +13,8 @@ ghost use Rattle.wm_session.specs.BetweenRuns.{IsBetweenRuns};
 ghost use Rattle.wm_session.specs.Book.{failed_told, front_told, over_told, with_back, IsSessionOver, IsClaimed, IsFronted, IsReported, MayCome, MustWait, SettlesNext};
 ghost use Rattle.wm_session.specs.Ended.{IsHandedBack, IsSessionEnd, IsWrittenOut};
 ghost use Rattle.wm_ended.specs.Tells.{tells_of};
-ghost use Rattle.wm_table.specs.Images.{LeavesOnly};
-ghost use Rattle.wm_table.specs.Parts.{WasOut};
+ghost use Rattle.wm_steps.specs.Stored.{LeavesOnly};
+ghost use Rattle.wm_engine.specs.Parts.{WasOut};
 
 use crate::pending::{tell_last, tell_rest};
 use crate::signals::Signals;

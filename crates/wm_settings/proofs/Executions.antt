@@ -16,9 +16,9 @@ use Rattle.wm_machine.specs.declared.reply.Reply.{Reply}
 use Rattle.wm_machine.specs.declared.state.State.{State}
 use Rattle.wm_machine.specs.declared.event.Event.TheVariants as event
 use Rattle.wm_steps.proofs.StepFits.{unplaced}
-use Rattle.wm_steps.specs.StepChanges.{row_changes, set_by, setting}
-use Rattle.wm_steps.specs.declared.change.SettingChange.{SettingChange}
-use Rattle.wm_steps.specs.declared.change.StepChange.{StepChange}
+use Rattle.wm_changes.specs.StepChanges.{row_changes, set_by, setting}
+use Rattle.wm_changes.specs.declared.change.SettingChange.{SettingChange}
+use Rattle.wm_changes.specs.declared.change.StepChange.{StepChange}
 
 -- the reply of an outcome is the answer
 pub Answers-outcome : (s : State) (asked : Command) (answer : Reply) (out : Outcome) → outcome s asked ≡ Some out → answer ≡ out.reply → Answers s asked answer

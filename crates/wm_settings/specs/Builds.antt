@@ -8,9 +8,9 @@ use Rattle.wm_machine.specs.declared.command.Command.{Command}
 use Rattle.wm_machine.specs.declared.event.Event.TheVariants as event
 use Rattle.wm_machine.specs.declared.reply.Reply.{Reply}
 use Rattle.wm_machine.specs.declared.state.State.{State}
-use Rattle.wm_steps.specs.StepChanges.{row_changes, set_by, IsStepOf}
-use Rattle.wm_steps.specs.declared.change.SettingChange.{SettingChange}
-use Rattle.wm_steps.specs.declared.change.StepChange.{StepChange}
+use Rattle.wm_changes.specs.StepChanges.{row_changes, set_by, IsStepOf}
+use Rattle.wm_changes.specs.declared.change.SettingChange.{SettingChange}
+use Rattle.wm_changes.specs.declared.change.StepChange.{StepChange}
 
 -- the rows after the command are those before it, as with a query, a faulty line or an enqueue that is refused
 abbrev pub ChangesNoRow : State → Command → Type 0

@@ -4,9 +4,10 @@ ghost use Rattle.wm_settings.specs.Builds.{setting_outcome, HasOutcome, IsExecut
 ghost use Rattle.wm_machine.specs.Replied.{unchanged};
 
 use std::alloc::{AllocError, Global};
+use wm_changes::{SettingChange, StepChange};
 use wm_collections::{Shared, both};
 use wm_machine::{Command, Event, Reply};
-use wm_steps::{SettingChange, StepChange, View};
+use wm_steps::View;
 
 /// The event of a command with its reply. Memory that is refused is the only error.
 pub fn event_of(

@@ -4,9 +4,10 @@ ghost use Rattle.wm_settings.specs.Builds.{IsExecuted};
 
 use crate::changes::replying;
 use std::alloc::{AllocError, Global};
+use wm_changes::StepChange;
 use wm_collections::copied;
 use wm_machine::{Command, LineFault, Refusal, Reply};
-use wm_steps::{StepChange, View};
+use wm_steps::View;
 
 /// What a line that has a fault comes to, in every state.
 pub fn execute(

@@ -4,8 +4,9 @@ ghost use Rattle.wm_settings.specs.Builds.{IsExecuted};
 
 use crate::changes::{replying, setting};
 use std::alloc::{AllocError, Global};
+use wm_changes::{SettingChange, StepChange};
 use wm_machine::{Command, Refusal, Reply};
-use wm_steps::{SettingChange, StepChange, View};
+use wm_steps::View;
 
 /// What a moment comes to.
 pub fn execute(alloc: Global, view: &View, line: u32, at: u64) -> Result<StepChange, AllocError>

@@ -7,9 +7,10 @@ ghost use Rattle.wm_settings.specs.Builds.{IsExecuted};
 use crate::answering::answer_to;
 use crate::changes::{replying, setting};
 use std::alloc::{AllocError, Global};
+use wm_changes::{SettingChange, StepChange};
 use wm_collections::Replica;
 use wm_machine::{Command, Refusal, Reply, WorkQuery};
-use wm_steps::{SettingChange, StepChange, View};
+use wm_steps::View;
 
 /// The most observers that there are.
 const MAX_OBSERVERS: u64 = 100;

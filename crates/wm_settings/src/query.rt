@@ -5,8 +5,9 @@ ghost use Rattle.wm_settings.specs.Builds.{IsExecuted};
 use crate::answering::answer_to;
 use crate::changes::replying;
 use std::alloc::{AllocError, Global};
+use wm_changes::StepChange;
 use wm_machine::{Command, Reply, WorkQuery};
-use wm_steps::{StepChange, View};
+use wm_steps::View;
 
 /// What a query comes to.
 pub fn execute(

@@ -5,9 +5,10 @@ ghost use Rattle.wm_machine.specs.First.{is_idle};
 
 use crate::changes::{replying, setting};
 use std::alloc::{AllocError, Global};
+use wm_changes::{SettingChange, StepChange};
 use wm_collections::{Replica, Text};
 use wm_machine::{Command, Instance, Refusal, Reply, is_idle, is_live};
-use wm_steps::{SettingChange, StepChange, View};
+use wm_steps::View;
 
 /// What a retire comes to: its class has to be live, and the reply counts the instances of it that
 /// are idle.

@@ -5,8 +5,9 @@ ghost use Rattle.wm_machine.specs.Outcome.{IsLegalLine};
 
 use crate::changes::replying;
 use std::alloc::{AllocError, Global};
+use wm_changes::StepChange;
 use wm_machine::{Command, Reply};
-use wm_steps::{StepChange, View};
+use wm_steps::View;
 
 /// What a line that settles comes to.
 pub fn execute(alloc: Global, view: &View, line: u32) -> Result<StepChange, AllocError>

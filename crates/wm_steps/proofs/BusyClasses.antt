@@ -13,12 +13,12 @@ use Rattle.wm_machine.specs.Retired.{made_retired}
 use Rattle.wm_machine.specs.Runs.{made_out}
 use Rattle.wm_machine.specs.declared.state.Instance.{Instance}
 use Rattle.wm_machine.specs.declared.state.State.{State}
-use Rattle.wm_steps.specs.StepChanges.{changed_state, instances_by, moves_instance, retired_by, retires, touches_instances}
-use Rattle.wm_steps.specs.declared.change.RunChange.{RunChange}
-use Rattle.wm_steps.specs.declared.change.RunChange.TheVariants.{Unchanged, Begin, Turn, End, Stop, Renew}
-use Rattle.wm_steps.specs.declared.change.SettingChange.{SettingChange}
-use Rattle.wm_steps.specs.declared.change.SettingChange.TheVariants as set
-use Rattle.wm_steps.specs.declared.change.StepChange.{StepChange}
+use Rattle.wm_changes.specs.StepChanges.{changed_state, instances_by, moves_instance, retired_by, retires, touches_instances}
+use Rattle.wm_changes.specs.declared.change.RunChange.{RunChange}
+use Rattle.wm_changes.specs.declared.change.RunChange.TheVariants.{Unchanged, Begin, Turn, End, Stop, Renew}
+use Rattle.wm_changes.specs.declared.change.SettingChange.{SettingChange}
+use Rattle.wm_changes.specs.declared.change.SettingChange.TheVariants as set
+use Rattle.wm_changes.specs.declared.change.StepChange.{StepChange}
 use Rattle.wm_steps.specs.Readied.{busy_from, class_number, AreBusy, AreNamed}
 
 -- a class that no instance has isn't live, so its works needn't wait

@@ -10,8 +10,8 @@ use Rattle.wm_machine.specs.Input.{work_numbered}
 use Rattle.wm_machine.specs.Valid.{IsBefore}
 use Rattle.wm_machine.specs.declared.record.Record.{Record}
 use Rattle.wm_steps.proofs.Lookups.{All-at}
-use Rattle.wm_steps.specs.Replacements.{at_index, by_numbers, replacement_of, replacements}
-use Rattle.wm_steps.specs.declared.change.Replacement.{Replacement}
+use Rattle.wm_changes.specs.Replacements.{at_index, by_numbers, replacement_of, replacements}
+use Rattle.wm_changes.specs.declared.change.Replacement.{Replacement}
 
 -- nothing changes but records of these numbers
 abbrev pub ChangesAmong : (Record → Option Record) → List ℕ → List Record → Type 0

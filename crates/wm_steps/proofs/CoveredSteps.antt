@@ -16,9 +16,9 @@ use Rattle.wm_machine.specs.declared.state.State.{State}
 use Rattle.wm_steps.proofs.ReplacedRecords.{next-above}
 use Rattle.wm_steps.proofs.StepNodes.{row-keeps}
 use Rattle.wm_steps.specs.Covers.{is_unnamed, mark_after, mark_of, takes_members, AreCovered, IsMark}
-use Rattle.wm_steps.specs.StepChanges.{changed_state, changed_works, with_replaced, without, Fits, KeepsPlace}
-use Rattle.wm_steps.specs.declared.change.Replacement.{Replacement}
-use Rattle.wm_steps.specs.declared.change.StepChange.{StepChange}
+use Rattle.wm_changes.specs.StepChanges.{changed_state, changed_works, with_replaced, without, Fits, KeepsPlace}
+use Rattle.wm_changes.specs.declared.change.Replacement.{Replacement}
+use Rattle.wm_changes.specs.declared.change.StepChange.{StepChange}
 use Rattle.wm_steps.specs.declared.covers.Covers.{Covers}
 
 -- ---- what a group's leaves go by

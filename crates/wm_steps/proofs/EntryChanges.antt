@@ -20,11 +20,11 @@ use Rattle.wm_steps.proofs.EntryUndone.{untagged-entries}
 use Rattle.wm_steps.proofs.ReplacedRecords.{keeps_number, All-seq}
 use Rattle.wm_steps.proofs.StepNodes.{nodes-told, place-there, puts-apart, AreApart}
 use Rattle.wm_steps.specs.Entries.{new_entry, prepared_entries, settling, tagging, with_changed, with_identified, with_untagged, without_entries, AreEntriesOf, AreIdentifiable, AreLeaving, HaveEntries, IsBegun, IsBegunIn, IsFollowable, IsLeaving, IsPrepared}
-use Rattle.wm_steps.specs.Nodes.{is_there}
-use Rattle.wm_steps.specs.StepChanges as steps
-use Rattle.wm_steps.specs.StepChanges.{changed_works, put_replaced, put_work, remove_numbered, seqs_of, with_replaced, KeepsPlace}
-use Rattle.wm_steps.specs.declared.change.Replacement.{Replacement}
-use Rattle.wm_steps.specs.declared.change.StepChange.{StepChange}
+use Rattle.wm_changes.specs.Nodes.{is_there}
+use Rattle.wm_changes.specs.StepChanges as steps
+use Rattle.wm_changes.specs.StepChanges.{changed_works, put_replaced, put_work, remove_numbered, seqs_of, with_replaced, KeepsPlace}
+use Rattle.wm_changes.specs.declared.change.Replacement.{Replacement}
+use Rattle.wm_changes.specs.declared.change.StepChange.{StepChange}
 
 -- the entries once a change is settled, from those that were prepared
 abbrev pub settled_entries : StepChange → List Entry → List Entry

@@ -13,8 +13,8 @@ use Rattle.wm_index.specs.Entries.{changed_at, has_unidentified, identified, is_
 use Rattle.wm_machine.specs.declared.record.Record.{Record}
 use Rattle.wm_steps.proofs.EntryLists.{changed-missed, missed-above, missed-below, IsMissed, KeepsSeq}
 use Rattle.wm_steps.specs.Entries.{new_entry, untagged_by, with_changed, with_identified, with_untagged, without_entries, AreEntriesOf, AreIdentifiable}
-use Rattle.wm_steps.specs.StepChanges.{seqs_of}
-use Rattle.wm_steps.specs.declared.change.Replacement.{Replacement}
+use Rattle.wm_changes.specs.StepChanges.{seqs_of}
+use Rattle.wm_changes.specs.declared.change.Replacement.{Replacement}
 
 -- what holds of each holds of each of the first
 pub All-take : {T : Type 0} (P : T → Type 0) (xs : List T) (count : ℕ) → AllByRecursion P xs → AllByRecursion P (take count xs)

@@ -16,8 +16,8 @@ use Rattle.wm_steps.proofs.Pointwise.{stored-item}
 use Rattle.wm_steps.proofs.ReplacedRecords.{keeps_number, All-seq}
 use Rattle.wm_steps.proofs.StepNodes.{AreApart}
 use Rattle.wm_steps.specs.Entries.{settling, tagging, unnaming, with_changed, AreEntriesOf, AreLeaving, IsEntryOf, IsLeaving, LeavesEntry}
-use Rattle.wm_steps.specs.StepChanges.{KeepsPlace}
-use Rattle.wm_steps.specs.declared.change.Replacement.{Replacement}
+use Rattle.wm_changes.specs.StepChanges.{KeepsPlace}
+use Rattle.wm_changes.specs.declared.change.Replacement.{Replacement}
 
 -- an entry is as a record leaves it
 pub record IsLeft (work : Record) (entry : Entry) : Type 0 where

@@ -11,8 +11,8 @@ use Rattle.wm_collections.specs.Lists.{AllLater, NumbersAscend}
 use Rattle.wm_index.specs.Entries.{changed_at, has_seq, keeping_tags, numbers_of, with_entry, Entry}
 use Rattle.wm_machine.specs.declared.record.Record.{Record}
 use Rattle.wm_steps.specs.Entries.{new_entry, settling, unnaming, with_changed, AreEntriesOf, HaveEntries}
-use Rattle.wm_steps.specs.StepChanges.{seqs_of}
-use Rattle.wm_steps.specs.declared.change.Replacement.{Replacement}
+use Rattle.wm_changes.specs.StepChanges.{seqs_of}
+use Rattle.wm_changes.specs.declared.change.Replacement.{Replacement}
 
 -- ---- numbers
 

@@ -15,10 +15,10 @@ use Rattle.wm_steps.proofs.EntryTags.{settled-tags}
 use Rattle.wm_steps.proofs.ReplacedRecords.{keeps_number, rows-set, All-seq, WorksAscend-set}
 use Rattle.wm_steps.proofs.StepNodes.{place-set, AreApart}
 use Rattle.wm_steps.specs.Entries.{settling, tagging, unnaming, with_changed, without_entries, AreEntriesOf, IsEntryOf}
-use Rattle.wm_steps.specs.Replacements.{MayReplace}
-use Rattle.wm_steps.specs.StepChanges.{other_works, with_replaced, KeepsPlace, KeepsRow}
-use Rattle.wm_steps.specs.StepChanges as steps
-use Rattle.wm_steps.specs.declared.change.Replacement.{Replacement}
+use Rattle.wm_changes.specs.Replacements.{MayReplace}
+use Rattle.wm_changes.specs.StepChanges.{other_works, with_replaced, KeepsPlace, KeepsRow}
+use Rattle.wm_changes.specs.StepChanges as steps
+use Rattle.wm_changes.specs.declared.change.Replacement.{Replacement}
 
 -- ---- a record that takes the place of another
 

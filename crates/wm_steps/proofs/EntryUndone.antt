@@ -11,9 +11,9 @@ use Rattle.wm_machine.specs.declared.record.Record.{Record}
 use Rattle.wm_steps.proofs.EntryKept.{All-take}
 use Rattle.wm_steps.proofs.EntryTags.{tagged-more, untagged-tags}
 use Rattle.wm_steps.specs.Entries.{tagging, untagged_by, with_changed, with_untagged, AreEntriesOf}
-use Rattle.wm_steps.specs.Replacements.{MayReplace}
-use Rattle.wm_steps.specs.StepChanges.{KeepsPlace}
-use Rattle.wm_steps.specs.declared.change.Replacement.{Replacement}
+use Rattle.wm_changes.specs.Replacements.{MayReplace}
+use Rattle.wm_changes.specs.StepChanges.{KeepsPlace}
+use Rattle.wm_changes.specs.declared.change.Replacement.{Replacement}
 
 abbrev IsOther : ℕ → Replacement → Type 0
 IsOther seq r = (r.work.seq == seq) ≡ false

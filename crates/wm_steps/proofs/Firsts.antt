@@ -88,7 +88,7 @@ same-signature one other same = grind (arith, nat_tests)
 pub same-class : (one other : Entry) → is_same one other ≡ true → one.class ≡ other.class
 same-class one other same = grind (arith, nat_tests)
 
-not-not : (b : Bool) → not (not b) ≡ b
+pub not-not : (b : Bool) → not (not b) ≡ b
 not-not true = refl
 not-not false = refl
 

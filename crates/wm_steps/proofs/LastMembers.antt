@@ -16,7 +16,7 @@ use Rattle.wm_machine.specs.declared.record.Record.{Record}
 use Rattle.wm_machine.specs.declared.state.State.{State}
 use Rattle.wm_steps.proofs.Moves.{numbered-stored}
 use Rattle.wm_steps.specs.Covers.{members_from, AreLast, IsMark}
-use Rattle.wm_steps.specs.Nodes.{is_there, node_of, nodes_of}
+use Rattle.wm_changes.specs.Nodes.{is_there, node_of, nodes_of}
 
 -- ---- the leaves
 

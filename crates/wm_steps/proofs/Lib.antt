@@ -30,6 +30,7 @@ pub mod ReplacedRecords
 pub mod Rising
 pub mod StepFits
 pub mod StepNodes
+pub mod StepParts
 pub mod Tests
 pub mod Unmets
 pub mod Unsucceeding

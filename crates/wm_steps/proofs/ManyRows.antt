@@ -18,15 +18,15 @@ use Rattle.wm_machine.specs.declared.record.Record.{Record}
 use Rattle.wm_machine.specs.declared.state.State.{State}
 use Rattle.wm_steps.proofs.StepFits.{unplaced}
 use Rattle.wm_steps.proofs.Unsucceeding.{unsucceeding-not, Unsucceeding}
-use Rattle.wm_steps.specs.Readiness.{TouchesAllFreed, TouchesFreed}
-use Rattle.wm_steps.specs.Replacements.{MayReplace}
-use Rattle.wm_steps.specs.Replacements.{at_index, or_same, replacements}
-use Rattle.wm_steps.specs.StepChanges.{changed_state, put_replaced, replacing_all, setting_with, with_replaced, IsStepOf, KeepsPlace}
-use Rattle.wm_steps.specs.declared.change.Replacement.{Replacement}
-use Rattle.wm_steps.specs.declared.change.RunChange.{RunChange}
-use Rattle.wm_steps.specs.declared.change.SettingChange.{SettingChange}
-use Rattle.wm_steps.specs.declared.change.SettingChange.TheVariants as settings
-use Rattle.wm_steps.specs.declared.change.StepChange.{StepChange}
+use Rattle.wm_changes.specs.Readiness.{TouchesAllFreed, TouchesFreed}
+use Rattle.wm_changes.specs.Replacements.{MayReplace}
+use Rattle.wm_changes.specs.Replacements.{at_index, or_same, replacements}
+use Rattle.wm_changes.specs.StepChanges.{changed_state, put_replaced, replacing_all, setting_with, with_replaced, IsStepOf, KeepsPlace}
+use Rattle.wm_changes.specs.declared.change.Replacement.{Replacement}
+use Rattle.wm_changes.specs.declared.change.RunChange.{RunChange}
+use Rattle.wm_changes.specs.declared.change.SettingChange.{SettingChange}
+use Rattle.wm_changes.specs.declared.change.SettingChange.TheVariants as settings
+use Rattle.wm_changes.specs.declared.change.StepChange.{StepChange}
 
 -- a record after a change that may leave it
 abbrev pub after_change : (Record → Option Record) → Record → Record

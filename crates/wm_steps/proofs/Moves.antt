@@ -17,11 +17,11 @@ use Rattle.wm_machine.specs.declared.state.State.{State}
 use Rattle.wm_steps.proofs.RecordsAfter.{numbered-after, put-none, records-after, then-untouched, All-left}
 use Rattle.wm_steps.proofs.ReplacedRecords.{keeps_number, next-above, told_keep, All-seq}
 use Rattle.wm_steps.proofs.Unmets.{found-node}
-use Rattle.wm_steps.specs.Nodes.{nodes_of}
-use Rattle.wm_steps.specs.StepChanges.{changed_state, put_replaced, put_work, remove_numbered, seqs_of, Fits, IsStepOf, IsToldAlone, KeepsPlace}
-use Rattle.wm_steps.specs.Touched.{put_in, then_of, touches}
-use Rattle.wm_steps.specs.declared.change.Replacement.{Replacement}
-use Rattle.wm_steps.specs.declared.change.StepChange.{StepChange}
+use Rattle.wm_changes.specs.Nodes.{nodes_of}
+use Rattle.wm_changes.specs.StepChanges.{changed_state, put_replaced, put_work, remove_numbered, seqs_of, Fits, IsStepOf, IsToldAlone, KeepsPlace}
+use Rattle.wm_changes.specs.Touched.{put_in, then_of, touches}
+use Rattle.wm_changes.specs.declared.change.Replacement.{Replacement}
+use Rattle.wm_changes.specs.declared.change.StepChange.{StepChange}
 
 pub record Move : Type 0 where
   pub number : ℕ

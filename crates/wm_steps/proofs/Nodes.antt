@@ -17,7 +17,7 @@ use Rattle.wm_machine.specs.First.{all_met, has_succeeded, is_succeeded, is_wait
 use Rattle.wm_machine.specs.Runs.{changed_work}
 use Rattle.wm_machine.specs.Valid.{ArePriorSound, IsBefore, IsPrerequisite}
 use Rattle.wm_machine.specs.declared.record.Phase.TheVariants as phase
-use Rattle.wm_steps.specs.Nodes.{is_there, node_of, nodes_of, IsUnmarked}
+use Rattle.wm_changes.specs.Nodes.{is_there, node_of, nodes_of, IsUnmarked}
 
 -- ---- what is there
 

@@ -14,7 +14,7 @@ use Rattle.wm_machine.specs.declared.record.Record.{Record}
 use Rattle.wm_steps.proofs.Nodes.{there-each}
 use Rattle.wm_graph.proofs.Tests.{any-and, eq-swap}
 use Rattle.wm_steps.proofs.Tests.{any-or, any-swap, any-under, none-any}
-use Rattle.wm_steps.specs.Nodes.{is_there, node_of, nodes_of, reached_from}
+use Rattle.wm_changes.specs.Nodes.{is_there, node_of, nodes_of, reached_from}
 
 -- ---- what any of several works reaches
 

@@ -17,11 +17,11 @@ use Rattle.wm_machine.specs.declared.state.State.{State}
 use Rattle.wm_steps.proofs.KeptRows.{row-still, row-succeeded}
 use Rattle.wm_steps.proofs.RecordsAfter.{records-after, then-untouched}
 use Rattle.wm_steps.proofs.ReplacedRecords.{next-above}
-use Rattle.wm_steps.specs.Readiness.{StaysReady, Succeeds, TouchesAllFreed}
-use Rattle.wm_steps.specs.StepChanges.{changed_state, Fits, IsStepOf, KeepsPlace}
-use Rattle.wm_steps.specs.Touched.{put_in, then_of, touches}
-use Rattle.wm_steps.specs.declared.change.Replacement.{Replacement}
-use Rattle.wm_steps.specs.declared.change.StepChange.{StepChange}
+use Rattle.wm_changes.specs.Readiness.{StaysReady, Succeeds, TouchesAllFreed}
+use Rattle.wm_changes.specs.StepChanges.{changed_state, Fits, IsStepOf, KeepsPlace}
+use Rattle.wm_changes.specs.Touched.{put_in, then_of, touches}
+use Rattle.wm_changes.specs.declared.change.Replacement.{Replacement}
+use Rattle.wm_changes.specs.declared.change.StepChange.{StepChange}
 
 -- ---- where a record after a change comes from
 

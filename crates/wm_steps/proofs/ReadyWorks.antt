@@ -12,7 +12,7 @@ use Rattle.wm_machine.specs.Valid.{IsRecord}
 use Rattle.wm_machine.specs.declared.record.Record.{Record}
 use Rattle.wm_ready.specs.Entries.{is_same, Entry}
 use Rattle.wm_steps.specs.Readied.{entry_of, if_free, is_entry_of, is_waiting_as}
-use Rattle.wm_steps.specs.Readiness.{is_ready_in}
+use Rattle.wm_changes.specs.Readiness.{is_ready_in}
 
 module _ (names : List (List ℕ)) (entry : Entry) (nodes : List NodeFields) (works : List Record) (work : Record)
     (is : (is_waiting work.phase && eqb (unmet nodes work.seq) 0) ≡ is_ready_in works work) where

@@ -21,12 +21,12 @@ use Rattle.wm_ready.specs.Entries.{has, is_same, Entry}
 use Rattle.wm_steps.proofs.Moves.{are-moves, move_placed, move_removed, move_replaced, moves-apart, moves_beside, moves_of, same-then, untouched, AreApart, IsMove, Move}
 use Rattle.wm_steps.proofs.Readies.{step-readiness}
 use Rattle.wm_steps.proofs.Unmets.{ready-unmet}
-use Rattle.wm_steps.specs.Nodes.{nodes_of}
+use Rattle.wm_changes.specs.Nodes.{nodes_of}
 use Rattle.wm_steps.specs.Readied.{are_put_back, are_replaced, comes, entry_of, is_entry_of, is_left_by, is_left_undone, is_settled, is_waiting_as, is_wanted, ArePut, AreLeft, AreReady, IsPutSome}
-use Rattle.wm_steps.specs.Readiness.{is_ready_in, StaysReady}
-use Rattle.wm_steps.specs.Touched.{touches}
-use Rattle.wm_steps.specs.StepChanges.{changed_state, IsStepOf}
-use Rattle.wm_steps.specs.declared.change.StepChange.{StepChange}
+use Rattle.wm_changes.specs.Readiness.{is_ready_in, StaysReady}
+use Rattle.wm_changes.specs.Touched.{touches}
+use Rattle.wm_changes.specs.StepChanges.{changed_state, IsStepOf}
+use Rattle.wm_changes.specs.declared.change.StepChange.{StepChange}
 
 -- ---- by one of many
 

@@ -16,10 +16,10 @@ use Rattle.wm_machine.specs.declared.record.Record.{Record}
 use Rattle.wm_machine.specs.declared.state.State.{State}
 use Rattle.wm_steps.proofs.ReplacedRecords.{keeps_number, next-above, seqs-replaced, still_keep, told_keep, All-seq, KeepsNumber, WorksAscend-replaced, WorksAscend-set}
 use Rattle.wm_graph.proofs.Tests.{eq-swap}
-use Rattle.wm_steps.specs.StepChanges.{changed_state, other_works, seqs_of, with_replaced, without, Fits}
-use Rattle.wm_steps.specs.declared.change.Replacement.{Replacement}
-use Rattle.wm_steps.specs.declared.change.StepChange.{StepChange}
-use Rattle.wm_steps.specs.Touched.{put_in, then_of, touches}
+use Rattle.wm_changes.specs.StepChanges.{changed_state, other_works, seqs_of, with_replaced, without, Fits}
+use Rattle.wm_changes.specs.declared.change.Replacement.{Replacement}
+use Rattle.wm_changes.specs.declared.change.StepChange.{StepChange}
+use Rattle.wm_changes.specs.Touched.{put_in, then_of, touches}
 
 -- ---- what is put in the place of a record
 

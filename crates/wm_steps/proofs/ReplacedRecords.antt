@@ -10,8 +10,8 @@ use Rattle.wm_keeper.specs.declared.row.Row.{Row}
 use Rattle.wm_machine.proofs.Runnings.{WorksAscend}
 use Rattle.wm_machine.specs.Rows.{row_of}
 use Rattle.wm_machine.specs.declared.record.Record.{Record}
-use Rattle.wm_steps.specs.StepChanges.{other_works, seqs_of, with_replaced, HaveNextNumbers, KeepsPlace, KeepsRow}
-use Rattle.wm_steps.specs.declared.change.Replacement.{Replacement}
+use Rattle.wm_changes.specs.StepChanges.{other_works, seqs_of, with_replaced, HaveNextNumbers, KeepsPlace, KeepsRow}
+use Rattle.wm_changes.specs.declared.change.Replacement.{Replacement}
 
 -- ---- a record that takes the place of one of its number
 

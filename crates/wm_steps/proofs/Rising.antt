@@ -10,7 +10,7 @@ use Rattle.wm_graph.specs.Nodes.{NodeFields}
 use Rattle.wm_machine.proofs.Runnings.{WorksAscend-in_order}
 use Rattle.wm_machine.specs.Valid.{IsBefore, IsRecord}
 use Rattle.wm_machine.specs.declared.record.Record.{Record}
-use Rattle.wm_steps.specs.Nodes.{is_there, node_of, nodes_of}
+use Rattle.wm_changes.specs.Nodes.{is_there, node_of, nodes_of}
 use Rattle.wm_graph.specs.Numbers.{RiseFrom}
 
 -- numbers that ascend and begin with one rise from it

@@ -14,9 +14,9 @@ use Rattle.wm_machine.specs.Step.{Legal, after}
 use Rattle.wm_machine.specs.Valid.{IsRecord, Valid}
 use Rattle.wm_steps.proofs.Lookups.{changed_work-at, stored-at}
 use Rattle.wm_steps.proofs.Unsucceeding.{unsucceeding-not, Unsucceeding}
-use Rattle.wm_steps.specs.Replacements.{MayReplace}
-use Rattle.wm_steps.specs.StepChanges.{changed_state, keeping_row, replacing, Fits, IsStepOf}
-use Rattle.wm_steps.specs.declared.change.RunChange.{RunChange}
+use Rattle.wm_changes.specs.Replacements.{MayReplace}
+use Rattle.wm_changes.specs.StepChanges.{changed_state, keeping_row, replacing, Fits, IsStepOf}
+use Rattle.wm_changes.specs.declared.change.RunChange.{RunChange}
 
 -- one record that is replaced by one that keeps its node
 Fits-replacing : (s : State) (i : ℕ) (work new : Record) (run : RunChange) (e : Event) → Valid s → slice_get s.works i ≡ Some work

@@ -27,16 +27,16 @@ use Rattle.wm_steps.proofs.Nodes.{nodes-there}
 use Rattle.wm_steps.specs.Readied.{AreReady}
 use Rattle.wm_steps.specs.Startables.{HaveRooms}
 use Rattle.wm_steps.specs.declared.startable.Startable.{Startable}
-use Rattle.wm_steps.specs.Nodes.{is_there, node_of, nodes_of, AreThere}
-use Rattle.wm_steps.specs.Replacements.{MayReplace}
-use Rattle.wm_steps.specs.StepChanges.{changed_state, changed_works, other_works, put_replaced, put_work, remove_numbered, with_replaced, without, HaveNextNumbers, Fits, IsStepOf, KeepsPlace, KeepsRow, NameEarlier}
+use Rattle.wm_changes.specs.Nodes.{is_there, node_of, nodes_of, AreThere}
+use Rattle.wm_changes.specs.Replacements.{MayReplace}
+use Rattle.wm_changes.specs.StepChanges.{changed_state, changed_works, other_works, put_replaced, put_work, remove_numbered, with_replaced, without, HaveNextNumbers, Fits, IsStepOf, KeepsPlace, KeepsRow, NameEarlier}
 use Rattle.wm_index.specs.Entries.{Entry}
 use Rattle.wm_machine.specs.Valid.{IsBefore}
 use Rattle.wm_steps.specs.Covers.{AreCovered}
 use Rattle.wm_steps.specs.Entries.{AreEntriesOf, IsFollowable}
 use Rattle.wm_steps.specs.Views.{IsViewed}
-use Rattle.wm_steps.specs.declared.change.Replacement.{Replacement}
-use Rattle.wm_steps.specs.declared.change.StepChange.{StepChange}
+use Rattle.wm_changes.specs.declared.change.Replacement.{Replacement}
+use Rattle.wm_changes.specs.declared.change.StepChange.{StepChange}
 use Rattle.wm_steps.specs.declared.covers.Covers.{Covers}
 use Rattle.wm_steps.proofs.ReplacedRecords.{keeps_number, next-above, other_works-above, replaced_within, rows-set, told_within, WorksAscend-set}
 use Rattle.wm_steps.specs.Following.{followed, nodes_by, placed_node, with_followed, without_all, AreAddable, IsAddable}

@@ -11,8 +11,8 @@ use Rattle.wm_machine.specs.Input.{work_numbered}
 use Rattle.wm_machine.specs.Valid.{ArePriorSound}
 use Rattle.wm_machine.specs.declared.record.Record.{Record}
 use Rattle.wm_steps.proofs.Nodes.{and-when, node-stored, nodes-met, waiting-there}
-use Rattle.wm_steps.specs.Nodes.{is_there, node_of, nodes_of}
-use Rattle.wm_steps.specs.Readiness.{is_ready_in}
+use Rattle.wm_changes.specs.Nodes.{is_there, node_of, nodes_of}
+use Rattle.wm_changes.specs.Readiness.{is_ready_in}
 
 none-unmet : (nodes : List NodeFields) (works : List Record) (numbers : List ℕ) → ((n : ℕ) → is_met nodes n ≡ has_succeeded works n)
     → eqb (length (unmet_of nodes numbers)) 0 ≡ list_all (has_succeeded works) numbers

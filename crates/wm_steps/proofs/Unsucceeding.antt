@@ -5,7 +5,7 @@ use Rattle.wm_collections.proofs.Lists.{list_any-stored}
 use Rattle.wm_collections.specs.Lists.{HasOne}
 use Rattle.wm_machine.specs.First.{is_succeeded}
 use Rattle.wm_machine.specs.declared.record.Record.{Record}
-use Rattle.wm_steps.specs.Readiness.{Succeeds}
+use Rattle.wm_changes.specs.Readiness.{Succeeds}
 
 -- it has succeeded only where that had
 abbrev pub Unsucceeding : Record → Record → Type 0

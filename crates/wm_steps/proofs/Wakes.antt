@@ -1,35 +1,31 @@
--- The wake of the entries is that of the works, where no class is busy.
-use Rattle.std.proofs.Common.{◌≡◌, ◌⊎◌, ℕ, ◌<◌, ◌≤◌, ◌&&◌, Bool, true, false, not, List, refl, sym, ◌∙◌, arith, Option, Some, None, inl, inr, MatchOption}
+-- The wake of the entries is that of the works.
+use Rattle.std.proofs.Common.{◌≡◌, ◌⊎◌, ℕ, ◌<◌, ◌≤◌, ◌&&◌, true, false, List, refl, sym, ◌∙◌, arith, Option, Some, None, inl, inr, MatchOption}
 use Rattle.std.proofs.lemmas.Bool.{and_from, and_parts, cases_Bool}
 use Rattle.std.specs.List.{AllByRecursion}
-use Rattle.wm_collections.specs.Lists.{is_among, HasOne}
+use Rattle.wm_collections.specs.Lists.{HasOne}
 use Rattle.wm_collections.proofs.Lists.{All-stored, All-weaker, any_passes, list_any-stored, HasOne-with}
 use Rattle.wm_conditions.specs.Signatures.{AreMet}
 use Rattle.wm_machine.specs.Due.{due_of}
+use Rattle.wm_machine.specs.First.{has_room}
 use Rattle.wm_machine.specs.declared.record.Record.{Record}
 use Rattle.wm_machine.specs.declared.state.State.{State}
 use Rattle.wm_ready.specs.Entries.{has, is_later, is_same, Entry, IsFirst, IsFirstMoment, NonePasses}
-use Rattle.wm_steps.proofs.Firsts.{same-class, same-due, same-itself, same-signature}
-use Rattle.wm_steps.specs.Readied.{class_number, entry_of, is_entry_of, AreReady}
-use Rattle.wm_steps.specs.Readiness.{is_ready_in}
+use Rattle.wm_steps.proofs.Firsts.{not-not, same-class, same-due, same-itself, same-signature}
+use Rattle.wm_steps.specs.Readied.{entry_of, is_entry_of, AreBusy, AreReady}
+use Rattle.wm_changes.specs.Readiness.{is_ready_in}
 use Rattle.wm_steps.specs.Wakes.{waits_for_its_moment, IsLeastDue, IsWakeOf}
-
-with-true : (b : Bool) → (b && true) ≡ b
-with-true true = refl
-with-true false = refl
 
 not-later : (due other seq seq_other : ℕ) → (due < other) ⊎ ((due ≡ other) × (seq ≤ seq_other)) → due ≤ other
 not-later due other seq seq_other (inl less) = omega (arith, less)
 not-later due other seq seq_other (inr (same, _)) = omega (arith, same)
 
 module _ (names : List (List ℕ)) (s : State) (entries : List Entry) (bits : ℕ) (busy : List ℕ)
-    (ready : AreReady names s.works entries) (told : AreMet s.conditions bits)
-    (free : (class : List ℕ) → is_among busy (class_number names class) ≡ false) where
+    (ready : AreReady names s.works entries) (told : AreMet s.conditions bits) (rooms : AreBusy names s.instances busy) where
   abbrev entry_for : Record → Entry
   entry_for work = entry_of names work
 
   waits-is : (work : Record) → waits_for_its_moment s work ≡ (is_ready_in s.works work && is_later s.now bits busy (entry_for work))
-  waits-is work = rw (told.each work.request.constraints, free work.request.class, with-true) refl
+  waits-is work = rw (told.each work.request.constraints, rooms work.request.class, not-not (has_room s.instances work.request.class)) refl
 
   -- a work that waits for its moment has an entry that passes
   entry-there : (work : Record) → HasOne (λ other. other ≡ work) s.works → waits_for_its_moment s work ≡ true → has entries (entry_for work) ≡ true

@@ -1,4 +1,4 @@
--- A quiet state wakes when a work is due.
+-- A state in which nothing is startable wakes when a work is due.
 use Rattle.std.proofs.Common.{◌≡◌, ℕ, ◌==◌, ◌<◌, ◌≤◌, ◌&&◌, ◌||◌, Bool, true, false, not, List, [], ◌∷◌, filter, find, refl, sym, ap, subst, ◌∙◌, arith, Option, Some, None, inl, inr, is_some, nat_lt, nat_le, IfSome, IsSome}
 use Rattle.std.proofs.lemmas.Bool.{cases_Bool, false≢true}
 use Rattle.std.proofs.lemmas.Bool.Decides.{nat_tests}
@@ -9,7 +9,6 @@ use Rattle.wm_collections.proofs.Lists.{All-with2, All-weaker, filter-none, find
 use Rattle.wm_conditions.specs.Met.{met}
 use Rattle.wm_machine.specs.Due.{due_of}
 use Rattle.wm_machine.specs.First.{all_met, first_of, has_room, idle_instance, is_idle, is_live, is_startable, is_waiting, least}
-use Rattle.wm_machine.specs.Quiet.{IsQuiet}
 use Rattle.wm_machine.specs.Valid.{IsOutForRun, Valid}
 use Rattle.wm_machine.specs.declared.record.Record.{Record}
 use Rattle.wm_machine.specs.declared.state.Instance.{Instance}
@@ -31,25 +30,25 @@ room-found instances class None is none_out =
     rw dead refl
 
 -- no run, so no instance is out
-pub rooms-quiet : (s : State) (class : List ℕ) → Valid s → s.runs ≡ [] → has_room s.instances class ≡ true
-rooms-quiet s class valid none =
+pub rooms-quiet : (s : State) → Valid s → s.runs ≡ [] → (class : List ℕ) → has_room s.instances class ≡ true
+rooms-quiet s valid none class =
     room-found s.instances class (idle_instance s.instances class) refl
     (All-weaker s.instances (λ instance out. out ∙ ap (λ runs. list_any (λ run. run.instance == instance.number) runs) none) valid.instances.out)
 
 -- ---- a work at two moments
 
 waits-by : (waiting all constraints room : Bool) (due now moment : ℕ) → (waiting && (all && (nat_le due now && (constraints && room)))) ≡ false
-    → (waiting && (all && (nat_le due moment && (constraints && room)))) ≡ true → ((waiting && all) && (nat_lt now due && constraints)) ≡ true
+    → (waiting && (all && (nat_le due moment && (constraints && room)))) ≡ true → ((waiting && all) && (nat_lt now due && (constraints && room))) ≡ true
 waits-by waiting all constraints room due now moment not_yet then = grind (arith, nat_tests)
 
 due-by : (waiting all constraints room : Bool) (due moment : ℕ) → (waiting && (all && (nat_le due moment && (constraints && room)))) ≡ true → due ≤ moment
 due-by waiting all constraints room due moment then = grind (arith, nat_tests)
 
-starts-at : (waiting all constraints room : Bool) (due now moment : ℕ) → due ≡ moment → room ≡ true
-    → ((waiting && all) && (nat_lt now due && constraints)) ≡ true → (waiting && (all && (nat_le due moment && (constraints && room)))) ≡ true
-starts-at waiting all constraints room due now moment same there waits = grind (arith, nat_tests)
+starts-at : (waiting all constraints room : Bool) (due now moment : ℕ) → due ≡ moment
+    → ((waiting && all) && (nat_lt now due && (constraints && room))) ≡ true → (waiting && (all && (nat_le due moment && (constraints && room)))) ≡ true
+starts-at waiting all constraints room due now moment same waits = grind (arith, nat_tests)
 
-module _ (s : State) (valid : Valid s) (quiet : IsQuiet s) where
+module _ (s : State) (nothing : first_of s ≡ None) where
   -- what is startable at a moment, and isn't yet, waits for its moment, which has come
   startable-later : (moment : ℕ) (work : Record) → is_startable s work ≡ false → is_startable (at_moment s moment) work ≡ true
       → (waits_for_its_moment s work ≡ true) × (due_of work ≤ moment)
@@ -67,7 +66,7 @@ module _ (s : State) (valid : Valid s) (quiet : IsQuiet s) where
   unfolding is_startable
   startable-then moment work waits due =
       starts-at (is_waiting work.phase) (all_met s.works work) (met work.request.constraints s.conditions) (has_room s.instances work.request.class)
-      (due_of work) s.now moment due (rooms-quiet s work.request.class valid quiet.no_run) waits
+      (due_of work) s.now moment due waits
 
   asleep-by : (moment : ℕ) → AllByRecursion (λ work. waits_for_its_moment s work ≡ true → moment < due_of work) s.works
       → first_of (at_moment s moment) ≡ None
@@ -82,7 +81,7 @@ module _ (s : State) (valid : Valid s) (quiet : IsQuiet s) where
             let by = is.1 in
             absurd (omega (arith, above, by)))
         | inr not_startable ↦ not_startable
-      ]) (none-startable s quiet.nothing_startable) later))
+      ]) (none-startable s nothing) later))
 
   found-at : (at : ℕ) → IsLeastDue s at → (found : Option Record) → first_of (at_moment s at) ≡ found → IsSome found
   found-at at first (Some work) is = refl

@@ -6,9 +6,9 @@ use Rattle.wm_index.specs.Entries.{adding_tags, by_id, changed_at, has_seq, has_
 use Rattle.wm_keeper.specs.Keeper.{AreOfDifferentNumbers}
 use Rattle.wm_machine.specs.Valid.{IsBefore}
 use Rattle.wm_machine.specs.declared.record.Record.{Record}
-use Rattle.wm_steps.specs.StepChanges.{changed_works, row_changes, KeepsPlace, KeepsRow}
-use Rattle.wm_steps.specs.declared.change.Replacement.{Replacement}
-use Rattle.wm_steps.specs.declared.change.StepChange.{StepChange}
+use Rattle.wm_changes.specs.StepChanges.{changed_works, row_changes, KeepsPlace, KeepsRow}
+use Rattle.wm_changes.specs.declared.change.Replacement.{Replacement}
+use Rattle.wm_changes.specs.declared.change.StepChange.{StepChange}
 
 -- an entry is that of a record: it has its number, its id, its unique name and its tags, in any order
 pub record IsEntryOf (work : Record) (entry : Entry) : Type 0 where

@@ -5,8 +5,8 @@ use Rattle.wm_graph.specs.Marks.{is_met, with_marked}
 use Rattle.wm_graph.specs.Nodes.{without, NamesNodes, NodeFields}
 use Rattle.wm_machine.specs.First.{is_succeeded}
 use Rattle.wm_machine.specs.declared.record.Record.{Record}
-use Rattle.wm_steps.specs.declared.change.Replacement.{Replacement}
-use Rattle.wm_steps.specs.declared.change.StepChange.{StepChange}
+use Rattle.wm_changes.specs.declared.change.Replacement.{Replacement}
+use Rattle.wm_changes.specs.declared.change.StepChange.{StepChange}
 
 -- ---- nodes that are added
 

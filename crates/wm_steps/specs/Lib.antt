@@ -1,13 +1,9 @@
 pub mod Covers
 pub mod Entries
 pub mod Following
-pub mod Nodes
 pub mod Numbers
 pub mod Readied
-pub mod Readiness
-pub mod Replacements
 pub mod Startables
-pub mod StepChanges
-pub mod Touched
+pub mod Stored
 pub mod Views
 pub mod Wakes

@@ -14,9 +14,9 @@ use Rattle.wm_machine.specs.declared.record.Record.{Record}
 use Rattle.wm_machine.specs.declared.state.Instance.{Instance}
 use Rattle.wm_machine.specs.declared.state.State.{State}
 use Rattle.wm_ready.specs.Entries.{has, is_same, Entry}
-use Rattle.wm_steps.specs.Readiness.{is_ready_in}
-use Rattle.wm_steps.specs.declared.change.Replacement.{Replacement}
-use Rattle.wm_steps.specs.declared.change.StepChange.{StepChange}
+use Rattle.wm_changes.specs.Readiness.{is_ready_in}
+use Rattle.wm_changes.specs.declared.change.Replacement.{Replacement}
+use Rattle.wm_changes.specs.declared.change.StepChange.{StepChange}
 
 -- ---- classes by numbers
 

@@ -6,7 +6,7 @@ use Rattle.wm_machine.specs.Valid.{Valid}
 use Rattle.wm_machine.specs.declared.state.State.{State}
 use Rattle.wm_steps.specs.Covers.{AreCovered}
 use Rattle.wm_steps.specs.Entries.{AreEntriesOf}
-use Rattle.wm_steps.specs.Nodes.{nodes_of}
+use Rattle.wm_changes.specs.Nodes.{nodes_of}
 use Rattle.wm_steps.specs.Startables.{AreStartable}
 use Rattle.wm_steps.specs.declared.covers.Covers.{Covers}
 use Rattle.wm_steps.specs.declared.startable.Startable.{Startable}

@@ -4,9 +4,9 @@ ghost use Rattle.std.specs.List.{list_any};
 ghost use Rattle.std.specs.Prelude.{◌≡◌, ℕ, List, OnErr, OnOk};
 ghost use Rattle.wm_steps.specs.Covers.{is_unnamed, mark_after, mark_of, takes_members, IsMarked};
 
-use crate::change::{Replacement, StepChange};
 use std::alloc::{AllocError, Global};
 use std::collections::BTreeMap;
+use wm_changes::{Replacement, StepChange};
 use wm_machine::Record;
 
 /// A mark for some unique names, which is a number: each work of the name with a smaller one is a

@@ -7,10 +7,10 @@ ghost use Rattle.wm_collections.specs.Lists.{AllLater, NumbersAscend};
 ghost use Rattle.wm_index.specs.Entries.{changed_at, has_seq, numbers_of, without};
 ghost use Rattle.wm_machine.specs.Valid.{IsBefore};
 ghost use Rattle.wm_steps.specs.Entries.{new_entry, prepared_entries, settling, tagging, untagged_by, with_changed, with_identified, with_untagged, without_entries, AreEntriesOf, AreIdentifiable, AreLeaving, HaveEntries, IsBegun, IsBegunIn, IsFollowable, IsLeaving, IsPrepared, LeavesEntry};
-ghost use Rattle.wm_steps.specs.StepChanges.{changed_works, seqs_of};
+ghost use Rattle.wm_changes.specs.StepChanges.{changed_works, seqs_of};
 
-use crate::change::{Replacement, StepChange};
 use std::alloc::{AllocError, Global};
+use wm_changes::{Replacement, StepChange};
 use wm_collections::Text;
 use wm_index::Index;
 use wm_machine::Record;

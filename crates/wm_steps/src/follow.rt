@@ -5,8 +5,8 @@ ghost use Rattle.std.specs.List.{AllByRecursion};
 ghost use Rattle.wm_graph.specs.Nodes.{HasNode, NamesNodes};
 ghost use Rattle.wm_steps.specs.Following.{followed, nodes_by, placed_node, with_followed, without_all, AreAddable};
 
-use crate::change::{Replacement, StepChange};
 use std::alloc::AllocError;
+use wm_changes::{Replacement, StepChange};
 use wm_graph::Graph;
 use wm_machine::Record;
 

@@ -1,19 +1,20 @@
-//! What a step of the machine is about to do: the change of its records, its runs and its moment, and
-//! its event, with all of it in memory.
+//! The view of a state, with what is kept beside it: the graph and the index of its records, those that
+//! are ready, and how far the works of a unique name come before others. It answers what the crates
+//! above ask to say what an event comes to, and makes the change that they say.
 //!
-//! A [`StepChange`] is made by the crates that say what each event comes to, and carried out by the
-//! table. Nothing here changes a state.
+//! A step makes its change at once: first all that takes memory, then the commit of the rows, and the
+//! state last.
 #![tactic(auto)]
 
-pub mod change;
-pub mod covers;
-pub mod entries;
-pub mod follow;
+mod covers;
+mod entries;
+mod follow;
 pub mod laws;
-pub mod readying;
-pub mod rooms;
-pub mod startable;
+mod readying;
+mod rooms;
+mod startable;
+mod storing;
 pub mod view;
 
-pub use change::{Replacement, RunChange, SettingChange, StepChange};
+pub use storing::commit;
 pub use view::View;

@@ -9,12 +9,12 @@ ghost use Rattle.wm_graph.specs.Nodes.{HasNode};
 ghost use Rattle.wm_machine.specs.Input.{work_numbered};
 ghost use Rattle.wm_machine.specs.Valid.{ArePriorSound, IsBefore, IsRecord};
 ghost use Rattle.wm_ready.specs.Entries.{is_same};
-ghost use Rattle.wm_steps.specs.Nodes.{nodes_of};
+ghost use Rattle.wm_changes.specs.Nodes.{nodes_of};
 ghost use Rattle.wm_steps.specs.Readied.{are_put_back, are_replaced, comes, entry_of, if_free, is_left, is_left_by, is_left_undone, is_settled, is_waiting_as, ArePut, AreLeft, AreReady, IsPutSome};
 
-use crate::change::{Replacement, StepChange};
 use crate::rooms::class_number;
 use std::alloc::{AllocError, Global};
+use wm_changes::{Replacement, StepChange};
 use wm_collections::Text;
 use wm_conditions::signature;
 use wm_graph::Graph;

@@ -15,11 +15,13 @@ ghost use Rattle.wm_machine.specs.Shown.{shown_of};
 ghost use Rattle.wm_machine.specs.declared.record.Record.{Record};
 ghost use Rattle.wm_machine.specs.Valid.{Valid};
 ghost use Rattle.wm_steps.specs.Covers.{AreLast, IsMark};
-ghost use Rattle.wm_steps.specs.Nodes.{nodes_of, reached_from, IsUnmarked};
+ghost use Rattle.wm_changes.specs.Nodes.{nodes_of, reached_from, IsUnmarked};
 ghost use Rattle.wm_graph.specs.Numbers.{Ascend, RiseFrom};
 ghost use Rattle.wm_steps.specs.Readied.{IsFirstOf};
-ghost use Rattle.wm_steps.specs.Readiness.{is_ready_in};
+ghost use Rattle.wm_changes.specs.Readiness.{is_ready_in};
 ghost use Rattle.wm_steps.specs.Wakes.{IsWakeOf};
+
+mod step;
 
 use crate::covers::Covers;
 use crate::entries::index_of;
@@ -41,13 +43,13 @@ use wm_machine::{
 pub struct View {
     pub state: State,
     /// The records as the nodes of a graph, which is asked what a work reaches and frees.
-    pub graph: Graph,
+    graph: Graph,
     /// The records by their ids, their unique names and their tags.
-    pub index: Index,
+    index: Index,
     /// The records that are ready, by what they wait for.
-    pub startable: Startable,
+    startable: Startable,
     /// How far the members of unique names come before others.
-    pub covers: Covers,
+    covers: Covers,
 }
 
 impl Model for View {
@@ -106,11 +108,10 @@ impl View {
             .first(self.state.now, startable.tracker.met(), &startable.busy)
     }
 
-    /// The moment at which the state wakes, where no run is out: the least one above now at which a
-    /// work is due whose prerequisites have succeeded and whose constraints are met. None where no
-    /// work waits for its moment alone. It takes no memory.
+    /// The moment at which the state wakes: the least one above now at which a work is due whose
+    /// prerequisites have succeeded, whose constraints are met, and which needn't wait for an instance
+    /// of its class. None where no work waits for its moment alone. It takes no memory.
     pub fn wake(&self) -> Option<u64>
-        requires { self.now.runs ≡ [] }
         ensures { IsWakeOf self.now result }
     {
         let startable = &self.startable;

@@ -1,9 +1,2 @@
 pub mod Acknowledged
-pub mod Claims
-pub mod Images
-pub mod NoLines
-pub mod Parts
-pub mod RemovedWorks
-pub mod Returns
-pub mod StepRows
 pub mod TableSteps

@@ -1,41 +1,34 @@
--- What the calls of the table make is one step, and what a table keeps is kept by one step.
-use Rattle.std.proofs.Common.{◌≡◌, ℕ, suc, ◌+◌, ◌-◌, ◌≤◌, Bool, true, false, not, List, [], ◌∷◌, ◌++◌, length, length-append, slice_get, Option, Some, None, Vec, Global, refl, sym, ◌∙◌, ap, subst, arith, inl, inr}
-use Rattle.std.specs.Prelude.{◌↔◌, is_some, IsSome, IsSomeAnd, IsTrue, MatchBool}
-use Rattle.std.proofs.lemmas.Bool.{true≢false}
-use Rattle.std.proofs.lemmas.Option.{none-some}
-use Rattle.wm_keeper.proofs.Stores.{IfSome-still, IsAtMost-same, TellsOn-then}
-use Rattle.wm_keeper.specs.Store.{Store, IsAtMost, TellsOn}
+-- What a table keeps is kept by each call of its engine.
+use Rattle.std.proofs.Common.{◌≡◌, ℕ, suc, ◌+◌, ◌-◌, ◌≤◌, List, [], ◌∷◌, ◌++◌, length, length-append, slice_get, Option, Some, None, Result, Ok, Err, Vec, vec_capacity, Global, refl, sym, ◌∙◌, ap, subst, arith, inl, inr}
+use Rattle.std.specs.Prelude.{IfOk, OnErr, OnOk}
+use Rattle.wm_collections.specs.Lists.{last_of}
+use Rattle.wm_engine.proofs.NextRuns.{next-legal, runs-fewer, runs-legal, TakesAway}
+use Rattle.wm_engine.specs.Calls.{IsClaimAnswer, IsLateAnswer, IsOneStep, IsTurnAnswer, IsUntouched}
+use Rattle.wm_engine.specs.Engine.{beside, Beside, IsNoted}
+use Rattle.wm_engine.specs.EngineState.{EngineState}
+use Rattle.wm_engine.specs.Inputs.{Inputs}
+use Rattle.wm_engine.specs.TableState.{TableState, TicketState}
+use Rattle.wm_engine.specs.declared.engine.Claim.{Claim}
+use Rattle.wm_engine.specs.declared.engine.Claim.TheVariants as claim
+use Rattle.wm_engine.specs.declared.engine.TurnAnswer.{TurnAnswer}
+use Rattle.wm_engine.specs.declared.engine.TurnAnswer.TheVariants as turn
+use Rattle.wm_engine.specs.declared.trouble.Trouble.{Trouble}
+use Rattle.wm_keeper.specs.Store.{Store}
+use Rattle.wm_machine.proofs.Logs.{Replay-push}
+use Rattle.wm_machine.specs.Opened.{Opened}
+use Rattle.wm_machine.specs.Role.{Role}
+use Rattle.wm_machine.specs.Step.{role_of}
 use Rattle.wm_machine.specs.declared.command.Command.{Command}
 use Rattle.wm_machine.specs.declared.event.Event.{Event}
 use Rattle.wm_machine.specs.declared.event.Event.TheVariants as event
 use Rattle.wm_machine.specs.declared.reply.Reply.{Reply}
 use Rattle.wm_machine.specs.declared.state.State.{State}
-use Rattle.wm_collections.specs.Lists.{last_of}
-use Rattle.wm_machine.proofs.Logs.{Replay-push}
-use Rattle.wm_machine.proofs.Openings.{reached-opened, reached-replayed}
-use Rattle.wm_machine.specs.First.{first_of}
-use Rattle.wm_machine.specs.Opened.{Opened}
-use Rattle.wm_machine.specs.Quiet.{IsQuiet}
-use Rattle.wm_machine.specs.Replay.{Replay}
-use Rattle.wm_machine.specs.Rows.{rows_of}
 use Rattle.wm_observe.proofs.NoteLaws.{last_notes-push}
 use Rattle.wm_observe.specs.Notes.{last_notes, notes_between}
 use Rattle.wm_observe.specs.declared.note.Note.{Note}
-use Rattle.wm_machine.specs.Step.{role_of}
-use Rattle.wm_machine.specs.Valid.{Valid}
-use Rattle.wm_machine.specs.declared.record.Record.{Record}
-use Rattle.wm_roll.specs.Views.{RollView}
-use Rattle.wm_roll.specs.declared.part.Part.{Part}
-use Rattle.wm_steps.specs.Readied.{IsFirstOf}
-use Rattle.wm_steps.specs.StepChanges.{changed_state, IsStepOf}
-use Rattle.wm_steps.specs.declared.change.StepChange.{StepChange}
-use Rattle.wm_table.proofs.Images.{would_leave, WouldLeave-as}
-use Rattle.wm_table.proofs.Parts.{out-after}
-use Rattle.wm_table.specs.Images.{LeavesBefore, LeavesOnly, IsLine}
-use Rattle.wm_table.specs.Inputs.{Inputs}
-use Rattle.wm_table.specs.Parts.{AreOut, IsOffRoll}
-use Rattle.wm_table.specs.Table.{reply_in, HasRoom, HoldsRowsOf, IsOneStep, TableInvariant, IsUntouched}
-use Rattle.wm_table.specs.TableState.{TableState}
+use Rattle.wm_runs.specs.Reports.{CountsIn}
+use Rattle.wm_table.specs.Table.{HasRoom, TableInvariant}
+use Rattle.wm_worker.specs.Told.{Report}
 
 -- ---- the last of a list
 
@@ -50,10 +43,9 @@ slice_get-last (x ∷ y ∷ xs) =
 -- ---- what a table keeps
 
 -- what a table keeps when it begins
-pub kept-opening : (run : Inputs) (first s : State) (log : Vec Event Global) (notes : List Note) (store : Store) (roll : RollView)
-    → Opened run.rows run.instances first → s ≡ first → log.items ≡ [] → notes ≡ [] → HoldsRowsOf first store
-    → TellsOn run.store store → roll.table_id ≡ run.roll → roll.parts ≡ [] → TableInvariant run first s log notes store roll
-kept-opening run first s log notes store roll opened s_is log_is notes_is held tells_on own none =
+pub kept-opening : (run : Inputs) (first s : State) (log : Vec Event Global) (notes : List Note)
+    → Opened run.rows run.instances first → s ≡ first → log.items ≡ [] → notes ≡ [] → TableInvariant run first s notes log
+kept-opening run first s log notes opened s_is log_is notes_is =
     let next_run : s.next_run ≡ 1 = ap (λ (t : State). t.next_run) (s_is ∙ opened.state) in
     let no_run : length s.runs ≡ 0 = ap (λ (t : State). length t.runs) (s_is ∙ opened.state) in
     let none_yet : length log.items ≡ 0 = ap length log_is in
@@ -61,167 +53,150 @@ kept-opening run first s log notes store roll opened s_is log_is notes_is held t
       opened = opened;
       replay = rw (s_is, log_is) refl;
       notes_are = notes_is ∙ ap (last_notes first) (sym log_is);
-      rows = subst (λ (s : State). HoldsRowsOf s store) (sym s_is) held;
-      tells_on = tells_on;
       few_runs = omega (arith, next_run, none_yet);
       room = omega (arith, no_run, none_yet);
-      own = own;
-      out = subst (AreOut s.runs) (sym none) tt;
     }
 
--- what is made by carrying out the change of a step is one step
-pub made-step : {K : Type 0} (store : K → Store) (old : TableState K) (change : StepChange) (state : State) (log : List Event) (keeper : K) (roll : List Part)
-    → IsStepOf old.state change → state ≡ changed_state change old.state → log ≡ old.log ++ change.event ∷ []
-    → HoldsRowsOf state (store keeper) → (LeavesOnly (rows_of old.state) (store old.keeper) → LeavesOnly (rows_of state) (store keeper))
-    → IsOneStep store change.event old (record { first = old.first; state = state; log = log; keeper = keeper; roll = roll })
-made-step store old change state log keeper roll is state_is log_is rows images =
-    record { first = refl; legal = is.legal; state = state_is ∙ is.state; appended = log_is; rows = rows; images = images }
+-- a log of the same events with at least the room that it had
+pub kept-roomier : (run : Inputs) (first s : State) (notes : List Note) (before log : Vec Event Global) → TableInvariant run first s notes before
+    → log.items ≡ before.items → vec_capacity before ≤ vec_capacity log → TableInvariant run first s notes log
+kept-roomier run first s notes before log kept same more =
+    let longs : length log.items ≡ length before.items = ap length same in
+    record {
+      opened = kept.opened;
+      replay = rw same kept.replay;
+      notes_are = kept.notes_are ∙ ap (last_notes first) (sym same);
+      few_runs = omega (arith, kept.few_runs, longs);
+      room = omega (arith, kept.room, longs, more);
+    }
 
--- and where it was refused, nothing has changed, and a crash may leave what its event would have left
-pub refused-step : {K : Type 0} (store : K → Store) (old : TableState K) (change : StepChange) (state : State) (log : List Event) (keeper : K) (roll : List Part)
-    → IsStepOf old.state change → state ≡ old.state → log ≡ old.log → IsAtMost (store old.keeper).rows (store keeper).rows
-    → LeavesBefore (rows_of (changed_state change old.state)) (store old.keeper) (store keeper)
-    → IsUntouched store (λ e. e ≡ change.event) old (record { first = old.first; state = state; log = log; keeper = keeper; roll = roll })
-refused-step store old change state log keeper roll is state_is log_is rows images = record {
-  first = refl;
-  state = state_is;
-  log = log_is;
-  rows = rows;
-  images = λ image left. elim (images image left) [
-    | inl before ↦ inl before
-    | inr made ↦ inr (would_leave old.state change image is made.1)
-  ];
-}
+-- an engine beside a log that was made roomier is the table as it was
+pub seen-roomier : {K : Type 0} (first : State) (engine : EngineState K) (log roomier : List Event) (t : TableState K)
+    → beside first engine log ≡ t → roomier ≡ log → beside first engine roomier ≡ t
+seen-roomier first engine log roomier t is same = ap (beside first engine) same ∙ is
 
--- nothing has changed
-pub IsUntouched-same : {K : Type 0} (store : K → Store) (may_be : Event → Type 0) (old new : TableState K) → new ≡ old → IsUntouched store may_be old new
-IsUntouched-same store may_be old new same =
-    subst (IsUntouched store may_be old) (sym same) (record {
-      first = refl;
-      state = refl;
-      log = refl;
-      rows = IsAtMost-same (store old.keeper).rows;
-      images = λ image left. inl left;
-    })
+-- a list isn't the same with a value more
+longer : {T : Type 0} (xs ys : List T) (x : T) → ys ≡ xs ++ x ∷ [] → ys ≡ xs → ⊥
+longer xs ys x more same =
+    let one : length ys ≡ length xs + 1 = ap length more ∙ length-append xs (x ∷ []) in
+    let none : length ys ≡ length xs = ap length same in
+    absurd (omega (arith, one, none))
 
--- an event of some is one of others
-pub IsUntouched-as : {K : Type 0} (store : K → Store) (may also : Event → Type 0) (old new : TableState K) → ((e : Event) → may e → also e)
-    → IsUntouched store may old new → IsUntouched store also old new
-IsUntouched-as store may also old new weaker same = record {
-  first = same.first;
-  state = same.state;
-  log = same.log;
-  rows = same.rows;
-  images = λ image left. elim (same.images image left) [
-    | inl before ↦ inl before
-    | inr would ↦ inr (WouldLeave-as may also old.state image weaker would)
-  ];
-}
+module _ {K : Type 0} (run : Inputs) (store : K → Store) (first : State) (old new : EngineState K) (before log : Vec Event Global)
+    (kept : TableInvariant run first old.state old.notes before) (noted : IsNoted old before.items new log.items) where
+  made_notes : (e : Event) → log.items ≡ before.items ++ e ∷ [] → new.notes ≡ notes_between old.state new.state
+  made_notes e more = elim noted [
+    | inl is ↦ is.notes
+    | inr is ↦ absurd (longer before.items log.items e more is.none)
+  ]
 
--- the event of a line is one of that line
-pub line-made : (line : ℕ) (asked : Command) (answer : Reply) (e made : Event) → e ≡ made → made ≡ event.Command line asked answer → IsLine line asked e
-line-made line asked answer e made same is = record { reply = answer; event_is = same ∙ is }
+  kept_notes : log.items ≡ before.items → new.notes ≡ old.notes
+  kept_notes same = elim noted [
+    | inl is ↦ absurd (longer before.items log.items is.made is.appended same)
+    | inr is ↦ is.notes
+  ]
 
--- and has the reply that is found in it
-pub line-replied : (made : Event) (line : ℕ) (asked : Command) (logged answer : Reply) → made ≡ event.Command line asked logged
-    → reply_in made ≡ Some answer → made ≡ event.Command line asked answer
-line-replied made line asked logged answer is found =
-    let all : Some logged ≡ Some answer = sym (ap reply_in is) ∙ found in
-    let same : logged ≡ answer = cc in
-    is ∙ ap (event.Command line asked) same
-
-module _ {K : Type 0} (run : Inputs) (store : K → Store) (old new : TableState K) (before_log log : Vec Event Global)
-    (before_is : before_log.items ≡ old.log) (log_is : log.items ≡ new.log) (roll : RollView) where
-  -- a step that begins one run at most, with what is told of it
-  pub kept-step : (e : Event) (before told : List Note) → TableInvariant run old.first old.state before_log before (store old.keeper) roll
-      → IsOneStep store e old new → told ≡ notes_between old.state new.state → new.state.next_run ≤ old.state.next_run + 1
-      → HasRoom log new.state.runs → TellsOn (store old.keeper) (store new.keeper) → IsOffRoll (role_of e) roll.parts
-      → TableInvariant run new.first new.state log told (store new.keeper) roll
-  kept-step e before told kept step told_is more room tells_on off =
-      let longer : length log.items ≡ length before_log.items + 1 =
-      ap length (log_is ∙ step.appended) ∙ length-append old.log (e ∷ []) ∙ ap (λ (log : List Event). length log + 1) (sym before_is) in
-      let replay = subst (λ (log : List Event). Replay old.first log old.state) before_is kept.replay in
+  -- a step that is logged
+  pub kept-step : (e : Event) → IsOneStep store e (beside first old before.items) (beside first new log.items) → HasRoom log new.state.runs
+      → TableInvariant run first new.state new.notes log
+  kept-step e step room =
+      let more : length log.items ≡ length before.items + 1 = ap length step.appended ∙ length-append before.items (e ∷ []) in
+      let next = subst (λ (s : State). s.next_run ≤ old.state.next_run + 1) (sym step.state) (next-legal old.state e step.legal) in
       record {
-        opened = subst (Opened run.rows run.instances) (sym step.first) kept.opened;
-        replay = rw (step.first, step.state, log_is ∙ step.appended) (Replay-push old.first old.log old.state e replay step.legal);
-        notes_are = told_is
+        opened = kept.opened;
+        replay = rw (step.state, step.appended) (Replay-push first before.items old.state e kept.replay step.legal);
+        notes_are = made_notes e step.appended
             ∙ ap (notes_between old.state) step.state
-            ∙ sym (last_notes-push old.first old.log old.state e replay)
-            ∙ ap (last_notes old.first) (sym (log_is ∙ step.appended))
-            ∙ ap (λ s. last_notes s log.items) (sym step.first);
-        rows = step.rows;
-        tells_on = TellsOn-then run.store (store old.keeper) (store new.keeper) kept.tells_on tells_on;
-        few_runs = omega (arith, kept.few_runs, longer, more);
+            ∙ sym (last_notes-push first before.items old.state e kept.replay)
+            ∙ ap (last_notes first) (sym step.appended);
+        few_runs = omega (arith, kept.few_runs, more, next);
         room = room;
-        own = kept.own;
-        out = subst (λ (s : State). AreOut s.runs roll.parts) (sym step.state) (out-after old.state e roll.parts step.legal off kept.out);
       }
 
-  pub kept-untouched : (may_be : Event → Type 0) (notes : List Note) → TableInvariant run old.first old.state before_log notes (store old.keeper) roll
-      → IsUntouched store may_be old new → HasRoom log new.state.runs → TellsOn (store old.keeper) (store new.keeper)
-      → TableInvariant run new.first new.state log notes (store new.keeper) roll
-  kept-untouched may_be notes kept same room tells_on =
-      let rows : HoldsRowsOf old.state (store new.keeper) =
-      IfSome-still (λ rows. rows ≡ rows_of old.state) (store old.keeper).rows (store new.keeper).rows kept.rows same.rows in
-      let logs : log.items ≡ before_log.items = log_is ∙ same.log ∙ sym before_is in
-      let longer : length log.items ≡ length before_log.items = ap length logs in
+  -- nothing has happened
+  pub kept-same : new.state ≡ old.state → log.items ≡ before.items → HasRoom log old.state.runs → TableInvariant run first new.state new.notes log
+  kept-same state_is log_is room =
+      let few : old.state.next_run ≤ length log.items + 1 = rw log_is kept.few_runs in
       record {
-        opened = subst (Opened run.rows run.instances) (sym same.first) kept.opened;
-        replay = rw (same.first, same.state, logs) kept.replay;
-        notes_are = kept.notes_are ∙ ap (last_notes old.first) (sym logs) ∙ ap (λ s. last_notes s log.items) (sym same.first);
-        rows = subst (λ (s : State). HoldsRowsOf s (store new.keeper)) (sym same.state) rows;
-        tells_on = TellsOn-then run.store (store old.keeper) (store new.keeper) kept.tells_on tells_on;
-        few_runs = subst (λ (s : State). s.next_run ≤ length log.items + 1) (sym same.state) (omega (arith, kept.few_runs, longer));
-        room = room;
-        own = kept.own;
-        out = subst (λ (s : State). AreOut s.runs roll.parts) (sym same.state) kept.out;
+        opened = kept.opened;
+        replay = rw (state_is, log_is) kept.replay;
+        notes_are = kept_notes log_is ∙ kept.notes_are ∙ ap (last_notes first) (sym log_is);
+        few_runs = subst (λ (s : State). s.next_run ≤ length log.items + 1) (sym state_is) few;
+        room = subst (λ (s : State). HasRoom log s.runs) (sym state_is) room;
       }
 
--- the same with other parts on the roll, each that of a run
-pub kept-roll : (run : Inputs) (first s : State) (log : Vec Event Global) (notes : List Note) (store : Store) (roll now : RollView)
-    → TableInvariant run first s log notes store roll → now.table_id ≡ roll.table_id → AreOut s.runs now.parts
-    → TableInvariant run first s log notes store now
-kept-roll run first s log notes store roll now kept same out = record {
-  opened = kept.opened;
-  replay = kept.replay;
-  notes_are = kept.notes_are;
-  rows = kept.rows;
-  tells_on = kept.tells_on;
-  few_runs = kept.few_runs;
-  room = kept.room;
-  own = same ∙ kept.own;
-  out = out;
-}
+  -- there was room for an event, and for one more of each run, also of one that begins
+  module _ (reserved : length before.items + (length old.state.runs + 2) ≤ vec_capacity log) where
+    room_after : (e : Event) → IsOneStep store e (beside first old before.items) (beside first new log.items) → HasRoom log new.state.runs
+    room_after e step =
+        let more : length log.items ≡ length before.items + 1 = ap length step.appended ∙ length-append before.items (e ∷ []) in
+        let runs = subst (λ (s : State). length s.runs ≤ length old.state.runs + 1) (sym step.state) (runs-legal old.state e step.legal) in
+        omega (arith, reserved, more, runs)
 
--- the state is one that the machine reaches
-pub valid-kept : (run : Inputs) (first s : State) (log : Vec Event Global) (notes : List Note) (store : Store) (roll : RollView)
-    → TableInvariant run first s log notes store roll → Valid s
-valid-kept run first s log notes store roll kept =
-    reached-replayed first s log.items (reached-opened run.rows run.instances first kept.opened) kept.replay
+    pub kept-made : (e : Event) → IsOneStep store e (beside first old before.items) (beside first new log.items) → TableInvariant run first new.state new.notes log
+    kept-made e step = kept-step e step (room_after e step)
 
--- ---- rest
+    pub kept-untouched : (may_be : Event → Type 0) → IsUntouched store may_be (beside first old before.items) (beside first new log.items)
+        → TableInvariant run first new.state new.notes log
+    kept-untouched may_be same =
+        let logs : length log.items ≡ length before.items = ap length same.log in
+        kept-same same.state same.log (omega (arith, reserved, logs))
 
--- the number of a first work isn't found where there is none
-none-first : (found : Option Record) (number : ℕ) → IsSomeAnd found (λ work. work.seq ≡ number) → found ≡ None → ⊥
-none-first None number is none = is
-none-first (Some work) number is none = none-some work (sym none)
+    -- a line was executed, or nothing was changed
+    pub kept-executed : {T : Type 0} (result : Result T Trouble) (line : ℕ) (command : Command) (may_be : Event → Type 0)
+        → OnOk result (Beside (λ was is. (reply : Reply) × IsOneStep store (event.Command line command reply) was is) old before.items new log.items)
+        → OnErr result (Beside (IsUntouched store may_be) old before.items new log.items) → TableInvariant run first new.state new.notes log
+    kept-executed (Ok value) line command may_be is same = let made = is first in kept-made (event.Command line command made.0) made.1
+    kept-executed (Err trouble) line command may_be is same = kept-untouched may_be (same first)
 
-some-first : (found : Option Record) (number : ℕ) → IsSomeAnd found (λ work. work.seq ≡ number) → IsSome found
-some-first None number is = absurd is
-some-first (Some work) number is = refl
+    pub kept-replied : (result : Result Reply Trouble) (line : ℕ) (command : Command) (may_be : Event → Type 0)
+        → IfOk result (λ reply. Beside (IsOneStep store (event.Command line command reply)) old before.items new log.items)
+        → OnErr result (Beside (IsUntouched store may_be) old before.items new log.items) → TableInvariant run first new.state new.notes log
+    kept-replied (Ok reply) line command may_be is same = kept-made (event.Command line command reply) (is first)
+    kept-replied (Err trouble) line command may_be is same = kept-untouched may_be (same first)
 
--- a work is startable exactly where the number of one that is first was found
-pub startable-told : (s : State) (found : Option ℕ) (told : Bool) → IsFirstOf s found → told ≡ is_some found
-    → MatchBool told (IsSome (first_of s)) (first_of s ≡ None)
-startable-told s None true is same = absurd (true≢false same)
-startable-told s None false is same = is
-startable-told s (Some number) true is same = some-first (first_of s) number is
-startable-told s (Some number) false is same = absurd (true≢false (sym same))
+    -- what was first was claimed, or nothing was changed
+    pub kept-claimed : {M : Type 0} (result : Result (Option (Claim M)) Trouble) (may_be : Event → Type 0)
+        → IfOk result (λ answer. Beside (IsClaimAnswer store answer) old before.items new log.items)
+        → OnErr result (Beside (IsUntouched store may_be) old before.items new log.items) → TableInvariant run first new.state new.notes log
+    kept-claimed (Ok None) may_be is same =
+        let still = (is first).same in
+        let logs : log.items ≡ before.items = ap (λ (t : TableState K). t.log) still in
+        let longs : length log.items ≡ length before.items = ap length logs in
+        kept-same (ap (λ (t : TableState K). t.state) still) logs (omega (arith, reserved, longs))
+    kept-claimed (Ok (Some (claim.Run ticket))) may_be is same = kept-made _ (is first).step
+    kept-claimed (Ok (Some (claim.Failed seq cause))) may_be is same = kept-made _ (is first)
+    kept-claimed (Err trouble) may_be is same = kept-untouched may_be (same first)
 
--- where no run is unreturned, nothing is left to do exactly where no work that is first was found
-pub quiet-told : (s : State) (found : Option ℕ) (told : Bool) → IsFirstOf s found → is_some found ≡ not told → s.runs ≡ [] → IsTrue told ↔ IsQuiet s
-quiet-told s None true is none no_run = (λ t. record { nothing_startable = is; no_run = no_run }, λ q. refl)
-quiet-told s None false is none no_run = absurd (true≢false (sym none))
-quiet-told s (Some number) true is none no_run = absurd (true≢false none)
-quiet-told s (Some number) false is none no_run =
-    (λ t. absurd (true≢false (sym t)), λ quiet. absurd (none-first (first_of s) number is quiet.nothing_startable))
+  -- an event that takes a run away needs no more room than there was
+  module _ (room : length before.items + length old.state.runs ≤ vec_capacity log) where
+    kept_away : (e : Event) → TakesAway (role_of e) → IsOneStep store e (beside first old before.items) (beside first new log.items)
+        → TableInvariant run first new.state new.notes log
+    kept_away e away step =
+        let more : length log.items ≡ length before.items + 1 = ap length step.appended ∙ length-append before.items (e ∷ []) in
+        let runs = subst (λ (s : State). length s.runs + 1 ≤ length old.state.runs) (sym step.state) (runs-fewer old.state e step.legal away) in
+        kept-step e step (omega (arith, room, more, runs))
+
+    kept_still : new.state ≡ old.state → log.items ≡ before.items → TableInvariant run first new.state new.notes log
+    kept_still state_is log_is = let same : length log.items ≡ length before.items = ap length log_is in kept-same state_is log_is (omega (arith, room, same))
+
+    pub kept-late : {M : Type 0} (ticket : TicketState) (result : Result M TicketState)
+        → IsLateAnswer store ticket result (beside first old before.items) (beside first new log.items) → TableInvariant run first new.state new.notes log
+    kept-late ticket (Ok done) is = kept_away (event.Late ticket.task.run) tt is.returned.step
+    kept-late ticket (Err back) is = kept_still (ap (λ (t : TableState K). t.state) is.same) (ap (λ (t : TableState K). t.log) is.same)
+
+    away-ends : (r : Role) (number : ℕ) (e : Event) → role_of e ≡ r → TakesAway r → TakesAway (role_of e)
+    away-ends r number e is away = subst TakesAway (sym is) away
+
+    pub kept-turned : {M : Type 0} (ticket : TicketState) (told : Report) (answer : TurnAnswer M)
+        → (CountsIn old.state ticket.task.run told → length before.items + (length old.state.runs + 2) ≤ vec_capacity log)
+        → IsTurnAnswer store ticket told answer (beside first old before.items) (beside first new log.items) → TableInvariant run first new.state new.notes log
+    kept-turned ticket told (turn.Go next) more is = kept-made (more is.counts) _ is.step
+    kept-turned ticket told turn.Finished more is =
+        let end = is.0.finished in kept_away end.ending (away-ends _ ticket.task.run end.ending end.ends tt) end.step
+    kept-turned ticket told turn.TimedOut more is =
+        let end = is.0.finished in kept_away end.ending (away-ends _ ticket.task.run end.ending end.ends tt) end.step
+    kept-turned ticket told turn.Late more is = kept_away (event.Late ticket.task.run) tt is.step
+    kept-turned ticket told (turn.Again back) more is =
+        kept_still (ap (λ (t : TableState K). t.state) is.same) (ap (λ (t : TableState K). t.log) is.same)
+    kept-turned ticket told (turn.Refused back report why) more is = kept_still is.untouched.state is.untouched.log

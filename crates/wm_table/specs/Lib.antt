@@ -1,9 +1,2 @@
 pub mod Acknowledged
-pub mod Images
-pub mod Inputs
-pub mod Parts
-pub mod Returns
-pub mod Rolls
 pub mod Table
-pub mod TableState
-pub mod Trouble

@@ -1,12 +1,10 @@
 //! The table of works and runs.
 //!
-//! [`Table`] makes the events of the machine, one a call, and keeps their rows.
+//! [`Table`] makes the events of the machine, one a call, keeps their rows, and logs them.
 #![tactic(auto)]
 
 pub mod laws;
-pub mod mark;
 pub mod table;
 
-pub use mark::Mark;
-pub use table::ticket::Ticket;
-pub use table::{BeginFault, Claim, Table, TableEnd, Trouble, TurnAnswer};
+pub use table::{Table, TableEnd};
+pub use wm_engine::{BeginFault, Claim, Mark, Ticket, Trouble, TurnAnswer};

@@ -3,4 +3,4 @@ use Rattle.own_worker.proofs.run.Given as goal
 
 -- the workers so far
 abbrev pub invariant-loop-number : goal.invariant-loop-number
-invariant-loop-number l = vec_len l.hands ≡ l.number
+invariant-loop-number g l = vec_len l.hands ≡ l._number

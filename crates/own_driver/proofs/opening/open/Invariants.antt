@@ -1,4 +1,4 @@
-use Rattle.wm_table.specs.Inputs.{no_inputs}
+use Rattle.wm_engine.specs.Inputs.{no_inputs}
 use Rattle.own_driver.proofs.opening.open.Given as goal
 
 -- the mark of the table is what was loaded

@@ -1,5 +1,5 @@
 use Rattle.std.proofs.Common.{Some, false, []}
-use Rattle.wm_table.specs.Inputs.{no_inputs}
+use Rattle.wm_engine.specs.Inputs.{no_inputs}
 use Rattle.own_worker.proofs.photos.place.Given as goal
 
 -- the mark of the table is an empty store that tells its rows, and this roll

@@ -1,7 +1,7 @@
 use Rattle.std.proofs.Common.{[], ◌∷◌, ◌++◌, List, ◌∙◌, ap}
 use Rattle.run_tests.proofs.Fronts.{front-roll, only-part}
 use Rattle.wm_roll.specs.declared.part.Part.{Part}
-use Rattle.wm_table.specs.Parts.{ticket_part}
+use Rattle.wm_engine.specs.Parts.{ticket_part}
 use Rattle.run_tests.proofs.beside.around_a_run.Goals as goal
 
 pub drive_once-requires-clause-alone : goal.drive_once-requires-clause-alone

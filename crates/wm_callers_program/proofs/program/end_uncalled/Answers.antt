@@ -1,7 +1,7 @@
 use Rattle.std.proofs.Common.{[], Some, refl}
 use Rattle.wm_callers_program.proofs.CallEnds.{callers-ended, none-called}
 use Rattle.wm_ended.specs.Tells.{tells_of}
-use Rattle.wm_table.specs.declared.table.Trouble.TheVariants as trouble
+use Rattle.wm_engine.specs.declared.trouble.Trouble.TheVariants as trouble
 use Rattle.wm_callers_program.proofs.program.end_uncalled.Goals as goal
 
 pub end_table-ended-requires-clause-calls : goal.end_table-ended-requires-clause-calls

@@ -33,12 +33,12 @@ use Rattle.wm_machine.specs.declared.record.Phase.TheVariants as phase
 use Rattle.wm_machine.specs.declared.reply.Reply.TheVariants as reply
 use Rattle.wm_steps.proofs.Nodes.{itself_reached}
 use Rattle.wm_steps.proofs.Views.{reached-view}
-use Rattle.wm_steps.specs.Nodes.{nodes_of, reached_from}
-use Rattle.wm_steps.specs.Replacements.{at_index, replacements}
-use Rattle.wm_steps.specs.StepChanges.{replacing_all, row_changes}
-use Rattle.wm_steps.specs.declared.change.Replacement.{Replacement}
-use Rattle.wm_steps.specs.declared.change.RunChange.{RunChange}
-use Rattle.wm_steps.specs.declared.change.RunChange.TheVariants.{Stop}
+use Rattle.wm_changes.specs.Nodes.{nodes_of, reached_from}
+use Rattle.wm_changes.specs.Replacements.{at_index, replacements}
+use Rattle.wm_changes.specs.StepChanges.{replacing_all, row_changes}
+use Rattle.wm_changes.specs.declared.change.Replacement.{Replacement}
+use Rattle.wm_changes.specs.declared.change.RunChange.{RunChange}
+use Rattle.wm_changes.specs.declared.change.RunChange.TheVariants.{Stop}
 use Rattle.wm_commands.proofs.cancel.cancel_each.Goals as goal
 
 -- ---- how many are touched

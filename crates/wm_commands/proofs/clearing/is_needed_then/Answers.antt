@@ -6,7 +6,7 @@ use Rattle.wm_graph.specs.Descendants.{dependents}
 use Rattle.wm_machine.specs.Closed.{is_open}
 use Rattle.wm_machine.specs.declared.record.Record.{Record}
 use Rattle.wm_steps.proofs.Views.{reached-view}
-use Rattle.wm_steps.specs.Nodes.{nodes_of}
+use Rattle.wm_changes.specs.Nodes.{nodes_of}
 use Rattle.wm_unique.specs.Plans.{numbered_passes}
 use Rattle.wm_commands.proofs.clearing.is_needed_then.Goals as goal
 

@@ -2,8 +2,8 @@ use Rattle.std.proofs.Common.{List, [], ◌∷◌, ◌++◌, Some, None, take, s
 use Rattle.std.proofs.lemmas.List.{append-nil}
 use Rattle.wm_commands.proofs.ClearedNumbers.{one-more}
 use Rattle.wm_commands.specs.Cleared.{cleared_by}
-use Rattle.wm_steps.specs.Replacements.{by_numbers}
-use Rattle.wm_steps.specs.declared.change.Replacement.{Replacement}
+use Rattle.wm_changes.specs.Replacements.{by_numbers}
+use Rattle.wm_changes.specs.declared.change.Replacement.{Replacement}
 use Rattle.wm_commands.proofs.clearing.replaced_among.Goals as goal
 use Rattle.wm_commands.proofs.clearing.replaced_among.Goals.{in-Some+in_ok-push, in_default}
 

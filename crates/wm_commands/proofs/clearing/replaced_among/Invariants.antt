@@ -1,6 +1,6 @@
 use Rattle.std.proofs.Common.{◌≡◌, take}
 use Rattle.wm_commands.specs.Cleared.{cleared_by}
-use Rattle.wm_steps.specs.Replacements.{by_numbers}
+use Rattle.wm_changes.specs.Replacements.{by_numbers}
 use Rattle.wm_commands.proofs.clearing.replaced_among.Given as goal
 
 -- the replacements of the numbers so far are there

@@ -4,7 +4,7 @@ use Rattle.wm_commands.proofs.ClearedNumbers.{cleared-numbered}
 use Rattle.wm_commands.specs.Cleared.{cleared_by, replaced_by_clearing}
 use Rattle.wm_collections.specs.Sets.{AreMerged}
 use Rattle.wm_steps.proofs.Views.{reached-view}
-use Rattle.wm_steps.specs.Replacements.{by_numbers}
+use Rattle.wm_changes.specs.Replacements.{by_numbers}
 use Rattle.wm_commands.proofs.clearing.replaced_by_clearing.Goals as goal
 
 pub returns : goal.returns

@@ -30,13 +30,13 @@ use Rattle.wm_machine.specs.declared.state.State.{State}
 use Rattle.wm_steps.proofs.ManyRows.{setting_with-step, unsucceeding-freeing, KeepNodes}
 use Rattle.wm_steps.proofs.Unsucceeding.{Unsucceeding}
 use Rattle.wm_steps.proofs.Views.{reached-view}
-use Rattle.wm_steps.specs.Readiness.{TouchesFreed}
-use Rattle.wm_steps.specs.Replacements.{at_index, or_same, replacements, MayReplace}
-use Rattle.wm_steps.specs.StepChanges.{changed_state, row_changes, setting_with, with_replaced}
-use Rattle.wm_steps.specs.declared.change.Replacement.{Replacement}
-use Rattle.wm_steps.specs.declared.change.RunChange.TheVariants.{Stop}
-use Rattle.wm_steps.specs.declared.change.SettingChange.TheVariants as set
-use Rattle.wm_steps.specs.declared.change.StepChange.{StepChange}
+use Rattle.wm_changes.specs.Readiness.{TouchesFreed}
+use Rattle.wm_changes.specs.Replacements.{at_index, or_same, replacements, MayReplace}
+use Rattle.wm_changes.specs.StepChanges.{changed_state, row_changes, setting_with, with_replaced}
+use Rattle.wm_changes.specs.declared.change.Replacement.{Replacement}
+use Rattle.wm_changes.specs.declared.change.RunChange.TheVariants.{Stop}
+use Rattle.wm_changes.specs.declared.change.SettingChange.TheVariants as set
+use Rattle.wm_changes.specs.declared.change.StepChange.{StepChange}
 use Rattle.wm_commands.proofs.conditions.execute.Goals as goal
 
 -- ---- the runs

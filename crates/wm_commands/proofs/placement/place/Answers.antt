@@ -5,8 +5,8 @@ use Rattle.wm_machine.specs.declared.command.Command.TheVariants as command
 use Rattle.wm_machine.specs.declared.event.Event.TheVariants as event
 use Rattle.wm_machine.specs.declared.reply.Reply.TheVariants as reply
 use Rattle.wm_steps.proofs.Views.{reached-view}
-use Rattle.wm_steps.specs.StepChanges.{placing, seqs_of}
-use Rattle.wm_steps.specs.declared.change.RunChange.TheVariants.{Stop}
+use Rattle.wm_changes.specs.StepChanges.{placing, seqs_of}
+use Rattle.wm_changes.specs.declared.change.RunChange.TheVariants.{Stop}
 use Rattle.wm_unique.specs.Plans.{placing_by}
 use Rattle.wm_commands.proofs.placement.place.Goals as goal
 

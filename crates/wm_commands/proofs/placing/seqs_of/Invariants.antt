@@ -1,5 +1,5 @@
 use Rattle.std.proofs.Common.{◌≡◌, take}
-use Rattle.wm_steps.specs.StepChanges.{seqs_of}
+use Rattle.wm_changes.specs.StepChanges.{seqs_of}
 use Rattle.wm_commands.proofs.placing.seqs_of.Given as goal
 
 -- the numbers of the works so far are there

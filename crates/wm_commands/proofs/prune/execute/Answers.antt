@@ -6,7 +6,7 @@ use Rattle.std.proofs.lemmas.List.Filters.{length-filter_both}
 use Rattle.std.proofs.lemmas.List.Sums.{length-filter}
 use Rattle.wm_collections.specs.Lists.{AllLater}
 use Rattle.wm_commands.proofs.ClearingSteps.{clearing_alone-step, passing-stored, StopsAlone-none}
-use Rattle.wm_commands.proofs.Clearings.{cleared-in_place, none-replaced, stays-passing, without-stays}
+use Rattle.wm_commands.proofs.Clearings.{cleared-in_place, none-replaced, stays-passing}
 use Rattle.wm_settings.specs.Builds.{ChangesRows, IsExecuted}
 use Rattle.wm_commands.specs.Cleared.{pruning, with_cleared}
 use Rattle.wm_machine.proofs.Stops.{with_stopped-none}
@@ -22,9 +22,10 @@ use Rattle.wm_machine.specs.declared.event.Event.TheVariants as event
 use Rattle.wm_machine.specs.declared.reply.Reply.TheVariants as reply
 use Rattle.wm_machine.specs.declared.state.State.{State}
 use Rattle.wm_steps.proofs.Views.{reached-view}
-use Rattle.wm_steps.specs.StepChanges.{placing, removing, row_changes, with_replaced, without, IsStepOf}
-use Rattle.wm_steps.specs.declared.change.Replacement.{Replacement}
-use Rattle.wm_steps.specs.declared.change.RunChange.TheVariants.{Unchanged}
+use Rattle.wm_changes.proofs.RemovedWorks.{without-kept}
+use Rattle.wm_changes.specs.StepChanges.{placing, removing, row_changes, with_replaced, without, IsStepOf}
+use Rattle.wm_changes.specs.declared.change.Replacement.{Replacement}
+use Rattle.wm_changes.specs.declared.change.RunChange.TheVariants.{Unchanged}
 use Rattle.wm_commands.proofs.prune.execute.Goals as goal
 
 -- ---- the records that stay
@@ -36,7 +37,7 @@ staying at test works order =
     let removed = numbers_in (filter test works) in
     sym (cleared-in_place (pruning at removed) works)
     ∙ ap (λ (replaced : List Replacement). without removed (with_replaced replaced works)) (none-replaced at removed 0 works)
-    ∙ without-stays removed works
+    ∙ without-kept removed works
     ∙ stays-passing test works order
 
 -- ---- the rows

@@ -1,6 +1,6 @@
 use Rattle.std.proofs.Common.{ℕ, true, refl, ◌∙◌, ap, sym, arith}
 use Rattle.wm_live.proofs.DrainSteps.{drained-nothing, drained-then, stopped-then}
-use Rattle.wm_table.specs.TableState.{TicketState}
+use Rattle.wm_engine.specs.TableState.{TicketState}
 use Rattle.wm_live.proofs.drive.take_turns.Goals as goal
 
 pub turns-init : goal.turns-init

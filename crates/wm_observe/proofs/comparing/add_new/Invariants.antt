@@ -1,6 +1,6 @@
 use Rattle.std.proofs.Common.{◌≡◌, ◌++◌, map, take}
 use Rattle.wm_observe.specs.Compared.{new_pair}
-use Rattle.wm_steps.specs.StepChanges.{changed_state}
+use Rattle.wm_changes.specs.StepChanges.{changed_state}
 use Rattle.wm_observe.proofs.comparing.add_new.Given as goal
 
 -- those so far are there

@@ -3,7 +3,7 @@ use Rattle.wm_observe.proofs.AddedPairs.{pairs-all, pairs-on, split-on}
 use Rattle.wm_observe.proofs.comparing.add_old.Goals as goal
 use Rattle.wm_observe.specs.Compared.{pair_at}
 use Rattle.wm_steps.proofs.Views.{reached-view}
-use Rattle.wm_steps.specs.StepChanges.{changed_state}
+use Rattle.wm_changes.specs.StepChanges.{changed_state}
 
 pub loop-number-preserved : goal.loop-number-preserved
 loop-number-preserved c =

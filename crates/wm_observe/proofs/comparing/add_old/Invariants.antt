@@ -2,7 +2,7 @@ use Rattle.std.proofs.Common.{◌≡◌, ◌++◌, map}
 use Rattle.std.specs.Map.Iter.{deref}
 use Rattle.wm_observe.specs.Compared.{pair_at}
 use Rattle.wm_steps.specs.Numbers.{numbered}
-use Rattle.wm_steps.specs.StepChanges.{changed_state}
+use Rattle.wm_changes.specs.StepChanges.{changed_state}
 use Rattle.wm_observe.proofs.comparing.add_old.Given as goal
 
 -- those of the numbers so far are there

@@ -3,7 +3,7 @@ use Rattle.std.proofs.lemmas.Result.{on_ok_weaker}
 use Rattle.wm_graph.specs.Descendants.{dependents}
 use Rattle.wm_observe.proofs.NearNumbers.{with-near}
 use Rattle.wm_observe.proofs.nearby.add_near.Goals as goal
-use Rattle.wm_steps.specs.Nodes.{nodes_of}
+use Rattle.wm_changes.specs.Nodes.{nodes_of}
 
 pub returns : goal.returns
 returns c =

@@ -2,7 +2,7 @@ use Rattle.std.proofs.Common.{ℕ}
 use Rattle.wm_observe.proofs.NearNumbers.{with-more}
 use Rattle.wm_observe.proofs.nearby.add_near_replaced.Goals as goal
 use Rattle.wm_observe.specs.Near.{is_near}
-use Rattle.wm_steps.specs.declared.change.Replacement.{Replacement}
+use Rattle.wm_changes.specs.declared.change.Replacement.{Replacement}
 
 pub loop-replaced-preserved : goal.loop-replaced-preserved
 loop-replaced-preserved c =

@@ -6,7 +6,7 @@ use Rattle.wm_graph.specs.Nodes.{NodeFields}
 use Rattle.wm_machine.specs.Valid.{IsBefore, IsRecord}
 use Rattle.wm_machine.specs.declared.record.Record.{Record}
 use Rattle.wm_opening.proofs.GrownNodes.{added, CanBeAdded}
-use Rattle.wm_steps.specs.Nodes.{is_there, node_of}
+use Rattle.wm_changes.specs.Nodes.{is_there, node_of}
 use Rattle.wm_opening.proofs.nodes.graph_of.Goals as goal
 
 -- the node of the next record can be added

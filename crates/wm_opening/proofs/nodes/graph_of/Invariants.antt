@@ -1,5 +1,5 @@
 use Rattle.std.proofs.Common.{◌≡◌, map, take}
-use Rattle.wm_steps.specs.Nodes.{node_of}
+use Rattle.wm_changes.specs.Nodes.{node_of}
 use Rattle.wm_opening.proofs.nodes.graph_of.Given as goal
 
 -- the nodes of the records so far, among all records

@@ -1,5 +1,5 @@
 use Rattle.std.proofs.Common.{◌≡◌, filter, take}
-use Rattle.wm_steps.specs.Nodes.{is_there}
+use Rattle.wm_changes.specs.Nodes.{is_there}
 use Rattle.wm_opening.proofs.nodes.those_there.Given as goal
 
 abbrev pub invariant-loop-number : goal.invariant-loop-number

@@ -32,8 +32,8 @@ use Rattle.wm_runs.specs.declared.reach.Reach.TheVariants as reach
 use Rattle.wm_steps.proofs.Lookups.{All-at, stored-at}
 use Rattle.wm_steps.proofs.ManyRows.{after_change, KeepNodes, replacing_all-step}
 use Rattle.wm_steps.proofs.Nodes.{unmarked-open}
-use Rattle.wm_steps.specs.Nodes.{nodes_of}
-use Rattle.wm_steps.specs.StepChanges.{replacing_all}
+use Rattle.wm_changes.specs.Nodes.{nodes_of}
+use Rattle.wm_changes.specs.StepChanges.{replacing_all}
 use Rattle.wm_worker.specs.Answers.{given_of, MayGive}
 use Rattle.wm_worker.specs.Told.{IsAllowed, Report}
 use Rattle.wm_worker.specs.declared.answer.Answer.{Answer}

@@ -1,6 +1,6 @@
 use Rattle.std.proofs.Common.{◌≡◌, ◌++◌, drop}
 use Rattle.wm_runs.specs.Reached.{change_by, others}
-use Rattle.wm_steps.specs.Replacements.{by_numbers}
+use Rattle.wm_changes.specs.Replacements.{by_numbers}
 use Rattle.wm_runs.proofs.reach.add_others.Given as goal
 
 -- the replacements so far and those of the numbers that are left are all

@@ -2,8 +2,8 @@ use Rattle.std.proofs.Common.{◌++◌, List, [], ◌∷◌, ◌∙◌, ap}
 use Rattle.wm_runs.proofs.Touched.{replaced-all}
 use Rattle.wm_runs.specs.Reached.{change_by, others}
 use Rattle.wm_steps.proofs.Views.{reached-view}
-use Rattle.wm_steps.specs.Replacements.{by_numbers}
-use Rattle.wm_steps.specs.declared.change.Replacement.{Replacement}
+use Rattle.wm_changes.specs.Replacements.{by_numbers}
+use Rattle.wm_changes.specs.declared.change.Replacement.{Replacement}
 use Rattle.wm_runs.proofs.reach.replaced_by.Goals as goal
 
 pub returns : goal.returns

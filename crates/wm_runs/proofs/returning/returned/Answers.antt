@@ -9,10 +9,10 @@ use Rattle.wm_machine.specs.declared.state.State.{State}
 use Rattle.wm_runs.proofs.RunLookups.{found-numbered}
 use Rattle.wm_steps.proofs.StepFits.{unplaced}
 use Rattle.wm_steps.proofs.Views.{reached-view}
-use Rattle.wm_steps.specs.StepChanges.{setting, IsStepOf}
-use Rattle.wm_steps.specs.declared.change.RunChange.TheVariants.{End}
-use Rattle.wm_steps.specs.declared.change.SettingChange.TheVariants as set
-use Rattle.wm_steps.specs.declared.change.StepChange.{StepChange}
+use Rattle.wm_changes.specs.StepChanges.{setting, IsStepOf}
+use Rattle.wm_changes.specs.declared.change.RunChange.TheVariants.{End}
+use Rattle.wm_changes.specs.declared.change.SettingChange.TheVariants as set
+use Rattle.wm_changes.specs.declared.change.StepChange.{StepChange}
 use Rattle.wm_runs.proofs.returning.returned.Goals as goal
 
 -- the change by which such a run is away

@@ -21,9 +21,9 @@ use Rattle.wm_runs.specs.declared.starting.Claimed.TheVariants as claimed
 use Rattle.wm_steps.proofs.ManyRows.{after_change, replacing_all-step}
 use Rattle.wm_steps.proofs.Nodes.{node-stored}
 use Rattle.wm_steps.proofs.Views.{reached-view}
-use Rattle.wm_steps.specs.Nodes.{nodes_of}
-use Rattle.wm_steps.specs.StepChanges.{replacing_all}
-use Rattle.wm_steps.specs.declared.change.RunChange.TheVariants.{Unchanged}
+use Rattle.wm_changes.specs.Nodes.{nodes_of}
+use Rattle.wm_changes.specs.StepChanges.{replacing_all}
+use Rattle.wm_changes.specs.declared.change.RunChange.TheVariants.{Unchanged}
 use Rattle.wm_runs.proofs.starting.fail.Goals as goal
 
 -- the work can't start, for this cause

@@ -25,9 +25,9 @@ use Rattle.wm_steps.proofs.Lookups.{All-at}
 use Rattle.wm_steps.proofs.Nodes.{open_not_succeeded}
 use Rattle.wm_steps.proofs.StepFits.{replacing-step}
 use Rattle.wm_steps.proofs.Views.{reached-view}
-use Rattle.wm_steps.specs.Replacements.{MayReplace}
-use Rattle.wm_steps.specs.StepChanges.{replacing}
-use Rattle.wm_steps.specs.declared.change.RunChange.TheVariants.{Begin}
+use Rattle.wm_changes.specs.Replacements.{MayReplace}
+use Rattle.wm_changes.specs.StepChanges.{replacing}
+use Rattle.wm_changes.specs.declared.change.RunChange.TheVariants.{Begin}
 use Rattle.wm_runs.proofs.starting.start.Goals as goal
 
 -- the event by which a run of a work begins on an instance, with this input

@@ -17,8 +17,8 @@ use Rattle.wm_runs.proofs.RunLookups.{found-numbered, run_numbered-turned}
 use Rattle.wm_runs.specs.Builds.{IsTurning}
 use Rattle.wm_runs.specs.Reports.{goes_on, wants_more, CountsIn, IsFoundRun}
 use Rattle.wm_steps.proofs.StepFits.{keeping_row-step}
-use Rattle.wm_steps.specs.StepChanges.{keeping_row}
-use Rattle.wm_steps.specs.declared.change.RunChange.TheVariants.{Turn}
+use Rattle.wm_changes.specs.StepChanges.{keeping_row}
+use Rattle.wm_changes.specs.declared.change.RunChange.TheVariants.{Turn}
 use Rattle.wm_worker.specs.Answers.{given_of}
 use Rattle.wm_worker.specs.Told.{IsAllowed, Report}
 use Rattle.wm_worker.specs.declared.answer.Given.TheVariants.{More}

@@ -2,7 +2,7 @@ use Rattle.std.proofs.Common.{refl}
 use Rattle.wm_seating.proofs.Turnings.{Replay-step}
 use Rattle.wm_session.proofs.BoxLemmas.{KeepBoxes-begun, KeepBoxes-silent, KeepBoxes-stopped}
 use Rattle.wm_session.proofs.SerialLemmas.{GoesInOrder-claimed, IsBetweenRuns-halted, IsHalted-claim, IsUnderWay-begun, failed_none, rest_again}
-use Rattle.wm_table.specs.declared.table.Claim.TheVariants as claim
+use Rattle.wm_engine.specs.declared.engine.Claim.TheVariants as claim
 use Rattle.wm_session.proofs.serial.drive_first.Goals as goal
 use Rattle.wm_machine.specs.declared.event.Event.TheVariants as event
 

@@ -1,5 +1,5 @@
 use Rattle.std.proofs.Common.{true, sym, ◌∙◌, ap}
-use Rattle.wm_table.specs.TableState.{TicketState}
+use Rattle.wm_engine.specs.TableState.{TicketState}
 use Rattle.wm_session.proofs.serial.take_turns.Goals as goal
 
 pub turns-preserved : goal.turns-preserved

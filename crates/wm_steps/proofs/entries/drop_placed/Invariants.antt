@@ -1,6 +1,6 @@
 use Rattle.std.proofs.Common.{◌≡◌, drop}
 use Rattle.wm_steps.specs.Entries.{without_entries}
-use Rattle.wm_steps.specs.StepChanges.{seqs_of}
+use Rattle.wm_changes.specs.StepChanges.{seqs_of}
 use Rattle.wm_steps.proofs.entries.drop_placed.Given as goal
 
 -- what is left makes of the entries so far what all makes of the entries

@@ -5,8 +5,8 @@ use Rattle.wm_index.specs.Entries.{numbers_of, Entry}
 use Rattle.wm_machine.specs.declared.record.Record.{Record}
 use Rattle.wm_steps.proofs.EntryLists.{numbers-with_changed}
 use Rattle.wm_steps.specs.Entries.{new_entry, tagging, with_changed, IsBegunIn}
-use Rattle.wm_steps.specs.StepChanges.{seqs_of}
-use Rattle.wm_steps.specs.declared.change.Replacement.{Replacement}
+use Rattle.wm_changes.specs.StepChanges.{seqs_of}
+use Rattle.wm_changes.specs.declared.change.Replacement.{Replacement}
 use Rattle.wm_steps.proofs.entries.put_each.Goals as goal
 
 on_err : {A E : Type 0} (r : Result A E) (P Q : Type 0) → (P → Q) → OnErr r P → OnErr r Q

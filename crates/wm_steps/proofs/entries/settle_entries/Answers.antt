@@ -3,9 +3,9 @@ use Rattle.wm_index.specs.Entries.{Entry}
 use Rattle.wm_machine.specs.declared.record.Record.{Record}
 use Rattle.wm_steps.proofs.EntryChanges.{left-identifiable, prepared-there, settled-entries, settling-leaving}
 use Rattle.wm_steps.specs.Entries.{prepared_entries, settling, with_changed, with_identified, without_entries, AreEntriesOf, AreIdentifiable, AreLeaving, HaveEntries}
-use Rattle.wm_steps.specs.StepChanges.{changed_works}
-use Rattle.wm_steps.specs.declared.change.Replacement.{Replacement}
-use Rattle.wm_steps.specs.declared.change.StepChange.{StepChange}
+use Rattle.wm_changes.specs.StepChanges.{changed_works}
+use Rattle.wm_changes.specs.declared.change.Replacement.{Replacement}
+use Rattle.wm_changes.specs.declared.change.StepChange.{StepChange}
 use Rattle.wm_steps.proofs.entries.settle_entries.Goals as goal
 
 pub settle_each-requires-clause-there : goal.settle_each-requires-clause-there

@@ -2,8 +2,8 @@ use Rattle.std.proofs.Common.{List, sym, ap, subst, ◌∙◌}
 use Rattle.wm_machine.specs.declared.record.Record.{Record}
 use Rattle.wm_steps.proofs.EntryChanges.{begun-there, undone-entries}
 use Rattle.wm_steps.specs.Entries.{with_untagged, without_entries, AreEntriesOf, HaveEntries}
-use Rattle.wm_steps.specs.StepChanges.{seqs_of}
-use Rattle.wm_steps.specs.declared.change.Replacement.{Replacement}
+use Rattle.wm_changes.specs.StepChanges.{seqs_of}
+use Rattle.wm_changes.specs.declared.change.Replacement.{Replacement}
 use Rattle.wm_steps.proofs.entries.undo_entries.Goals as goal
 
 pub untag_each-requires : goal.untag_each-requires

@@ -5,7 +5,7 @@ use Rattle.wm_index.specs.Entries.{changed_at, has_seq, keeping_tags, Entry}
 use Rattle.wm_machine.specs.declared.record.Record.{Record}
 use Rattle.wm_steps.proofs.EntryLists.{has-numbers, numbers-changed}
 use Rattle.wm_steps.specs.Entries.{untagged_by, with_untagged, HaveEntries}
-use Rattle.wm_steps.specs.declared.change.Replacement.{Replacement}
+use Rattle.wm_changes.specs.declared.change.Replacement.{Replacement}
 use Rattle.wm_steps.proofs.entries.untag_each.Goals as goal
 
 untagged-there : (found : Option Record) (seq number : ℕ) (entries : List Entry) → has_seq entries number ≡ true

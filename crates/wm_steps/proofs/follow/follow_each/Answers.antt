@@ -8,7 +8,7 @@ use Rattle.wm_graph.specs.Nodes.{HasNode, NodeFields}
 use Rattle.wm_collections.proofs.Lists.{All-weaker}
 use Rattle.wm_machine.specs.First.{is_succeeded}
 use Rattle.wm_machine.specs.declared.record.Record.{Record}
-use Rattle.wm_steps.specs.declared.change.Replacement.{Replacement}
+use Rattle.wm_changes.specs.declared.change.Replacement.{Replacement}
 use Rattle.wm_steps.specs.Following.{followed, with_followed}
 use Rattle.wm_steps.proofs.follow.follow_each.Goals as goal
 

@@ -1,7 +1,7 @@
 use Rattle.std.proofs.Common.{List, sym, subst}
 use Rattle.std.specs.List.{list_any}
 use Rattle.std.proofs.lemmas.List.{take_all}
-use Rattle.wm_steps.specs.declared.change.Replacement.{Replacement}
+use Rattle.wm_changes.specs.declared.change.Replacement.{Replacement}
 use Rattle.wm_ready.specs.Entries.{Entry}
 use Rattle.wm_steps.proofs.Pointwise.{put-all, put-more, put-some}
 use Rattle.wm_steps.specs.Readied.{is_waiting_as, IsPutSome}

@@ -1,7 +1,7 @@
 use Rattle.std.proofs.Common.{take}
 use Rattle.std.specs.List.{list_any}
 use Rattle.wm_steps.specs.Readied.{is_waiting_as, ArePut}
-use Rattle.wm_steps.specs.declared.change.Replacement.{Replacement}
+use Rattle.wm_changes.specs.declared.change.Replacement.{Replacement}
 use Rattle.wm_steps.proofs.readying.put_replaced.Given as goal
 
 -- the entries of those so far that wait are there too

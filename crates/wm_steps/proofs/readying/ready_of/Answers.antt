@@ -13,7 +13,7 @@ use Rattle.wm_steps.proofs.Pointwise.{any-more, stored-item}
 use Rattle.wm_steps.proofs.ReadyWorks.{free-is, not-free}
 use Rattle.wm_steps.proofs.Unmets.{ready-unmet}
 use Rattle.wm_steps.specs.Readied.{is_entry_of, is_waiting_as}
-use Rattle.wm_steps.specs.Readiness.{is_ready_in}
+use Rattle.wm_changes.specs.Readiness.{is_ready_in}
 use Rattle.wm_steps.proofs.readying.ready_of.Goals as goal
 use Rattle.wm_steps.proofs.readying.ready_of.Goals.{in-Some+in_ok-put_waiting, in_default}
 

@@ -1,6 +1,6 @@
 use Rattle.std.proofs.Common.{Option, Some, slice_get, subst}
 use Rattle.wm_machine.specs.declared.record.Record.{Record}
-use Rattle.wm_steps.specs.declared.change.Replacement.{Replacement}
+use Rattle.wm_changes.specs.declared.change.Replacement.{Replacement}
 use Rattle.wm_steps.proofs.Pointwise.{left-more}
 use Rattle.wm_steps.specs.Readied.{is_settled, AreLeft}
 use Rattle.wm_steps.proofs.readying.settle_replaced.Goals as goal

@@ -1,7 +1,7 @@
 use Rattle.std.proofs.Common.{Some, slice_get, take}
 use Rattle.std.specs.List.{list_all}
 use Rattle.wm_steps.specs.Readied.{is_settled, AreLeft}
-use Rattle.wm_steps.specs.declared.change.Replacement.{Replacement}
+use Rattle.wm_changes.specs.declared.change.Replacement.{Replacement}
 use Rattle.wm_steps.proofs.readying.settle_replaced.Given as goal
 
 -- those so far are settled

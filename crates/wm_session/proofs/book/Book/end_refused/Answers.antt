@@ -4,7 +4,7 @@ use Rattle.wm_session.proofs.BookReports.{HasLeft-late, IsEvent-over}
 use Rattle.wm_session.proofs.BookSteps.{BookInvariant-made, exact_now}
 use Rattle.wm_session.proofs.BookStops.{BookInvariant-refused, HasStopped-before, IsGivenBack-stopped, IsReported-late, stays_going}
 use Rattle.wm_session.proofs.book.Book.end_refused.Goals as goal
-use Rattle.wm_table.specs.declared.table.Trouble.TheVariants as trouble
+use Rattle.wm_engine.specs.declared.trouble.Trouble.TheVariants as trouble
 use Rattle.wm_session.specs.declared.book.Stop.TheVariants as why
 
 -- ---- the run was stopped

@@ -3,7 +3,7 @@ use Rattle.std.proofs.lemmas.Result.{IfOk-weaker}
 use Rattle.wm_graph.specs.Descendants.{dependents}
 use Rattle.wm_graph.specs.Nodes.{NodeFields}
 use Rattle.wm_machine.specs.declared.state.State.{State}
-use Rattle.wm_steps.specs.Nodes.{nodes_of}
+use Rattle.wm_changes.specs.Nodes.{nodes_of}
 use Rattle.wm_steps.proofs.view.View.dependents.Goals as goal
 
 pub returns : goal.returns

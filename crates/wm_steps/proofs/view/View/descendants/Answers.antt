@@ -3,7 +3,7 @@ use Rattle.wm_graph.specs.Nodes.{HasNode, NodeFields}
 use Rattle.wm_machine.specs.declared.state.State.{State}
 use Rattle.wm_graph.proofs.ListedNumbers.{rising-ascend}
 use Rattle.wm_steps.proofs.Rising.{descendants-rise}
-use Rattle.wm_steps.specs.Nodes.{nodes_of, reached_from}
+use Rattle.wm_changes.specs.Nodes.{nodes_of, reached_from}
 use Rattle.wm_graph.specs.Numbers.{Ascend, RiseFrom}
 use Rattle.wm_steps.proofs.view.View.descendants.Goals as goal
 

@@ -1,7 +1,7 @@
 use Rattle.std.proofs.Common.{sym, ◌∙◌, ap, subst}
 use Rattle.wm_machine.specs.declared.state.State.{State}
 use Rattle.wm_graph.proofs.ListedNumbers.{rising-ascend}
-use Rattle.wm_steps.specs.Nodes.{nodes_of, reached_from}
+use Rattle.wm_changes.specs.Nodes.{nodes_of, reached_from}
 use Rattle.wm_graph.specs.Numbers.{Ascend}
 use Rattle.wm_steps.proofs.view.View.descendants_of.Goals as goal
 

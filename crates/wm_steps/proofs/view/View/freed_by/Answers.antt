@@ -4,7 +4,7 @@ use Rattle.wm_graph.specs.Nodes.{NodeFields}
 use Rattle.wm_machine.specs.declared.state.State.{State}
 use Rattle.wm_graph.proofs.ListedNumbers.{rising-ascend}
 use Rattle.wm_steps.proofs.Rising.{freed-rise}
-use Rattle.wm_steps.specs.Nodes.{nodes_of, IsUnmarked}
+use Rattle.wm_changes.specs.Nodes.{nodes_of, IsUnmarked}
 use Rattle.wm_graph.specs.Numbers.{Ascend, RiseFrom}
 use Rattle.wm_steps.proofs.view.View.freed_by.Goals as goal
 

@@ -4,8 +4,8 @@ use Rattle.wm_graph.specs.Nodes.{HasNode}
 use Rattle.wm_machine.specs.Input.{work_numbered}
 use Rattle.wm_machine.specs.declared.state.State.{State}
 use Rattle.wm_steps.proofs.Unmets.{found-node, ready-unmet}
-use Rattle.wm_steps.specs.Nodes.{nodes_of}
-use Rattle.wm_steps.specs.Readiness.{is_ready_in}
+use Rattle.wm_changes.specs.Nodes.{nodes_of}
+use Rattle.wm_changes.specs.Readiness.{is_ready_in}
 use Rattle.wm_steps.proofs.view.View.is_ready.Goals as goal
 
 pub unmet-requires : goal.unmet-requires

@@ -1,15 +1,35 @@
-use Rattle.std.proofs.Common.{◌≡◌}
-use Rattle.wm_settings.proofs.Executions.{no-row-changes}
+use Rattle.std.proofs.Common.{◌≡◌, ◌+◌, ◌≤◌, length, vec_capacity, ap, subst, arith}
+use Rattle.std.proofs.lemmas.Result.{on_err_weaker, IfOk-weaker}
+use Rattle.wm_engine.specs.Calls.{IsOneStep, IsUntouched}
+use Rattle.wm_engine.specs.Engine.{beside, Beside}
+use Rattle.wm_engine.specs.Images.{IsLine}
+use Rattle.wm_machine.specs.declared.event.Event.TheVariants as event
+use Rattle.wm_table.proofs.TableSteps.{kept-replied, kept-roomier, seen-roomier}
 use Rattle.wm_table.proofs.table.Table.command.Goals as goal
 
-pub returns-in-Ok-clause-untouched_keeper : goal.returns-in-Ok-clause-untouched_keeper
-returns-in-Ok-clause-untouched_keeper g c =
-    let state_is : c.look_ahead.new.self.state ≡ c.self.inside.view = cc in
-    let made = c.in_ok-change.ensures in
-    rw (← c.look_ahead.ensures) (λ same. c.in-Ok.ensures.untouched_keeper (no-row-changes _ _ _ c.args.command _ state_is made.executed same))
+pub invariant_of-self-2 : goal.invariant_of-self-2
+invariant_of-self-2 g c =
+    let first = c.self.inside.first in
+    let roomier = kept-roomier g.M.Mark.inputs first _ _ c.self.inside.log c.reserve.new.log c.self.invariant c.reserve.ensures.items c.reserve.ensures.capacity in
+    let capacity = c.command.ensures.capacity in
+    let longs = ap length c.reserve.ensures.items in
+    let runs_are = ap length c.runs-runs.ensures in
+    let room = c.in_ok-reserve.ensures.room in
+    kept-replied g.M.Mark.inputs g.K.Keeper.store first _ _ c.reserve.new.log c.command.new.events roomier c.command.ensures.noted
+    (omega (arith, room, longs, runs_are, capacity)) c.command.result c.args.line c.args.command _ c.command.ensures.ok c.command.ensures.err
 
-pub returns-in-Err-clause-untouched_keeper : goal.returns-in-Err-clause-untouched_keeper
-returns-in-Err-clause-untouched_keeper g c =
-    let state_is : c.look_ahead.new.self.state ≡ c.self.inside.view = cc in
-    let made = c.in_ok-change.ensures in
-    rw (← c.look_ahead.ensures) (λ same. c.in-Err.ensures.untouched_keeper (no-row-changes _ _ _ c.args.command _ state_is made.executed same))
+pub returns-clause-ok : goal.returns-clause-ok
+returns-clause-ok g c =
+    let first = c.self.inside.first in
+    let seen = seen-roomier first c.self.inside.engine c.self.inside.log.items c.reserve.new.log.items c.args.self.now c.self.view_is c.reserve.ensures.items in
+    IfOk-weaker c.command.result
+    (λ reply. Beside (IsOneStep g.K.Keeper.store (event.Command c.args.line c.args.command reply)) c.self.inside.engine c.reserve.new.log.items c.command.new.self c.command.new.events.items) _
+    (λ reply is. subst (λ t. IsOneStep g.K.Keeper.store (event.Command c.args.line c.args.command reply) t (beside first c.command.new.self c.command.new.events.items)) seen (is first))
+    c.command.ensures.ok
+
+pub returns-clause-err : goal.returns-clause-err
+returns-clause-err g c =
+    let first = c.self.inside.first in
+    let seen = seen-roomier first c.self.inside.engine c.self.inside.log.items c.reserve.new.log.items c.args.self.now c.self.view_is c.reserve.ensures.items in
+    on_err_weaker c.command.result (λ same. subst (λ t. IsUntouched g.K.Keeper.store (IsLine c.args.line c.args.command) t (beside first c.command.new.self c.command.new.events.items)) seen (same first))
+    c.command.ensures.err

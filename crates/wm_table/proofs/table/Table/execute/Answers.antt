@@ -1,30 +1,34 @@
-use Rattle.std.proofs.Common.{◌≡◌, ◌∙◌, ap, subst}
+use Rattle.std.proofs.Common.{◌≡◌, ◌+◌, ◌≤◌, length, vec_capacity, ap, subst, arith}
 use Rattle.std.proofs.lemmas.Result.{on_err_weaker, on_ok_weaker}
-use Rattle.wm_machine.specs.declared.event.Event.{Event}
-use Rattle.wm_settings.proofs.Executions.{no-row-changes}
-use Rattle.wm_table.proofs.TableSteps.{line-made, IsUntouched-as}
-use Rattle.wm_table.specs.Images.{IsLine}
-use Rattle.wm_table.specs.Table.{IsOneStep}
+use Rattle.wm_engine.specs.Calls.{IsOneStep, IsUntouched}
+use Rattle.wm_engine.specs.Engine.{beside}
+use Rattle.wm_engine.specs.Images.{IsLine}
+use Rattle.wm_machine.specs.declared.event.Event.TheVariants as event
+use Rattle.wm_table.proofs.TableSteps.{kept-executed, kept-roomier, seen-roomier}
 use Rattle.wm_table.proofs.table.Table.execute.Goals as goal
+
+pub invariant_of-self-2 : goal.invariant_of-self-2
+invariant_of-self-2 g c =
+    let first = c.self.inside.first in
+    let roomier = kept-roomier g.M.Mark.inputs first _ _ c.self.inside.log c.reserve.new.log c.self.invariant c.reserve.ensures.items c.reserve.ensures.capacity in
+    let capacity = c.execute.ensures.capacity in
+    let longs = ap length c.reserve.ensures.items in
+    let runs_are = ap length c.runs-runs.ensures in
+    let room = c.in_ok-reserve.ensures.room in
+    kept-executed g.M.Mark.inputs g.K.Keeper.store first _ _ c.reserve.new.log c.execute.new.events roomier c.execute.ensures.noted
+    (omega (arith, room, longs, runs_are, capacity)) c.execute.result c.args.line c.args.command _ c.execute.ensures.ok c.execute.ensures.err
 
 pub returns-clause-ok : goal.returns-clause-ok
 returns-clause-ok g c =
-    let executed = c.in_ok-change.ensures in
-    rw (← c.look_ahead.ensures)
-    (on_ok_weaker c.make.result
-    (λ step. (executed.reply, subst (λ (e : Event). IsOneStep g.K.Keeper.store e c.look_ahead.new.self c.make.new.self) executed.event step)) c.make.ensures.ok)
+    let first = c.self.inside.first in
+    let seen = seen-roomier first c.self.inside.engine c.self.inside.log.items c.reserve.new.log.items c.args.self.now c.self.view_is c.reserve.ensures.items in
+    on_ok_weaker c.execute.result (λ is. let made = is first in
+    (made.0, subst (λ t. IsOneStep g.K.Keeper.store (event.Command c.args.line c.args.command made.0) t (beside first c.execute.new.self c.execute.new.events.items)) seen made.1))
+    c.execute.ensures.ok
 
 pub returns-clause-err : goal.returns-clause-err
 returns-clause-err g c =
-    let change = c.in_ok-change.change in
-    let executed = c.in_ok-change.ensures in
-    rw (← c.look_ahead.ensures)
-    (on_err_weaker c.make.result
-    (IsUntouched-as g.K.Keeper.store (λ e. e ≡ change.event) (IsLine c.args.line c.args.command) c.look_ahead.new.self c.make.new.self
-    (λ e same. line-made c.args.line c.args.command executed.reply e change.event same executed.event)) c.make.ensures.err)
-
-pub returns-clause-untouched_keeper : goal.returns-clause-untouched_keeper
-returns-clause-untouched_keeper g c =
-    let state_is : c.look_ahead.new.self.state ≡ c.self.inside.view = cc in
-    let executed = c.in_ok-change.ensures in
-    rw (← c.look_ahead.ensures) (λ same. c.make.ensures.untouched_keeper (no-row-changes _ _ _ c.args.command _ state_is executed same))
+    let first = c.self.inside.first in
+    let seen = seen-roomier first c.self.inside.engine c.self.inside.log.items c.reserve.new.log.items c.args.self.now c.self.view_is c.reserve.ensures.items in
+    on_err_weaker c.execute.result (λ same. subst (λ t. IsUntouched g.K.Keeper.store (IsLine c.args.line c.args.command) t (beside first c.execute.new.self c.execute.new.events.items)) seen (same first))
+    c.execute.ensures.err

@@ -1,0 +1,10 @@
+pub mod Besides
+pub mod Claims
+pub mod Images
+pub mod Makings
+pub mod NextRuns
+pub mod NoLines
+pub mod Parts
+pub mod Returns
+pub mod StepRows
+pub mod Steps

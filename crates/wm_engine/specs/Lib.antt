@@ -1,0 +1,13 @@
+pub mod Begins
+pub mod Calls
+pub mod Engine
+pub mod EngineInvariant
+pub mod EngineState
+pub mod Images
+pub mod Inputs
+pub mod Parts
+pub mod Returns
+pub mod Rolls
+pub mod Rows
+pub mod TableState
+pub mod Trouble

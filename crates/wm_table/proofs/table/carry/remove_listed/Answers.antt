@@ -1,6 +1,0 @@
-use Rattle.std.proofs.Common.{rules}
-use Rattle.std.proofs.lemmas.Fn.{filter_same}
-use Rattle.wm_table.proofs.table.carry.remove_listed.Goals as goal
-
-pub returns-clause-works : goal.returns-clause-works
-returns-clause-works c = let ascend = c.requires in filter_same _ _ _ (λ x b f' k. search (rules, ascend)) _ _ c.retain.ensures.filtered

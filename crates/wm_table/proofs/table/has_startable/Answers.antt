@@ -1,5 +1,0 @@
-use Rattle.wm_table.proofs.TableSteps.{startable-told}
-use Rattle.wm_table.proofs.table.has_startable.Goals as goal
-
-pub returns : goal.returns
-returns c = startable-told c.args.view.now c.first.result c.is_some.result c.first.ensures c.is_some.ensures
