@@ -15,3 +15,5 @@ mod generated;
 mod table;
 #[cfg(test)]
 mod unique;
+#[cfg(test)]
+mod wakes;

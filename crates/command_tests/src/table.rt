@@ -78,6 +78,15 @@ fn enqueue(alloc: Global, merger: Merger, count: usize) -> Result<Command, Alloc
     ensures { IfOk result (λ command. (s : State) → IsLegalLine s command) }
 {
     let request = request(alloc, merger, count)?;
+    enqueue_of(alloc, request)
+}
+
+/// An enqueue of the one-time work of this request.
+pub(crate) fn enqueue_of(alloc: Global, request: Request) -> Result<Command, AllocError>
+    requires within { IsRequest request }
+    requires one_time { request.period ≡ None }
+    ensures { IfOk result (λ command. (s : State) → IsLegalLine s command) }
+{
     let after = Items::new(alloc);
     let works = one(alloc, Node { request, after })?;
     Ok(Command::Enqueue {
@@ -309,14 +318,17 @@ fn enqueue_and_run<M: Mark>(
 }
 
 /// A value with another one, which isn't let go, unless memory was refused to that.
-fn beside<T: Drop, U>(value: T, other: Result<U, AllocError>) -> Result<(T, U), AllocError>
+pub(crate) fn beside<T: Drop, U>(
+    value: T,
+    other: Result<U, AllocError>,
+) -> Result<(T, U), AllocError>
     ensures { IfOk result (λ both. (both.0 ≡ value) × (other ≡ Ok both.1)) }
 {
     Ok((value, other?))
 }
 
 /// A table of these instances on an empty store, over a keeper that fails at these calls.
-fn one_table<M: Mark>(
+pub(crate) fn one_table<M: Mark>(
     alloc: Global,
     failing: Vec<u32>,
     instances: Items<Instance>,
