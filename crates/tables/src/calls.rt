@@ -1,6 +1,6 @@
 //! The calls by their names.
 
-use crate::{infos, lines, notes, records, rows, spellings, texts};
+use crate::{infos, lines, notes, records, rows, sessions, spellings, texts};
 use case_files::fields::{RowFault, field, text};
 use part_calls::{chains, conditions, data, requests, schedule, workers};
 use serde_json::Value;
@@ -42,6 +42,9 @@ fn answer_of_works(alloc: Global, call: &str, row: &Value) -> Result<Value, RowF
         "store" => rows::store(alloc, row),
         "store of many" => rows::many(alloc, row),
         "lines" => lines::read(alloc, row),
+        "session line" => sessions::said(alloc, row),
+        "beat of names" => sessions::counted(alloc, row),
+        "report of letters" => sessions::long(alloc, row),
         "spelling" => spellings::written(alloc, row),
         "event text" => texts::told(alloc, row),
         "answer" => infos::answered(alloc, row),

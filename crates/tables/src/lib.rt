@@ -13,6 +13,7 @@ mod names;
 mod notes;
 mod records;
 mod rows;
+mod sessions;
 mod spellings;
 mod texts;
 

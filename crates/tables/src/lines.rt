@@ -8,7 +8,7 @@ use wm_machine::{Command, LineFault};
 use wm_script::read_lines;
 
 /// The name of a command, or that of the fault of a line without one.
-fn command_name(command: &Command) -> &'static str {
+pub fn command_name(command: &Command) -> &'static str {
     match command {
         Command::Enqueue { .. } => "enqueue",
         Command::Cancel(_) => "cancel",

@@ -1,0 +1,7 @@
+mod Determined
+mod LastOf
+mod Reported
+mod Replays
+mod Rests
+mod RunNames
+mod Wakes

@@ -1,0 +1,13 @@
+pub mod Feeds
+pub mod Fronts
+pub mod Hears
+pub mod Leases
+pub mod Lines
+pub mod Moments
+pub mod Parts
+pub mod Reports
+pub mod Runs
+pub mod Session
+pub mod Sessions
+pub mod Starts
+pub mod Waits

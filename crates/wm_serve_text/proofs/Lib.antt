@@ -1,0 +1,3 @@
+pub mod AnswersLemmas
+pub mod LegalLines
+pub mod NamesLemmas
